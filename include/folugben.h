@@ -20,7 +20,8 @@
  *    malloc, realloc and free do; and each returns. Make no call from a signal handler, nor in the
  *    child of a fork of a process with threads.
  *  - Slots. Initialise a slot with {0}. Never move it or pass a copy of it. It may lie anywhere.
- *    What it holds is released by asm_free, or handed over by asm_give.
+ *    What it holds is released by asm_free_storage, asm_free_agent and so on, or handed over by
+ *    asm_give.
  *  - Pointers. None may be null, except that of bytes, of a buffer or of slots whose length is 0.
  *    asm_free(NULL) isn't allowed either.
  *  - Buffers. A buffer is at least `room` bytes long. The bytes passed, the buffer and the numbers
@@ -88,7 +89,8 @@
  *
  *    const char *init = "[[[\"count\"],0]]", *locations = "[[\"count\"]]";
  *    const char *move = "{\"fire\":[[\"put\",[\"count\"],1]],\"reads\":[[[\"count\"],0]]}";
- *    asm_slot storage = {0}, agent = {0};
+ *    struct asm_storage storage = {0};
+ *    struct asm_agent agent = {0};
  *    asm_numbers numbers;
  *    uint8_t text[4096];
  *    size_t written;
@@ -105,7 +107,7 @@
  *    if (asm_give(&storage, &agent) == ASM_DONE && asm_close(&storage, &missing) == ASM_DONE &&
  *        asm_journal(&storage, text, sizeof text, &written) == ASM_DONE)
  *        printf("%.*s", (int)written, (const char *)text);
- *    asm_free(&storage);
+ *    asm_free_storage(&storage);
  *
  * bindings/c/example.c is a whole program, with an agent on each of eight threads. Link with
  * libfolugben.a or libfolugben.so, which ./build_c makes; both need the C library alone. */
@@ -175,34 +177,57 @@ FOLUGBEN_NODISCARD int32_t asm_error_text(int32_t code, uint8_t *out, size_t roo
 /* The version of the library. */
 uint32_t asm_version(void);
 
-/* Room for a storage, an agent, a step, a location, a move or an audit. Zeros hold nothing. `full` may
- * be read between calls; write neither. */
+/* Room for what a call makes. Zeros hold nothing. `full` may be read between calls; write neither. */
 typedef struct asm_slot {
     bool full;
     void *at;
 } asm_slot;
 
+/* A slot for each kind, so that the compiler refuses one kind in the place of another. Each is laid out
+ * as its slot, of which `slot.full` says whether it holds something. Their names are tags, as some of
+ * them are names of calls too: struct asm_agent agent = {0}. */
+struct asm_storage {
+    asm_slot slot;
+};
+struct asm_agent {
+    asm_slot slot;
+};
+struct asm_step {
+    asm_slot slot;
+};
+struct asm_location {
+    asm_slot slot;
+};
+struct asm_move {
+    asm_slot slot;
+};
+struct asm_audit {
+    asm_slot slot;
+};
+
 /* Opens a storage with the state [PAIR, ..], for 1 to 1,048,576 moves, in an empty slot.
  * ASM_TAKEN, ASM_NOT_JSON, ASM_SHAPE, ASM_RANGE (the capacity), ASM_MEMORY. */
 FOLUGBEN_NODISCARD int32_t asm_open(const uint8_t *init, size_t len, uint32_t capacity,
-    asm_slot *storage);
+    struct asm_storage *storage);
 
 /* Makes an agent with this number, below 256, in an empty slot, at any time. A storage has one
  * agent of each number: also one that was freed keeps its number, as its moves may be in the
  * journal. ASM_RANGE (the number), ASM_TAKEN (`agent` is full), ASM_EMPTY (`storage`), ASM_NUMBER
  * (an agent with this number was made before), ASM_MEMORY; the first of these that holds is
  * answered. */
-FOLUGBEN_NODISCARD int32_t asm_agent(asm_slot *storage, uint32_t number, asm_slot *agent);
+FOLUGBEN_NODISCARD int32_t asm_agent(struct asm_storage *storage, uint32_t number,
+    struct asm_agent *agent);
 
 /* Makes an agent in each of at most 256 empty slots, with the numbers from 0 up. ASM_RANGE (the
  * count), ASM_TAKEN (one of the slots), ASM_EMPTY (`storage`), ASM_NUMBER (an agent with one of
  * the numbers was made before), ASM_MEMORY; the first of these that holds is answered. */
-FOLUGBEN_NODISCARD int32_t asm_agents(asm_slot *storage, asm_slot *agents, size_t count);
+FOLUGBEN_NODISCARD int32_t asm_agents(struct asm_storage *storage, struct asm_agent *agents,
+    size_t count);
 
 /* Reads the locations [LOC, ..], at most 256. The answer is the text {"number":N,"values":[VALUE,
  * ..]}: their values after the first N moves, which asm_answer writes. ASM_EMPTY, ASM_NOT_JSON,
  * ASM_SHAPE, ASM_MANY, ASM_MEMORY. */
-FOLUGBEN_NODISCARD int32_t asm_read(asm_slot *agent, const uint8_t *locations, size_t len);
+FOLUGBEN_NODISCARD int32_t asm_read(struct asm_agent *agent, const uint8_t *locations, size_t len);
 
 /* The numbers of a fire; each is 0 where its code isn't answered. */
 typedef struct asm_numbers {
@@ -219,7 +244,7 @@ typedef struct asm_numbers {
  * ASM_STALE, ASM_CLASH and ASM_FULL are answers too: asm_answer writes {"fired":N}, {"stale":LOC},
  * {"clash":[LOC,CAUSE]} or "full". ASM_BUSY, ASM_EMPTY, ASM_NOT_JSON, ASM_SHAPE, ASM_RANGE, ASM_MANY,
  * ASM_MEMORY: not answered, and nothing was fired. */
-FOLUGBEN_NODISCARD int32_t asm_try_fire(asm_slot *agent, const uint8_t *call, size_t len,
+FOLUGBEN_NODISCARD int32_t asm_try_fire(struct asm_agent *agent, const uint8_t *call, size_t len,
     asm_numbers *numbers);
 
 /* The same of a move that rests on whole functions too, those of the scans [SCAN, ..]: on all
@@ -230,17 +255,18 @@ FOLUGBEN_NODISCARD int32_t asm_try_fire(asm_slot *agent, const uint8_t *call, si
  * that the agent has seen (ASM_RANGE). ASM_NOT_JSON, ASM_SHAPE: the call, or else the scans. All else
  * is as of asm_try_fire. A scan costs a walk of the locations of this name that moves wrote; with a
  * text that is no name of a function, of all that they wrote. */
-FOLUGBEN_NODISCARD int32_t asm_try_fire_over(asm_slot *agent, const uint8_t *call, size_t call_len,
-    const uint8_t *scans, size_t scans_len, asm_numbers *numbers);
+FOLUGBEN_NODISCARD int32_t asm_try_fire_over(struct asm_agent *agent, const uint8_t *call,
+    size_t call_len, const uint8_t *scans, size_t scans_len, asm_numbers *numbers);
 
 /* Writes the text of the answer to the agent's last answered call.
  * ASM_EMPTY, ASM_NONE, ASM_SMALL, ASM_MEMORY. */
-FOLUGBEN_NODISCARD int32_t asm_answer(asm_slot *agent, uint8_t *out, size_t room, size_t *written);
+FOLUGBEN_NODISCARD int32_t asm_answer(struct asm_agent *agent, uint8_t *out, size_t room,
+    size_t *written);
 
 /* Takes in what the other agent of the same storage has seen, so that what the agent is answered
  * from then on comes after all that the other was answered before. Neither slot may be in another
  * call. ASM_EMPTY (one of the slots), ASM_OTHER. */
-FOLUGBEN_NODISCARD int32_t asm_learn(asm_slot *agent, asm_slot *other);
+FOLUGBEN_NODISCARD int32_t asm_learn(struct asm_agent *agent, struct asm_agent *other);
 
 /* Takes in what the other agent of the same storage has seen, as asm_learn does, and exchanges the
  * states of the two where the other's stands at more moves. For agents that one thread plays by turns:
@@ -249,7 +275,7 @@ FOLUGBEN_NODISCARD int32_t asm_learn(asm_slot *agent, asm_slot *other);
  * the receipts and the counts of both are unchanged. A step of the other agent is ASM_MOVED while that
  * agent's state stands at another number. Neither slot may be in another call. ASM_EMPTY (one of the
  * slots, or they are one), ASM_OTHER. */
-FOLUGBEN_NODISCARD int32_t asm_take_state(asm_slot *agent, asm_slot *other);
+FOLUGBEN_NODISCARD int32_t asm_take_state(struct asm_agent *agent, struct asm_agent *other);
 
 /* AN AGENT'S OWN STATE stands at one number of moves, and moves on only in asm_follow, asm_stands,
  * asm_begin, asm_read, asm_try_fire, asm_try_fire_over and asm_commit; asm_take_state exchanges it.
@@ -260,36 +286,36 @@ FOLUGBEN_NODISCARD int32_t asm_take_state(asm_slot *agent, asm_slot *other);
 
 /* Looks on until nothing more is found, and has the agent's own state follow: `*number` is then how
  * many moves it has seen. ASM_EMPTY, ASM_MEMORY. */
-FOLUGBEN_NODISCARD int32_t asm_follow(asm_slot *agent, uint32_t *number);
+FOLUGBEN_NODISCARD int32_t asm_follow(struct asm_agent *agent, uint32_t *number);
 
 /* Writes {"number":N,"values":[VALUE, ..]}: the values of the locations [LOC, ..], any number of them,
  * in the agent's own state, which stands at N moves. ASM_EMPTY, ASM_SMALL, ASM_NOT_JSON, ASM_SHAPE,
  * ASM_MEMORY. */
-FOLUGBEN_NODISCARD int32_t asm_peek(asm_slot *agent, const uint8_t *locations, size_t len,
+FOLUGBEN_NODISCARD int32_t asm_peek(struct asm_agent *agent, const uint8_t *locations, size_t len,
     uint8_t *out, size_t room, size_t *written);
 
 /* Writes the agent's own state [PAIR, ..], in ascending order of locations, which stands at `*number`
  * moves; with ASM_SMALL `*number` is set too. ASM_EMPTY, ASM_MEMORY. */
-FOLUGBEN_NODISCARD int32_t asm_state(asm_slot *agent, uint32_t *number, uint8_t *out, size_t room,
-    size_t *written);
+FOLUGBEN_NODISCARD int32_t asm_state(struct asm_agent *agent, uint32_t *number, uint8_t *out,
+    size_t room, size_t *written);
 
 /* The same with the locations of one function name alone, which is passed in UTF-8 without quotes.
  * A fire that names each that was found doesn't notice that a further one is written later; one over
  * the scan does (asm_try_fire_over), as the commit of a step that tells them by asm_get_all.
  * ASM_EMPTY, ASM_SHAPE (the name isn't UTF-8), ASM_SMALL, ASM_MEMORY. */
-FOLUGBEN_NODISCARD int32_t asm_scan(asm_slot *agent, const uint8_t *name, size_t len,
+FOLUGBEN_NODISCARD int32_t asm_scan(struct asm_agent *agent, const uint8_t *name, size_t len,
     uint32_t *number, uint8_t *out, size_t room, size_t *written);
 
 /* Tells whether the named reads [NAMED, ..], at most 256, still stand: it looks on, as asm_follow does.
  * ASM_DONE: none of the locations was written since. ASM_STALE, with the text {"stale":LOC}: the least
  * location that was. A fire may still be refused, by a move that comes in between. ASM_RANGE as of
  * asm_try_fire. ASM_EMPTY, ASM_MANY, ASM_SMALL, ASM_NOT_JSON, ASM_SHAPE, ASM_MEMORY. */
-FOLUGBEN_NODISCARD int32_t asm_stands(asm_slot *agent, const uint8_t *reads, size_t len,
+FOLUGBEN_NODISCARD int32_t asm_stands(struct asm_agent *agent, const uint8_t *reads, size_t len,
     uint8_t *out, size_t room, size_t *written);
 
 /* A STEP is what an engine does between a look and a fire. Its slot keeps the number of moves at
  * which it began, the moves that were pushed, the locations that are tracked and the functions that
- * were scanned. asm_free abandons it.
+ * were scanned. asm_free_step abandons it.
  *
  * A location is got where what is told of it is made from the state at the step's number: where no
  * pushed move writes it, or the first that does has partial updates alone there (it adds, removes or
@@ -320,27 +346,28 @@ FOLUGBEN_NODISCARD int32_t asm_stands(asm_slot *agent, const uint8_t *reads, siz
 
 /* Follows, and begins a step at `*number` moves, in a slot that is empty or holds a step, which is
  * dropped. ASM_TAKEN (`step` holds something else), ASM_EMPTY (`agent`), ASM_MEMORY. */
-FOLUGBEN_NODISCARD int32_t asm_begin(asm_slot *agent, asm_slot *step, uint32_t *number);
+FOLUGBEN_NODISCARD int32_t asm_begin(struct asm_agent *agent, struct asm_step *step,
+    uint32_t *number);
 
 /* Writes {"number":N,"values":[VALUE, ..]}: what is seen through the pushed moves at the locations
  * [LOC, ..], any number of them. Those are got where that is made from the state. ASM_MANY: more than
  * 256 places would be taken. ASM_MOVED, ASM_EMPTY (one of the slots), ASM_SMALL, ASM_NOT_JSON,
  * ASM_SHAPE, ASM_MEMORY. */
-FOLUGBEN_NODISCARD int32_t asm_get(asm_slot *agent, asm_slot *step, const uint8_t *locations,
-    size_t len, uint8_t *out, size_t room, size_t *written);
+FOLUGBEN_NODISCARD int32_t asm_get(struct asm_agent *agent, struct asm_step *step,
+    const uint8_t *locations, size_t len, uint8_t *out, size_t room, size_t *written);
 
 /* Writes what asm_get writes, and notes nothing: no location is got, so a commit fires though another
  * agent has written there since. It is for what is told or shown, and for what the step doesn't go by.
  * The codes are those of asm_get but ASM_MANY. */
-FOLUGBEN_NODISCARD int32_t asm_see(asm_slot *agent, asm_slot *step, const uint8_t *locations,
-    size_t len, uint8_t *out, size_t room, size_t *written);
+FOLUGBEN_NODISCARD int32_t asm_see(struct asm_agent *agent, struct asm_step *step,
+    const uint8_t *locations, size_t len, uint8_t *out, size_t room, size_t *written);
 
 /* Writes [PAIR, ..]: what is seen through the pushed moves at all locations with a function name,
  * which is passed in UTF-8 without quotes, any number of them. The function is scanned, also where
  * none is found. ASM_MANY: it isn't scanned yet, and 256 places are taken. ASM_SHAPE: the name isn't
  * UTF-8. Else as asm_get. */
-FOLUGBEN_NODISCARD int32_t asm_get_all(asm_slot *agent, asm_slot *step, const uint8_t *name,
-    size_t len, uint8_t *out, size_t room, size_t *written);
+FOLUGBEN_NODISCARD int32_t asm_get_all(struct asm_agent *agent, struct asm_step *step,
+    const uint8_t *name, size_t len, uint8_t *out, size_t room, size_t *written);
 
 /* Pushes the move [INSTR, ..]: what is got and pushed later is seen through what it leaves. A push
  * that is refused, or is popped, is a dry run, on which the step rests. ASM_CLASH, with the text
@@ -350,19 +377,19 @@ FOLUGBEN_NODISCARD int32_t asm_get_all(asm_slot *agent, asm_slot *step, const ui
  * agent's storage. ASM_MOVED, ASM_EMPTY (one of the slots), ASM_SMALL (for the text of a refusal),
  * ASM_NOT_JSON, ASM_SHAPE, ASM_MEMORY. It costs by the move's own instructions, however many others
  * are pushed, and by the size of a set or a bag that they change. */
-FOLUGBEN_NODISCARD int32_t asm_push(asm_slot *agent, asm_slot *step, const uint8_t *move,
-    size_t len, uint8_t *out, size_t room, size_t *written);
+FOLUGBEN_NODISCARD int32_t asm_push(struct asm_agent *agent, struct asm_step *step,
+    const uint8_t *move, size_t len, uint8_t *out, size_t room, size_t *written);
 
 /* The same, but the move joins the one that was pushed last, and is popped with it: a loop of a
  * thousand rounds is one move deep, and each round costs by what it does itself; of a set or a bag
  * also by its size and the earlier updates of it. Without a pushed move it is pushed. Never ASM_DEEP. */
-FOLUGBEN_NODISCARD int32_t asm_extend(asm_slot *agent, asm_slot *step, const uint8_t *move,
-    size_t len, uint8_t *out, size_t room, size_t *written);
+FOLUGBEN_NODISCARD int32_t asm_extend(struct asm_agent *agent, struct asm_step *step,
+    const uint8_t *move, size_t len, uint8_t *out, size_t room, size_t *written);
 
 /* Takes away the move that was pushed last, with those that joined it, and tracks the locations where
  * these have partial updates that were judged on the state. What was got and scanned stays so.
  * ASM_NONE, ASM_EMPTY, ASM_MANY (more than 256 places would be taken), ASM_MEMORY. */
-FOLUGBEN_NODISCARD int32_t asm_pop(asm_slot *step);
+FOLUGBEN_NODISCARD int32_t asm_pop(struct asm_step *step);
 
 /* Takes these away too, and puts the one move that does what they do in turn into a slot that is empty
  * or holds a move, which is then dropped: asm_push_move and asm_extend_move take it, on this step or
@@ -372,27 +399,29 @@ FOLUGBEN_NODISCARD int32_t asm_pop(asm_slot *step);
  * ASM_NONE; ASM_MANY: the first of the moves come to more than 4,096 instructions, though all might
  * come to fewer; or more than 256 places would be taken; ASM_CLASH, ASM_LARGE: never for a step of the
  * agent's storage; ASM_MEMORY. */
-FOLUGBEN_NODISCARD int32_t asm_pop_move(asm_slot *step, asm_slot *move);
+FOLUGBEN_NODISCARD int32_t asm_pop_move(struct asm_step *step, struct asm_move *move);
 
 /* How many moves are pushed; 0 for a slot without a step. */
-uint32_t asm_depth(asm_slot *step);
+uint32_t asm_depth(struct asm_step *step);
 
 /* Writes {"fire":[INSTR, ..],"reads":[NAMED, ..]}: the one move that asm_commit would offer, and the
  * locations that it would name, as the step stands; asm_try_fire takes it, where these are at most
  * 256. The functions that were scanned aren't in it; a commit rests on them too. ASM_EMPTY, ASM_SMALL,
  * ASM_MEMORY. */
-FOLUGBEN_NODISCARD int32_t asm_offer(asm_slot *step, uint8_t *out, size_t room, size_t *written);
+FOLUGBEN_NODISCARD int32_t asm_offer(struct asm_step *step, uint8_t *out, size_t room,
+    size_t *written);
 
 /* Fires one move that does what the pushed moves do in turn, with each location named, at the step's
  * number, on which the step rests: codes, numbers and receipt as of asm_try_fire, and asm_answer tells
  * the reply whole. With ASM_DONE the step is over, and its slot is empty; with any other code it
- * stays, until asm_begin or asm_free. ASM_CLASH: each push was taken on what was seen, and something
+ * stays, until asm_begin or asm_free_step. ASM_CLASH: each push was taken on what was seen, and something
  * was written since that one of the moves doesn't fit, such as a bag out of which another agent took
  * what it removes; begin again, as after ASM_STALE. ASM_STALE comes too where a location of a function
  * that was scanned was written since: the receipt names the least of these besides. ASM_MANY: the
  * locations that would be named and the functions that were scanned are more than 256. It looks on, so
  * it answers neither ASM_MOVED nor ASM_RANGE. */
-FOLUGBEN_NODISCARD int32_t asm_commit(asm_slot *agent, asm_slot *step, asm_numbers *numbers);
+FOLUGBEN_NODISCARD int32_t asm_commit(struct asm_agent *agent, struct asm_step *step,
+    asm_numbers *numbers);
 
 /* WITHOUT TEXT: calls that do what asm_peek, asm_get, asm_push and asm_extend do, with a location
  * that is prepared once, and with a move that is gathered in a slot. No JSON is made or read, but for
@@ -426,21 +455,22 @@ typedef struct asm_value {
     int64_t number;
 } asm_value;
 
-/* Prepares the location LOC in an empty slot, for agents and steps of any storage. asm_free releases
- * it. ASM_TAKEN, ASM_NOT_JSON, ASM_SHAPE, ASM_MEMORY. */
-FOLUGBEN_NODISCARD int32_t asm_location(const uint8_t *location, size_t len, asm_slot *at);
+/* Prepares the location LOC in an empty slot, for agents and steps of any storage.
+ * asm_free_location releases it. ASM_TAKEN, ASM_NOT_JSON, ASM_SHAPE, ASM_MEMORY. */
+FOLUGBEN_NODISCARD int32_t asm_location(const uint8_t *location, size_t len,
+    struct asm_location *at);
 
 /* Tells the value at a prepared location in the agent's own state, which stands at `*number` moves.
  * The bytes of the value, if it is of a kind that has some, are written to the buffer. `*number` and
  * `*value` are 0 with each code but ASM_DONE. ASM_EMPTY (one of the slots), ASM_SMALL, ASM_MEMORY. */
-FOLUGBEN_NODISCARD int32_t asm_peek_at(asm_slot *agent, asm_slot *at, uint32_t *number,
-    asm_value *value, uint8_t *out, size_t room, size_t *written);
+FOLUGBEN_NODISCARD int32_t asm_peek_at(struct asm_agent *agent, struct asm_location *at,
+    uint32_t *number, asm_value *value, uint8_t *out, size_t room, size_t *written);
 
 /* Tells what is seen through the pushed moves at a prepared location, as asm_peek_at does. The
  * location is got as by asm_get. `*value` is 0 with each code but ASM_DONE. ASM_MANY: more than 256
  * places would be taken. ASM_MOVED, ASM_EMPTY (one of the slots), ASM_SMALL, ASM_MEMORY. */
-FOLUGBEN_NODISCARD int32_t asm_get_at(asm_slot *agent, asm_slot *step, asm_slot *at,
-    asm_value *value, uint8_t *out, size_t room, size_t *written);
+FOLUGBEN_NODISCARD int32_t asm_get_at(struct asm_agent *agent, struct asm_step *step,
+    struct asm_location *at, asm_value *value, uint8_t *out, size_t room, size_t *written);
 
 /* Puts an instruction at a prepared location behind those of the move in a slot; an empty slot holds
  * the move of this instruction then. The operand is told by its kind, its number (as in asm_value)
@@ -452,54 +482,55 @@ FOLUGBEN_NODISCARD int32_t asm_get_at(asm_slot *agent, asm_slot *step, asm_slot 
  * of no value of this kind, or the bytes of a text aren't UTF-8), ASM_MANY (the move has 4,096
  * instructions), ASM_MEMORY. ASM_TAKEN comes before all others; where several of these hold, one of
  * them is answered. */
-FOLUGBEN_NODISCARD int32_t asm_instruct(asm_slot *move, asm_slot *at, int32_t verb, int32_t kind,
-    int64_t number, const uint8_t *bytes, size_t len, uint32_t amount);
+FOLUGBEN_NODISCARD int32_t asm_instruct(struct asm_move *move, struct asm_location *at,
+    int32_t verb, int32_t kind, int64_t number, const uint8_t *bytes, size_t len, uint32_t amount);
 
 /* Appends the instructions of the other move to those of `move`: it is then the move that does what
  * both do at once, as the agents of a block in parallel do. Instructions that occur in both count twice.
  * An empty slot is the move of no instructions, so `move` holds a move afterwards. ASM_TAKEN (`move`
  * holds something else), before all others; ASM_EMPTY (`other` holds something else, or the two slots
  * are one); ASM_MANY (the two have more than 4,096 instructions together); ASM_MEMORY. */
-FOLUGBEN_NODISCARD int32_t asm_unite(asm_slot *move, asm_slot *other);
+FOLUGBEN_NODISCARD int32_t asm_unite(struct asm_move *move, struct asm_move *other);
 
-/* As asm_push and asm_extend, with the move in a slot, which stays there until asm_free. ASM_EMPTY:
+/* As asm_push and asm_extend, with the move in a slot, which stays there until asm_free_move. ASM_EMPTY:
  * one of the slots; an empty one has no move, not one of no instructions. */
-FOLUGBEN_NODISCARD int32_t asm_push_move(asm_slot *agent, asm_slot *step, asm_slot *move,
-    uint8_t *out, size_t room, size_t *written);
-FOLUGBEN_NODISCARD int32_t asm_extend_move(asm_slot *agent, asm_slot *step, asm_slot *move,
-    uint8_t *out, size_t room, size_t *written);
+FOLUGBEN_NODISCARD int32_t asm_push_move(struct asm_agent *agent, struct asm_step *step,
+    struct asm_move *move, uint8_t *out, size_t room, size_t *written);
+FOLUGBEN_NODISCARD int32_t asm_extend_move(struct asm_agent *agent, struct asm_step *step,
+    struct asm_move *move, uint8_t *out, size_t room, size_t *written);
 
 /* How many moves the agent has seen, how many it fired, and how many of its looks found no further
  * move; 0 for a slot without an agent. */
-uint32_t asm_seen(asm_slot *agent);
-uint32_t asm_won(asm_slot *agent);
-uint64_t asm_misses(asm_slot *agent);
+uint32_t asm_seen(struct asm_agent *agent);
+uint32_t asm_won(struct asm_agent *agent);
+uint64_t asm_misses(struct asm_agent *agent);
 
 /* How many moves were fired on the storage: `*moves` is that number. It looks along all of them,
  * and agents may fire more meanwhile. ASM_EMPTY. */
-FOLUGBEN_NODISCARD int32_t asm_moves(asm_slot *storage, uint32_t *moves);
+FOLUGBEN_NODISCARD int32_t asm_moves(struct asm_storage *storage, uint32_t *moves);
 
 /* Gives an agent back to its storage, in any order; its slot is then empty, and the journal of an
  * earlier asm_close is discarded. ASM_EMPTY (one of the slots), ASM_OTHER, ASM_MEMORY, and
  * ASM_NUMBER for an agent of another storage, if it isn't told as such: of one storage no two
  * agents have the same number. */
-FOLUGBEN_NODISCARD int32_t asm_give(asm_slot *storage, asm_slot *agent);
+FOLUGBEN_NODISCARD int32_t asm_give(struct asm_storage *storage, struct asm_agent *agent);
 
 /* Takes an agent that was given back out of its storage again, in an empty slot: it goes on where it
  * was, with its number and its receipts. So agents that leave and come again need no further numbers.
  * The journal of an earlier asm_close is discarded. ASM_TAKEN (`agent` is full), ASM_EMPTY
  * (`storage`), ASM_NONE (no agent with this number was given back), ASM_MEMORY; the first of these that
  * holds is answered. */
-FOLUGBEN_NODISCARD int32_t asm_take(asm_slot *storage, uint32_t number, asm_slot *agent);
+FOLUGBEN_NODISCARD int32_t asm_take(struct asm_storage *storage, uint32_t number,
+    struct asm_agent *agent);
 
 /* Makes the journal of the agents that were given back, if they have a receipt of every move that
  * was fired before this call. ASM_MISSING: the move `*number`, the least such, has none among
  * them; give back the agent that fired it, and close again. The moves of an agent that was freed
  * are missing for good. Else `*number` is 0. ASM_EMPTY, ASM_LARGE, ASM_MEMORY. */
-FOLUGBEN_NODISCARD int32_t asm_close(asm_slot *storage, uint32_t *number);
+FOLUGBEN_NODISCARD int32_t asm_close(struct asm_storage *storage, uint32_t *number);
 
 /* Writes the journal that asm_close made. ASM_EMPTY, ASM_NONE, ASM_SMALL. */
-FOLUGBEN_NODISCARD int32_t asm_journal(asm_slot *storage, uint8_t *out, size_t room,
+FOLUGBEN_NODISCARD int32_t asm_journal(struct asm_storage *storage, uint8_t *out, size_t room,
     size_t *written);
 
 /* Opens a storage for 1 to 1,048,576 moves, in an empty slot, that goes on where a closed one ended:
@@ -509,7 +540,8 @@ FOLUGBEN_NODISCARD int32_t asm_journal(asm_slot *storage, uint8_t *out, size_t r
  * The journals of both, one after the other, tell one run; moves that were fired after asm_close
  * are in neither. ASM_TAKEN (`next`), ASM_EMPTY (`storage`), ASM_NONE, ASM_RANGE (the capacity),
  * ASM_MEMORY. */
-FOLUGBEN_NODISCARD int32_t asm_next(asm_slot *storage, uint32_t capacity, asm_slot *next);
+FOLUGBEN_NODISCARD int32_t asm_next(struct asm_storage *storage, uint32_t capacity,
+    struct asm_storage *next);
 
 /* Opens a storage for 1 to 1,048,576 moves, in an empty slot, with the agent's own state, where that
  * stands at all moves that its storage has room for: that storage is full, and the agent has looked
@@ -518,11 +550,38 @@ FOLUGBEN_NODISCARD int32_t asm_next(asm_slot *storage, uint32_t capacity, asm_sl
  * one after the other, tell one run. Numbers begin at 0, as after asm_next. ASM_TAKEN (`next`),
  * ASM_EMPTY (`agent`), ASM_NONE (the agent's own state stands at fewer moves), ASM_RANGE (the
  * capacity), ASM_MEMORY; the first of these that holds is answered. */
-FOLUGBEN_NODISCARD int32_t asm_go_on(asm_slot *agent, uint32_t capacity, asm_slot *next);
+FOLUGBEN_NODISCARD int32_t asm_go_on(struct asm_agent *agent, uint32_t capacity,
+    struct asm_storage *next);
 
-/* Releases what the slot holds, if anything, and leaves it empty. The memory of a storage is
- * freed with the last slot that holds it or an agent of it. */
+/* Releases what the slot holds, if anything, and leaves it empty. The memory of a storage is freed with
+ * the last slot that holds it or an agent of it. */
 void asm_free(asm_slot *slot);
+
+/* The same for each kind; NULL is allowed here. */
+static inline void asm_free_storage(struct asm_storage *storage) {
+    if (storage)
+        asm_free(&storage->slot);
+}
+static inline void asm_free_agent(struct asm_agent *agent) {
+    if (agent)
+        asm_free(&agent->slot);
+}
+static inline void asm_free_step(struct asm_step *step) {
+    if (step)
+        asm_free(&step->slot);
+}
+static inline void asm_free_location(struct asm_location *at) {
+    if (at)
+        asm_free(&at->slot);
+}
+static inline void asm_free_move(struct asm_move *move) {
+    if (move)
+        asm_free(&move->slot);
+}
+static inline void asm_free_audit(struct asm_audit *audit) {
+    if (audit)
+        asm_free(&audit->slot);
+}
 
 /* Checks a journal: whether each answer is the one that a storage of one thread gives there.
  * ASM_DONE: it is legal, with the numbers of its calls and of its moves. ASM_ILLEGAL: `*calls` is
@@ -533,7 +592,7 @@ FOLUGBEN_NODISCARD int32_t asm_check(const uint8_t *journal, size_t len, uint64_
 
 /* AN AUDIT checks a run of any length as its bytes come: parts, each a whole journal, one behind the
  * other, each of which opens with the state that the one before it leaves. It holds that state and the
- * line that hasn't ended. asm_free abandons it. */
+ * line that hasn't ended. asm_free_audit abandons it. */
 
 /* The numbers of an audit; what a code isn't said to set is 0. */
 typedef struct asm_audit_numbers {
@@ -552,17 +611,17 @@ typedef struct asm_audit_numbers {
  * ASM_CUT and ASM_APART, with the part: the first fault. ASM_LARGE: a line of more than 16,777,216
  * bytes. ASM_MEMORY: pass the bytes that weren't taken again. ASM_TAKEN: `audit` holds something
  * else. */
-FOLUGBEN_NODISCARD int32_t asm_audit(asm_slot *audit, const uint8_t *bytes, size_t len,
+FOLUGBEN_NODISCARD int32_t asm_audit(struct asm_audit *audit, const uint8_t *bytes, size_t len,
     size_t *taken, asm_audit_numbers *told);
 
 /* Tells what is so if no further byte comes; more may come. ASM_DONE: the run is whole parts, one at
  * least, and legal, with its numbers. ASM_CUT, ASM_NOT_JSON: its last part or its last line isn't
  * whole, with the numbers that asm_audit tells with them. ASM_EMPTY, ASM_MEMORY. */
-FOLUGBEN_NODISCARD int32_t asm_audited(asm_slot *audit, asm_audit_numbers *told);
+FOLUGBEN_NODISCARD int32_t asm_audited(struct asm_audit *audit, asm_audit_numbers *told);
 
 /* Writes the state [PAIR, ..] that the moves so far leave, in ascending order of locations. ASM_EMPTY,
  * ASM_NONE (no part has begun), ASM_SMALL, ASM_MEMORY. */
-FOLUGBEN_NODISCARD int32_t asm_audit_state(asm_slot *audit, uint8_t *out, size_t room,
+FOLUGBEN_NODISCARD int32_t asm_audit_state(struct asm_audit *audit, uint8_t *out, size_t room,
     size_t *written);
 
 /* Writes the state [PAIR, ..] that the moves of a journal leave, with its locations in ascending

@@ -160,27 +160,27 @@ inline const std::uint8_t *bytes(std::string_view text) noexcept { return reinte
 constexpr bool is_conflict(code it) noexcept { return it == code::stale || it == code::busy || it == code::clash; }
 
 // The slot of what was moved from, which is empty: calls that would fill it aren't made.
-inline asm_slot *nothing() noexcept {
-    thread_local asm_slot empty{};
+template <class Handle> Handle *nothing() noexcept {
+    thread_local Handle empty{};
     return &empty;
 }
 
 // A slot that never moves, and is released with its owner.
-class held {
+template <class Handle> class held {
   public:
-    held() : at_(new asm_slot{}) {}
-    asm_slot *get() const noexcept { return at_ ? at_.get() : nothing(); }
+    held() : at_(new Handle{}) {}
+    Handle *get() const noexcept { return at_ ? at_.get() : nothing<Handle>(); }
     // Whether it wasn't moved from.
     explicit operator bool() const noexcept { return bool(at_); }
 
   private:
     struct release {
-        void operator()(asm_slot *slot) const noexcept {
-            asm_free(slot);
-            delete slot;
+        void operator()(Handle *handle) const noexcept {
+            asm_free(&handle->slot);
+            delete handle;
         }
     };
-    std::unique_ptr<asm_slot, release> at_;
+    std::unique_ptr<Handle, release> at_;
 };
 
 // Makes a call that writes a text, again with more room where there is too little. The text is then the call's, with any code.
@@ -543,7 +543,7 @@ class location {
         it.prepare(json);
         return it;
     }
-    asm_slot *get() const noexcept { return slot_.get(); }
+    struct asm_location *get() const noexcept { return slot_.get(); }
 
   private:
     location() = default;
@@ -552,7 +552,7 @@ class location {
         if (detail::is_refused(it)) detail::fail(it, detail::explained(ASM_FORM_LOCATIONS, detail::within("[", json, "]")));
         detail::done(it);
     }
-    detail::held slot_;
+    detail::held<struct asm_location> slot_;
 };
 
 // An operand of an instruction: an element, what was told of a location, a set or a bag; sets and bags can be put alone. It has no
@@ -584,7 +584,7 @@ class operand {
         if (kind_ < ASM_KIND_LIST) return {};
         return detail::explained(ASM_FORM_MOVE, detail::within("{\"fire\":[[\"put\",[\"at\"],", text(), "]],\"reads\":[]}"));
     }
-    code into(asm_slot *move, const location &at, asm_verb verb, std::uint32_t amount) const noexcept {
+    code into(struct asm_move *move, const location &at, asm_verb verb, std::uint32_t amount) const noexcept {
         return code{asm_instruct(move, at.get(), verb, kind_, number_, detail::bytes(text()), text().size(), amount)};
     }
 
@@ -614,12 +614,12 @@ class instructions {
     instructions &bag_remove(const location &at, const operand &what, std::uint32_t n) { return with(ASM_BAGREMOVE, at, what, n); }
     instructions &inc(const location &at, std::int64_t by) { return with(ASM_INC, at, by); }
     instructions &clear() noexcept {
-        asm_free(slot_.get());
+        asm_free_move(slot_.get());
         size_ = 0;
         return *this;
     }
     std::size_t size() const noexcept { return size_; }
-    asm_slot *get() const noexcept { return slot_.get(); }
+    struct asm_move *get() const noexcept { return slot_.get(); }
 
   private:
     friend class step;
@@ -628,7 +628,7 @@ class instructions {
         detail::done(it, detail::is_refused(it) ? what.refusal() : std::string());
         return *this;
     }
-    detail::held slot_;
+    detail::held<struct asm_move> slot_;
     std::size_t size_ = 0;
 };
 
@@ -638,12 +638,12 @@ class storage;
 namespace detail {
 
 struct shared {
-    held storage;
+    held<struct asm_storage> storage;
     std::mutex lock;
-    std::vector<held> waiting; // agents that were let go when there was no memory to give them back
+    std::vector<held<struct asm_agent>> waiting; // agents that were let go when there was no memory to give them back
 
     shared() { waiting.reserve(256); }
-    void give(held agent) noexcept {
+    void give(held<struct asm_agent> agent) noexcept {
         std::lock_guard<std::mutex> guard(lock);
         if (asm_give(storage.get(), agent.get()) != ASM_DONE) waiting.push_back(std::move(agent));
     }
@@ -665,16 +665,16 @@ struct seat {
     seat &operator=(const seat &) = delete;
 
     void give() noexcept {
-        held last = std::move(slot); // what its steps find from now on is empty
-        if (of && last.get()->full) of->give(std::move(last));
+        held<struct asm_agent> last = std::move(slot); // what its steps find from now on is empty
+        if (of && last.get()->slot.full) of->give(std::move(last));
         of.reset();
     }
-    held slot;
+    held<struct asm_agent> slot;
     std::shared_ptr<shared> of;
 };
 
 // What the last answered call of an agent was answered.
-inline std::string answer(asm_slot *agent) {
+inline std::string answer(struct asm_agent *agent) {
     std::string text;
     done(told([&](auto *out, auto room, auto *written) { return asm_answer(agent, out, room, written); }, text));
     return text;
@@ -739,17 +739,17 @@ class step {
     [[nodiscard]] code try_fire(asm_numbers &numbers) noexcept;
     std::uint32_t fire();
 
-    asm_slot *get_slot() const noexcept { return slot_.get(); }
+    struct asm_step *get_slot() const noexcept { return slot_.get(); }
 
   private:
     friend class agent;
     explicit step(std::shared_ptr<detail::seat> seat) : seat_(std::move(seat)) {}
-    asm_slot *get_agent() const noexcept { return seat_ ? seat_->slot.get() : detail::nothing(); }
+    struct asm_agent *get_agent() const noexcept { return seat_ ? seat_->slot.get() : detail::nothing<struct asm_agent>(); }
     template <class Call, class ByText> code grow(Call call, ByText by_text, const instructions &move, std::string &text) noexcept;
     template <class Call> void grow_json(Call call, std::string_view move);
     template <class Call> std::string tell_json(Call call, std::string_view locations);
     std::shared_ptr<detail::seat> seat_;
-    detail::held slot_;
+    detail::held<struct asm_step> slot_;
     std::uint32_t number_ = 0;
 };
 
@@ -886,8 +886,8 @@ class agent {
     storage go_on(std::uint32_t capacity);
 
     // Lets the agent go without giving it back: what it fired is missing in each journal.
-    void abandon() noexcept { asm_free(get()); }
-    asm_slot *get() const noexcept { return seat_ ? seat_->slot.get() : detail::nothing(); }
+    void abandon() noexcept { asm_free_agent(get()); }
+    struct asm_agent *get() const noexcept { return seat_ ? seat_->slot.get() : detail::nothing<struct asm_agent>(); }
 
   private:
     friend class storage;
@@ -1175,7 +1175,7 @@ class auditor {
         if (it == code::memory) throw std::bad_alloc();
         if (it != code::done) throw audit_error(it, told);
     }
-    detail::held slot_;
+    detail::held<struct asm_audit> slot_;
     code fault_ = code::done;
     asm_audit_numbers at_{};
 };

@@ -19,11 +19,14 @@ enum { AGENTS = 8, ROOM = 1024 };
 /* One agent with its step, the move that it gathers and the locations that it writes, and with what
  * became of its fires. */
 typedef struct worker {
-    asm_slot agent, step, move, count, own, seen;
+    struct asm_agent agent;
+    struct asm_step step;
+    struct asm_move move;
+    struct asm_location count, own, seen;
     unsigned number, fired, stale, busy;
 } worker;
 
-static asm_slot storage;
+static struct asm_storage storage;
 static worker workers[AGENTS];
 
 /* Ends the program where a call wasn't answered as it has to be. */
@@ -47,7 +50,7 @@ static void require(bool holds, const char *what) {
 static const uint8_t *bytes(const char *text) { return (const uint8_t *)text; }
 
 /* Reads the locations and writes the answer, with a zero byte at its end. */
-static void read_text(asm_slot *agent, const char *locations, char *out, size_t room) {
+static void read_text(struct asm_agent *agent, const char *locations, char *out, size_t room) {
     size_t written;
     expect(asm_read(agent, bytes(locations), strlen(locations)), ASM_DONE, "asm_read");
     expect(asm_answer(agent, (uint8_t *)out, room - 1, &written), ASM_DONE, "asm_answer");
@@ -55,7 +58,7 @@ static void read_text(asm_slot *agent, const char *locations, char *out, size_t 
 }
 
 /* Puts an instruction with a number into the move. */
-static void instruct(worker *w, asm_slot *at, int32_t verb, int64_t number) {
+static void instruct(worker *w, struct asm_location *at, int32_t verb, int64_t number) {
     expect(asm_instruct(&w->move, at, verb, ASM_KIND_NUM, number, NULL, 0, 0), ASM_DONE,
            "asm_instruct");
 }
@@ -75,7 +78,7 @@ static void add_one(worker *w) {
     instruct(w, &w->seen, ASM_ADD, count.number);
     expect(asm_push_move(&w->agent, &w->step, &w->move, NULL, 0, &written), ASM_DONE,
            "asm_push_move");
-    asm_free(&w->move);
+    asm_free_move(&w->move);
     int32_t code = asm_commit(&w->agent, &w->step, &numbers);
     switch (code) {
     case ASM_DONE:
@@ -94,7 +97,7 @@ static void add_one(worker *w) {
     }
 }
 
-static void prepare(const char *location, asm_slot *at) {
+static void prepare(const char *location, struct asm_location *at) {
     expect(asm_location(bytes(location), strlen(location), at), ASM_DONE, "asm_location");
 }
 
@@ -112,10 +115,10 @@ static void make_worker(worker *w, unsigned number) {
 /* Gives the agent back, and releases all else. */
 static void end_worker(worker *w) {
     expect(asm_give(&storage, &w->agent), ASM_DONE, "asm_give");
-    asm_free(&w->step);
-    asm_free(&w->count);
-    asm_free(&w->own);
-    asm_free(&w->seen);
+    asm_free_step(&w->step);
+    asm_free_location(&w->count);
+    asm_free_location(&w->own);
+    asm_free_location(&w->seen);
 }
 
 static void *work(void *argument) {
@@ -136,7 +139,7 @@ static void run_threads(void) {
 /* What the count and the own locations are, as the text of a state, read by an agent that learns of
  * the last move. */
 static void read_state(char *state, size_t room) {
-    asm_slot reader = {0};
+    struct asm_agent reader = {0};
     char text[ROOM], locations[ROOM] = "[[\"count\"]";
     expect(asm_agent(&storage, AGENTS, &reader), ASM_DONE, "asm_agent");
     for (size_t i = 0; i < AGENTS; i++)
@@ -216,6 +219,6 @@ int main(int argc, char **argv) {
     if (argc > 1)
         save(argv[1], journal, len);
     free(journal);
-    asm_free(&storage);
+    asm_free_storage(&storage);
     return 0;
 }

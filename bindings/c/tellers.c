@@ -18,7 +18,9 @@ static void require(bool holds, const char *what) {
 }
 
 static void *teller(void *agent) {
-    asm_slot at = {0}, step = {0}, move = {0};
+    struct asm_location at = {0};
+    struct asm_step step = {0};
+    struct asm_move move = {0};
     asm_value balance;
     asm_numbers numbers;
     uint32_t number;
@@ -29,18 +31,20 @@ static void *teller(void *agent) {
         DONE(asm_get_at(agent, &step, &at, &balance, NULL, 0, &length));
         DONE(asm_instruct(&move, &at, ASM_PUT, ASM_KIND_NUM, balance.number + 10, NULL, 0, 0));
         DONE(asm_push_move(agent, &step, &move, NULL, 0, &length));
-        asm_free(&move);
+        asm_free_move(&move);
         int32_t code = asm_commit(agent, &step, &numbers);
         require(code == ASM_DONE || code == ASM_STALE || code == ASM_BUSY, "asm_commit");
         done += code == ASM_DONE; /* else the other was quicker, so begin again */
     }
-    asm_free(&step);
-    asm_free(&at);
+    asm_free_step(&step);
+    asm_free_location(&at);
     return NULL;
 }
 
 int main(void) {
-    asm_slot storage = {0}, agents[2] = {{0}, {0}}, at = {0};
+    struct asm_storage storage = {0};
+    struct asm_agent agents[2] = {0};
+    struct asm_location at = {0};
     asm_value balance;
     uint32_t number, missing;
     size_t length;
@@ -58,7 +62,7 @@ int main(void) {
     DONE(asm_give(&storage, &agents[1]));
     DONE(asm_close(&storage, &missing)); /* then asm_journal writes the journal */
     printf("%" PRIu32 " moves, balance %" PRId64 "\n", number, balance.number);
-    asm_free(&at);
-    asm_free(&storage);
+    asm_free_location(&at);
+    asm_free_storage(&storage);
     return 0;
 }

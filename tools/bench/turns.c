@@ -15,7 +15,11 @@ enum { MOST_AGENTS = 256, LOCATIONS = 64, ROUNDS = 9, MOVES = 100000, QUICK_MOVE
 
 #define REQUIRE(holds) require((holds), #holds, __LINE__)
 
-static asm_slot storage, agents[MOST_AGENTS], step, move, at[LOCATIONS];
+static struct asm_storage storage;
+static struct asm_agent agents[MOST_AGENTS];
+static struct asm_step step;
+static struct asm_move move;
+static struct asm_location at[LOCATIONS];
 
 static void require(bool holds, const char *what, int line) {
     if (!holds) {
@@ -30,7 +34,7 @@ static double now(void) {
     return 1e9 * (double)time.tv_sec + (double)time.tv_nsec;
 }
 
-static void add_one(asm_slot *agent, asm_slot *place) {
+static void add_one(struct asm_agent *agent, struct asm_location *place) {
     uint32_t number;
     size_t written;
     asm_value value;
@@ -40,7 +44,7 @@ static void add_one(asm_slot *agent, asm_slot *place) {
     REQUIRE(asm_instruct(&move, place, ASM_PUT, ASM_KIND_NUM, value.number + 1, NULL, 0, 0) ==
             ASM_DONE);
     REQUIRE(asm_push_move(agent, &step, &move, NULL, 0, &written) == ASM_DONE);
-    asm_free(&move);
+    asm_free_move(&move);
     REQUIRE(asm_commit(agent, &step, &numbers) == ASM_DONE);
 }
 
@@ -66,10 +70,10 @@ static double time_of(size_t count, uint32_t moves) {
     }
     double time = (now() - begin) / moves;
     for (size_t i = 0; i < count; i++)
-        asm_free(&agents[i]);
+        asm_free_agent(&agents[i]);
     for (size_t i = 0; i < LOCATIONS; i++)
-        asm_free(&at[i]);
-    asm_free(&storage);
+        asm_free_location(&at[i]);
+    asm_free_storage(&storage);
     return time;
 }
 

@@ -3,7 +3,8 @@
 
 static const char *const opening = "[[['s'],{'set':[1,'two']}],[['x'],7]]";
 
-static asm_slot storage, agents[2];
+static struct asm_storage storage;
+static struct asm_agent agents[2];
 
 static void begin_all(void) {
     open_with(opening, 2, &storage);
@@ -11,12 +12,12 @@ static void begin_all(void) {
 }
 
 static void end_all(void) {
-    asm_free(&storage);
-    asm_free(&agents[0]);
-    asm_free(&agents[1]);
+    asm_free_storage(&storage);
+    asm_free_agent(&agents[0]);
+    asm_free_agent(&agents[1]);
 }
 
-static void answered(asm_slot *agent, const char *answer) {
+static void answered(struct asm_agent *agent, const char *answer) {
     TELLS(ASM_DONE, answer, asm_answer(agent, OUT));
 }
 
@@ -83,7 +84,8 @@ static const struct fires {
 };
 
 static void fires_as(const struct fires *row) {
-    asm_slot *agent = &agents[row->agent], was = *agent;
+    struct asm_agent *agent = &agents[row->agent];
+    asm_slot was = agent->slot;
     asm_numbers numbers = {9, 9, 9};
     int32_t code = row->scans
                        ? asm_try_fire_over(agent, TEXT(row->call), TEXT(row->scans), &numbers)
@@ -128,14 +130,14 @@ static void many_scans(void) {
 }
 
 /* A slot without an agent fires nothing over scans. */
-static void on_nothing(asm_slot *slot) {
-    asm_slot was = *slot;
+static void on_nothing(struct asm_agent *agent) {
+    asm_slot was = agent->slot;
     asm_numbers numbers = {9, 9, 9};
-    REQUIRE(asm_try_fire_over(slot, TEXT(PUT), TEXT("[]"), &numbers) == ASM_EMPTY);
-    REQUIRE(numbers.fired == 0 && numbers.from == 0 && numbers.to == 0 && is_same(*slot, was));
+    REQUIRE(asm_try_fire_over(agent, TEXT(PUT), TEXT("[]"), &numbers) == ASM_EMPTY);
+    REQUIRE(numbers.fired == 0 && numbers.from == 0 && numbers.to == 0 && is_same(*agent, was));
 }
 
-static void counts(asm_slot *agent, uint32_t seen, uint32_t won, uint64_t misses) {
+static void counts(struct asm_agent *agent, uint32_t seen, uint32_t won, uint64_t misses) {
     REQUIRE(asm_seen(agent) == seen && asm_won(agent) == won && asm_misses(agent) == misses);
 }
 
@@ -152,12 +154,12 @@ static void learning(void) {
 }
 
 int main(void) {
-    asm_slot empty = {0};
+    struct asm_agent empty = {0};
     reads();
     each_fire();
     many_scans();
     begin_all();
-    on_nothing(&storage);
+    on_nothing(AS(agent, &storage));
     end_all();
     on_nothing(&empty);
     learning();

@@ -15,7 +15,9 @@
 
 enum { OTHERS = 2, INSTRS = 4096, TRIES = 100, CAPACITY = 1000000 };
 
-static asm_slot storage, agents[OTHERS + 1], step;
+static struct asm_storage storage;
+static struct asm_agent agents[OTHERS + 1];
+static struct asm_step step;
 static atomic_bool is_over;
 static char *move;
 
@@ -53,7 +55,7 @@ static char *long_move(void) {
     return text;
 }
 
-static int32_t fire_long(asm_slot *agent, asm_numbers *numbers) {
+static int32_t fire_long(struct asm_agent *agent, asm_numbers *numbers) {
     size_t room = strlen(move) + 64;
     char *call = malloc(room);
     REQUIRE(call != NULL);
@@ -63,7 +65,7 @@ static int32_t fire_long(asm_slot *agent, asm_numbers *numbers) {
     return code;
 }
 
-static void begin_step(asm_slot *agent) {
+static void begin_step(struct asm_agent *agent) {
     uint32_t number;
     size_t written;
     REQUIRE(asm_begin(agent, &step, &number) == ASM_DONE);
@@ -71,18 +73,18 @@ static void begin_step(asm_slot *agent) {
 }
 
 /* A step that was busy is committed again as it stands. */
-static int32_t commit_long(asm_slot *agent, asm_numbers *numbers) {
-    if (!step.full)
+static int32_t commit_long(struct asm_agent *agent, asm_numbers *numbers) {
+    if (!step.slot.full)
         begin_step(agent);
     int32_t code = asm_commit(agent, &step, numbers);
-    REQUIRE(step.full == (code != ASM_DONE) && asm_depth(&step) == step.full);
+    REQUIRE(step.slot.full == (code != ASM_DONE) && asm_depth(&step) == step.slot.full);
     return code;
 }
 
-typedef int32_t fire(asm_slot *agent, asm_numbers *numbers);
+typedef int32_t fire(struct asm_agent *agent, asm_numbers *numbers);
 
 /* Whether the fire was busy; else it was fired, as its agent was quicker once. */
-static bool is_busy(fire *call, asm_slot *agent) {
+static bool is_busy(fire *call, struct asm_agent *agent) {
     asm_numbers numbers = {9, 9, 9};
     uint32_t seen = asm_seen(agent), won = asm_won(agent);
     int32_t code = call(agent, &numbers);
@@ -123,7 +125,7 @@ static void close_all(void) {
     REQUIRE(journal != NULL && asm_journal(&storage, journal, len, &len) == ASM_DONE);
     REQUIRE(asm_check(journal, len, &calls, &moves) == ASM_DONE && moves == won && calls == won);
     free(journal);
-    asm_free(&storage);
+    asm_free_storage(&storage);
 }
 
 /* Of moves that were fired, of those that were offered in vain, and of one that was pushed alone,
@@ -132,12 +134,12 @@ static void release_all(void) {
     uint32_t number, moves;
     begin_step(&agents[0]);
     REQUIRE(asm_moves(&storage, &moves) == ASM_DONE && moves >= asm_seen(&agents[0]));
-    asm_free(&agents[0]);
+    asm_free_agent(&agents[0]);
     REQUIRE(asm_close(&storage, &number) == ASM_MISSING && number == 1);
-    asm_free(&storage);
+    asm_free_storage(&storage);
     for (int i = 1; i <= OTHERS; i++)
-        asm_free(&agents[i]);
-    asm_free(&step);
+        asm_free_agent(&agents[i]);
+    asm_free_step(&step);
 }
 
 int main(void) {

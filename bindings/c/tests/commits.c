@@ -106,7 +106,7 @@ static void begun_again(void) {
 }
 
 static void moved(void) {
-    asm_slot was[2] = {agents[0], step};
+    asm_slot was[2] = {agents[0].slot, step.slot};
     uint32_t depth = asm_depth(&step);
     ANSWERS(ASM_MOVED, asm_get(&agents[0], &step, TEXT("[]"), OUT));
     ANSWERS(ASM_MOVED, asm_see(&agents[0], &step, TEXT("[]"), OUT));
@@ -139,10 +139,10 @@ static void fires_on(void) {
 }
 
 static void begins_another(void) {
-    asm_slot another = {0};
+    struct asm_step another = {0};
     uint32_t number;
     REQUIRE(asm_begin(&agents[0], &another, &number) == ASM_DONE && number > 0);
-    asm_free(&another);
+    asm_free_step(&another);
 }
 
 /* An agent whose state has moved on gets and pushes nothing; what doesn't move it leaves the step
@@ -176,8 +176,8 @@ static void moved_agents(void) {
 static void full_storages(void) {
     begin_with(1);
     push("[['put',['x'],1]]");
-    asm_free(&step);
-    REQUIRE(!step.full && step.at == NULL && asm_depth(&step) == 0);
+    asm_free_step(&step);
+    REQUIRE(!step.slot.full && step.slot.at == NULL && asm_depth(&step) == 0);
     begins_at(0);
     push("[['put',['x'],2]]");
     fire(&agents[1], "[]");
@@ -209,7 +209,7 @@ static void shared_steps(void) {
     ANSWERS(ASM_MOVED, asm_get(&agents[1], &step, TEXT("[['x']]"), OUT));
     push("[['inc',['x'],1]]");
     REQUIRE(asm_commit(&agents[1], &step, &numbers) == ASM_DONE && numbers.fired == 2);
-    REQUIRE(!step.full && asm_won(&agents[1]) == 2 && asm_won(&agents[0]) == 0);
+    REQUIRE(!step.slot.full && asm_won(&agents[1]) == 2 && asm_won(&agents[0]) == 0);
     journal_is("{'agent':1,'call':{'fire':[['put',['y'],1]],'reads':[]},'reply':{'fired':1}}\n"
                "{'agent':1,'call':{'fire':[['inc',['x'],2]],'reads':[[['c'],0],[['x'],0]]},"
                "'reply':{'fired':2}}\n",
@@ -221,10 +221,11 @@ static void shared_steps(void) {
  * step, until it has followed. */
 static void is_behind(void) {
     asm_value value = {9, 9};
-    asm_slot at = {0}, move = {0};
+    struct asm_location at = {0};
+    struct asm_move move = {0};
     REQUIRE(asm_location(TEXT("['x']"), &at) == ASM_DONE);
     REQUIRE(asm_instruct(&move, &at, ASM_INC, ASM_KIND_NUM, 1, NULL, 0, 0) == ASM_DONE);
-    asm_slot was[2] = {agents[1], step};
+    asm_slot was[2] = {agents[1].slot, step.slot};
     uint32_t depth = asm_depth(&step), seen = asm_seen(&agents[1]);
     ANSWERS(ASM_MOVED, asm_get(&agents[1], &step, TEXT("[['x']]"), OUT));
     ANSWERS(ASM_MOVED, asm_get_all(&agents[1], &step, TEXT("x"), OUT));
@@ -235,8 +236,8 @@ static void is_behind(void) {
     ANSWERS(ASM_MOVED, asm_extend_move(&agents[1], &step, &move, OUT));
     REQUIRE(is_same(agents[1], was[0]) && is_same(step, was[1]) && asm_depth(&step) == depth);
     REQUIRE(asm_seen(&agents[1]) == seen && value.kind == 0 && value.number == 0);
-    asm_free(&at);
-    asm_free(&move);
+    asm_free_location(&at);
+    asm_free_move(&move);
 }
 
 static void agents_behind(void) {
@@ -257,26 +258,27 @@ static void agents_behind(void) {
     ANSWERS(ASM_DONE, asm_push(&agents[1], &step, TEXT("[['inc',['x'],1]]"), OUT));
     gets("['x']", 1, "71");
     /* One that is behind may commit: it looks on first, and all is named at the step's number. */
-    asm_slot third = {0};
+    struct asm_agent third = {0};
     REQUIRE(asm_agent(&storage, 2, &third) == ASM_DONE && asm_seen(&third) == 0);
     REQUIRE(asm_commit(&third, &step, &numbers) == ASM_DONE && numbers.fired == 2);
-    REQUIRE(!step.full && asm_seen(&third) == 2 && asm_won(&third) == 1);
-    asm_free(&third);
+    REQUIRE(!step.slot.full && asm_seen(&third) == 2 && asm_won(&third) == 1);
+    asm_free_agent(&third);
     /* And is stale where something was written since, though it saw neither. */
     REQUIRE(asm_agent(&storage, 3, &third) == ASM_DONE);
     begins_at(2);
     gets("['x']", 2, "71");
     fire(&agents[0], "[['put',['x'],7]]");
-    REQUIRE(asm_commit(&third, &step, &numbers) == ASM_STALE && step.full);
+    REQUIRE(asm_commit(&third, &step, &numbers) == ASM_STALE && step.slot.full);
     TELLS(ASM_DONE, "{'stale':['x']}", asm_answer(&third, OUT));
-    asm_free(&third);
+    asm_free_agent(&third);
     end_all();
 }
 
 /* What an agent of another storage makes of a step has no meaning, but does no harm: of a push over
  * the one state the commit on the other clashes, and both journals are legal. */
 static void steps_of_another_storage(void) {
-    asm_slot other = {0}, agent = {0};
+    struct asm_storage other = {0};
+    struct asm_agent agent = {0};
     asm_numbers numbers = {9, 9, 9};
     begin_with(8);
     open_with("[[['x'],{'set':[]}]]", 8, &other);
@@ -289,7 +291,7 @@ static void steps_of_another_storage(void) {
     char *journal = journal_of(&other);
     is_legal(journal, 1, 1);
     free(journal);
-    asm_free(&other);
+    asm_free_storage(&other);
     journal_is("{'agent':0,'call':{'fire':[['add',['x'],1]],'reads':[[['x'],0]]},"
                "'reply':{'clash':[['x'],'Kind']}}\n",
                1, 0);

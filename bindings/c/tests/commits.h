@@ -6,7 +6,9 @@
 
 static const char *const opening = "[[['c'],0],[['s'],{'set':[1]}],[['x'],7],[['y'],9]]";
 
-static asm_slot storage, agents[2], step;
+static struct asm_storage storage;
+static struct asm_agent agents[2];
+static struct asm_step step;
 
 static inline void begin_with(uint32_t capacity) {
     uint32_t number = 9;
@@ -16,10 +18,10 @@ static inline void begin_with(uint32_t capacity) {
 }
 
 static inline void end_all(void) {
-    asm_free(&storage);
-    asm_free(&agents[0]);
-    asm_free(&agents[1]);
-    asm_free(&step);
+    asm_free_storage(&storage);
+    asm_free_agent(&agents[0]);
+    asm_free_agent(&agents[1]);
+    asm_free_step(&step);
 }
 
 static inline void begins_at(uint32_t wanted) {
@@ -44,7 +46,7 @@ static inline void gets(const char *location, uint32_t number, const char *value
 
 /* The commit is refused with this code and this answer, and the step stays. */
 static inline void refused(int32_t wanted, const char *answer) {
-    asm_slot was[2] = {agents[0], step};
+    asm_slot was[2] = {agents[0].slot, step.slot};
     asm_numbers numbers = {9, 9, 9};
     uint32_t depth = asm_depth(&step), won = asm_won(&agents[0]);
     REQUIRE(asm_commit(&agents[0], &step, &numbers) == wanted);
@@ -62,7 +64,7 @@ static inline void fired(uint32_t move) {
     uint32_t won = asm_won(&agents[0]);
     REQUIRE(asm_commit(&agents[0], &step, &numbers) == ASM_DONE);
     REQUIRE(numbers.fired == move && numbers.from == 0 && numbers.to == 0);
-    REQUIRE(!step.full && step.at == NULL && asm_depth(&step) == 0);
+    REQUIRE(!step.slot.full && step.slot.at == NULL && asm_depth(&step) == 0);
     REQUIRE(asm_won(&agents[0]) == won + 1 && asm_seen(&agents[0]) == move);
     snprintf(answer, sizeof answer, "{'fired':%" PRIu32 "}", move);
     TELLS(ASM_DONE, answer, asm_answer(&agents[0], OUT));

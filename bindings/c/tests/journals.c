@@ -9,7 +9,8 @@ static const char *const journal =
 
 /* The journal of two agents is the same in whichever order they are given back. */
 static void closes(size_t first) {
-    asm_slot storage = {0}, agents[2] = {{0}, {0}};
+    struct asm_storage storage = {0};
+    struct asm_agent agents[2] = {0};
     uint32_t number = 9;
     open_with("[[['x'],7],[['s'],{'set':['two',1]}]]", 2, &storage);
     REQUIRE(asm_agent(&storage, 1, &agents[0]) == ASM_DONE);
@@ -17,11 +18,11 @@ static void closes(size_t first) {
     fire(&agents[0], "[['inc',['x'],2]]");
     REQUIRE(asm_read(&agents[1], TEXT("[['x']]")) == ASM_DONE);
     ANSWERS(ASM_NONE, asm_journal(&storage, OUT));
-    REQUIRE(asm_give(&storage, &agents[first]) == ASM_DONE && !agents[first].full);
-    REQUIRE(asm_give(&storage, &agents[!first]) == ASM_DONE && !agents[!first].full);
+    REQUIRE(asm_give(&storage, &agents[first]) == ASM_DONE && !agents[first].slot.full);
+    REQUIRE(asm_give(&storage, &agents[!first]) == ASM_DONE && !agents[!first].slot.full);
     REQUIRE(asm_close(&storage, &number) == ASM_DONE && number == 0);
     TELLS(ASM_DONE, journal, asm_journal(&storage, OUT));
-    asm_free(&storage);
+    asm_free_storage(&storage);
 }
 
 /* Texts that are no journals: the code and the line of each. */

@@ -46,20 +46,20 @@ static text list_of(const char *format, const char *name, size_t count) {
     return it;
 }
 
-static void fire_all(asm_slot *agent, size_t times) {
+static void fire_all(struct asm_agent *agent, size_t times) {
     asm_numbers numbers;
     for (size_t i = 0; i < times; i++)
         REQUIRE(asm_try_fire(agent, bytes(nothing), strlen(nothing), &numbers) == ASM_DONE);
 }
 
-static uint32_t followed(asm_slot *agent) {
+static uint32_t followed(struct asm_agent *agent) {
     uint32_t number = 0;
     REQUIRE(asm_follow(agent, &number) == ASM_DONE);
     return number;
 }
 
 /* Two agents fill the row, each with many moves, and see all of them. */
-static void fill(asm_slot *storage, asm_slot *agents) {
+static void fill(struct asm_storage *storage, struct asm_agent *agents) {
     asm_numbers numbers;
     uint32_t moves;
     fire_all(&agents[0], FIRST);
@@ -72,7 +72,8 @@ static void fill(asm_slot *storage, asm_slot *agents) {
 
 /* The journal of a full row and of some reads is complete. */
 static void full_row(void) {
-    asm_slot storage = {0}, agents[2] = {{0}, {0}};
+    struct asm_storage storage = {0};
+    struct asm_agent agents[2] = {0};
     open_with("[]", MOST, &storage);
     REQUIRE(asm_agents(&storage, agents, 2) == ASM_DONE);
     fill(&storage, agents);
@@ -83,11 +84,11 @@ static void full_row(void) {
     char *journal = journal_of(&storage);
     is_legal(journal, MOST + 1 + READS, MOST);
     free(journal);
-    asm_free(&storage);
+    asm_free_storage(&storage);
 }
 
 /* A storage that opens with many locations before and behind the three of the function m. */
-static void open_many(asm_slot *storage) {
+static void open_many(struct asm_storage *storage) {
     text it = {0};
     append(&it, "[", "", 0);
     append_all(&it, pair, "a", 0, NAMES);
@@ -99,7 +100,7 @@ static void open_many(asm_slot *storage) {
 }
 
 /* Moves put a value at so many locations with this name. */
-static void write_all(asm_slot *agent, const char *name, size_t count) {
+static void write_all(struct asm_agent *agent, const char *name, size_t count) {
     asm_numbers numbers;
     for (size_t first = 0; first < count; first += AT_ONCE) {
         text it = {0};
@@ -112,7 +113,7 @@ static void write_all(asm_slot *agent, const char *name, size_t count) {
 }
 
 /* The length of the text that a scan tells. */
-static size_t scanned(asm_slot *agent, const char *name) {
+static size_t scanned(struct asm_agent *agent, const char *name) {
     uint32_t number;
     size_t length;
     REQUIRE(asm_scan(agent, bytes(name), strlen(name), &number, NULL, 0, &length) == ASM_SMALL);
@@ -121,7 +122,8 @@ static size_t scanned(asm_slot *agent, const char *name) {
 
 /* A scan, and a fire over a scan, look at the locations of one function alone. */
 static void small_function(void) {
-    asm_slot storage = {0}, agent = {0};
+    struct asm_storage storage = {0};
+    struct asm_agent agent = {0};
     asm_numbers numbers;
     char scans[64];
     open_many(&storage);
@@ -135,12 +137,12 @@ static void small_function(void) {
         REQUIRE(asm_try_fire_over(&agent, bytes(nothing), strlen(nothing), TEXT(scans), &numbers) ==
                 ASM_DONE);
     }
-    asm_free(&agent);
-    asm_free(&storage);
+    asm_free_agent(&agent);
+    asm_free_storage(&storage);
 }
 
 /* The values at so many locations with the name f, each of one digit, are peeked at once. */
-static void peek_all(asm_slot *agent, size_t count) {
+static void peek_all(struct asm_agent *agent, size_t count) {
     text it = list_of(place, "f", count);
     char empty[64];
     size_t length;
@@ -151,7 +153,7 @@ static void peek_all(asm_slot *agent, size_t count) {
 }
 
 /* The agent's own state has the functions f and g, whose pairs have this length each. */
-static void tell_all(asm_slot *agent, size_t count, size_t length) {
+static void tell_all(struct asm_agent *agent, size_t count, size_t length) {
     uint32_t number;
     size_t both;
     REQUIRE(scanned(agent, "f") == length && scanned(agent, "g") == length);
@@ -161,7 +163,7 @@ static void tell_all(asm_slot *agent, size_t count, size_t length) {
 }
 
 /* A storage where f has so many locations, and two agents; the length of their pairs. */
-static size_t open_function(asm_slot *storage, asm_slot *agents, size_t count) {
+static size_t open_function(struct asm_storage *storage, struct asm_agent *agents, size_t count) {
     text it = list_of(pair, "f", count);
     REQUIRE(asm_open(bytes(it.at), it.length, 64, storage) == ASM_DONE);
     REQUIRE(asm_agents(storage, agents, 2) == ASM_DONE);
@@ -171,19 +173,20 @@ static size_t open_function(asm_slot *storage, asm_slot *agents, size_t count) {
 
 /* The functions of a state are told, be their values of the opening state or of moves. */
 static void tell_functions(size_t count) {
-    asm_slot storage = {0}, agents[2] = {{0}, {0}};
+    struct asm_storage storage = {0};
+    struct asm_agent agents[2] = {0};
     size_t length = open_function(&storage, agents, count);
     write_all(&agents[0], "g", count);
     write_all(&agents[0], "f", count / 2);
     REQUIRE(followed(&agents[1]) == followed(&agents[0]));
     tell_all(&agents[1], count, length);
     for (size_t i = 0; i < 2; i++)
-        asm_free(&agents[i]);
-    asm_free(&storage);
+        asm_free_agent(&agents[i]);
+    asm_free_storage(&storage);
 }
 
 /* The first of the two pushes the move, the second joins it to the pushed one. */
-static void grow(asm_slot *agent, asm_slot *step, bool is_push, const char *format, const char *name,
+static void grow(struct asm_agent *agent, struct asm_step *step, bool is_push, const char *format, const char *name,
                  size_t count) {
     text it = list_of(format, name, count);
     size_t written;
@@ -193,7 +196,7 @@ static void grow(asm_slot *agent, asm_slot *step, bool is_push, const char *form
 }
 
 /* The length of the text of the function, as it is seen through the step. */
-static size_t got(asm_slot *agent, asm_slot *step, const char *name) {
+static size_t got(struct asm_agent *agent, struct asm_step *step, const char *name) {
     size_t length;
     REQUIRE(asm_get_all(agent, step, bytes(name), strlen(name), NULL, 0, &length) == ASM_SMALL);
     return length;
@@ -201,7 +204,10 @@ static size_t got(asm_slot *agent, asm_slot *step, const char *name) {
 
 /* A step puts each location of g, increments each of f, some of these twice, and rests on the latter. */
 static void play_step(size_t count) {
-    asm_slot storage = {0}, agents[2] = {{0}, {0}}, step = {0}, move = {0};
+    struct asm_storage storage = {0};
+    struct asm_agent agents[2] = {0};
+    struct asm_step step = {0};
+    struct asm_move move = {0};
     size_t length = open_function(&storage, agents, count), written;
     asm_numbers numbers;
     uint32_t number;
@@ -215,10 +221,10 @@ static void play_step(size_t count) {
     REQUIRE(asm_commit(&agents[0], &step, &numbers) == ASM_DONE && numbers.fired == 1);
     REQUIRE(followed(&agents[1]) == 1);
     tell_all(&agents[1], count, length);
-    asm_free(&move);
+    asm_free_move(&move);
     for (size_t i = 0; i < 2; i++)
-        asm_free(&agents[i]);
-    asm_free(&storage);
+        asm_free_agent(&agents[i]);
+    asm_free_storage(&storage);
 }
 
 static void functions_of_each_size(void) {

@@ -4,7 +4,8 @@
 
 static const char *opening = "[[['s'],{'set':[1]}],[['x'],7],[['y',1],'one'],[['y',2],'two']]";
 
-static asm_slot storage, agents[3];
+static struct asm_storage storage;
+static struct asm_agent agents[3];
 
 static void begin_all(void) {
     open_with(opening, 8, &storage);
@@ -12,12 +13,12 @@ static void begin_all(void) {
 }
 
 static void end_all(void) {
-    asm_free(&storage);
+    asm_free_storage(&storage);
     for (size_t i = 0; i < 3; i++)
-        asm_free(&agents[i]);
+        asm_free_agent(&agents[i]);
 }
 
-static void follows_to(asm_slot *agent, uint32_t wanted) {
+static void follows_to(struct asm_agent *agent, uint32_t wanted) {
     uint32_t number = 9;
     REQUIRE(asm_follow(agent, &number) == ASM_DONE);
     REQUIRE(number == wanted && asm_seen(agent) == wanted);
@@ -147,9 +148,9 @@ static void fires_on_looks(void) {
 }
 
 /* The reads are refused as out of range before anything is done, and the agent is as it was. */
-static void are_ahead(asm_slot *agent, const char *reads) {
+static void are_ahead(struct asm_agent *agent, const char *reads) {
     static char call[4 * LONGEST];
-    asm_slot was = *agent;
+    asm_slot was = agent->slot;
     asm_numbers numbers = {9, 9, 9};
     uint32_t seen = asm_seen(agent), won = asm_won(agent);
     uint64_t misses = asm_misses(agent);
@@ -181,7 +182,7 @@ static void numbers_to_come(void) {
     REQUIRE(asm_learn(&agents[2], &agents[0]) == ASM_DONE);
     ANSWERS(ASM_DONE, asm_stands(&agents[2], TEXT("[[['x'],2]]"), OUT));
     /* It comes after what is no read at all, and before there are too many. */
-    ANSWERS(ASM_EMPTY, asm_stands(&storage, TEXT("[[['x'],9]]"), OUT));
+    ANSWERS(ASM_EMPTY, asm_stands(AS(agent, &storage), TEXT("[[['x'],9]]"), OUT));
     ANSWERS(ASM_NOT_JSON, asm_stands(&agents[0], TEXT("[[['x'],9]"), OUT));
     ANSWERS(ASM_SHAPE, asm_stands(&agents[0], TEXT("[[['x'],9],['x']]"), OUT));
     REQUIRE(asm_try_fire(&agents[0], TEXT("{'fire':[7],'reads':[[['x'],9]]}"), &numbers) ==
@@ -195,7 +196,8 @@ static void numbers_to_come(void) {
 /* A number that was kept from the storage before is none of the next one's, in which numbers begin
  * anew: with it a fire would guard nothing, and overwrite what another agent wrote. */
 static void numbers_of_the_storage_before(void) {
-    asm_slot next = {0}, rival = {0};
+    struct asm_storage next = {0};
+    struct asm_agent rival = {0};
     asm_numbers numbers;
     uint32_t number;
     open_with("[[['x'],0]]", 8, &storage);
@@ -216,42 +218,45 @@ static void numbers_of_the_storage_before(void) {
     TELLS(ASM_DONE, "{'number':1,'values':[3]}", asm_peek(&agents[0], TEXT("[['x']]"), OUT));
     REQUIRE(asm_try_fire(&agents[0], TEXT("{'fire':[['put',['x'],4]],'reads':[[['x'],1]]}"),
                          &numbers) == ASM_DONE);
-    asm_free(&rival);
-    asm_free(&next);
+    asm_free_agent(&rival);
+    asm_free_storage(&next);
     end_all();
 }
 
-static void refused_next(asm_slot *next, uint32_t capacity, int32_t wanted) {
-    asm_slot was[2] = {storage, *next};
+static void refused_next(struct asm_storage *next, uint32_t capacity, int32_t wanted) {
+    asm_slot was[2] = {storage.slot, next->slot};
     REQUIRE(asm_next(&storage, capacity, next) == wanted);
     REQUIRE(is_same(storage, was[0]) && is_same(*next, was[1]));
 }
 
 /* Each code of asm_next; the slots are as they were. */
 static void refused_nexts(void) {
-    asm_slot next = {0}, step = {0};
+    struct asm_storage next = {0};
+    struct asm_step step = {0};
     uint32_t number;
     refused_next(&next, 4, ASM_EMPTY);
     begin_all();
     REQUIRE(asm_begin(&agents[0], &step, &number) == ASM_DONE);
     refused_next(&next, 4, ASM_NONE);
     refused_next(&next, 0, ASM_NONE);
-    refused_next(&agents[0], 4, ASM_TAKEN);
-    refused_next(&step, 4, ASM_TAKEN);
+    refused_next(AS(storage, &agents[0]), 4, ASM_TAKEN);
+    refused_next(AS(storage, &step), 4, ASM_TAKEN);
     refused_next(&storage, 4, ASM_TAKEN);
-    REQUIRE(asm_next(&agents[0], 4, &next) == ASM_EMPTY && !next.full && agents[0].full);
-    REQUIRE(asm_next(&step, 4, &next) == ASM_EMPTY && !next.full && step.full);
-    REQUIRE(asm_next(&next, 4, &next) == ASM_EMPTY && !next.full);
+    REQUIRE(asm_next(AS(storage, &agents[0]), 4, &next) == ASM_EMPTY);
+    REQUIRE(!next.slot.full && agents[0].slot.full);
+    REQUIRE(asm_next(AS(storage, &step), 4, &next) == ASM_EMPTY);
+    REQUIRE(!next.slot.full && step.slot.full);
+    REQUIRE(asm_next(&next, 4, &next) == ASM_EMPTY && !next.slot.full);
     REQUIRE(asm_close(&storage, &number) == ASM_DONE);
     refused_next(&next, 0, ASM_RANGE);
     refused_next(&next, 1048577, ASM_RANGE);
     REQUIRE(asm_give(&storage, &agents[0]) == ASM_DONE);
     refused_next(&next, 4, ASM_NONE);
     REQUIRE(asm_close(&storage, &number) == ASM_DONE);
-    REQUIRE(asm_next(&storage, 1048576, &next) == ASM_DONE && next.full && storage.full);
+    REQUIRE(asm_next(&storage, 1048576, &next) == ASM_DONE && next.slot.full && storage.slot.full);
     refused_next(&next, 4, ASM_TAKEN);
-    asm_free(&next);
-    asm_free(&step);
+    asm_free_storage(&next);
+    asm_free_step(&step);
     end_all();
 }
 
@@ -262,7 +267,7 @@ static void counted_moves(void) {
         REQUIRE(asm_moves(&storage, &moves) == ASM_DONE && moves == count);
         if (count < 2)
             fire(&agents[count], "[['put',['x'],1]]");
-        asm_free(&agents[count]);
+        asm_free_agent(&agents[count]);
     }
     end_all();
 }
@@ -279,7 +284,8 @@ static bool opens_with(const char *journal, const char *state) {
  * numbers. The first is released before the others fire. */
 static void a_run_goes_on(void) {
     const char *left[] = {"[[['x'],1]]", "[[['x'],2]]", "[[['x'],3]]"};
-    asm_slot stores[3] = {{0}, {0}, {0}}, agent = {0};
+    struct asm_storage stores[3] = {0};
+    struct asm_agent agent = {0};
     uint64_t line;
     uint32_t moves = 9;
     open_with("[[['x'],0]]", 1, &stores[0]);
@@ -296,14 +302,15 @@ static void a_run_goes_on(void) {
         TELLS(ASM_DONE, left[i], asm_replay(bytes(journal), strlen(journal), OUT, &line));
         if (i < 2)
             REQUIRE(asm_next(&stores[i], 1, &stores[i + 1]) == ASM_DONE);
-        asm_free(&stores[i]);
+        asm_free_storage(&stores[i]);
         free(journal);
     }
 }
 
 /* What was fired after a journal was closed is in no storage that goes on from it. */
 static void moves_after_the_journal(void) {
-    asm_slot next = {0}, agent = {0};
+    struct asm_storage next = {0};
+    struct asm_agent agent = {0};
     uint32_t number = 9;
     begin_all();
     fire(&agents[0], "[['put',['x'],1]]");
@@ -313,8 +320,8 @@ static void moves_after_the_journal(void) {
     REQUIRE(asm_next(&storage, 8, &next) == ASM_DONE);
     REQUIRE(asm_agent(&next, 0, &agent) == ASM_DONE);
     TELLS(ASM_DONE, "{'number':0,'values':[1]}", asm_peek(&agent, TEXT("[['x']]"), OUT));
-    asm_free(&agent);
-    asm_free(&next);
+    asm_free_agent(&agent);
+    asm_free_storage(&next);
     end_all();
 }
 

@@ -88,7 +88,7 @@ void stands_from(unsigned at, unsigned least) {
     uint8_t out[ROOM];
     unsigned number = 0;
     size_t written;
-    REQUIRE(asm_peek(&slots[at], (const uint8_t *)"[]", 2, out, sizeof out - 1, &written) ==
+    REQUIRE(asm_peek(ANY(at), (const uint8_t *)"[]", 2, out, sizeof out - 1, &written) ==
             ASM_DONE);
     out[written] = 0;
     REQUIRE(sscanf((const char *)out, "{\"number\":%u,\"values\":[]}", &number) == 1);
@@ -107,7 +107,7 @@ static void opens(unsigned at) {
                                               : ASM_DONE;
     if (wanted == ASM_DONE && opened == STORAGES)
         return;
-    REQUIRE(asm_open(bytes(t), strlen(t->bytes), capacity, &slots[at]) == wanted);
+    REQUIRE(asm_open(bytes(t), strlen(t->bytes), capacity, ANY(at)) == wanted);
     if (wanted == ASM_DONE)
         storage_is_made(at, capacity, opening_world(t));
 }
@@ -131,7 +131,7 @@ static void makes_agent(unsigned of, unsigned at) {
                      : accounts[at].kind            ? ASM_TAKEN
                      : accounts[of].kind != STORAGE ? ASM_EMPTY
                                                     : was_made(accounts[of].storage, number, 1);
-    REQUIRE(asm_agent(&slots[of], number, &slots[at]) == wanted);
+    REQUIRE(asm_agent(ANY(of), number, ANY(at)) == wanted);
     if (wanted == ASM_DONE)
         agent_is_made(at, accounts[of].storage, number);
 }
@@ -146,7 +146,7 @@ static void makes_agents(unsigned of, unsigned at) {
     int32_t wanted = is_any_full                    ? ASM_TAKEN
                      : accounts[of].kind != STORAGE ? ASM_EMPTY
                                                     : was_made(accounts[of].storage, 0, count);
-    REQUIRE(asm_agents(&slots[of], count ? &slots[at] : NULL, count) == wanted);
+    REQUIRE(asm_agents(ANY(of), count ? ANY(at) : NULL, count) == wanted);
     for (unsigned i = 0; wanted == ASM_DONE && i < count; i++)
         agent_is_made(at + i, accounts[of].storage, i);
 }
@@ -155,7 +155,7 @@ static void reads(unsigned at) {
     const text *t = any_text();
     account *a = &accounts[at];
     int32_t wanted = a->kind != AGENT ? ASM_EMPTY : t->locations;
-    REQUIRE(asm_read(&slots[at], bytes(t), strlen(t->bytes)) == wanted);
+    REQUIRE(asm_read(ANY(at), bytes(t), strlen(t->bytes)) == wanted);
     a->is_answered |= wanted == ASM_DONE;
     if (wanted == ASM_DONE)
         a->stood = stories[a->storage].moves;
@@ -188,9 +188,9 @@ static void fires(unsigned at) {
     int32_t wanted = a->kind != AGENT ? ASM_EMPTY : is_answer ? fire_answer(t, s, over, &w) : t->fire;
     size_t len = strlen(t->bytes), scans_len = strlen(scans[over]);
     int32_t code = over || below(2)
-                       ? asm_try_fire_over(&slots[at], bytes(t), len, (const uint8_t *)scans[over],
+                       ? asm_try_fire_over(ANY(at), bytes(t), len, (const uint8_t *)scans[over],
                                            scans_len, &numbers)
-                       : asm_try_fire(&slots[at], bytes(t), len, &numbers);
+                       : asm_try_fire(ANY(at), bytes(t), len, &numbers);
     REQUIRE(code == wanted);
     REQUIRE(numbers.fired == (wanted == ASM_DONE ? s->moves + 1 : 0));
     REQUIRE(numbers.from == 0 && numbers.to == 0);
@@ -209,19 +209,19 @@ static void answers(unsigned at) {
                      : !accounts[at].is_answered ? ASM_NONE
                      : room                      ? ASM_DONE
                                                  : ASM_SMALL;
-    REQUIRE(asm_answer(&slots[at], room ? out : NULL, room, &written) == wanted);
+    REQUIRE(asm_answer(ANY(at), room ? out : NULL, room, &written) == wanted);
     REQUIRE((written > 0) == (wanted == ASM_DONE || wanted == ASM_SMALL));
 }
 
 static void learns(unsigned at, unsigned from) {
     int32_t wanted = code_of_two(at, from);
-    REQUIRE(asm_learn(&slots[at], &slots[from]) == wanted);
-    REQUIRE(wanted != ASM_DONE || asm_seen(&slots[at]) >= asm_seen(&slots[from]));
+    REQUIRE(asm_learn(ANY(at), ANY(from)) == wanted);
+    REQUIRE(wanted != ASM_DONE || asm_seen(ANY(at)) >= asm_seen(ANY(from)));
 }
 
 static void counts(unsigned at) {
-    uint32_t seen = asm_seen(&slots[at]), won = asm_won(&slots[at]);
-    uint64_t misses = asm_misses(&slots[at]);
+    uint32_t seen = asm_seen(ANY(at)), won = asm_won(ANY(at));
+    uint64_t misses = asm_misses(ANY(at));
     REQUIRE(won <= seen);
     REQUIRE(accounts[at].kind == AGENT || (seen == 0 && won == 0 && misses == 0));
 }
@@ -231,7 +231,7 @@ static void gives(unsigned to, unsigned at) {
     int32_t wanted = of->kind != STORAGE || a->kind != AGENT ? ASM_EMPTY
                      : of->storage != a->storage             ? ASM_OTHER
                                                              : ASM_DONE;
-    REQUIRE(asm_give(&slots[to], &slots[at]) == wanted);
+    REQUIRE(asm_give(ANY(to), ANY(at)) == wanted);
     if (wanted == ASM_DONE) {
         stories[a->storage].given[a->number] = (given){true, a->is_answered, a->fired, a->stood};
         stories[a->storage].is_closed = false;
@@ -247,7 +247,7 @@ static void takes(unsigned of, unsigned at) {
                      : accounts[of].kind != STORAGE ? ASM_EMPTY
                      : is_there                     ? ASM_DONE
                                                     : ASM_NONE;
-    REQUIRE(asm_take(&slots[of], number, &slots[at]) == wanted);
+    REQUIRE(asm_take(ANY(of), number, ANY(at)) == wanted);
     if (wanted == ASM_DONE) {
         given was = s->given[number];
         accounts[at] = (account){.kind = AGENT,
@@ -271,7 +271,7 @@ static void closes(unsigned at) {
         if (!(told >> (i - 1) & 1))
             missing = i;
     int32_t wanted = accounts[at].kind != STORAGE ? ASM_EMPTY : missing ? ASM_MISSING : ASM_DONE;
-    REQUIRE(asm_close(&slots[at], &number) == wanted);
+    REQUIRE(asm_close(ANY(at), &number) == wanted);
     REQUIRE(number == (wanted == ASM_MISSING ? missing : 0));
     if (wanted == ASM_DONE) {
         s->is_closed = true;
@@ -282,7 +282,7 @@ static void closes(unsigned at) {
 static void counts_moves(unsigned at) {
     uint32_t moves = 9;
     bool is_storage = accounts[at].kind == STORAGE;
-    REQUIRE(asm_moves(&slots[at], &moves) == (is_storage ? ASM_DONE : ASM_EMPTY));
+    REQUIRE(asm_moves(ANY(at), &moves) == (is_storage ? ASM_DONE : ASM_EMPTY));
     REQUIRE(moves == (is_storage ? stories[accounts[at].storage].moves : 0));
 }
 
@@ -328,7 +328,7 @@ static void writes(unsigned at) {
     size_t written = 9, room = below(4) ? sizeof journal : 0;
     bool is_there = stories[accounts[at].storage].is_closed;
     int32_t wanted = accounts[at].kind != STORAGE ? ASM_EMPTY : is_there ? ASM_DONE : ASM_NONE;
-    int32_t code = asm_journal(&slots[at], room ? journal : NULL, room, &written);
+    int32_t code = asm_journal(ANY(at), room ? journal : NULL, room, &written);
     REQUIRE(code == wanted || (wanted == ASM_DONE && code == ASM_SMALL && written > room));
     REQUIRE((written > 0) == (wanted == ASM_DONE));
     if (code == ASM_DONE)
@@ -336,7 +336,7 @@ static void writes(unsigned at) {
 }
 
 void frees(unsigned at) {
-    asm_free(&slots[at]);
+    asm_free(ANY(at));
     REQUIRE(slots[at].at == NULL);
     accounts[at] = (account){.kind = NOTHING};
 }
@@ -396,7 +396,7 @@ int main(int argc, char **argv) {
         calls_any();
         for (unsigned i = 0; i < SLOTS; i++) {
             REQUIRE(slots[i].full == (accounts[i].kind != NOTHING));
-            REQUIRE(asm_depth(&slots[i]) == accounts[i].depth);
+            REQUIRE(asm_depth(ANY(i)) == accounts[i].depth);
             if (accounts[i].kind == AGENT) {
                 unsigned stood = accounts[i].stood;
                 stands_from(i, stood);

@@ -97,6 +97,9 @@ typedef struct buffer {
     size_t room, written;
 } buffer;
 
+/* The slot as whichever handle a call takes: what it holds may be of another kind. */
+#define ANY(i) ((void *)&slots[i])
+
 #define OUT(buffer) (buffer).room ? (buffer).out : NULL, (buffer).room, &(buffer).written
 
 extern asm_slot slots[SLOTS];

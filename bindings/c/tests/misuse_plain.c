@@ -40,7 +40,7 @@ static void locates(unsigned at) {
     unsigned i = below(sizeof locations / sizeof *locations);
     const char *text = locations[i].bytes;
     int32_t wanted = accounts[at].kind != NOTHING ? ASM_TAKEN : locations[i].code;
-    REQUIRE(asm_location(*text ? (const uint8_t *)text : NULL, strlen(text), &slots[at]) == wanted);
+    REQUIRE(asm_location(*text ? (const uint8_t *)text : NULL, strlen(text), ANY(at)) == wanted);
     if (wanted == ASM_DONE)
         accounts[at] = (account){.kind = LOCATION, .place = locations[i].place};
 }
@@ -78,7 +78,7 @@ static void peeks_at(unsigned at, unsigned of_place) {
     told wanted = {a->kind != AGENT || l->kind != LOCATION ? ASM_EMPTY : ASM_DONE, NULL};
     if (wanted.code == ASM_DONE)
         wanted.text = parts_of(own_world(a), l->place, &told_value);
-    int32_t code = asm_peek_at(&slots[at], &slots[of_place], &number, &value, OUT(b));
+    int32_t code = asm_peek_at(ANY(at), ANY(of_place), &number, &value, OUT(b));
     bool fits = is_value(code, wanted, &b, value, told_value);
     REQUIRE(number == (fits && wanted.code == ASM_DONE ? a->stood : 0));
 }
@@ -91,7 +91,7 @@ static void gets_at(unsigned at, unsigned of_step, unsigned of_place) {
     told wanted = {l->kind != LOCATION ? ASM_EMPTY : step_code(a, s, ASM_DONE), NULL};
     if (wanted.code == ASM_DONE)
         wanted.text = parts_of(top_of(s).seen, l->place, &told_value);
-    int32_t code = asm_get_at(&slots[at], &slots[of_step], &slots[of_place], &value, OUT(b));
+    int32_t code = asm_get_at(ANY(at), ANY(of_step), ANY(of_place), &value, OUT(b));
     layer top = wanted.code == ASM_DONE ? top_of(s) : (layer){0};
     bool is_put = l->place == Y_PLACE ? top.puts : l->place == V_PLACE && top.puts_v;
     if (is_value(code, wanted, &b, value, told_value) && wanted.code == ASM_DONE)
@@ -142,7 +142,7 @@ static void instructs(unsigned at, unsigned of_place) {
                                                            : instructions[i].code;
     if (wanted == ASM_DONE && instructions[i].place != l->place)
         return;
-    REQUIRE(asm_instruct(&slots[at], &slots[of_place], instructions[i].verb, instructions[i].kind,
+    REQUIRE(asm_instruct(ANY(at), ANY(of_place), instructions[i].verb, instructions[i].kind,
                          instructions[i].number, *text ? (const uint8_t *)text : NULL, strlen(text),
                          instructions[i].amount) == wanted);
     if (wanted != ASM_DONE)
@@ -165,7 +165,7 @@ static void unites(unsigned at, unsigned from) {
     int32_t wanted = !has_room ? ASM_TAKEN : !has_move || at == from ? ASM_EMPTY : ASM_DONE;
     if (wanted == ASM_DONE && m->move.size + other->move.size > 64)
         return;
-    REQUIRE(asm_unite(&slots[at], &slots[from]) == wanted);
+    REQUIRE(asm_unite(ANY(at), ANY(from)) == wanted);
     if (wanted != ASM_DONE)
         return;
     m->kind = MOVE;
@@ -189,12 +189,12 @@ static void takes_state(unsigned at, unsigned from) {
     account *a = &accounts[at], *b = &accounts[from];
     int32_t wanted = code_of_two(at, from);
     unsigned stood = a->stood;
-    REQUIRE(asm_take_state(&slots[at], &slots[from]) == wanted);
+    REQUIRE(asm_take_state(ANY(at), ANY(from)) == wanted);
     if (wanted != ASM_DONE || b->stood <= stood)
         return;
     a->stood = b->stood;
     b->stood = stood;
-    REQUIRE(asm_seen(&slots[at]) >= a->stood);
+    REQUIRE(asm_seen(ANY(at)) >= a->stood);
 }
 
 /* Does the move on what is seen: the text of a clash, if there is one. */
@@ -243,8 +243,8 @@ static void grows_by(unsigned at, unsigned of_step, unsigned of_move, bool is_pu
         else if ((wanted.text = is_done(&m->move, &next)))
             wanted.code = ASM_CLASH;
     }
-    int32_t code = (is_push ? asm_push_move : asm_extend_move)(&slots[at], &slots[of_step],
-                                                               &slots[of_move], OUT(b));
+    int32_t code = (is_push ? asm_push_move : asm_extend_move)(ANY(at), ANY(of_step),
+                                                               ANY(of_move), OUT(b));
     if (is_written(code, wanted, &b) && wanted.code == ASM_DONE) {
         s->depth += is_push || s->depth == 0;
         s->layers[s->depth - 1] = next;
@@ -258,7 +258,7 @@ static void pops_into(unsigned of_step, unsigned of_move) {
                      : s->kind != STEP                     ? ASM_EMPTY
                      : s->depth == 0                       ? ASM_NONE
                                                            : ASM_DONE;
-    REQUIRE(asm_pop_move(&slots[of_step], &slots[of_move]) == wanted);
+    REQUIRE(asm_pop_move(ANY(of_step), ANY(of_move)) == wanted);
     if (wanted != ASM_DONE)
         return;
     *m = (account){.kind = MOVE, .move = top_of(s).own};

@@ -56,7 +56,7 @@ world own_world(const account *agent) { return stories[agent->storage].worlds[ag
 static void follows(unsigned at) {
     account *a = &accounts[at];
     uint32_t number = 9, moves = a->kind == AGENT ? stories[a->storage].moves : 0;
-    REQUIRE(asm_follow(&slots[at], &number) == (a->kind == AGENT ? ASM_DONE : ASM_EMPTY));
+    REQUIRE(asm_follow(ANY(at), &number) == (a->kind == AGENT ? ASM_DONE : ASM_EMPTY));
     REQUIRE(number == moves);
     if (a->kind == AGENT)
         a->stood = moves;
@@ -69,7 +69,7 @@ static void peeks(unsigned at) {
     told wanted = {a->kind != AGENT ? ASM_EMPTY : t->locations, NULL};
     if (wanted.code == ASM_DONE)
         wanted.text = values(a->stood, t, own_world(a));
-    is_written(asm_peek(&slots[at], bytes(t), strlen(t->bytes), OUT(b)), wanted, &b);
+    is_written(asm_peek(ANY(at), bytes(t), strlen(t->bytes), OUT(b)), wanted, &b);
 }
 
 static void looks_at_state(unsigned at) {
@@ -79,7 +79,7 @@ static void looks_at_state(unsigned at) {
     told wanted = {a->kind != AGENT ? ASM_EMPTY : ASM_DONE, NULL};
     if (wanted.code == ASM_DONE)
         wanted.text = pairs(own_world(a), true, true, true);
-    is_written(asm_state(&slots[at], &number, OUT(b)), wanted, &b);
+    is_written(asm_state(ANY(at), &number, OUT(b)), wanted, &b);
     REQUIRE(number == (wanted.text ? a->stood : 0));
 }
 
@@ -91,7 +91,7 @@ static void scans(unsigned at) {
     told wanted = {a->kind != AGENT ? ASM_EMPTY : name == BAD_NAME ? ASM_SHAPE : ASM_DONE, NULL};
     if (wanted.code == ASM_DONE)
         wanted.text = pairs(own_world(a), false, name == 0, name == 1);
-    is_written(asm_scan(&slots[at], *names[name] ? (const uint8_t *)names[name] : NULL,
+    is_written(asm_scan(ANY(at), *names[name] ? (const uint8_t *)names[name] : NULL,
                         strlen(names[name]), &number, OUT(b)),
                wanted, &b);
     REQUIRE(number == (wanted.text ? a->stood : 0));
@@ -102,7 +102,7 @@ static void stands(unsigned at) {
     account *a = &accounts[at];
     buffer b = any_buffer();
     bool is_read = a->kind == AGENT && t->reads == ASM_DONE;
-    bool is_looked = is_read && (t->x < 0 || (unsigned)t->x <= asm_seen(&slots[at]));
+    bool is_looked = is_read && (t->x < 0 || (unsigned)t->x <= asm_seen(ANY(at)));
     told wanted = {a->kind != AGENT       ? ASM_EMPTY
                    : is_read && !is_looked ? ASM_RANGE
                                           : t->reads,
@@ -111,7 +111,7 @@ static void stands(unsigned at) {
         a->stood = stories[a->storage].moves;
     if (is_looked && t->x >= 0 && own_world(a).x_at > (unsigned)t->x)
         wanted = (told){ASM_STALE, "{\"stale\":[\"x\"]}"};
-    is_written(asm_stands(&slots[at], bytes(t), strlen(t->bytes), OUT(b)), wanted, &b);
+    is_written(asm_stands(ANY(at), bytes(t), strlen(t->bytes), OUT(b)), wanted, &b);
 }
 
 static void begins(unsigned at, unsigned of_step) {
@@ -120,7 +120,7 @@ static void begins(unsigned at, unsigned of_step) {
     int32_t wanted = s->kind != NOTHING && s->kind != STEP ? ASM_TAKEN
                      : a->kind != AGENT                    ? ASM_EMPTY
                                                            : ASM_DONE;
-    REQUIRE(asm_begin(&slots[at], &slots[of_step], &number) == wanted);
+    REQUIRE(asm_begin(ANY(at), ANY(of_step), &number) == wanted);
     REQUIRE(number == (wanted == ASM_DONE ? stories[a->storage].moves : 0));
     if (wanted != ASM_DONE)
         return;
@@ -153,7 +153,7 @@ static void gets(unsigned at, unsigned of_step) {
     if (wanted.code == ASM_DONE)
         wanted.text = values(s->stood, t, top_of(s).seen);
     bool is_got = below(3);
-    int32_t code = (is_got ? asm_get : asm_see)(&slots[at], &slots[of_step], bytes(t),
+    int32_t code = (is_got ? asm_get : asm_see)(ANY(at), ANY(of_step), bytes(t),
                                                 strlen(t->bytes), OUT(b));
     if (is_written(code, wanted, &b) && wanted.text && is_got) {
         s->has_got[X_PLACE] |= t->asks;
@@ -170,7 +170,7 @@ static void gets_all(unsigned at, unsigned of_step) {
     if (wanted.code == ASM_DONE)
         wanted.text = pairs(top_of(s).seen, false, name == 0, name == 1);
     int32_t code =
-        asm_get_all(&slots[at], &slots[of_step], *names[name] ? (const uint8_t *)names[name] : NULL,
+        asm_get_all(ANY(at), ANY(of_step), *names[name] ? (const uint8_t *)names[name] : NULL,
                     strlen(names[name]), OUT(b));
     if (is_written(code, wanted, &b) && wanted.text) {
         s->has_got[X_PLACE] |= name == 0 && top_of(s).seen.x >= 0;
@@ -200,7 +200,7 @@ static void grows(unsigned at, unsigned of_step, bool is_push) {
         else if (!goes_on(t, &next.seen))
             wanted = (told){ASM_CLASH, "{\"clash\":[[\"x\"],\"Kind\"]}"};
     }
-    int32_t code = (is_push ? asm_push : asm_extend)(&slots[at], &slots[of_step], bytes(t),
+    int32_t code = (is_push ? asm_push : asm_extend)(ANY(at), ANY(of_step), bytes(t),
                                                      strlen(t->bytes), OUT(b));
     if (is_written(code, wanted, &b) && wanted.code == ASM_DONE) {
         s->depth += is_push || s->depth == 0;
@@ -211,7 +211,7 @@ static void grows(unsigned at, unsigned of_step, bool is_push) {
 static void pops(unsigned at) {
     account *s = &accounts[at];
     int32_t wanted = s->kind != STEP ? ASM_EMPTY : s->depth == 0 ? ASM_NONE : ASM_DONE;
-    REQUIRE(asm_pop(&slots[at]) == wanted);
+    REQUIRE(asm_pop(ANY(at)) == wanted);
     s->depth -= wanted == ASM_DONE;
 }
 
@@ -219,7 +219,7 @@ static void pops(unsigned at) {
 static void offers(unsigned at) {
     const account *s = &accounts[at];
     buffer b = any_buffer();
-    int32_t code = asm_offer(&slots[at], OUT(b));
+    int32_t code = asm_offer(ANY(at), OUT(b));
     REQUIRE(code == (s->kind != STEP ? ASM_EMPTY : b.written > b.room ? ASM_SMALL : ASM_DONE));
     REQUIRE((b.written >= strlen("{\"fire\":[],\"reads\":[]}")) == (s->kind == STEP));
     REQUIRE(code != ASM_DONE || !memcmp(b.out, "{\"fire\":[", 9));
@@ -258,7 +258,7 @@ void commits(unsigned at, unsigned of_step) {
     int32_t wanted = both(a, s);
     if (wanted == ASM_DONE)
         wanted = commit_answer(s, of, &w);
-    REQUIRE(asm_commit(&slots[at], &slots[of_step], &numbers) == wanted);
+    REQUIRE(asm_commit(ANY(at), ANY(of_step), &numbers) == wanted);
     REQUIRE(numbers.fired == (wanted == ASM_DONE ? of->moves + 1 : 0));
     REQUIRE(numbers.from == 0 && numbers.to == 0);
     if (wanted == ASM_EMPTY)
@@ -282,7 +282,7 @@ static void goes_on_in(unsigned at, unsigned next) {
                                               : ASM_DONE;
     if (wanted == ASM_DONE && opened == STORAGES)
         return;
-    REQUIRE(asm_next(&slots[at], capacity, &slots[next]) == wanted);
+    REQUIRE(asm_next(ANY(at), capacity, ANY(next)) == wanted);
     if (wanted == ASM_DONE)
         storage_is_made(next, capacity, s->worlds[s->closed]);
 }
@@ -298,7 +298,7 @@ static void goes_on_from(unsigned at, unsigned next) {
                                                                  : ASM_DONE;
     if (wanted == ASM_DONE && opened == STORAGES)
         return;
-    REQUIRE(asm_go_on(&slots[at], capacity, &slots[next]) == wanted);
+    REQUIRE(asm_go_on(ANY(at), capacity, ANY(next)) == wanted);
     if (wanted == ASM_DONE)
         storage_is_made(next, capacity, own_world(a));
 }
@@ -309,7 +309,7 @@ static void audits(unsigned at) {
     asm_audit_numbers told = {9, 9, 9};
     size_t len = below(3), taken = 9;
     bool has_room = a->kind == NOTHING || a->kind == AUDIT;
-    REQUIRE(asm_audit(&slots[at], len ? (const uint8_t *)"{\"" : NULL, len, &taken, &told) ==
+    REQUIRE(asm_audit(ANY(at), len ? (const uint8_t *)"{\"" : NULL, len, &taken, &told) ==
             (has_room ? ASM_DONE : ASM_TAKEN));
     REQUIRE(taken == (has_room ? len : 0));
     REQUIRE(told.parts == 0 && told.calls == 0 && told.moves == 0);
@@ -323,11 +323,11 @@ static void ends_audit(unsigned at) {
     const account *a = &accounts[at];
     asm_audit_numbers told = {9, 9, 9};
     buffer b = any_buffer();
-    REQUIRE(asm_audited(&slots[at], &told) ==
+    REQUIRE(asm_audited(ANY(at), &told) ==
             (a->kind != AUDIT ? ASM_EMPTY : a->has_begun ? ASM_NOT_JSON : ASM_CUT));
     REQUIRE(told.parts == 0 && told.moves == 0);
     REQUIRE(told.calls == (a->kind == AUDIT && a->has_begun));
-    is_written(asm_audit_state(&slots[at], OUT(b)),
+    is_written(asm_audit_state(ANY(at), OUT(b)),
                (struct told){a->kind == AUDIT ? ASM_NONE : ASM_EMPTY, NULL}, &b);
 }
 

@@ -2,21 +2,22 @@
  * again, and audits of the parts' journals, whose bytes come in pieces. */
 #include "tests.h"
 
-static asm_slot storage, agents[3];
+static struct asm_storage storage;
+static struct asm_agent agents[3];
 
 static void end_all(void) {
-    asm_free(&storage);
+    asm_free_storage(&storage);
     for (size_t i = 0; i < 3; i++)
-        asm_free(&agents[i]);
+        asm_free_agent(&agents[i]);
 }
 
-static void follows_to(asm_slot *agent, uint32_t wanted) {
+static void follows_to(struct asm_agent *agent, uint32_t wanted) {
     uint32_t number = 9;
     REQUIRE(asm_follow(agent, &number) == ASM_DONE && number == wanted);
 }
 
-static void refused_going_on(asm_slot *agent, uint32_t capacity, asm_slot *next, int32_t wanted) {
-    asm_slot was[2] = {*agent, *next};
+static void refused_going_on(struct asm_agent *agent, uint32_t capacity, struct asm_storage *next, int32_t wanted) {
+    asm_slot was[2] = {agent->slot, next->slot};
     REQUIRE(asm_go_on(agent, capacity, next) == wanted);
     REQUIRE(is_same(*agent, was[0]) && is_same(*next, was[1]));
 }
@@ -24,7 +25,9 @@ static void refused_going_on(asm_slot *agent, uint32_t capacity, asm_slot *next,
 /* A storage goes on once it is full, from an agent that has looked on to the end; the other agents
  * need not, and are closed later. */
 static void going_on(void) {
-    asm_slot next = {0}, agent = {0}, step = {0};
+    struct asm_storage next = {0};
+    struct asm_agent agent = {0};
+    struct asm_step step = {0};
     uint32_t number;
     open_with("[[['x'],7],[['y'],'why']]", 2, &storage);
     refused_going_on(&agent, 4, &next, ASM_EMPTY);
@@ -43,14 +46,14 @@ static void going_on(void) {
     refused_going_on(&agents[0], 0, &next, ASM_RANGE);
     refused_going_on(&agents[0], 1048577, &next, ASM_RANGE);
     refused_going_on(&agents[0], 0, &storage, ASM_TAKEN);
-    refused_going_on(&storage, 4, &agents[0], ASM_TAKEN);
-    refused_going_on(&agents[0], 4, &agents[0], ASM_TAKEN);
-    refused_going_on(&storage, 4, &next, ASM_EMPTY);
+    refused_going_on(AS(agent, &storage), 4, AS(storage, &agents[0]), ASM_TAKEN);
+    refused_going_on(&agents[0], 4, AS(storage, &agents[0]), ASM_TAKEN);
+    refused_going_on(AS(agent, &storage), 4, &next, ASM_EMPTY);
     REQUIRE(asm_begin(&agents[1], &step, &number) == ASM_DONE && number == 2);
-    refused_going_on(&step, 4, &next, ASM_EMPTY);
-    REQUIRE(asm_go_on(&agents[1], 1048576, &next) == ASM_DONE && next.full);
-    asm_free(&next);
-    REQUIRE(asm_go_on(&agents[0], 3, &next) == ASM_DONE && next.full);
+    refused_going_on(AS(agent, &step), 4, &next, ASM_EMPTY);
+    REQUIRE(asm_go_on(&agents[1], 1048576, &next) == ASM_DONE && next.slot.full);
+    asm_free_storage(&next);
+    REQUIRE(asm_go_on(&agents[0], 3, &next) == ASM_DONE && next.slot.full);
     refused_going_on(&agents[0], 3, &next, ASM_TAKEN);
     /* It has no agent, no move and no journal, and as much room as was wanted. */
     REQUIRE(asm_moves(&next, &number) == ASM_DONE && number == 0);
@@ -71,21 +74,21 @@ static void going_on(void) {
     char *journal = journal_of(&storage);
     is_legal(journal, 2, 2);
     free(journal);
-    asm_free(&step);
-    asm_free(&agent);
-    asm_free(&next);
+    asm_free_step(&step);
+    asm_free_agent(&agent);
+    asm_free_storage(&next);
     end_all();
 }
 
-static void refused_taking(uint32_t number, asm_slot *agent, int32_t wanted) {
-    asm_slot was[2] = {storage, *agent};
+static void refused_taking(uint32_t number, struct asm_agent *agent, int32_t wanted) {
+    asm_slot was[2] = {storage.slot, agent->slot};
     REQUIRE(asm_take(&storage, number, agent) == wanted);
     REQUIRE(is_same(storage, was[0]) && is_same(*agent, was[1]));
 }
 
 /* An agent that was given back goes on where it was, with its receipts, as often as it is taken. */
 static void taken_again(void) {
-    asm_slot agent = {0};
+    struct asm_agent agent = {0};
     asm_numbers numbers;
     uint32_t missing;
     open_with("[[['x'],0]]", 8, &storage);
@@ -98,11 +101,11 @@ static void taken_again(void) {
     refused_taking(0, &agent, ASM_NONE);
     refused_taking(256, &agent, ASM_NONE);
     refused_taking(1, &agents[0], ASM_TAKEN);
-    refused_taking(1, &storage, ASM_TAKEN);
-    REQUIRE(asm_take(&agents[0], 1, &agent) == ASM_EMPTY && !agent.full);
-    REQUIRE(asm_take(&agent, 1, &agent) == ASM_EMPTY && !agent.full);
+    refused_taking(1, AS(agent, &storage), ASM_TAKEN);
+    REQUIRE(asm_take(AS(storage, &agents[0]), 1, &agent) == ASM_EMPTY && !agent.slot.full);
+    REQUIRE(asm_take(AS(storage, &agent), 1, &agent) == ASM_EMPTY && !agent.slot.full);
     REQUIRE(asm_close(&storage, &missing) == ASM_DONE);
-    REQUIRE(asm_take(&storage, 1, &agent) == ASM_DONE && agent.full);
+    REQUIRE(asm_take(&storage, 1, &agent) == ASM_DONE && agent.slot.full);
     refused_taking(1, &agents[1], ASM_NONE);
     /* The journal is gone, and without the agent a move has no receipt. */
     ANSWERS(ASM_NONE, asm_journal(&storage, OUT));
@@ -116,8 +119,8 @@ static void taken_again(void) {
     fire(&agents[0], "[['inc',['x'],1]]");
     REQUIRE(asm_try_fire(&agent, TEXT("{'fire':[],'reads':[[['x'],1]]}"), &numbers) == ASM_STALE);
     for (int i = 0; i < 300; i++) {
-        REQUIRE(asm_give(&storage, &agent) == ASM_DONE && !agent.full);
-        REQUIRE(asm_take(&storage, 1, &agent) == ASM_DONE && agent.full);
+        REQUIRE(asm_give(&storage, &agent) == ASM_DONE && !agent.slot.full);
+        REQUIRE(asm_take(&storage, 1, &agent) == ASM_DONE && agent.slot.full);
     }
     REQUIRE(asm_take(&storage, 2, &agents[2]) == ASM_DONE);
     REQUIRE(asm_give(&storage, &agents[2]) == ASM_DONE);
@@ -151,7 +154,7 @@ static char *parts[3];
 
 static void make_parts(void) {
     static const uint32_t capacities[] = {2, 1, 2};
-    asm_slot next = {0};
+    struct asm_storage next = {0};
     open_with("[[['x'],0]]", capacities[0], &storage);
     for (size_t i = 0; i < 3; i++) {
         asm_numbers numbers;
@@ -165,9 +168,9 @@ static void make_parts(void) {
             REQUIRE(asm_give(&storage, &agents[k]) == ASM_DONE);
         parts[i] = journal_of(&storage);
         is_legal(parts[i], capacities[i] + 1, capacities[i]);
-        asm_free(&storage);
+        asm_free_storage(&storage);
         storage = next;
-        next = (asm_slot){0};
+        next = (struct asm_storage){0};
     }
     end_all();
 }
@@ -183,7 +186,7 @@ static char *joined(const char *order) {
 }
 
 /* All bytes of the text are taken, in pieces of this length. */
-static void takes(asm_slot *audit, const char *text, size_t piece) {
+static void takes(struct asm_audit *audit, const char *text, size_t piece) {
     asm_audit_numbers told;
     size_t taken = 9, length = strlen(text);
     for (size_t at = 0; at < length; at += piece) {
@@ -195,7 +198,7 @@ static void takes(asm_slot *audit, const char *text, size_t piece) {
 
 /* However the bytes come, the numbers are those of the lines that have ended. */
 static void in_pieces(void) {
-    asm_slot audit = {0};
+    struct asm_audit audit = {0};
     asm_audit_numbers told;
     size_t taken = 9, length = strlen(joined("012"));
     for (size_t piece = 1; piece <= length; piece += piece < 20 ? 1 : 97) {
@@ -204,7 +207,7 @@ static void in_pieces(void) {
         REQUIRE(taken == 0);
         SAYS(asm_audited(&audit, &told), ASM_DONE, 3, 8, 5);
         TELLS(ASM_DONE, "[[['x'],5]]", asm_audit_state(&audit, OUT));
-        asm_free(&audit);
+        asm_free_audit(&audit);
     }
     takes(&audit, joined("0"), 1000);
     SAYS(asm_audited(&audit, &told), ASM_DONE, 1, 3, 2);
@@ -220,14 +223,14 @@ static void in_pieces(void) {
     /* Both tell what would be so if nothing more came, and more comes. */
     SAYS(asm_audit(&audit, bytes(second) + 7, strlen(second) - 7, &taken, &told), ASM_DONE, 2, 5, 3);
     SAYS(asm_audited(&audit, &told), ASM_DONE, 2, 5, 3);
-    asm_free(&audit);
+    asm_free_audit(&audit);
 }
 
 /* The audit of the text, byte by byte and at once, tells this once so many bytes were taken; and
  * tells it again, however often the next byte is passed. */
 static void tells_at(const char *text, size_t at, sentence wanted, int line) {
     for (int once = 0; once < 2; once++) {
-        asm_slot audit = {0};
+        struct asm_audit audit = {0};
         asm_audit_numbers told = {9, 9, 9};
         size_t taken = 9, length = strlen(text);
         int32_t code = ASM_DONE;
@@ -242,14 +245,14 @@ static void tells_at(const char *text, size_t at, sentence wanted, int line) {
             }
         }
         is_said(code, told, wanted, line);
-        REQUIRE(taken == at && audit.full);
+        REQUIRE(taken == at && audit.slot.full);
         for (int again = 0; again < 2; again++) {
             size_t more = 9;
             is_said(asm_audit(&audit, bytes(text) + taken, length - taken, &more, &told), told,
                     wanted, line);
             REQUIRE(more == 0);
         }
-        asm_free(&audit);
+        asm_free_audit(&audit);
     }
 }
 
@@ -291,7 +294,7 @@ static void first_faults(void) {
 /* A line may have 16,777,216 bytes, and no more. */
 static void long_lines(void) {
     enum { MOST = 16777216 };
-    asm_slot audit = {0};
+    struct asm_audit audit = {0};
     asm_audit_numbers told;
     size_t taken = 9;
     char *line = malloc(MOST + 1);
@@ -302,19 +305,20 @@ static void long_lines(void) {
     line[MOST] = '\n';
     SAYS(asm_audit(&audit, bytes(line) + MOST, 1, &taken, &told), ASM_NOT_JSON, 0, 1, 0);
     REQUIRE(taken == 0);
-    asm_free(&audit);
+    asm_free_audit(&audit);
     free(line);
 }
 
 /* Slots without an audit, and audits that have read nothing. */
 static void refused_audits(void) {
-    asm_slot audit = {0};
+    struct asm_audit audit = {0};
     asm_audit_numbers told = {9, 9, 9};
     size_t taken = 9;
     open_with("[]", 8, &storage);
     REQUIRE(asm_agents(&storage, agents, 1) == ASM_DONE);
     for (size_t i = 0; i < 2; i++) {
-        asm_slot *slot = i ? &agents[0] : &storage, was = *slot;
+        struct asm_audit *slot = i ? AS(audit, &agents[0]) : AS(audit, &storage);
+        asm_slot was = slot->slot;
         taken = 9;
         SAYS(asm_audit(slot, bytes("{"), 1, &taken, &told), ASM_TAKEN, 0, 0, 0);
         REQUIRE(taken == 0);
@@ -325,21 +329,23 @@ static void refused_audits(void) {
     told = (asm_audit_numbers){9, 9, 9};
     SAYS(asm_audited(&audit, &told), ASM_EMPTY, 0, 0, 0);
     ANSWERS(ASM_EMPTY, asm_audit_state(&audit, OUT));
-    REQUIRE(!audit.full);
+    REQUIRE(!audit.slot.full);
     SAYS(asm_audit(&audit, NULL, 0, &taken, &told), ASM_DONE, 0, 0, 0);
-    REQUIRE(audit.full && taken == 0);
+    REQUIRE(audit.slot.full && taken == 0);
     SAYS(asm_audited(&audit, &told), ASM_CUT, 0, 0, 0);
     ANSWERS(ASM_NONE, asm_audit_state(&audit, OUT));
     /* It is no agent, storage, step, location or move. */
     uint32_t number = 9;
-    REQUIRE(asm_follow(&audit, &number) == ASM_EMPTY && number == 0 && asm_seen(&audit) == 0);
-    REQUIRE(asm_moves(&audit, &number) == ASM_EMPTY && asm_depth(&audit) == 0);
-    REQUIRE(asm_begin(&agents[0], &audit, &number) == ASM_TAKEN);
-    REQUIRE(asm_location(TEXT("['x']"), &audit) == ASM_TAKEN);
-    REQUIRE(asm_open(TEXT("[]"), 1, &audit) == ASM_TAKEN);
+    REQUIRE(asm_follow(AS(agent, &audit), &number) == ASM_EMPTY && number == 0);
+    REQUIRE(asm_seen(AS(agent, &audit)) == 0);
+    REQUIRE(asm_moves(AS(storage, &audit), &number) == ASM_EMPTY);
+    REQUIRE(asm_depth(AS(step, &audit)) == 0);
+    REQUIRE(asm_begin(&agents[0], AS(step, &audit), &number) == ASM_TAKEN);
+    REQUIRE(asm_location(TEXT("['x']"), AS(location, &audit)) == ASM_TAKEN);
+    REQUIRE(asm_open(TEXT("[]"), 1, AS(storage, &audit)) == ASM_TAKEN);
     TELLS(ASM_DONE, "a part opens with another state than the one before it leaves",
           asm_error_text(ASM_APART, OUT));
-    asm_free(&audit);
+    asm_free_audit(&audit);
     end_all();
 }
 

@@ -59,8 +59,8 @@ static void a_move_stays(void) {
     gets(X, ASM_KIND_NUM, 10, "");
     REQUIRE(grows(true) == ASM_DONE);
     gets(X, ASM_KIND_NUM, 21, "");
-    asm_free(&move);
-    REQUIRE(!move.full);
+    asm_free_move(&move);
+    REQUIRE(!move.slot.full);
     gets(X, ASM_KIND_NUM, 21, "");
     REQUIRE(asm_pop(&step) == ASM_DONE && asm_pop(&step) == ASM_DONE);
     gets(X, ASM_KIND_NUM, 8, "");
@@ -104,7 +104,7 @@ static void clashes(void) {
     TELLS(ASM_CLASH, "{'clash':[['y'],'Kind']}", asm_push_move(&agents[0], &step, &move, OUT));
     TELLS(ASM_CLASH, "{'clash':[['y'],'Kind']}", asm_extend_move(&agents[0], &step, &move, OUT));
     REQUIRE(asm_depth(&step) == 0);
-    asm_free(&move);
+    asm_free_move(&move);
     does(Y, ASM_PUT, ASM_KIND_NUM, 1, "", 0);
     for (int i = 0; i < 64; i++)
         REQUIRE(grows(true) == ASM_DONE);
@@ -139,7 +139,7 @@ static void out_of_range(void) {
         refuses(ASM_PUT, ASM_KIND_TEXT, 1, "\xff", 0);
         refuses_as(ASM_SHAPE, ASM_PUT, ASM_KIND_TEXT, 0, "a\xff", 0);
         refuses_as(ASM_SHAPE, ASM_BAGADD, ASM_KIND_TEXT, 0, "\xc3", 1);
-        REQUIRE(move.full == (i == 1));
+        REQUIRE(move.slot.full == (i == 1));
         if (i == 0)
             does(X, ASM_INC, ASM_KIND_NUM, 1, "", 0);
     }
@@ -150,14 +150,16 @@ static void out_of_range(void) {
 
 /* Of several codes of asm_instruct that hold, the first in the header's order is answered. */
 static void order_of_codes(void) {
-    asm_slot none = {0}, most = {0};
+    struct asm_location none = {0};
+    struct asm_move most = {0};
     begin_all();
     does(X, ASM_INC, ASM_KIND_NUM, 1, "", 0);
     for (int i = 0; i < 4096; i++)
         REQUIRE(asm_instruct(&most, &at[X], ASM_INC, ASM_KIND_NUM, 1, NULL, 0, 0) == ASM_DONE);
-    asm_slot *moves[] = {&step, &most, &move}, *locations[] = {&none, &at[X]};
+    void *moves[] = {&step, &most, &move}, *locations[] = {&none, &at[X]};
     for (int i = 0; i < 24; i++) {
-        asm_slot *of = moves[i / 8], *place = locations[i / 4 % 2], was = *of;
+        void *of = moves[i / 8], *place = locations[i / 4 % 2];
+        asm_slot was = slot_of(of);
         bool is_in_range = i / 2 % 2, is_utf8 = i % 2;
         int32_t wanted = of == &step      ? ASM_TAKEN
                          : place == &none ? ASM_EMPTY
@@ -167,9 +169,9 @@ static void order_of_codes(void) {
                                           : ASM_DONE;
         REQUIRE(asm_instruct(of, place, ASM_PUT, ASM_KIND_TEXT, is_in_range ? 0 : 1,
                              bytes(is_utf8 ? "a" : "\xff"), 1, 0) == wanted);
-        REQUIRE(is_same(*of, was));
+        REQUIRE(is_same_slot(slot_of(of), was));
     }
-    asm_free(&most);
+    asm_free_move(&most);
     end_all();
 }
 
@@ -177,7 +179,7 @@ static void order_of_codes(void) {
  * a further one. */
 static void full(void) {
     char place[32];
-    asm_slot other = {0};
+    struct asm_location other = {0};
     asm_value value;
     begin_all();
     for (int i = 0; i < 4096; i++)
@@ -192,7 +194,7 @@ static void full(void) {
         ANSWERS(ASM_DONE, asm_get_at(&agents[0], &step, &other, &value, OUT));
         ANSWERS(ASM_DONE, asm_get_at(&agents[0], &step, &other, &value, OUT));
         REQUIRE(is_value(value, ASM_KIND_UNDEF, 0));
-        asm_free(&other);
+        asm_free_location(&other);
     }
     value = (asm_value){9, 9};
     ANSWERS(ASM_MANY, asm_get_at(&agents[0], &step, &at[T], &value, OUT));
@@ -203,8 +205,8 @@ static void full(void) {
 }
 
 /* Each call on three slots of which one holds nothing of its kind, or of which two are one. */
-static void on_nothing(asm_slot *agent, asm_slot *of_step, asm_slot *third) {
-    asm_slot was[3] = {*agent, *of_step, *third};
+static void on_nothing(void *agent, void *of_step, void *third) {
+    asm_slot was[3] = {slot_of(agent), slot_of(of_step), slot_of(third)};
     asm_value value = {9, 9};
     uint32_t number = 9;
     if (agent != &agents[0] || of_step != &step || third != &at[X])
@@ -217,24 +219,25 @@ static void on_nothing(asm_slot *agent, asm_slot *of_step, asm_slot *third) {
         ANSWERS(ASM_EMPTY, asm_peek_at(agent, third, &number, &value, OUT));
         REQUIRE(number == 0 && is_value(value, 0, 0));
     }
-    if (agent->full && agent != &move)
+    if (was[0].full && agent != &move)
         REQUIRE(asm_instruct(agent, third, ASM_PUT, ASM_KIND_NUM, 1, NULL, 0, 0) == ASM_TAKEN);
     else if (third != &at[X])
         REQUIRE(asm_instruct(agent, third, ASM_PUT, ASM_KIND_NUM, 1, NULL, 0, 0) == ASM_EMPTY);
-    if (third->full)
+    if (was[2].full)
         REQUIRE(asm_location(TEXT("['x']"), third) == ASM_TAKEN);
-    REQUIRE(asm_pop_move(of_step, third) == (third->full && third != &move ? ASM_TAKEN
+    REQUIRE(asm_pop_move(of_step, third) == (was[2].full && third != &move ? ASM_TAKEN
                                              : of_step != &step            ? ASM_EMPTY
                                                                            : ASM_NONE));
-    REQUIRE(is_same(*agent, was[0]) && is_same(*of_step, was[1]) && is_same(*third, was[2]));
+    REQUIRE(is_same_slot(slot_of(agent), was[0]) && is_same_slot(slot_of(of_step), was[1]) &&
+            is_same_slot(slot_of(third), was[2]));
 }
 
 static void other_slots(void) {
-    asm_slot empty = {0};
+    struct asm_location empty = {0};
     uint32_t number = 9;
     begin_all();
     does(X, ASM_INC, ASM_KIND_NUM, 1, "", 0);
-    asm_slot *slots[] = {&empty, &storage, &agents[0], &step, &at[X], &move};
+    void *slots[] = {&empty, &storage, &agents[0], &step, &at[X], &move};
     enum { COUNT = sizeof slots / sizeof *slots };
     for (size_t i = 0; i < COUNT; i++)
         for (size_t k = 0; k < COUNT; k++)
@@ -248,9 +251,9 @@ static void other_slots(void) {
         REQUIRE(asm_depth(slots[i]) == 0 && asm_pop(slots[i]) == ASM_EMPTY);
         ANSWERS(ASM_EMPTY, asm_offer(slots[i], OUT));
     }
-    REQUIRE(asm_location(TEXT("['x'"), &empty) == ASM_NOT_JSON && !empty.full);
-    REQUIRE(asm_location(NULL, 0, &empty) == ASM_NOT_JSON && !empty.full);
-    REQUIRE(asm_location(TEXT("[['x']]"), &empty) == ASM_SHAPE && !empty.full);
+    REQUIRE(asm_location(TEXT("['x'"), &empty) == ASM_NOT_JSON && !empty.slot.full);
+    REQUIRE(asm_location(NULL, 0, &empty) == ASM_NOT_JSON && !empty.slot.full);
+    REQUIRE(asm_location(TEXT("[['x']]"), &empty) == ASM_SHAPE && !empty.slot.full);
     REQUIRE(grows(true) == ASM_DONE);
     gets(X, ASM_KIND_NUM, 8, "");
     end_all();

@@ -15,25 +15,29 @@ enum { B, F, L, N, S, T, W, X, Y, U, PLACES };
 static const char *const places[PLACES] = {"['b']", "['f']", "['l']", "['n',1]", "['s']",
                                            "['t']", "['w']", "['x']", "['y']",   "['u',null]"};
 
-static asm_slot storage, agents[2], step, move, at[PLACES];
+static struct asm_storage storage;
+static struct asm_agent agents[2];
+static struct asm_step step;
+static struct asm_move move;
+static struct asm_location at[PLACES];
 
 static inline void begin_all(void) {
     uint32_t number = 9;
     open_with(opening, 8, &storage);
     REQUIRE(asm_agents(&storage, agents, 2) == ASM_DONE);
-    REQUIRE(asm_begin(&agents[0], &step, &number) == ASM_DONE && number == 0 && step.full);
+    REQUIRE(asm_begin(&agents[0], &step, &number) == ASM_DONE && number == 0 && step.slot.full);
     for (size_t i = 0; i < PLACES; i++)
-        REQUIRE(asm_location(TEXT(places[i]), &at[i]) == ASM_DONE && at[i].full);
+        REQUIRE(asm_location(TEXT(places[i]), &at[i]) == ASM_DONE && at[i].slot.full);
 }
 
 static inline void end_all(void) {
-    asm_free(&storage);
-    asm_free(&agents[0]);
-    asm_free(&agents[1]);
-    asm_free(&step);
-    asm_free(&move);
+    asm_free_storage(&storage);
+    asm_free_agent(&agents[0]);
+    asm_free_agent(&agents[1]);
+    asm_free_step(&step);
+    asm_free_move(&move);
     for (size_t i = 0; i < PLACES; i++)
-        asm_free(&at[i]);
+        asm_free_location(&at[i]);
 }
 
 static inline bool is_value(asm_value value, int32_t kind, int64_t number) {
@@ -59,7 +63,7 @@ static inline void tells_in(size_t room, bool gets, size_t place, asm_value want
 
 /* What is seen at the location through the step, or in the agent's own state at 0 moves. */
 static inline void tells(bool gets, size_t place, int32_t kind, int64_t number, const char *text) {
-    asm_slot was[3] = {agents[0], step, at[place]};
+    asm_slot was[3] = {agents[0].slot, step.slot, at[place].slot};
     if (*text)
         tells_in(strlen(text) - 1, gets, place, (asm_value){kind, number}, text);
     tells_in(strlen(text), gets, place, (asm_value){kind, number}, text);
@@ -80,13 +84,13 @@ static inline int32_t instruct(size_t place, int32_t verb, int32_t kind, int64_t
 
 static inline void does(size_t place, int32_t verb, int32_t kind, int64_t number, const char *text,
                         uint32_t amount) {
-    asm_slot was = move;
-    REQUIRE(instruct(place, verb, kind, number, text, amount) == ASM_DONE && move.full);
+    asm_slot was = move.slot;
+    REQUIRE(instruct(place, verb, kind, number, text, amount) == ASM_DONE && move.slot.full);
     REQUIRE(!was.full || is_same(move, was));
 }
 
 static inline int32_t grows(bool is_push) {
-    asm_slot was[3] = {agents[0], step, move};
+    asm_slot was[3] = {agents[0].slot, step.slot, move.slot};
     uint8_t out[8];
     size_t written = 9;
     int32_t code = (is_push ? asm_push_move : asm_extend_move)(&agents[0], &step, &move, out,
@@ -98,7 +102,7 @@ static inline int32_t grows(bool is_push) {
 
 static inline void refuses_as(int32_t code, int32_t verb, int32_t kind, int64_t number,
                               const char *text, uint32_t amount) {
-    asm_slot was = move;
+    asm_slot was = move.slot;
     REQUIRE(instruct(X, verb, kind, number, text, amount) == code && is_same(move, was));
 }
 

@@ -14,14 +14,14 @@ static void each_value_by_json(void) {
     gets(S, ASM_KIND_SET, 0, "{'set':[1,2,{'list':[1]}]}");
     gets(B, ASM_KIND_BAG, 0, "{'bag':[[1,4294967295],['e',1]]}");
     gets(U, ASM_KIND_LIST, 0, "{'list':[]}");
-    asm_free(&move);
+    asm_free_move(&move);
     /* A list is an element of a set and of a bag. */
     does(S, ASM_ADD, ASM_KIND_LIST, 0, "{'list':[2]}", 0);
     does(S, ASM_REMOVE, ASM_KIND_LIST, 0, "{'list':[1]}", 0);
     does(B, ASM_BAGADD, ASM_KIND_LIST, 0, "{'list':[]}", 3);
     does(U, ASM_PUT, ASM_KIND_BAG, 0, "{'bag':[]}", 0);
     REQUIRE(grows(false) == ASM_DONE);
-    asm_free(&move);
+    asm_free_move(&move);
     does(B, ASM_BAGREMOVE, ASM_KIND_LIST, 0, "{'list':[]}", 2);
     REQUIRE(grows(true) == ASM_DONE);
     gets(S, ASM_KIND_SET, 0, "{'set':[1,2,{'list':[2]}]}");
@@ -33,25 +33,26 @@ static void each_value_by_json(void) {
 /* The move that was pushed last goes into a slot: as it was pushed, or as one with what extended
  * it. */
 static void a_popped_move(void) {
-    asm_slot was, other = {0};
+    asm_slot was;
+    struct asm_move other = {0};
     asm_numbers numbers;
     uint32_t number;
     begin_all();
     does(X, ASM_INC, ASM_KIND_NUM, 1, "", 0);
     does(T, ASM_PUT, ASM_KIND_TEXT, 0, "new", 0);
     REQUIRE(grows(true) == ASM_DONE && grows(true) == ASM_DONE);
-    asm_free(&move);
+    asm_free_move(&move);
     does(X, ASM_INC, ASM_KIND_NUM, 20, "", 0);
     does(S, ASM_ADD, ASM_KIND_NUM, 2, "", 0);
     REQUIRE(grows(false) == ASM_DONE && asm_depth(&step) == 2);
     gets(X, ASM_KIND_NUM, 29, "");
-    was = step;
-    REQUIRE(asm_pop_move(&step, &other) == ASM_DONE && other.full && asm_depth(&step) == 1);
+    was = step.slot;
+    REQUIRE(asm_pop_move(&step, &other) == ASM_DONE && other.slot.full && asm_depth(&step) == 1);
     REQUIRE(is_same(step, was));
     gets(X, ASM_KIND_NUM, 8, "");
     gets(S, ASM_KIND_SET, 0, "{'set':[1]}");
     /* It drops the move that the slot has. */
-    REQUIRE(asm_pop_move(&step, &move) == ASM_DONE && move.full && asm_depth(&step) == 0);
+    REQUIRE(asm_pop_move(&step, &move) == ASM_DONE && move.slot.full && asm_depth(&step) == 0);
     gets(X, ASM_KIND_NUM, 7, "");
     REQUIRE(grows(true) == ASM_DONE && grows(false) == ASM_DONE);
     gets(X, ASM_KIND_NUM, 9, "");
@@ -60,12 +61,12 @@ static void a_popped_move(void) {
     ANSWERS(ASM_DONE, asm_push_move(&agents[0], &step, &other, OUT));
     gets(X, ASM_KIND_NUM, 30, "");
     REQUIRE(asm_pop_move(&step, &move) == ASM_DONE && asm_depth(&step) == 1);
-    asm_free(&other);
+    asm_free_move(&other);
     does(X, ASM_INC, ASM_KIND_NUM, 100, "", 0);
     REQUIRE(grows(true) == ASM_DONE);
     gets(X, ASM_KIND_NUM, 130, "");
     REQUIRE(asm_commit(&agents[0], &step, &numbers) == ASM_DONE && numbers.fired == 1);
-    REQUIRE(asm_pop_move(&step, &move) == ASM_EMPTY && move.full);
+    REQUIRE(asm_pop_move(&step, &move) == ASM_EMPTY && move.slot.full);
     REQUIRE(asm_begin(&agents[0], &step, &number) == ASM_DONE && number == 1);
     REQUIRE(grows(true) == ASM_DONE);
     gets(X, ASM_KIND_NUM, 251, "");
@@ -80,13 +81,13 @@ static void what_a_popped_move_leaves(void) {
     asm_slot was;
     begin_all();
     ANSWERS(ASM_DONE, asm_push(&agents[0], &step, TEXT("[]"), OUT));
-    REQUIRE(asm_pop_move(&step, &move) == ASM_DONE && move.full && grows(true) == ASM_DONE);
-    asm_free(&move);
+    REQUIRE(asm_pop_move(&step, &move) == ASM_DONE && move.slot.full && grows(true) == ASM_DONE);
+    asm_free_move(&move);
     does(X, ASM_INC, ASM_KIND_NUM, 1, "", 0);
     REQUIRE(grows(true) == ASM_DONE && grows(true) == ASM_DONE && asm_depth(&step) == 3);
     REQUIRE(asm_pop_move(&step, &move) == ASM_DONE && asm_pop_move(&step, &move) == ASM_DONE);
     REQUIRE(asm_pop_move(&step, &move) == ASM_DONE && asm_depth(&step) == 0);
-    was = move;
+    was = move.slot;
     REQUIRE(asm_pop_move(&step, &move) == ASM_NONE && is_same(move, was));
     fire(&agents[1], "[['put',['x'],0]]");
     REQUIRE(asm_commit(&agents[0], &step, &numbers) == ASM_DONE && numbers.fired == 2);
@@ -113,14 +114,14 @@ static void large_moves(void) {
     begin_all();
     does(S, ASM_PUT, ASM_KIND_SET, 0, "{'set':[]}", 0);
     REQUIRE(grows(true) == ASM_DONE && adds(true, 0) == ASM_DONE && adds(false, 3000) == ASM_DONE);
-    was[0] = step;
-    was[1] = move;
+    was[0] = step.slot;
+    was[1] = move.slot;
     REQUIRE(asm_pop_move(&step, &move) == ASM_MANY && asm_depth(&step) == 2);
     REQUIRE(is_same(step, was[0]) && is_same(move, was[1]));
     REQUIRE(asm_pop(&step) == ASM_DONE && grows(true) == ASM_DONE && asm_pop(&step) == ASM_DONE);
     gets(S, ASM_KIND_SET, 0, "{'set':[]}");
     REQUIRE(asm_pop_move(&step, &move) == ASM_DONE && asm_depth(&step) == 0);
-    asm_free(&move);
+    asm_free_move(&move);
     for (int i = 0; i < 4096; i++)
         does(X, ASM_INC, ASM_KIND_NUM, 1, "", 0);
     REQUIRE(grows(true) == ASM_DONE && asm_pop_move(&step, &move) == ASM_DONE);
@@ -190,7 +191,7 @@ static void refuses_each(void) {
 static void no_values(void) {
     begin_all();
     refuses_each();
-    REQUIRE(!move.full);
+    REQUIRE(!move.slot.full);
     does(X, ASM_INC, ASM_KIND_NUM, 1, "", 0);
     refuses_each();
     REQUIRE(grows(true) == ASM_DONE);

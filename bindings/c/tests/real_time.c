@@ -18,7 +18,7 @@ typedef struct call {
 
 typedef struct worker {
     pthread_t thread;
-    asm_slot agent;
+    struct asm_agent agent;
     unsigned number;
     size_t told;
     call calls[EACH];
@@ -102,7 +102,7 @@ static void *work(void *argument) {
     return NULL;
 }
 
-static void run_threads(asm_slot *storage) {
+static void run_threads(struct asm_storage *storage) {
     REQUIRE(!pthread_barrier_init(&start, NULL, AGENTS));
     for (unsigned i = 0; i < AGENTS; i++) {
         workers[i].number = i;
@@ -138,14 +138,14 @@ int main(int count, char **words) {
     long calls = count > 1 ? strtol(words[1], NULL, 10) : CALLS;
     judges_orders();
     for (long done = 0; done < calls; done += CALLS) {
-        asm_slot storage = {0};
+        struct asm_storage storage = {0};
         open_with("[[['c'],0],[['p'],0]]", CALLS, &storage);
         run_threads(&storage);
         char *journal = journal_of(&storage);
         take_order(journal);
         REQUIRE(!is_out_of_order(order, CALLS));
         free(journal);
-        asm_free(&storage);
+        asm_free_storage(&storage);
     }
     printf("passed: %ld calls of %d agents stand in an order of real time\n", calls, AGENTS);
     return 0;

@@ -146,7 +146,7 @@ static void whole_functions(void) {
 }
 
 /* A fire over scans, of the number that it tells where it fired. */
-static void fires_over(int32_t wanted, asm_slot *agent, const char *call, const char *over,
+static void fires_over(int32_t wanted, struct asm_agent *agent, const char *call, const char *over,
                        uint32_t number) {
     asm_numbers numbers = {9, 9, 9};
     REQUIRE(asm_try_fire_over(agent, TEXT(call), TEXT(over), &numbers) == wanted);
@@ -253,7 +253,7 @@ static void raises_each(bool is_push, int count) {
 
 /* More than 256 locations would be named: 256 that were got, and one that two moves change. */
 static void many_named(void) {
-    asm_slot move = {0};
+    struct asm_move move = {0};
     begin_with(8);
     gets_each(256);
     push("[['put',['w',0],1]]");
@@ -263,7 +263,7 @@ static void many_named(void) {
     refused(ASM_MANY, NULL);
     ANSWERS(ASM_NONE, asm_answer(&agents[0], OUT));
     REQUIRE(asm_pop_move(&step, &move) == ASM_DONE);
-    asm_free(&move);
+    asm_free_move(&move);
     fired(1);
     end_all();
 }

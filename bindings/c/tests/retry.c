@@ -17,7 +17,11 @@ static unsigned refused;
 #define ON_STEP(call) (again((call)) && is_as_it_was() ? (call) : last_code)
 
 static int32_t last_code;
-static asm_slot storage, agents[3], step, at[2], move;
+static struct asm_storage storage;
+static struct asm_agent agents[3];
+static struct asm_step step;
+static struct asm_location at[2];
+static struct asm_move move;
 
 /* The depth of the step and what is seen through it, where its call began. */
 static uint32_t depth;
@@ -35,7 +39,7 @@ static bool has(const uint8_t *out, size_t written, const char *wanted) {
     return written == strlen(wanted) && !memcmp(out, json(wanted), written);
 }
 
-static bool answers(asm_slot *agent, const char *wanted) {
+static bool answers(struct asm_agent *agent, const char *wanted) {
     uint8_t out[ROOM];
     size_t written;
     return AGAIN(asm_answer(agent, out, sizeof out, &written)) == ASM_DONE &&
@@ -46,7 +50,7 @@ static bool answers(asm_slot *agent, const char *wanted) {
 static bool is_as_it_was(void) {
     uint8_t out[ROOM];
     size_t written;
-    REQUIRE(step.full && asm_depth(&step) == depth);
+    REQUIRE(step.slot.full && asm_depth(&step) == depth);
     REQUIRE(AGAIN(asm_get(&agents[0], &step, TEXT("[['x'],['s']]"), out, sizeof out, &written)) ==
             ASM_DONE);
     REQUIRE(has(out, written, seen));
@@ -82,7 +86,7 @@ static void play(void) {
 }
 
 /* Looks at the agent's own state, which follows the one move, and makes no receipt. */
-static void look(asm_slot *agent) {
+static void look(struct asm_agent *agent) {
     uint8_t out[ROOM];
     size_t written;
     uint32_t number;
@@ -153,11 +157,11 @@ static void run_step(void) {
     depth--;
     seen = "{'number':1,'values':[22,{'set':[1,3]}]}";
     REQUIRE(ON_STEP(asm_commit(&agents[0], &step, &numbers)) == ASM_DONE);
-    REQUIRE(numbers.fired == 2 && !step.full && asm_won(&agents[0]) == 2);
+    REQUIRE(numbers.fired == 2 && !step.slot.full && asm_won(&agents[0]) == 2);
 }
 
 /* What the step sees at the location: this number, or the text. */
-static void get_at(asm_slot *place, int32_t kind, int64_t number, const char *text) {
+static void get_at(struct asm_location *place, int32_t kind, int64_t number, const char *text) {
     uint8_t out[ROOM];
     size_t written;
     asm_value value;
@@ -167,31 +171,31 @@ static void get_at(asm_slot *place, int32_t kind, int64_t number, const char *te
 }
 
 /* Puts an instruction into the move, which is as it was where there was no memory. */
-static void instruct(asm_slot *place, int32_t verb, int32_t kind, int64_t number,
+static void instruct(struct asm_location *place, int32_t verb, int32_t kind, int64_t number,
                      const char *text) {
-    asm_slot was = move;
+    asm_slot was = move.slot;
     if (again(asm_instruct(&move, place, verb, kind, number, bytes(text), strlen(text), 0))) {
         REQUIRE(is_same(move, was));
         last_code = asm_instruct(&move, place, verb, kind, number, bytes(text), strlen(text), 0);
     }
-    REQUIRE(last_code == ASM_DONE && move.full);
+    REQUIRE(last_code == ASM_DONE && move.slot.full);
 }
 
 /* Appends the move to another, which is as it was where there was no memory, and has both then. */
-static void unite(asm_slot *of) {
-    asm_slot was = *of;
+static void unite(struct asm_move *of) {
+    asm_slot was = of->slot;
     if (again(asm_unite(of, &move))) {
         REQUIRE(is_same(*of, was));
         last_code = asm_unite(of, &move);
     }
-    REQUIRE(last_code == ASM_DONE && of->full);
+    REQUIRE(last_code == ASM_DONE && of->slot.full);
 }
 
 /* A move is united with itself by a copy, and with one that has grown; and none with none. */
 static void run_united(void) {
     uint8_t out[ROOM];
     size_t written;
-    asm_slot both = {0}, none = {0};
+    struct asm_move both = {0}, none = {0};
     instruct(&at[0], ASM_INC, ASM_KIND_NUM, 2, "");
     unite(&both);
     unite(&both);
@@ -205,20 +209,20 @@ static void run_united(void) {
     REQUIRE(AGAIN(asm_pop(&step)) == ASM_DONE);
     depth = 0;
     seen = "{'number':1,'values':[8,{'set':[1,3,'two']}]}";
-    asm_free(&move);
+    asm_free_move(&move);
     unite(&none);
-    asm_free(&none);
-    asm_free(&both);
+    asm_free_move(&none);
+    asm_free_move(&both);
 }
 
 /* Pops what was pushed last into the move; both are as they were where there was no memory. */
 static void pop_move(const char *left) {
-    asm_slot was = move;
+    asm_slot was = move.slot;
     if (again(asm_pop_move(&step, &move)) && is_as_it_was()) {
         REQUIRE(is_same(move, was));
         last_code = asm_pop_move(&step, &move);
     }
-    REQUIRE(last_code == ASM_DONE && move.full);
+    REQUIRE(last_code == ASM_DONE && move.slot.full);
     depth--;
     seen = left;
     is_as_it_was();
@@ -251,23 +255,23 @@ static void run_plain(void) {
             ASM_CLASH);
     REQUIRE(has(out, written, "{'clash':[['u','why'],'Kind']}"));
     pop_move("{'number':1,'values':[8,{'set':[1,3,'two']}]}");
-    asm_free(&move);
+    asm_free_move(&move);
     instruct(&at[0], ASM_PUT, ASM_KIND_SET, 0, "{\"set\":[1,{\"list\":[2]}]}");
     instruct(&at[1], ASM_PUT, ASM_KIND_BAG, 0, "{\"bag\":[[1,2]]}");
     REQUIRE(ON_STEP(asm_push_move(&agents[0], &step, &move, out, sizeof out, &written)) ==
             ASM_DONE);
     depth = 1;
     seen = "{'number':1,'values':[{'set':[1,{'list':[2]}]},{'set':[1,3,'two']}]}";
-    asm_free(&move);
+    asm_free_move(&move);
     pop_move("{'number':1,'values':[8,{'set':[1,3,'two']}]}");
     REQUIRE(AGAIN(asm_peek_at(&agents[0], &at[0], &number, &value, out, sizeof out, &written)) ==
             ASM_DONE);
     REQUIRE(number == 1 && value.kind == ASM_KIND_NUM && value.number == 8);
-    asm_free(&move);
+    asm_free_move(&move);
     run_united();
-    asm_free(&step);
-    asm_free(&at[0]);
-    asm_free(&at[1]);
+    asm_free_step(&step);
+    asm_free_location(&at[0]);
+    asm_free_location(&at[1]);
 }
 
 static void compute(void) {
@@ -293,9 +297,10 @@ static void compute(void) {
 
 /* An agent that was given back is taken again, as often as there was no memory, and given back. */
 static void take_again(void) {
-    asm_slot agent = {0}, was = storage;
+    struct asm_agent agent = {0};
+    asm_slot was = storage.slot;
     if (again(asm_take(&storage, 1, &agent))) {
-        REQUIRE(!agent.full && is_same(storage, was));
+        REQUIRE(!agent.slot.full && is_same(storage, was));
         last_code = asm_take(&storage, 1, &agent);
     }
     REQUIRE(last_code == ASM_DONE && answers(&agent, "{'stale':['x']}"));
@@ -306,7 +311,7 @@ static void take_again(void) {
 static void audit(const uint8_t *journal, size_t len, uint64_t calls, uint64_t moves,
                   const char *left) {
     uint8_t out[ROOM];
-    asm_slot slot = {0};
+    struct asm_audit slot = {0};
     asm_audit_numbers told;
     size_t written, taken = 0;
     for (size_t at = 0; at < len; at += taken)
@@ -317,11 +322,11 @@ static void audit(const uint8_t *journal, size_t len, uint64_t calls, uint64_t m
     REQUIRE(told.parts == 1 && told.calls == calls && told.moves == moves);
     REQUIRE(AGAIN(asm_audit_state(&slot, out, sizeof out, &written)) == ASM_DONE);
     REQUIRE(has(out, written, left));
-    asm_free(&slot);
+    asm_free_audit(&slot);
 }
 
 /* Closes the storage of so many agents, checks its journal and prints it. */
-static void close_all(asm_slot *of, size_t count, uint64_t calls, uint32_t moves,
+static void close_all(struct asm_storage *of, size_t count, uint64_t calls, uint32_t moves,
                       const char *wanted) {
     static uint8_t journal[ROOM], state[ROOM];
     size_t len, written;
@@ -345,7 +350,8 @@ static void close_all(asm_slot *of, size_t count, uint64_t calls, uint32_t moves
 
 /* A full storage goes on with its agent's own state. */
 static void go_on_full(void) {
-    asm_slot full = {0}, agent = {0}, next = {0};
+    struct asm_storage full = {0}, next = {0};
+    struct asm_agent agent = {0};
     asm_numbers numbers;
     uint32_t number;
     REQUIRE(AGAIN(asm_open(TEXT("[[['x'],1]]"), 1, &full)) == ASM_DONE);
@@ -354,33 +360,34 @@ static void go_on_full(void) {
             ASM_DONE);
     REQUIRE(AGAIN(asm_follow(&agent, &number)) == ASM_DONE && number == 1);
     if (again(asm_go_on(&agent, 1, &next))) {
-        REQUIRE(agent.full && !next.full);
+        REQUIRE(agent.slot.full && !next.slot.full);
         last_code = asm_go_on(&agent, 1, &next);
     }
     REQUIRE(last_code == ASM_DONE);
-    asm_free(&agent);
-    asm_free(&full);
+    asm_free_agent(&agent);
+    asm_free_storage(&full);
     REQUIRE(AGAIN(asm_agent(&next, 0, &agent)) == ASM_DONE);
     REQUIRE(AGAIN(asm_read(&agent, TEXT("[['x']]"))) == ASM_DONE);
     REQUIRE(answers(&agent, "{'number':0,'values':[2]}"));
-    asm_free(&agent);
-    asm_free(&next);
+    asm_free_agent(&agent);
+    asm_free_storage(&next);
 }
 
 /* The run goes on in a storage that opens with what the first left. */
 static void go_on(const char *left) {
-    asm_slot next = {0}, was = storage;
+    struct asm_storage next = {0};
+    asm_slot was = storage.slot;
     if (again(asm_next(&storage, 4, &next))) {
-        REQUIRE(!next.full && is_same(storage, was));
+        REQUIRE(!next.slot.full && is_same(storage, was));
         last_code = asm_next(&storage, 4, &next);
     }
     REQUIRE(last_code == ASM_DONE);
-    asm_free(&storage);
+    asm_free_storage(&storage);
     REQUIRE(AGAIN(asm_agent(&next, 0, &agents[0])) == ASM_DONE);
     REQUIRE(AGAIN(asm_read(&agents[0], TEXT("[['x'],['y']]"))) == ASM_DONE);
     REQUIRE(answers(&agents[0], "{'number':0,'values':[22,'why']}"));
     close_all(&next, 1, 1, 0, left);
-    asm_free(&next);
+    asm_free_storage(&next);
 }
 
 int main(int argc, char **argv) {

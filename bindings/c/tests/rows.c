@@ -121,7 +121,9 @@ static void go_on(char *state, const char *move) {
 /* A step with both pushed leaves this state, and its commit fires the composed move, or what is
  * kept. */
 static void commits(const row *r, const char *state, const char *left) {
-    asm_slot storage = {0}, agent = {0}, step = {0};
+    struct asm_storage storage = {0};
+    struct asm_agent agent = {0};
+    struct asm_step step = {0};
     asm_numbers numbers;
     char move[LONGEST], call[LONGEST], locations[] = "[" AT "]";
     uint8_t out[LONGEST];
@@ -146,7 +148,7 @@ static void commits(const row *r, const char *state, const char *left) {
              r->kept ? r->kept : r->composed);
     REQUIRE(strstr(journal, json(call)) != NULL);
     free(journal);
-    asm_free(&storage);
+    asm_free_storage(&storage);
 }
 
 static void do_the_same(const row *r) {

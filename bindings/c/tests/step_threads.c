@@ -14,13 +14,13 @@ enum { AGENTS = 8, ACCOUNTS = 4, STORAGES = 2 };
 
 typedef struct worker {
     pthread_t thread;
-    asm_slot agent;
+    struct asm_agent agent;
     unsigned number, stale, busy;
 } worker;
 
 static worker workers[AGENTS];
 
-static void grow(worker *w, asm_slot *step, bool is_push, const char *move) {
+static void grow(worker *w, struct asm_step *step, bool is_push, const char *move) {
     if (is_push)
         ANSWERS(ASM_DONE, asm_push(&w->agent, step, TEXT(move), OUT));
     else
@@ -28,7 +28,7 @@ static void grow(worker *w, asm_slot *step, bool is_push, const char *move) {
 }
 
 /* What the step sees of the account. */
-static long seen(worker *w, asm_slot *step, unsigned account, uint32_t number) {
+static long seen(worker *w, struct asm_step *step, unsigned account, uint32_t number) {
     char text[LONGEST];
     uint32_t at;
     long amount;
@@ -44,7 +44,7 @@ static long seen(worker *w, asm_slot *step, unsigned account, uint32_t number) {
 
 /* Moves an amount from one account to another by two moves of one step, and counts it; whether it
  * was fired. */
-static bool transfer(worker *w, asm_slot *step, unsigned turn) {
+static bool transfer(worker *w, struct asm_step *step, unsigned turn) {
     unsigned from = (w->number + turn) % ACCOUNTS, to = (from + 1 + turn % 3) % ACCOUNTS;
     char move[256];
     uint32_t number;
@@ -62,21 +62,21 @@ static bool transfer(worker *w, asm_slot *step, unsigned turn) {
     w->stale += code == ASM_STALE;
     w->busy += code == ASM_BUSY;
     REQUIRE(code == ASM_DONE || code == ASM_STALE || code == ASM_BUSY);
-    REQUIRE(code != ASM_DONE || (numbers.fired > number && !step->full));
-    REQUIRE(code == ASM_DONE || (step->full && asm_depth(step) == 2));
+    REQUIRE(code != ASM_DONE || (numbers.fired > number && !step->slot.full));
+    REQUIRE(code == ASM_DONE || (step->slot.full && asm_depth(step) == 2));
     return code == ASM_DONE;
 }
 
 static void *work(void *argument) {
     worker *w = argument;
-    asm_slot step = {0};
+    struct asm_step step = {0};
     for (unsigned turn = 0; turn < TIMES;)
         turn += transfer(w, &step, turn);
-    REQUIRE(!step.full && asm_won(&w->agent) == TIMES);
+    REQUIRE(!step.slot.full && asm_won(&w->agent) == TIMES);
     return NULL;
 }
 
-static void run_threads(asm_slot *storage) {
+static void run_threads(struct asm_storage *storage) {
     for (unsigned i = 0; i < AGENTS; i++) {
         workers[i] = (worker){.number = i};
         REQUIRE(asm_agent(storage, i, &workers[i].agent) == ASM_DONE);
@@ -87,7 +87,7 @@ static void run_threads(asm_slot *storage) {
         REQUIRE(!pthread_join(workers[i].thread, NULL));
 }
 
-static void give_all(asm_slot *storage) {
+static void give_all(struct asm_storage *storage) {
     for (size_t i = 0; i < AGENTS; i++) {
         fprintf(stderr, "agent %zu: stale %u, busy %u\n", i, workers[i].stale, workers[i].busy);
         REQUIRE(asm_give(storage, &workers[i].agent) == ASM_DONE);
@@ -117,7 +117,7 @@ static void sums(const char *journal, long count) {
     free(state);
 }
 
-static void open_first(asm_slot *storage) {
+static void open_first(struct asm_storage *storage) {
     char init[LONGEST];
     size_t at = (size_t)snprintf(init, sizeof init, "[[['count'],0]");
     for (unsigned i = 0; i < ACCOUNTS; i++)
@@ -129,11 +129,11 @@ static void open_first(asm_slot *storage) {
 }
 
 int main(void) {
-    static asm_slot storages[STORAGES];
+    static struct asm_storage storages[STORAGES];
     uint64_t calls;
     uint32_t moves;
     for (int round = 0; round < STORAGES; round++) {
-        asm_slot *storage = &storages[round];
+        struct asm_storage *storage = &storages[round];
         if (round == 0)
             open_first(storage);
         else
@@ -147,7 +147,7 @@ int main(void) {
         free(journal);
     }
     for (int round = 0; round < STORAGES; round++)
-        asm_free(&storages[round]);
+        asm_free_storage(&storages[round]);
     puts("passed");
     return 0;
 }

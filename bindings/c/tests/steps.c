@@ -4,20 +4,22 @@
 static const char *opening =
     "[[['b'],{'bag':[['e',2]]}],[['s'],{'set':[1]}],[['x'],7],[['y',1],'one'],[['y',2],'two']]";
 
-static asm_slot storage, agents[2], step;
+static struct asm_storage storage;
+static struct asm_agent agents[2];
+static struct asm_step step;
 
 static void begin_all(void) {
     uint32_t number = 9;
     open_with(opening, 8, &storage);
     REQUIRE(asm_agents(&storage, agents, 2) == ASM_DONE);
-    REQUIRE(asm_begin(&agents[0], &step, &number) == ASM_DONE && number == 0 && step.full);
+    REQUIRE(asm_begin(&agents[0], &step, &number) == ASM_DONE && number == 0 && step.slot.full);
 }
 
 static void end_all(void) {
-    asm_free(&storage);
-    asm_free(&agents[0]);
-    asm_free(&agents[1]);
-    asm_free(&step);
+    asm_free_storage(&storage);
+    asm_free_agent(&agents[0]);
+    asm_free_agent(&agents[1]);
+    asm_free_step(&step);
 }
 
 static int32_t push(const char *instructions) {
@@ -37,7 +39,8 @@ typedef struct picture {
     uint8_t seen[LONGEST], state[LONGEST];
     uint32_t depth, number, moves;
     uint64_t misses;
-    asm_slot agent, step;
+    struct asm_agent agent;
+    struct asm_step step;
 } picture;
 
 /* The locations are got by it; so they have to be before. */
@@ -58,7 +61,7 @@ static picture look(void) {
 #define KEEPS(calls)                                                                               \
     do {                                                                                           \
         picture before = look();                                                                   \
-        asm_slot slots[2] = {agents[0], step};                                                     \
+        asm_slot slots[2] = {agents[0].slot, step.slot};                                           \
         calls;                                                                                     \
         REQUIRE(is_same(agents[0], slots[0]) && is_same(step, slots[1]));                          \
         picture after = look();                                                                    \
@@ -66,8 +69,8 @@ static picture look(void) {
     } while (0)
 
 /* Each call of a step on two slots of which one holds nothing of its kind, or which are one. */
-static void on_nothing(asm_slot *agent, asm_slot *of_step) {
-    asm_slot was[2] = {*agent, *of_step};
+static void on_nothing(struct asm_agent *agent, struct asm_step *of_step) {
+    asm_slot was[2] = {agent->slot, of_step->slot};
     asm_numbers numbers = {9, 9, 9};
     ANSWERS(ASM_EMPTY, asm_get(agent, of_step, TEXT("[]"), OUT));
     ANSWERS(ASM_EMPTY, asm_get(agent, of_step, NULL, 0, OUT));
@@ -81,8 +84,8 @@ static void on_nothing(asm_slot *agent, asm_slot *of_step) {
 }
 
 /* Each call of an agent alone on a slot without an agent. */
-static void on_no_agent(asm_slot *slot) {
-    asm_slot was = *slot;
+static void on_no_agent(struct asm_agent *slot) {
+    asm_slot was = slot->slot;
     uint32_t number = 9;
     REQUIRE(asm_follow(slot, &number) == ASM_EMPTY && number == 0);
     ANSWERS(ASM_EMPTY, asm_peek(slot, TEXT("[]"), OUT));
@@ -97,8 +100,8 @@ static void on_no_agent(asm_slot *slot) {
 }
 
 /* A step begins in a slot that is empty or holds one, and no other slot is changed. */
-static void begins(asm_slot *agent, asm_slot *of_step, int32_t wanted) {
-    asm_slot was[2] = {*agent, *of_step};
+static void begins(struct asm_agent *agent, struct asm_step *of_step, int32_t wanted) {
+    asm_slot was[2] = {agent->slot, of_step->slot};
     uint32_t number = 9;
     REQUIRE(asm_begin(agent, of_step, &number) == wanted && number == 0);
     REQUIRE(is_same(*agent, was[0]));
@@ -106,9 +109,9 @@ static void begins(asm_slot *agent, asm_slot *of_step, int32_t wanted) {
 }
 
 static void other_slots(void) {
-    asm_slot empty = {0};
+    struct asm_step empty = {0};
     begin_all();
-    asm_slot *slots[] = {&empty, &storage, &agents[0], &step};
+    void *slots[] = {&empty, &storage, &agents[0], &step};
     for (size_t i = 0; i < 4; i++) {
         for (size_t k = 0; k < 4; k++)
             if (i != 2 || k != 3)
@@ -117,7 +120,8 @@ static void other_slots(void) {
             on_no_agent(slots[i]);
         REQUIRE(asm_depth(slots[i]) == 0);
         REQUIRE(asm_pop(slots[i]) == (i == 3 ? ASM_NONE : ASM_EMPTY));
-        REQUIRE(asm_pop_move(slots[i], &empty) == (i == 3 ? ASM_NONE : ASM_EMPTY) && !empty.full);
+        REQUIRE(asm_pop_move(slots[i], AS(move, &empty)) == (i == 3 ? ASM_NONE : ASM_EMPTY));
+        REQUIRE(!empty.slot.full);
         if (i != 3)
             ANSWERS(ASM_EMPTY, asm_offer(slots[i], OUT));
         for (size_t k = 1; k < 3; k++)
@@ -129,8 +133,8 @@ static void other_slots(void) {
     }
     begins(&agents[0], &step, ASM_DONE);
     begins(&agents[0], &empty, ASM_DONE);
-    REQUIRE(empty.full && step.full && empty.at != step.at);
-    asm_free(&empty);
+    REQUIRE(empty.slot.full && step.slot.full && empty.slot.at != step.slot.at);
+    asm_free_step(&empty);
     end_all();
     on_nothing(&agents[0], &step);
     on_no_agent(&agents[0]);
@@ -138,23 +142,26 @@ static void other_slots(void) {
 
 /* The calls of storages and agents on a slot with a step. */
 static void step_for_another(void) {
-    asm_slot none = {0};
+    struct asm_agent none = {0}, *agent = AS(agent, &step);
+    struct asm_storage *of_step = AS(storage, &step);
     asm_numbers numbers = {9, 9, 9};
     uint32_t number = 9;
     begin_all();
-    asm_slot was = step;
-    REQUIRE(asm_open(TEXT("[]"), 4, &step) == ASM_TAKEN);
-    REQUIRE(asm_agent(&storage, 7, &step) == ASM_TAKEN && asm_agent(&step, 7, &none) == ASM_EMPTY);
-    REQUIRE(asm_agents(&storage, &step, 1) == ASM_TAKEN);
-    REQUIRE(asm_read(&step, TEXT("[]")) == ASM_EMPTY);
-    REQUIRE(asm_try_fire(&step, TEXT("{'fire':[],'reads':[]}"), &numbers) == ASM_EMPTY);
-    ANSWERS(ASM_EMPTY, asm_answer(&step, OUT));
-    REQUIRE(asm_learn(&agents[0], &step) == ASM_EMPTY && asm_learn(&step, &agents[0]) == ASM_EMPTY);
-    REQUIRE(asm_seen(&step) == 0 && asm_won(&step) == 0 && asm_misses(&step) == 0);
-    REQUIRE(asm_give(&storage, &step) == ASM_EMPTY && asm_give(&step, &agents[0]) == ASM_EMPTY);
-    REQUIRE(asm_moves(&step, &number) == ASM_EMPTY && asm_close(&step, &number) == ASM_EMPTY);
-    ANSWERS(ASM_EMPTY, asm_journal(&step, OUT));
-    REQUIRE(is_same(step, was) && !none.full);
+    asm_slot was = step.slot;
+    REQUIRE(asm_open(TEXT("[]"), 4, of_step) == ASM_TAKEN);
+    REQUIRE(asm_agent(&storage, 7, agent) == ASM_TAKEN);
+    REQUIRE(asm_agent(of_step, 7, &none) == ASM_EMPTY);
+    REQUIRE(asm_agents(&storage, agent, 1) == ASM_TAKEN);
+    REQUIRE(asm_read(agent, TEXT("[]")) == ASM_EMPTY);
+    REQUIRE(asm_try_fire(agent, TEXT("{'fire':[],'reads':[]}"), &numbers) == ASM_EMPTY);
+    ANSWERS(ASM_EMPTY, asm_answer(agent, OUT));
+    REQUIRE(asm_learn(&agents[0], agent) == ASM_EMPTY);
+    REQUIRE(asm_learn(agent, &agents[0]) == ASM_EMPTY);
+    REQUIRE(asm_seen(agent) == 0 && asm_won(agent) == 0 && asm_misses(agent) == 0);
+    REQUIRE(asm_give(&storage, agent) == ASM_EMPTY && asm_give(of_step, &agents[0]) == ASM_EMPTY);
+    REQUIRE(asm_moves(of_step, &number) == ASM_EMPTY && asm_close(of_step, &number) == ASM_EMPTY);
+    ANSWERS(ASM_EMPTY, asm_journal(of_step, OUT));
+    REQUIRE(is_same(step, was) && !none.slot.full);
     end_all();
 }
 
@@ -311,11 +318,12 @@ static void pushes(void) {
     end_all();
 }
 
-typedef int32_t grow(asm_slot *, asm_slot *, const uint8_t *, size_t, uint8_t *, size_t, size_t *);
+typedef int32_t grow(struct asm_agent *, struct asm_step *, const uint8_t *, size_t, uint8_t *,
+                     size_t, size_t *);
 
 /* Each refusal of a push and of an extension, at a depth; the step is as it was. */
 static void refused(grow *call) {
-    asm_slot *agent = &agents[0];
+    struct asm_agent *agent = &agents[0];
     KEEPS({
         TELLS(ASM_CLASH, "{'clash':[['x'],'Two']}",
               call(agent, &step, TEXT("[['put',['x'],1],['put',['x'],2]]"), OUT));

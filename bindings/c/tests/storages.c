@@ -2,7 +2,8 @@
  * moves a storage holds after each call. */
 #include "tests.h"
 
-static asm_slot storage, agents[2];
+static struct asm_storage storage;
+static struct asm_agent agents[2];
 
 static void begin_with(const char *opening, uint32_t capacity) {
     open_with(opening, capacity, &storage);
@@ -10,9 +11,9 @@ static void begin_with(const char *opening, uint32_t capacity) {
 }
 
 static void end_all(void) {
-    asm_free(&storage);
-    asm_free(&agents[0]);
-    asm_free(&agents[1]);
+    asm_free_storage(&storage);
+    asm_free_agent(&agents[0]);
+    asm_free_agent(&agents[1]);
 }
 
 static void holds(uint32_t moves) {
@@ -20,12 +21,12 @@ static void holds(uint32_t moves) {
     REQUIRE(asm_moves(&storage, &number) == ASM_DONE && number == moves);
 }
 
-static void reads(asm_slot *agent, const char *locations, const char *answer) {
+static void reads(struct asm_agent *agent, const char *locations, const char *answer) {
     REQUIRE(asm_read(agent, TEXT(locations)) == ASM_DONE);
     TELLS(ASM_DONE, answer, asm_answer(agent, OUT));
 }
 
-static int32_t fire_of(asm_slot *agent, const char *call) {
+static int32_t fire_of(struct asm_agent *agent, const char *call) {
     asm_numbers numbers;
     return asm_try_fire(agent, TEXT(call), &numbers);
 }
@@ -98,7 +99,8 @@ static char *append_drawn(char *at, uint32_t seed, bool is_wide) {
 /* The same moves are answered alike with no read, with one that is never stale, and where they are
  * wide, until the storage is full. */
 static void judged_alike(void) {
-    asm_slot stores[3] = {{0}, {0}, {0}}, ones[3] = {{0}, {0}, {0}};
+    struct asm_storage stores[3] = {0};
+    struct asm_agent ones[3] = {0};
     unsigned fired = 0, clashed = 0;
     uint32_t seed = 1;
     for (int i = 0; i < 3; i++) {
@@ -126,7 +128,7 @@ static void judged_alike(void) {
         char *journal = journal_of(&stores[i]);
         is_legal(journal, 300, 40);
         free(journal);
-        asm_free(&stores[i]);
+        asm_free_storage(&stores[i]);
     }
 }
 
@@ -205,7 +207,7 @@ static void each_call(void) {
 
 /* Of 256 agents the first and the last fire, and the others read between the two moves. */
 static void many_agents(void) {
-    asm_slot many[256] = {{0}};
+    struct asm_agent many[256] = {0};
     char line[64];
     open_with("[]", 8, &storage);
     REQUIRE(asm_agents(&storage, many, 256) == ASM_DONE);
@@ -226,7 +228,7 @@ static void many_agents(void) {
         REQUIRE((at = strchr(at, '\n')) != NULL && !strncmp(at++, line, strlen(line)));
     }
     free(journal);
-    asm_free(&storage);
+    asm_free_storage(&storage);
 }
 
 int main(void) {

@@ -19,15 +19,15 @@ static void require(bool holds, const char *what, int line) {
 
 static const uint8_t *bytes(const char *text) { return (const uint8_t *)text; }
 
-static int32_t open_with(const char *init, uint32_t capacity, asm_slot *storage) {
+static int32_t open_with(const char *init, uint32_t capacity, struct asm_storage *storage) {
     return asm_open(bytes(init), strlen(init), capacity, storage);
 }
 
-static int32_t read_of(asm_slot *agent, const char *locations) {
+static int32_t read_of(struct asm_agent *agent, const char *locations) {
     return asm_read(agent, bytes(locations), strlen(locations));
 }
 
-static int32_t fire_of(asm_slot *agent, const char *call) {
+static int32_t fire_of(struct asm_agent *agent, const char *call) {
     asm_numbers numbers = {9, 9, 9};
     int32_t code = asm_try_fire(agent, bytes(call), strlen(call), &numbers);
     REQUIRE((numbers.fired > 0) == (code == ASM_DONE));
@@ -35,7 +35,7 @@ static int32_t fire_of(asm_slot *agent, const char *call) {
     return code;
 }
 
-static bool answers(asm_slot *agent, const char *wanted) {
+static bool answers(struct asm_agent *agent, const char *wanted) {
     uint8_t out[256];
     size_t written;
     return asm_answer(agent, out, sizeof out, &written) == ASM_DONE && written == strlen(wanted) &&
@@ -43,88 +43,96 @@ static bool answers(asm_slot *agent, const char *wanted) {
 }
 
 /* Each call but asm_open, asm_check and asm_replay on two slots that hold nothing of their kind. */
-static void on_nothing(asm_slot *storage, asm_slot *agent) {
-    asm_slot full = *storage, was = *agent, free_slot = {0};
+static void on_nothing(struct asm_storage *storage, struct asm_agent *agent) {
+    asm_slot full = storage->slot, was = agent->slot;
+    struct asm_agent free_slot = {0};
     uint8_t out[8];
     size_t written;
     uint32_t number;
-    REQUIRE(asm_agent(storage, 0, &free_slot) == ASM_EMPTY && !free_slot.full);
-    REQUIRE(asm_agents(storage, &free_slot, 1) == ASM_EMPTY && !free_slot.full);
+    REQUIRE(asm_agent(storage, 0, &free_slot) == ASM_EMPTY && !free_slot.slot.full);
+    REQUIRE(asm_agents(storage, &free_slot, 1) == ASM_EMPTY && !free_slot.slot.full);
     REQUIRE(read_of(agent, "[]") == ASM_EMPTY &&
             fire_of(agent, "{\"fire\":[],\"reads\":[]}") == ASM_EMPTY);
     REQUIRE(asm_answer(agent, out, sizeof out, &written) == ASM_EMPTY && written == 0);
     REQUIRE(asm_learn(agent, &free_slot) == ASM_EMPTY && asm_learn(&free_slot, agent) == ASM_EMPTY);
     REQUIRE(asm_learn(agent, agent) == ASM_EMPTY);
     REQUIRE(asm_seen(agent) == 0 && asm_won(agent) == 0 && asm_misses(agent) == 0);
-    REQUIRE(asm_give(storage, agent) == ASM_EMPTY && asm_give(storage, storage) == ASM_EMPTY);
+    REQUIRE(asm_give(storage, agent) == ASM_EMPTY &&
+            asm_give(storage, (void *)storage) == ASM_EMPTY);
     REQUIRE(asm_moves(storage, &number) == ASM_EMPTY && number == 0);
     REQUIRE(asm_close(storage, &number) == ASM_EMPTY && number == 0);
     REQUIRE(asm_journal(storage, out, sizeof out, &written) == ASM_EMPTY && written == 0);
-    REQUIRE(storage->full == full.full && storage->at == full.at && agent->full == was.full &&
-            agent->at == was.at);
+    REQUIRE(storage->slot.full == full.full && storage->slot.at == full.at &&
+            agent->slot.full == was.full && agent->slot.at == was.at);
 }
 
 static void empty_slots(void) {
-    asm_slot storage = {0}, agent = {0}, one = {0};
+    struct asm_storage storage = {0};
+    struct asm_agent agent = {0}, one = {0};
     on_nothing(&storage, &agent);
-    on_nothing(&one, &one);
+    on_nothing((void *)&one, &one);
     REQUIRE(open_with("[]", 4, &storage) == ASM_DONE && asm_agent(&storage, 0, &agent) == ASM_DONE);
-    on_nothing(&agent, &storage);
-    REQUIRE(asm_agent(&storage, 1, &storage) == ASM_TAKEN &&
-            asm_agents(&storage, &storage, 1) == ASM_TAKEN);
-    REQUIRE(asm_learn(&agent, &agent) == ASM_EMPTY && asm_give(&storage, &storage) == ASM_EMPTY);
+    on_nothing((void *)&agent, (void *)&storage);
+    REQUIRE(asm_agent(&storage, 1, (void *)&storage) == ASM_TAKEN &&
+            asm_agents(&storage, (void *)&storage, 1) == ASM_TAKEN);
+    REQUIRE(asm_learn(&agent, &agent) == ASM_EMPTY &&
+            asm_give(&storage, (void *)&storage) == ASM_EMPTY);
     REQUIRE(read_of(&agent, "[]") == ASM_DONE);
-    asm_free(&storage);
+    asm_free_storage(&storage);
     REQUIRE(read_of(&agent, "[]") == ASM_DONE);
-    asm_free(&agent);
+    asm_free_agent(&agent);
     on_nothing(&storage, &agent);
-    asm_free(&agent);
+    asm_free_agent(&agent);
 }
 
 static void full_slots(void) {
-    asm_slot storage = {0}, many[257] = {{0}};
+    struct asm_storage storage = {0};
+    struct asm_agent many[257] = {0};
     REQUIRE(open_with("[]", 4, &storage) == ASM_DONE && open_with("[]", 4, &storage) == ASM_TAKEN);
     REQUIRE(open_with("[", 0, &storage) == ASM_TAKEN);
-    REQUIRE(asm_agents(&storage, many, 257) == ASM_RANGE && !many[0].full);
-    REQUIRE(asm_agents(&storage, many, 256) == ASM_DONE && many[255].full && !many[256].full);
+    REQUIRE(asm_agents(&storage, many, 257) == ASM_RANGE && !many[0].slot.full);
+    REQUIRE(asm_agents(&storage, many, 256) == ASM_DONE && many[255].slot.full && !many[256].slot.full);
     REQUIRE(asm_agent(&storage, 0, &many[0]) == ASM_TAKEN);
-    REQUIRE(asm_agents(&storage, many + 255, 2) == ASM_TAKEN && !many[256].full);
+    REQUIRE(asm_agents(&storage, many + 255, 2) == ASM_TAKEN && !many[256].slot.full);
     for (size_t i = 0; i < 256; i++)
-        asm_free(&many[i]);
-    asm_free(&storage);
+        asm_free_agent(&many[i]);
+    asm_free_storage(&storage);
 }
 
 /* A number is handed out once, also where its agent is freed or given back, and one that a refused
  * call asked for stays free. */
 static void numbers(void) {
-    asm_slot storage = {0}, other = {0}, a[3] = {{0}, {0}, {0}};
+    struct asm_storage storage = {0}, other = {0};
+    struct asm_agent a[3] = {0};
     REQUIRE(open_with("[]", 4, &storage) == ASM_DONE && open_with("[]", 4, &other) == ASM_DONE);
     REQUIRE(asm_agent(&storage, 1, &a[0]) == ASM_DONE);
-    REQUIRE(asm_agent(&storage, 1, &a[1]) == ASM_NUMBER && !a[1].full);
-    REQUIRE(asm_agents(&storage, &a[1], 2) == ASM_NUMBER && !a[1].full && !a[2].full);
-    REQUIRE(asm_agent(&storage, 1, &a[0]) == ASM_TAKEN && asm_agent(&a[0], 1, &a[1]) == ASM_EMPTY);
-    asm_free(&a[0]);
+    REQUIRE(asm_agent(&storage, 1, &a[1]) == ASM_NUMBER && !a[1].slot.full);
+    REQUIRE(asm_agents(&storage, &a[1], 2) == ASM_NUMBER && !a[1].slot.full && !a[2].slot.full);
+    REQUIRE(asm_agent(&storage, 1, &a[0]) == ASM_TAKEN &&
+            asm_agent((void *)&a[0], 1, &a[1]) == ASM_EMPTY);
+    asm_free_agent(&a[0]);
     REQUIRE(asm_agent(&storage, 1, &a[0]) == ASM_NUMBER);
     REQUIRE(asm_agents(&storage, a, 1) == ASM_DONE && asm_give(&storage, &a[0]) == ASM_DONE);
     REQUIRE(asm_agent(&storage, 0, &a[0]) == ASM_NUMBER &&
             asm_agents(&storage, a, 1) == ASM_NUMBER);
     REQUIRE(asm_agents(&storage, NULL, 0) == ASM_DONE);
     REQUIRE(asm_agent(&storage, 255, &a[0]) == ASM_DONE && asm_agents(&other, &a[1], 2) == ASM_DONE);
-    asm_free(&storage);
-    asm_free(&other);
+    asm_free_storage(&storage);
+    asm_free_storage(&other);
     for (size_t i = 0; i < 3; i++)
-        asm_free(&a[i]);
+        asm_free_agent(&a[i]);
 }
 
 /* The moves of an agent that is freed are missing, whether another agent has seen them or none. */
 static void lost_agents(void) {
     const char *move = "{\"fire\":[],\"reads\":[]}";
-    asm_slot storage = {0}, a[3] = {{0}, {0}, {0}};
+    struct asm_storage storage = {0};
+    struct asm_agent a[3] = {0};
     uint32_t number = 9;
     REQUIRE(open_with("[]", 4, &storage) == ASM_DONE && asm_agents(&storage, a, 3) == ASM_DONE);
     REQUIRE(asm_moves(&storage, &number) == ASM_DONE && number == 0);
     REQUIRE(fire_of(&a[0], move) == ASM_DONE && fire_of(&a[1], move) == ASM_DONE);
-    asm_free(&a[1]);
+    asm_free_agent(&a[1]);
     REQUIRE(asm_moves(&storage, &number) == ASM_DONE && number == 2);
     REQUIRE(asm_close(&storage, &number) == ASM_MISSING && number == 1);
     REQUIRE(asm_give(&storage, &a[2]) == ASM_DONE);
@@ -135,17 +143,18 @@ static void lost_agents(void) {
     REQUIRE(asm_give(&storage, &a[2]) == ASM_DONE);
     REQUIRE(asm_close(&storage, &number) == ASM_MISSING && number == 2);
     REQUIRE(asm_moves(&storage, &number) == ASM_DONE && number == 3);
-    REQUIRE(asm_moves(&a[0], &number) == ASM_EMPTY && number == 0);
-    asm_free(&storage);
+    REQUIRE(asm_moves((void *)&a[0], &number) == ASM_EMPTY && number == 0);
+    asm_free_storage(&storage);
 }
 
 static void no_bytes(void) {
-    asm_slot storage = {0}, agent = {0};
+    struct asm_storage storage = {0};
+    struct asm_agent agent = {0};
     asm_numbers numbers;
     size_t written;
     uint64_t calls, line;
     uint32_t number;
-    REQUIRE(asm_open(NULL, 0, 4, &storage) == ASM_NOT_JSON && !storage.full);
+    REQUIRE(asm_open(NULL, 0, 4, &storage) == ASM_NOT_JSON && !storage.slot.full);
     REQUIRE(open_with("[]", 4, &storage) == ASM_DONE && asm_agent(&storage, 0, &agent) == ASM_DONE);
     REQUIRE(asm_agents(&storage, NULL, 0) == ASM_DONE);
     REQUIRE(asm_read(&agent, NULL, 0) == ASM_NOT_JSON &&
@@ -161,7 +170,7 @@ static void no_bytes(void) {
     REQUIRE(asm_trace(NULL, 0, NULL, 0, &written, &line) == ASM_CUT && written == 0 && line == 0);
     REQUIRE(asm_error_text(0, NULL, 0, &written) == ASM_SMALL && written == 4);
     REQUIRE(asm_explain(ASM_FORM_STATE, NULL, 0, NULL, 0, &written) == ASM_SMALL && written > 0);
-    asm_free(&storage);
+    asm_free_storage(&storage);
 }
 
 static void garbage(void) {
@@ -182,7 +191,8 @@ static void garbage(void) {
                            "[null]",
                            "{\"fire\":7,\"reads\":[]}",
                            "{\"fire\":[],\"reads\":[7]}"};
-    asm_slot storage = {0}, agent = {0}, other = {0};
+    struct asm_storage storage = {0}, other = {0};
+    struct asm_agent agent = {0};
     REQUIRE(open_with("[]", 4, &storage) == ASM_DONE && asm_agent(&storage, 0, &agent) == ASM_DONE);
     for (size_t i = 0; i < sizeof texts / sizeof *texts; i++) {
         size_t len = strlen(texts[i]), written;
@@ -202,13 +212,14 @@ static void garbage(void) {
     memset(deep, '[', sizeof deep - 1);
     deep[sizeof deep - 1] = 0;
     REQUIRE(open_with(deep, 4, &other) == ASM_NOT_JSON && read_of(&agent, deep) == ASM_NOT_JSON);
-    REQUIRE(asm_seen(&agent) == 0 && !other.full);
-    asm_free(&agent);
-    asm_free(&storage);
+    REQUIRE(asm_seen(&agent) == 0 && !other.slot.full);
+    asm_free_agent(&agent);
+    asm_free_storage(&storage);
 }
 
 static void fires(void) {
-    asm_slot storage = {0}, a[2] = {{0}, {0}};
+    struct asm_storage storage = {0};
+    struct asm_agent a[2] = {0};
     uint8_t out[64];
     size_t written;
     REQUIRE(open_with("[]", 0, &storage) == ASM_RANGE &&
@@ -228,17 +239,18 @@ static void fires(void) {
     REQUIRE(answers(&a[1], "\"full\"") && asm_seen(&a[1]) == 2 && asm_won(&a[1]) == 1 &&
             asm_seen(&a[0]) == 1);
     REQUIRE(asm_learn(&a[0], &a[1]) == ASM_DONE && asm_seen(&a[0]) == 2);
-    asm_free(&storage);
-    asm_free(&a[0]);
-    asm_free(&a[1]);
+    asm_free_storage(&storage);
+    asm_free_agent(&a[0]);
+    asm_free_agent(&a[1]);
 }
 
 static void many_locations(void) {
     static char text[ROOM];
-    asm_slot storage = {0}, agent = {0};
+    struct asm_storage storage = {0};
+    struct asm_agent agent = {0};
     REQUIRE(open_with("[]", 4, &storage) == ASM_DONE &&
             asm_agent(&storage, 255, &agent) == ASM_DONE);
-    REQUIRE(asm_agent(&storage, 256, &(asm_slot){0}) == ASM_RANGE);
+    REQUIRE(asm_agent(&storage, 256, &(struct asm_agent){0}) == ASM_RANGE);
     for (int count = 256; count <= 257; count++) {
         int32_t wanted = count > 256 ? ASM_MANY : ASM_DONE;
         char *at = text + sprintf(text, "[");
@@ -252,13 +264,14 @@ static void many_locations(void) {
         sprintf(at, "]}");
         REQUIRE(fire_of(&agent, text) == wanted);
     }
-    asm_free(&storage);
-    asm_free(&agent);
+    asm_free_storage(&storage);
+    asm_free_agent(&agent);
 }
 
 static void many_instructions(void) {
     static char text[2 * ROOM];
-    asm_slot storage = {0}, agent = {0};
+    struct asm_storage storage = {0};
+    struct asm_agent agent = {0};
     REQUIRE(open_with("[]", 4, &storage) == ASM_DONE && asm_agent(&storage, 0, &agent) == ASM_DONE);
     for (int count = 4096; count <= 4097; count++) {
         char *at = text + sprintf(text, "{\"fire\":[");
@@ -267,13 +280,14 @@ static void many_instructions(void) {
         sprintf(at, "],\"reads\":[]}");
         REQUIRE(fire_of(&agent, text) == (count > 4096 ? ASM_SHAPE : ASM_DONE));
     }
-    asm_free(&storage);
-    asm_free(&agent);
+    asm_free_storage(&storage);
+    asm_free_agent(&agent);
 }
 
 /* Agents of two storages with the same opening state and the same moves. */
 static void two_storages(void) {
-    asm_slot s[2] = {{0}, {0}}, a[2] = {{0}, {0}};
+    struct asm_storage s[2] = {0};
+    struct asm_agent a[2] = {0};
     uint32_t number;
     for (size_t i = 0; i < 2; i++) {
         REQUIRE(open_with("[[[\"x\"],1]]", 4, &s[i]) == ASM_DONE &&
@@ -281,16 +295,17 @@ static void two_storages(void) {
         REQUIRE(fire_of(&a[i], "{\"fire\":[],\"reads\":[]}") == ASM_DONE);
     }
     REQUIRE(asm_learn(&a[0], &a[1]) == ASM_OTHER && asm_give(&s[0], &a[1]) == ASM_OTHER &&
-            a[1].full);
+            a[1].slot.full);
     REQUIRE(asm_close(&s[0], &number) == ASM_MISSING && number == 1);
-    REQUIRE(asm_give(&s[1], &a[1]) == ASM_DONE && !a[1].full);
+    REQUIRE(asm_give(&s[1], &a[1]) == ASM_DONE && !a[1].slot.full);
     REQUIRE(asm_close(&s[1], &number) == ASM_DONE && asm_give(&s[0], &a[0]) == ASM_DONE);
-    asm_free(&s[0]);
-    asm_free(&s[1]);
+    asm_free_storage(&s[0]);
+    asm_free_storage(&s[1]);
 }
 
 static void ends(void) {
-    asm_slot storage = {0}, a[3] = {{0}, {0}, {0}};
+    struct asm_storage storage = {0};
+    struct asm_agent a[3] = {0};
     static uint8_t text[ROOM], state[ROOM];
     size_t len, written;
     uint64_t calls, line;
@@ -325,7 +340,7 @@ static void ends(void) {
     REQUIRE(asm_agent(&storage, 3, &a[0]) == ASM_DONE && asm_give(&storage, &a[0]) == ASM_DONE);
     REQUIRE(asm_journal(&storage, text, ROOM, &written) == ASM_NONE &&
             asm_close(&storage, &number) == ASM_DONE);
-    asm_free(&storage);
+    asm_free_storage(&storage);
 }
 
 int main(void) {

@@ -88,16 +88,25 @@ static inline void is_told(int32_t code, int32_t wanted, const char *text, const
     exit(1);
 }
 
-static inline bool is_same(asm_slot slot, asm_slot was) {
+/* The handle as one of another kind, as no caller is to pass it. */
+#define AS(kind, handle) ((struct asm_##kind *)(void *)(handle))
+
+/* Whether the handle is as the slot was. */
+#define is_same(handle, was) is_same_slot((handle).slot, (was))
+
+/* The slot of a handle of any kind. */
+static inline asm_slot slot_of(const void *handle) { return *(const asm_slot *)handle; }
+
+static inline bool is_same_slot(asm_slot slot, asm_slot was) {
     return slot.full == was.full && slot.at == was.at;
 }
 
-static inline void open_with(const char *init, uint32_t capacity, asm_slot *storage) {
+static inline void open_with(const char *init, uint32_t capacity, struct asm_storage *storage) {
     REQUIRE(asm_open(TEXT(init), capacity, storage) == ASM_DONE);
 }
 
 /* Fires a move that names nothing. */
-static inline void fire(asm_slot *agent, const char *instructions) {
+static inline void fire(struct asm_agent *agent, const char *instructions) {
     char call[LONGEST];
     asm_numbers numbers;
     snprintf(call, sizeof call, "{'fire':%s,'reads':[]}", instructions);
@@ -105,7 +114,7 @@ static inline void fire(asm_slot *agent, const char *instructions) {
 }
 
 /* The kept journal, which is to be freed. */
-static inline char *journal_of(asm_slot *storage) {
+static inline char *journal_of(struct asm_storage *storage) {
     uint32_t missing;
     size_t room;
     REQUIRE(asm_close(storage, &missing) == ASM_DONE && missing == 0);

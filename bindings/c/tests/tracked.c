@@ -3,7 +3,7 @@
 
 static const char *const shelf = "[[['b'],{'bag':[['e',1]]}],[['c'],0],[['s'],{'set':[1]}]]";
 
-static asm_slot move;
+static struct asm_move move;
 
 static void begin_at_shelf(void) {
     open_with(shelf, 16, &storage);
@@ -12,7 +12,7 @@ static void begin_at_shelf(void) {
 }
 
 static void end_at_shelf(void) {
-    asm_free(&move);
+    asm_free_move(&move);
     end_all();
 }
 
@@ -26,17 +26,17 @@ static void tracks(const char *fire, const char *reads) {
 /* A move of one instruction at a location, in the slot. */
 static void gathers(const char *location, int32_t verb, int32_t kind, int64_t number,
                     const char *text, uint32_t amount) {
-    asm_slot at = {0};
+    struct asm_location at = {0};
     REQUIRE(asm_location(TEXT(location), &at) == ASM_DONE);
     REQUIRE(asm_instruct(&move, &at, verb, kind, number, *text ? bytes(text) : NULL, strlen(text),
                          amount) == ASM_DONE);
-    asm_free(&at);
+    asm_free_location(&at);
 }
 
 /* Each call that puts a move onto a step; it takes two of the bag's one element. */
 static int32_t takes_two(int way, uint8_t *out, size_t room, size_t *written) {
     const char *text = "[['bagremove',['b'],'e',2]]";
-    asm_free(&move);
+    asm_free_move(&move);
     gathers("['b']", ASM_BAGREMOVE, ASM_KIND_TEXT, 0, "e", 2);
     switch (way) {
     case 0:
@@ -137,7 +137,7 @@ static void no_place(void) {
         ANSWERS(ASM_MANY, takes_two(way, OUT));
     REQUIRE(asm_pop(&step) == ASM_MANY && asm_depth(&step) == 1);
     ANSWERS(ASM_DONE, asm_extend(&agents[0], &step, TEXT("[['inc',['c'],-1]]"), OUT));
-    asm_slot was = move;
+    asm_slot was = move.slot;
     REQUIRE(asm_pop_move(&step, &move) == ASM_MANY && asm_depth(&step) == 1);
     REQUIRE(is_same(move, was));
     begins_at(0);
@@ -185,7 +185,7 @@ static void pushed_again(void) {
     push("[['inc',['c'],1],['add',['s'],2]]");
     REQUIRE(asm_pop_move(&step, &move) == ASM_DONE);
     tracks("[['inc',['c'],1]]", "[]");
-    asm_free(&move);
+    asm_free_move(&move);
     REQUIRE(asm_pop_move(&step, &move) == ASM_DONE);
     tracks("[]", "[]");
     ANSWERS(ASM_DONE, asm_push_move(&agents[0], &step, &move, OUT));
@@ -213,7 +213,7 @@ static void resting_groups(void) {
     push("[['put',['c'],5]]");
     push("[['inc',['c'],1]]");
     ANSWERS(ASM_DONE, asm_extend(&agents[0], &step, TEXT("[['inc',['c'],-1]]"), OUT));
-    asm_free(&move);
+    asm_free_move(&move);
     REQUIRE(asm_pop_move(&step, &move) == ASM_DONE);
     fire(&agents[1], "[['put',['c'],0]]");
     fired(3);

@@ -6,7 +6,11 @@ enum { AGENTS = 6, PLACES = 3, MOVES = 600, CALLS = 6000 };
 
 static const char *const places[PLACES] = {"['x',0]", "['x',1]", "['x',2]"};
 
-static asm_slot storage, agents[AGENTS], steps[AGENTS], at[PLACES], move;
+static struct asm_storage storage;
+static struct asm_agent agents[AGENTS];
+static struct asm_step steps[AGENTS];
+static struct asm_location at[PLACES];
+static struct asm_move move;
 
 /* What the model knows: the values that each number of moves leaves, and the last move that wrote
  * each location; how many moves an agent has seen and fired, at which number its state stands, and
@@ -31,13 +35,13 @@ static void begin_all(void) {
 
 static void end_all(void) {
     for (size_t i = 0; i < AGENTS; i++) {
-        asm_free(&steps[i]);
-        asm_free(&agents[i]);
+        asm_free_step(&steps[i]);
+        asm_free_agent(&agents[i]);
     }
     for (size_t i = 0; i < PLACES; i++)
-        asm_free(&at[i]);
-    asm_free(&storage);
-    asm_free(&move);
+        asm_free_location(&at[i]);
+    asm_free_storage(&storage);
+    asm_free_move(&move);
 }
 
 static uint64_t below(uint64_t bound) {
@@ -71,7 +75,7 @@ static void is_as_modelled(size_t agent) {
 /* The one agent takes the other's state: what it has seen, and where the two states stand. */
 static void takes(size_t taker, size_t other) {
     struct view *a = &views[taker], *b = &views[other];
-    asm_slot was[2] = {agents[taker], agents[other]};
+    asm_slot was[2] = {agents[taker].slot, agents[other].slot};
     uint64_t misses[2] = {asm_misses(&agents[taker]), asm_misses(&agents[other])};
     uint32_t stood = a->stood;
     REQUIRE(asm_take_state(&agents[taker], &agents[other]) == ASM_DONE);
@@ -119,7 +123,7 @@ static void has_fired(size_t agent, size_t place, int64_t by) {
 static void is_answered(size_t agent) {
     struct view *a = &views[agent];
     answered++;
-    asm_free(&steps[agent]);
+    asm_free_step(&steps[agent]);
     a->has_step = false;
     a->seen = moves;
     a->stood = stands(agent);
@@ -136,7 +140,7 @@ static void commits(size_t agent, size_t place) {
     REQUIRE(asm_instruct(&move, &at[place], ASM_PUT, ASM_KIND_NUM, value.number + 1, NULL, 0, 0) ==
             ASM_DONE);
     REQUIRE(asm_push_move(&agents[agent], &steps[agent], &move, NULL, 0, &written) == ASM_DONE);
-    asm_free(&move);
+    asm_free_move(&move);
     bool is_stale = false;
     for (size_t i = 0; i < PLACES; i++)
         is_stale |= views[agent].has_got[i] && written_at[i] > views[agent].begun;
@@ -229,20 +233,21 @@ static void open_steps(void) {
 }
 
 /* What is refused leaves both slots as they were. */
-static void refused(asm_slot *agent, asm_slot *other, int32_t code) {
-    asm_slot was[2] = {*agent, *other};
+static void refused(struct asm_agent *agent, struct asm_agent *other, int32_t code) {
+    asm_slot was[2] = {agent->slot, other->slot};
     REQUIRE(asm_take_state(agent, other) == code);
     REQUIRE(is_same(*agent, was[0]) && is_same(*other, was[1]));
 }
 
 static void refusals(void) {
-    asm_slot empty = {0}, second = {0}, stranger = {0};
+    struct asm_agent empty = {0}, stranger = {0};
+    struct asm_storage second = {0};
     begin_all();
     begins(0);
     open_with("[]", 8, &second);
     REQUIRE(asm_agent(&second, 0, &stranger) == ASM_DONE);
     fire(&stranger, "[['put',['x',0],5]]");
-    asm_slot *others[] = {&empty, &storage, &steps[0], &at[0]};
+    void *others[] = {&empty, &storage, &steps[0], &at[0]};
     for (size_t i = 0; i < sizeof others / sizeof *others; i++) {
         refused(&agents[0], others[i], ASM_EMPTY);
         refused(others[i], &agents[0], ASM_EMPTY);
@@ -253,8 +258,8 @@ static void refusals(void) {
     refused(&stranger, &agents[0], ASM_OTHER);
     is_as_modelled(0);
     REQUIRE(asm_seen(&stranger) == 1);
-    asm_free(&stranger);
-    asm_free(&second);
+    asm_free_agent(&stranger);
+    asm_free_storage(&second);
     end_all();
 }
 

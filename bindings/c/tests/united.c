@@ -3,16 +3,16 @@
 
 enum { MOST = 4096 };
 
-static asm_slot other;
+static struct asm_move other;
 
 static void end_both(void) {
-    asm_free(&other);
+    asm_free_move(&other);
     end_all();
 }
 
 static void unite(void) {
-    asm_slot was = other;
-    REQUIRE(asm_unite(&move, &other) == ASM_DONE && move.full && is_same(other, was));
+    asm_slot was = other.slot;
+    REQUIRE(asm_unite(&move, &other) == ASM_DONE && move.slot.full && is_same(other, was));
 }
 
 /* Puts an instruction into the other move. */
@@ -63,14 +63,14 @@ static void empty_slots(void) {
     asm_numbers numbers;
     begin_all();
     unite();
-    REQUIRE(!other.full && grows(true) == ASM_DONE && asm_depth(&step) == 1);
+    REQUIRE(!other.slot.full && grows(true) == ASM_DONE && asm_depth(&step) == 1);
     unite();
-    asm_free(&move);
+    asm_free_move(&move);
     also(X, ASM_INC, 2);
     unite();
     REQUIRE(grows(true) == ASM_DONE);
     gets(X, ASM_KIND_NUM, 9, "");
-    asm_free(&other);
+    asm_free_move(&other);
     unite();
     REQUIRE(grows(true) == ASM_DONE);
     gets(X, ASM_KIND_NUM, 11, "");
@@ -85,9 +85,9 @@ static void most(void) {
         also(X, ASM_INC, 1);
     unite();
     unite();
-    asm_slot was = move;
+    asm_slot was = move.slot;
     REQUIRE(asm_unite(&move, &other) == ASM_MANY && is_same(move, was));
-    asm_free(&other);
+    asm_free_move(&other);
     unite();
     also(X, ASM_INC, 1);
     REQUIRE(asm_unite(&move, &other) == ASM_MANY && is_same(move, was));
@@ -98,17 +98,17 @@ static void most(void) {
 }
 
 /* Neither slot changes, whatever the two hold. */
-static void refused(asm_slot *first, asm_slot *second, int32_t code) {
-    asm_slot was[2] = {*first, *second};
+static void refused(struct asm_move *first, struct asm_move *second, int32_t code) {
+    asm_slot was[2] = {first->slot, second->slot};
     REQUIRE(asm_unite(first, second) == code);
     REQUIRE(is_same(*first, was[0]) && is_same(*second, was[1]));
 }
 
 static void refusals(void) {
-    asm_slot empty = {0};
+    struct asm_move empty = {0};
     begin_all();
     does(X, ASM_INC, ASM_KIND_NUM, 1, "", 0);
-    asm_slot *others[] = {&storage, &agents[0], &step, &at[X]};
+    void *others[] = {&storage, &agents[0], &step, &at[X]};
     for (size_t i = 0; i < sizeof others / sizeof *others; i++) {
         refused(others[i], &move, ASM_TAKEN);
         refused(others[i], &empty, ASM_TAKEN);

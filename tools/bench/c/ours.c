@@ -8,11 +8,13 @@ enum { ROOM = 256, INIT = 32 * LOCATIONS };
 
 typedef struct agent {
     /* A slot of its own line of the processor's cache. */
-    _Alignas(128) asm_slot slot;
-    asm_slot step, idle, move, at[LOCATIONS];
+    _Alignas(128) struct asm_agent handle;
+    struct asm_step step, idle;
+    struct asm_move move;
+    struct asm_location at[LOCATIONS];
 } agent;
 
-static asm_slot storage;
+static struct asm_storage storage;
 static agent agents[THREADS];
 /* [LOC] for each location. */
 static char places[LOCATIONS][16];
@@ -30,8 +32,8 @@ static void open_storage(unsigned moves) {
     at += (size_t)snprintf(init + at, INIT - at, "]");
     REQUIRE(asm_open(bytes(init), at, moves, &storage) == ASM_DONE);
     for (unsigned i = 0; i < THREADS; i++) {
-        REQUIRE(asm_agent(&storage, i, &agents[i].slot) == ASM_DONE);
-        REQUIRE(asm_begin(&agents[i].slot, &agents[i].idle, &number) == ASM_DONE);
+        REQUIRE(asm_agent(&storage, i, &agents[i].handle) == ASM_DONE);
+        REQUIRE(asm_begin(&agents[i].handle, &agents[i].idle, &number) == ASM_DONE);
         /* What is passed is the one location of [LOC]. */
         for (unsigned k = 0; k < LOCATIONS; k++)
             REQUIRE(asm_location(bytes(places[k] + 1), strlen(places[k]) - 2, &agents[i].at[k]) ==
@@ -53,35 +55,35 @@ static bool is_fired(int32_t code) {
 }
 
 static bool read_fire(unsigned thread, unsigned location) {
-    asm_slot *slot = &agents[thread].slot;
+    struct asm_agent *handle = &agents[thread].handle;
     char text[ROOM];
     size_t length;
     long value;
     asm_numbers numbers;
-    REQUIRE(asm_read(slot, bytes(places[location]), strlen(places[location])) == ASM_DONE);
-    REQUIRE(asm_answer(slot, (uint8_t *)text, ROOM - 1, &length) == ASM_DONE);
+    REQUIRE(asm_read(handle, bytes(places[location]), strlen(places[location])) == ASM_DONE);
+    REQUIRE(asm_answer(handle, (uint8_t *)text, ROOM - 1, &length) == ASM_DONE);
     text[length] = 0;
     uint32_t number = number_of(text, &value);
     int written = snprintf(
         text, ROOM, "{\"fire\":[[\"put\",[\"x\",%u],%ld]],\"reads\":[[[\"x\",%u],%" PRIu32 "]]}",
         location, value + 1, location, number);
-    return is_fired(asm_try_fire(slot, bytes(text), (size_t)written, &numbers));
+    return is_fired(asm_try_fire(handle, bytes(text), (size_t)written, &numbers));
 }
 
-static void push_put(agent *a, asm_slot *step, unsigned location, long value) {
+static void push_put(agent *a, struct asm_step *step, unsigned location, long value) {
     char text[ROOM];
     size_t length;
     int written = snprintf(text, ROOM, "[[\"put\",[\"x\",%u],%ld]]", location, value);
-    REQUIRE(asm_push(&a->slot, step, bytes(text), (size_t)written, (uint8_t *)text + written,
+    REQUIRE(asm_push(&a->handle, step, bytes(text), (size_t)written, (uint8_t *)text + written,
                      ROOM - (size_t)written, &length) == ASM_DONE);
 }
 
 /* What the step sees at the location. */
-static long got(agent *a, asm_slot *step, unsigned location) {
+static long got(agent *a, struct asm_step *step, unsigned location) {
     char text[ROOM];
     size_t length;
     long value;
-    REQUIRE(asm_get(&a->slot, step, bytes(places[location]), strlen(places[location]),
+    REQUIRE(asm_get(&a->handle, step, bytes(places[location]), strlen(places[location]),
                     (uint8_t *)text, ROOM - 1, &length) == ASM_DONE);
     text[length] = 0;
     number_of(text, &value);
@@ -92,25 +94,25 @@ static bool whole_step(unsigned thread, unsigned location) {
     agent *a = &agents[thread];
     uint32_t number;
     asm_numbers numbers;
-    REQUIRE(asm_begin(&a->slot, &a->step, &number) == ASM_DONE);
+    REQUIRE(asm_begin(&a->handle, &a->step, &number) == ASM_DONE);
     push_put(a, &a->step, location, got(a, &a->step, location) + 1);
-    return is_fired(asm_commit(&a->slot, &a->step, &numbers));
+    return is_fired(asm_commit(&a->handle, &a->step, &numbers));
 }
 
 static bool plain_step(unsigned thread, unsigned location) {
     agent *a = &agents[thread];
-    asm_slot *at = &a->at[location];
+    struct asm_location *at = &a->at[location];
     uint32_t number;
     size_t length;
     asm_value value;
     asm_numbers numbers;
-    REQUIRE(asm_begin(&a->slot, &a->step, &number) == ASM_DONE);
-    REQUIRE(asm_get_at(&a->slot, &a->step, at, &value, NULL, 0, &length) == ASM_DONE);
+    REQUIRE(asm_begin(&a->handle, &a->step, &number) == ASM_DONE);
+    REQUIRE(asm_get_at(&a->handle, &a->step, at, &value, NULL, 0, &length) == ASM_DONE);
     REQUIRE(asm_instruct(&a->move, at, ASM_PUT, ASM_KIND_NUM, value.number + 1, NULL, 0, 0) ==
             ASM_DONE);
-    REQUIRE(asm_push_move(&a->slot, &a->step, &a->move, NULL, 0, &length) == ASM_DONE);
-    asm_free(&a->move);
-    return is_fired(asm_commit(&a->slot, &a->step, &numbers));
+    REQUIRE(asm_push_move(&a->handle, &a->step, &a->move, NULL, 0, &length) == ASM_DONE);
+    asm_free_move(&a->move);
+    return is_fired(asm_commit(&a->handle, &a->step, &numbers));
 }
 
 static bool plain_peek(unsigned thread, unsigned location) {
@@ -118,7 +120,7 @@ static bool plain_peek(unsigned thread, unsigned location) {
     uint32_t number;
     size_t length;
     asm_value value;
-    REQUIRE(asm_peek_at(&a->slot, &a->at[location], &number, &value, NULL, 0, &length) == ASM_DONE);
+    REQUIRE(asm_peek_at(&a->handle, &a->at[location], &number, &value, NULL, 0, &length) == ASM_DONE);
     return true;
 }
 
@@ -126,7 +128,7 @@ static bool peek(unsigned thread, unsigned location) {
     char text[ROOM];
     size_t length;
     long value;
-    REQUIRE(asm_peek(&agents[thread].slot, bytes(places[location]), strlen(places[location]),
+    REQUIRE(asm_peek(&agents[thread].handle, bytes(places[location]), strlen(places[location]),
                      (uint8_t *)text, ROOM - 1, &length) == ASM_DONE);
     text[length] = 0;
     number_of(text, &value);
@@ -143,17 +145,17 @@ static bool push_pop(unsigned thread, unsigned location) {
 static int64_t close_storage(void) {
     int64_t sum = 0;
     uint32_t number;
-    REQUIRE(asm_begin(&agents[0].slot, &agents[0].step, &number) == ASM_DONE);
+    REQUIRE(asm_begin(&agents[0].handle, &agents[0].step, &number) == ASM_DONE);
     for (unsigned i = 0; i < LOCATIONS; i++)
         sum += got(&agents[0], &agents[0].step, i);
     for (unsigned i = 0; i < THREADS; i++) {
-        asm_free(&agents[i].step);
-        asm_free(&agents[i].idle);
+        asm_free_step(&agents[i].step);
+        asm_free_step(&agents[i].idle);
         for (unsigned k = 0; k < LOCATIONS; k++)
-            asm_free(&agents[i].at[k]);
-        asm_free(&agents[i].slot);
+            asm_free_location(&agents[i].at[k]);
+        asm_free_agent(&agents[i].handle);
     }
-    asm_free(&storage);
+    asm_free_storage(&storage);
     return sum;
 }
 
