@@ -1,20 +1,34 @@
-//! The program: it plays scripts, and checks, rewrites and traces journals.
+//! The program: it plays scripts, and checks, rewrites and traces journals. What `asm_driver` proves of it goes to
+//! standard output; where and why something is refused goes to standard error.
 #![tactic(auto)]
 
-use asm_driver::run_given;
+mod hints;
+mod input;
+mod output;
+mod telling;
+mod texts;
+mod words;
+mod wrong;
+
+use crate::telling::carry_out;
 use std::alloc::Global;
+use std::io::IsTerminal;
 use std::process::ExitCode;
+use std::rt::Env;
 use std::{env, io};
 
 fn main(rt: HostRuntime) -> ExitCode {
     let alloc: Global = rt.alloc();
     let words = words_given(&rt, alloc);
-    let mut input = rt.reader();
-    let mut output = io::writer(&rt);
-    ExitCode::from(run_given(&rt, alloc, words, &mut input, &mut output))
+    ExitCode::from(carry_out(&rt, alloc, words, rt.reader().is_terminal()))
 }
 
-// The words of the command line, the program's name first.
-fn words_given<R: std::rt::Env + AllocGlobal>(rt: &R, alloc: Global) -> io::Result<Vec<String>> {
-    Ok(env::args(rt)?.collect(alloc)?)
+// The words of the command line, the program's name first, by whatever name it was started.
+fn words_given<R: Env + AllocGlobal>(rt: &R, alloc: Global) -> io::Result<Vec<String>> {
+    let mut words = Vec::new(alloc);
+    words.push(String::from_str(alloc, "asm_driver")?)?;
+    for word in env::args(rt)?.skip(1) {
+        words.push(word)?;
+    }
+    Ok(words)
 }

@@ -1,0 +1,164 @@
+//! What the program reads: standard input, a file, or the segments of a run's folder.
+use crate::telling::INPUT_LIMIT;
+use std::alloc::Global;
+use std::io::{ErrorKind, Read};
+use std::rt::{Files, Runtime};
+use std::{fs, io};
+
+/// An input, with the first bytes that were read of it.
+#[derive(Drop)]
+pub(crate) struct Kept<I> {
+    input: I,
+    most: usize,
+    bytes: Vec<u8>,
+    // Whether there was no memory for some of them.
+    lost: bool,
+    /// Whether a read failed.
+    pub(crate) failed: bool,
+}
+
+impl<I: Read> Kept<I> {
+    /// The input, of which as many bytes are kept, or as many as a script may have and one more.
+    pub(crate) fn new(alloc: Global, input: I, most: usize) -> Kept<I> {
+        Kept {
+            input,
+            most: most.min(INPUT_LIMIT + 1),
+            bytes: Vec::new(alloc),
+            lost: false,
+            failed: false,
+        }
+    }
+
+    fn keep(&mut self, bytes: &[u8]) {
+        let room = self.most.saturating_sub(self.bytes.len());
+        let count = bytes.len().min(room);
+        if self.bytes.extend_from_slice(&bytes[..count]).is_err() {
+            self.lost = true;
+        }
+    }
+
+    /// The first bytes that were read, if there was memory for them.
+    pub(crate) fn kept(&self) -> Option<&[u8]> {
+        if self.lost {
+            None
+        } else {
+            Some(self.bytes.as_slice())
+        }
+    }
+}
+
+impl<I: Read> Read for Kept<I> {
+    fn read(&mut self, buf: &mut [u8]) -> io::Result<usize> {
+        match self.input.read(buf) {
+            Ok(count) => {
+                self.keep(&buf[..count]);
+                Ok(count)
+            }
+            Err(error) => {
+                self.failed = true;
+                Err(error)
+            }
+        }
+    }
+}
+
+/// The segments of a run's folder, one behind the other.
+#[derive(Drop)]
+pub(crate) struct Segments<'r, R: Files> {
+    rt: &'r R,
+    file: R::File,
+    // Those behind it, the last one first.
+    paths: Vec<String>,
+}
+
+impl<R: Files> Read for Segments<'_, R> {
+    fn read(&mut self, buf: &mut [u8]) -> io::Result<usize> {
+        for _ in 0..self.paths.len() {
+            let count = self.file.read(buf)?;
+            if count > 0 {
+                return Ok(count);
+            }
+            let Some(path) = self.paths.pop() else {
+                return Ok(0);
+            };
+            self.file = fs::open(self.rt, path.as_str())?;
+        }
+        self.file.read(buf)
+    }
+}
+
+/// An input that can't be read.
+#[derive(Drop)]
+pub(crate) struct Unreadable;
+
+impl Read for Unreadable {
+    fn read(&mut self, _buf: &mut [u8]) -> io::Result<usize> {
+        Err(io::Error::from(ErrorKind::InvalidInput))
+    }
+}
+
+/// What a name leads to.
+#[derive(Drop)]
+pub(crate) enum Opened<'r, R: Files> {
+    File(R::File),
+    /// The segments of a run.
+    Run(Segments<'r, R>),
+    /// A folder that isn't read, with its first segment.
+    Folder(Option<String>),
+}
+
+// The journals in the folder, the last one first.
+fn segments_in<R: Runtime + AllocGlobal>(
+    rt: &R,
+    alloc: Global,
+    folder: &str,
+) -> io::Result<Vec<String>> {
+    let mut paths = Vec::new(alloc);
+    for entry in fs::read_dir(rt, folder)? {
+        let entry = entry?;
+        let path = entry.path();
+        if path.as_str().ends_with(".journal") {
+            paths.push(String::from_str(alloc, path.as_str())?)?;
+        }
+    }
+    paths.sort()?;
+    paths.reverse();
+    Ok(paths)
+}
+
+// The number at the beginning of a segment's name.
+fn number_of(path: &str) -> Option<usize> {
+    let name = path.rsplit('/').next()?;
+    let (number, _) = name.split_once('-')?;
+    number.parse::<usize>().ok()
+}
+
+// Whether they are the segments from the first up to the last, each once.
+fn are_whole(paths: &[String]) -> bool {
+    match paths.first().and_then(|last| number_of(last.as_str())) {
+        Some(number) => number < paths.len() && paths.len() - number == 1,
+        None => false,
+    }
+}
+
+/// Opens a file, or of a folder all segments, if they are to be read.
+pub(crate) fn open<'r, R: Runtime + AllocGlobal>(
+    rt: &'r R,
+    alloc: Global,
+    path: &str,
+    is_run: bool,
+) -> io::Result<Opened<'r, R>> {
+    if !fs::metadata(rt, path)?.is_dir() {
+        return Ok(Opened::File(fs::open(rt, path)?));
+    }
+    let mut paths = segments_in(rt, alloc, path)?;
+    let is_read = is_run && are_whole(paths.as_slice());
+    match paths.pop() {
+        Some(first) if is_read => Ok(Opened::Run(Segments {
+            rt,
+            file: fs::open(rt, first.as_str())?,
+            paths,
+        })),
+        first => Ok(Opened::Folder(first)),
+    }
+}

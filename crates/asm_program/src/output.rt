@@ -1,0 +1,84 @@
+//! What the program writes.
+use std::alloc::Global;
+use std::io;
+use std::io::Write;
+
+// How many bytes of the last line are kept.
+const KEPT: usize = 64;
+
+/// An output, which lets a report through and keeps the lines of terms behind it.
+#[derive(Drop)]
+pub(crate) struct Output<W> {
+    output: W,
+    // How many bytes of the report weren't written yet, once it is there.
+    report: Option<usize>,
+    /// Whether such lines are kept.
+    keeps_terms: bool,
+    /// The lines behind the report; without those that there was no memory for.
+    pub(crate) terms: Vec<u8>,
+    /// The first bytes of what was written last.
+    pub(crate) last: Vec<u8>,
+}
+
+// Whether the line tells of a term: `agent 0 step 0 block ..`.
+fn tells_of_term(line: &[u8]) -> bool {
+    line.starts_with(b"agent ")
+        && line.split(|byte| *byte == b' ').nth(4) == Some(b"block".as_slice())
+}
+
+// How many bytes stand before the first line that tells of a term.
+fn report_length(text: &[u8]) -> usize {
+    let mut length = 0usize;
+    for line in text.split(|byte| *byte == b'\n') {
+        if tells_of_term(line) {
+            return length;
+        }
+        length = length.saturating_add(line.len()).saturating_add(1);
+    }
+    text.len()
+}
+
+impl<W: Write> Output<W> {
+    pub(crate) fn new(alloc: Global, output: W, keeps_terms: bool) -> Output<W> {
+        Output {
+            output,
+            report: None,
+            keeps_terms,
+            terms: Vec::new(alloc),
+            last: Vec::new(alloc),
+        }
+    }
+
+    // Keeps the beginning of what is written.
+    fn note(&mut self, bytes: &[u8]) {
+        self.last.clear();
+        let count = bytes.len().min(KEPT);
+        let _kept = self.last.extend_from_slice(&bytes[..count]);
+    }
+}
+
+impl<W: Write> Write for Output<W> {
+    fn write(&mut self, bytes: &[u8]) -> io::Result<usize> {
+        self.note(bytes);
+        if !self.keeps_terms {
+            return self.output.write(bytes);
+        }
+        let left = match self.report {
+            Some(left) => left,
+            None => report_length(bytes),
+        };
+        self.report = Some(left);
+        if left == 0 {
+            let _kept = self.terms.extend_from_slice(bytes);
+            return Ok(bytes.len());
+        }
+        let most = bytes.len().min(left);
+        let count = self.output.write(&bytes[..most])?;
+        self.report = Some(left.saturating_sub(count));
+        Ok(count)
+    }
+
+    fn flush(&mut self) -> io::Result<()> {
+        self.output.flush()
+    }
+}

@@ -1,0 +1,279 @@
+//! What the program says on standard error.
+use crate::hints::hint;
+use crate::input::{Kept, Opened, Unreadable, open};
+use crate::output::Output;
+use crate::texts::shown;
+use crate::words::{Asked, TextKind, Unasked, read_words};
+use crate::wrong::wrong_answer;
+use asm_driver::{run_given, run_main};
+use asm_explain::{Form, explain, explain_journal};
+use std::alloc::{AllocError, Global};
+use std::io;
+use std::io::{Eprint, ErrorKind, Read};
+use std::rt::Runtime;
+use std::sync::Wait;
+use std::thread::Threads;
+
+/// The most bytes that the program reads.
+pub(crate) const INPUT_LIMIT: usize = 16_777_216;
+
+// How many bytes of a run are kept.
+const HEAD: usize = 65_536;
+
+// How many lines of terms are said.
+const TERMS: usize = 10;
+
+const TOO_LARGE: &str = "more than 16,777,216 bytes, which are the most that the program reads";
+
+/// Writes the text on standard error. If that fails, there is nobody to tell.
+pub(crate) fn say<R: Eprint>(rt: &R, text: &str) {
+    let _said = rt.eprint(text);
+}
+
+// Says this of the input.
+fn say_line<R: Eprint>(rt: &R, name: &str, said: &str) {
+    let _said = eprintln!(rt; "asm_driver: {name}: {said}");
+}
+
+// Why the text is refused as one of this kind.
+fn why_refused(alloc: Global, kind: TextKind, bytes: &[u8]) -> Result<String, AllocError> {
+    if bytes.len() > INPUT_LIMIT {
+        return String::from_str(alloc, TOO_LARGE);
+    }
+    let said = match kind {
+        TextKind::Script => explain(alloc, Form::Script, bytes)?,
+        TextKind::Journal => explain_journal(alloc, bytes)?,
+    };
+    let Some(why) = said else {
+        return String::from_str(alloc, "refused");
+    };
+    match hint(alloc, kind, bytes, why.as_str())? {
+        Some(hint) => format!(in alloc; "{why} ({hint})"),
+        None => Ok(why),
+    }
+}
+
+// Why a run is refused, by the line that tells it and the first bytes of the run.
+fn why_no_run(alloc: Global, line: &[u8], head: &[u8]) -> Result<String, AllocError> {
+    if line.starts_with(b"the run has ") || line.ends_with(b" calls\n") {
+        return String::from_str(
+            alloc,
+            "the window isn't in the run; parts and calls are counted from 0",
+        );
+    }
+    if line == b"input too large\n".as_slice() {
+        return format!(in alloc; "a line has {TOO_LARGE}");
+    }
+    let why = "refused; standard output has the part, counted from 0, and its line";
+    match hint(alloc, TextKind::Journal, head, why)? {
+        Some(hint) => format!(in alloc; "{why} ({hint})"),
+        None => String::from_str(alloc, why),
+    }
+}
+
+// Why the status is 1.
+fn why_wrong(alloc: Global, asked: Asked<'_>, bytes: &[u8]) -> Result<String, AllocError> {
+    if asked.command == "check" {
+        if let Some(said) = wrong_answer(alloc, bytes)? {
+            return Ok(said);
+        }
+    }
+    let why = if asked.is_run() {
+        "an answer is wrong; standard output has its part and its call, both counted from 0"
+    } else {
+        "a move of the run has no receipt, so there is no report"
+    };
+    String::from_str(alloc, why)
+}
+
+// Why what is asked for isn't done, by the status, the line that was written and what was read.
+fn why(
+    alloc: Global,
+    asked: Asked<'_>,
+    status: u8,
+    line: &[u8],
+    bytes: &[u8],
+) -> Result<Option<String>, AllocError> {
+    if status != 1 && status != 2 {
+        return Ok(None);
+    }
+    if asked.command == "explain" {
+        return match status {
+            2 => Ok(Some(String::from_str(alloc, TOO_LARGE)?)),
+            _ => Ok(None),
+        };
+    }
+    let why = match status {
+        1 => why_wrong(alloc, asked, bytes)?,
+        _ if asked.is_run() => why_no_run(alloc, line, bytes)?,
+        _ => why_refused(alloc, asked.kind(), bytes)?,
+    };
+    Ok(Some(why))
+}
+
+// Says which terms had no value.
+fn say_terms<R: Eprint>(rt: &R, name: &str, terms: &[u8]) {
+    let Ok(terms) = std::str::from_utf8(terms) else {
+        return;
+    };
+    for line in terms.lines().take(TERMS) {
+        say_line(rt, name, line);
+    }
+    let more = terms.lines().skip(TERMS).count();
+    if more > 0 {
+        let _said = eprintln!(rt;
+            "asm_driver: {name}: and {more} more steps whose terms have no value"
+        );
+    }
+}
+
+// Says why the program ended so.
+fn say_why<R: Eprint>(rt: &R, name: &str, why: Result<Option<String>, AllocError>) {
+    if let Ok(Some(why)) = why {
+        say_line(rt, name, why.as_str());
+    }
+}
+
+// Does what is asked for with the input, which has this name. Gives the status.
+fn answer<R: Runtime + AllocGlobal + Threads + Wait + Sync, I: Read + Drop>(
+    rt: &R,
+    alloc: Global,
+    asked: Asked<'_>,
+    words: Vec<String>,
+    name: &str,
+    input: I,
+) -> u8 {
+    let most = if asked.is_run() { HEAD } else { usize::MAX };
+    let mut input = Kept::new(alloc, input, most);
+    let mut output = Output::new(alloc, io::writer(rt), asked.says_terms());
+    let status = run_main(rt, alloc, words, &mut input, &mut output);
+    if input.failed {
+        say_line(rt, name, "can't be read");
+    } else if let Some(bytes) = input.kept() {
+        let line = output.last.as_slice();
+        say_why(rt, name, why(alloc, asked, status, line, bytes));
+    }
+    if status == 2 && asked.wants_journal() {
+        say(rt, "asm_driver: standard output has no journal\n");
+    }
+    say_terms(rt, name, output.terms.as_slice());
+    status
+}
+
+// Refuses a folder, of which nothing is read. Gives the status.
+fn refuse_folder<R: Runtime + AllocGlobal + Threads + Wait + Sync>(
+    rt: &R,
+    alloc: Global,
+    asked: Asked<'_>,
+    words: Vec<String>,
+    name: &str,
+    first: Option<String>,
+) -> u8 {
+    let first = match &first {
+        Some(first) => first.as_str(),
+        None => "none is there",
+    };
+    if asked.is_run() {
+        say_line(rt, name, "a segment is missing, or is there twice");
+    } else if let Ok(first) = shown(alloc, first) {
+        let _said = eprintln!(rt;
+            "asm_driver: {name}: it is a folder; of a run audit takes all segments, and the other commands take one: {first}"
+        );
+    }
+    run_main(rt, alloc, words, &mut Unreadable, &mut io::writer(rt))
+}
+
+// Does what is asked for with the file, or the folder, that is named.
+fn answer_file<R: Runtime + AllocGlobal + Threads + Wait + Sync>(
+    rt: &R,
+    alloc: Global,
+    asked: Asked<'_>,
+    words: Vec<String>,
+    path: &str,
+) -> Result<u8, Unasked> {
+    let name = shown(alloc, path)?;
+    let name = name.as_str();
+    match open(rt, alloc, path, asked.is_run()) {
+        Ok(Opened::File(file)) => Ok(answer(rt, alloc, asked, words, name, file)),
+        Ok(Opened::Run(segments)) => Ok(answer(rt, alloc, asked, words, name, segments)),
+        Ok(Opened::Folder(first)) => Ok(refuse_folder(rt, alloc, asked, words, name, first)),
+        Err(error) if error.kind() == ErrorKind::NotFound => Err(Unasked::Wrong(format!(in alloc;
+            "asm_driver: {name}: there is no such file\n"
+        )?)),
+        Err(error) if error.kind() == ErrorKind::OutOfMemory => Err(Unasked::Memory),
+        Err(_) => Ok(answer(rt, alloc, asked, words, name, Unreadable)),
+    }
+}
+
+// Does what the words ask for, if they do.
+fn obey<R: Runtime + AllocGlobal + Threads + Wait + Sync>(
+    rt: &R,
+    alloc: Global,
+    words: &[String],
+    is_terminal: bool,
+) -> Result<u8, Unasked> {
+    let (asked, mut words) = read_words(alloc, words)?;
+    if asked.says_terms() {
+        let terms = String::from_str(alloc, "--terms")?;
+        if words.push(terms).is_err() {
+            return Err(Unasked::Memory);
+        }
+    }
+    if let Some(path) = asked.file {
+        return answer_file(rt, alloc, asked, words, path);
+    }
+    if is_terminal {
+        say(
+            rt,
+            "asm_driver: no file is named, so standard input is read; Ctrl-D ends it\n",
+        );
+    }
+    let input = rt.reader();
+    Ok(answer(rt, alloc, asked, words, "standard input", input))
+}
+
+// What is given to the program where the words ask for nothing that is done.
+fn refused_words(
+    rt: &impl Eprint,
+    alloc: Global,
+    words: Vec<String>,
+    unasked: Unasked,
+) -> io::Result<Vec<String>> {
+    match unasked {
+        Unasked::Help => {
+            say(
+                rt,
+                "asm_driver: behind the options FILE may stand, which is read in place of standard input\n",
+            );
+            Ok(words)
+        }
+        Unasked::Version => Ok(words),
+        Unasked::Wrong(text) => {
+            say(rt, text.as_str());
+            Ok(Vec::new(alloc))
+        }
+        Unasked::Memory => Err(io::Error::from(ErrorKind::OutOfMemory)),
+    }
+}
+
+/// Does what the words ask for, and says why where it doesn't. Gives the status.
+pub(crate) fn carry_out<R: Runtime + AllocGlobal + Threads + Wait + Sync>(
+    rt: &R,
+    alloc: Global,
+    words: io::Result<Vec<String>>,
+    is_terminal: bool,
+) -> u8 {
+    let given = match words {
+        Ok(words) => match obey(rt, alloc, words.as_slice(), is_terminal) {
+            Ok(status) => return status,
+            Err(unasked) => refused_words(rt, alloc, words, unasked),
+        },
+        Err(error) => {
+            if error.kind() == ErrorKind::InvalidData {
+                say(rt, "asm_driver: a word isn't UTF-8\n");
+            }
+            Err(error)
+        }
+    };
+    run_given(rt, alloc, given, &mut rt.reader(), &mut io::writer(rt))
+}

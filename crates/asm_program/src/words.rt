@@ -1,0 +1,247 @@
+//! The words of the program, with the name of a file, which `asm_driver` doesn't take.
+use crate::texts::shown;
+use clap::builder::ValueParser;
+use clap::error::ErrorKind;
+use clap::{Arg, ArgAction, ArgMatches, Command, Error};
+use std::alloc::{AllocError, Global};
+
+// The kinds of texts that are explained.
+static KINDS: [&str; 2] = ["script", "journal"];
+
+// The options that take a number.
+const NUMBERS: [&str; 5] = ["capacity", "part", "from", "to", "every"];
+
+/// The kinds of texts that are read whole.
+#[derive(Clone, Copy, PartialEq, Eq)]
+pub(crate) enum TextKind {
+    Script,
+    Journal,
+}
+
+/// What is asked for.
+#[derive(Clone, Copy)]
+pub(crate) struct Asked<'a> {
+    /// The command.
+    pub(crate) command: &'a str,
+    /// Whether a journal is written in the place of a report, or terms behind it.
+    pub(crate) has_journal: bool,
+    pub(crate) has_terms: bool,
+    /// Whether the calls of a window are asked for.
+    pub(crate) is_window: bool,
+    /// The file that is read.
+    pub(crate) file: Option<&'a str>,
+}
+
+impl Asked<'_> {
+    /// Whether the input is a run, which is read line by line.
+    pub(crate) fn is_run(self) -> bool {
+        self.is_window || self.command == "audit"
+    }
+
+    /// What kind of text is read, where it isn't a run.
+    pub(crate) fn kind(self) -> TextKind {
+        if self.command == "run" {
+            TextKind::Script
+        } else {
+            TextKind::Journal
+        }
+    }
+
+    /// Whether lines of terms may be said: a report is asked for alone.
+    pub(crate) fn says_terms(self) -> bool {
+        self.command == "run" && !self.has_journal && !self.has_terms
+    }
+
+    /// Whether a journal is asked for.
+    pub(crate) fn wants_journal(self) -> bool {
+        self.has_journal || self.command == "rewrite"
+    }
+}
+
+/// Why nothing is asked for.
+#[derive(Drop)]
+pub(crate) enum Unasked {
+    /// Help is.
+    Help,
+    /// The version is.
+    Version,
+    /// The words are refused, and this is said of them.
+    Wrong(String),
+    /// Memory was refused.
+    Memory,
+}
+
+impl From<AllocError> for Unasked {
+    fn from(_refused: AllocError) -> Unasked {
+        Unasked::Memory
+    }
+}
+
+fn file<'a>(alloc: Global) -> Arg<'a> {
+    Arg::new(alloc, "file")
+        .action(ArgAction::Set)
+        .value_name("FILE")
+}
+
+// An option with a number in this range.
+fn number<'a>(alloc: Global, name: &'a str, least: i64, most: i64) -> Arg<'a> {
+    Arg::new(alloc, name)
+        .long(name)
+        .action(ArgAction::Set)
+        .value_parser(ValueParser::Signed(least, most))
+        .value_name("N")
+}
+
+fn flag<'a>(alloc: Global, name: &'a str) -> Arg<'a> {
+    Arg::new(alloc, name).long(name).action(ArgAction::SetTrue)
+}
+
+fn kind<'a>(alloc: Global) -> Arg<'a> {
+    Arg::new(alloc, "kind")
+        .action(ArgAction::Set)
+        .required(true)
+        .value_parser(ValueParser::Names(&KINDS))
+        .value_name("script|journal")
+}
+
+fn run<'a>(alloc: Global) -> Result<Command<'a>, AllocError> {
+    Command::new(alloc, "run")
+        .arg(number(alloc, "capacity", 1, 1_048_576))?
+        .arg(flag(alloc, "journal"))?
+        .arg(flag(alloc, "terms"))?
+        .arg(file(alloc))
+}
+
+fn trace<'a>(alloc: Global) -> Result<Command<'a>, AllocError> {
+    Command::new(alloc, "trace")
+        .arg(number(alloc, "part", 0, 4_294_967_295))?
+        .arg(number(alloc, "from", 0, 4_294_967_295))?
+        .arg(number(alloc, "to", 0, 4_294_967_295))?
+        .arg(file(alloc))
+}
+
+// The commands of `asm_driver`, each with a file.
+fn program<'a>(alloc: Global) -> Result<Command<'a>, AllocError> {
+    Command::new(alloc, "asm_driver")
+        .version("0")
+        .subcommand_required(true)
+        .subcommand(run(alloc)?)?
+        .subcommand(Command::new(alloc, "check").arg(file(alloc))?)?
+        .subcommand(Command::new(alloc, "rewrite").arg(file(alloc))?)?
+        .subcommand(trace(alloc)?)?
+        .subcommand(
+            Command::new(alloc, "explain")
+                .arg(kind(alloc))?
+                .arg(file(alloc))?,
+        )?
+        .subcommand(
+            Command::new(alloc, "audit")
+                .arg(number(alloc, "every", 1, 4_294_967_295))?
+                .arg(file(alloc))?,
+        )
+}
+
+// What is said of an error.
+fn refused_by(alloc: Global, error: &Error) -> Unasked {
+    match error.kind() {
+        ErrorKind::OutOfMemory => Unasked::Memory,
+        ErrorKind::DisplayHelp => Unasked::Help,
+        ErrorKind::DisplayVersion => Unasked::Version,
+        _ => match error.to_string(alloc) {
+            Ok(text) => Unasked::Wrong(text),
+            Err(_) => Unasked::Memory,
+        },
+    }
+}
+
+// Why the words are refused. What a terminal would obey in them is escaped, and long ones are cut.
+fn wrong(alloc: Global, words: &[String]) -> Result<Unasked, AllocError> {
+    let mut seen = Vec::new(alloc);
+    for word in words {
+        seen.push(shown(alloc, word.as_str())?)?;
+    }
+    match program(alloc)?.try_get_matches_from(seen.as_slice()) {
+        Ok(_) => Ok(Unasked::Wrong(String::from_str(
+            alloc,
+            "asm_driver: the program refuses these words\n",
+        )?)),
+        Err(error) => Ok(refused_by(alloc, &error)),
+    }
+}
+
+// The words of the command and its options.
+fn words_of(
+    alloc: Global,
+    command: &str,
+    options: &ArgMatches<'_>,
+) -> Result<Vec<String>, AllocError> {
+    let mut words = Vec::new(alloc);
+    words.push(String::from_str(alloc, "asm_driver")?)?;
+    words.push(String::from_str(alloc, command)?)?;
+    if let Some(kind) = options.get_str("kind") {
+        words.push(String::from_str(alloc, kind)?)?;
+    }
+    for name in NUMBERS {
+        if let Some(number) = options.get_str(name) {
+            words.push(format!(in alloc; "--{name}={number}")?)?;
+        }
+    }
+    for name in ["journal", "terms"] {
+        if options.get_flag(name) {
+            words.push(format!(in alloc; "--{name}")?)?;
+        }
+    }
+    Ok(words)
+}
+
+// Whether the window would end before it begins.
+fn is_backward(options: &ArgMatches<'_>) -> bool {
+    match options.get_one::<u32>("to") {
+        Some(to) => options.get_one::<u32>("from").unwrap_or(0) > to,
+        None => false,
+    }
+}
+
+fn asked_of<'a>(
+    alloc: Global,
+    command: &'a str,
+    options: &ArgMatches<'a>,
+) -> Result<Asked<'a>, Unasked> {
+    if is_backward(options) {
+        let from = options.get_one::<u32>("from").unwrap_or(0);
+        let to = options.get_one::<u32>("to").unwrap_or(0);
+        return Err(Unasked::Wrong(format!(in alloc;
+            "error: --from {from} stands behind --to {to}, so there is no such window\n"
+        )?));
+    }
+    Ok(Asked {
+        command,
+        has_journal: options.get_flag("journal"),
+        has_terms: options.get_flag("terms"),
+        is_window: ["part", "from", "to"]
+            .iter()
+            .any(|name| options.get_str(*name).is_some()),
+        file: options.get_str("file"),
+    })
+}
+
+/// What the words ask for, and the words without the file. They begin with the program's name.
+pub(crate) fn read_words<'a>(
+    alloc: Global,
+    words: &'a [String],
+) -> Result<(Asked<'a>, Vec<String>), Unasked> {
+    let matches = match program(alloc)?.try_get_matches_from(words) {
+        Ok(matches) => matches,
+        Err(error) => match error.kind() {
+            ErrorKind::OutOfMemory => return Err(Unasked::Memory),
+            _ => return Err(wrong(alloc, words)?),
+        },
+    };
+    match matches.subcommand() {
+        Some((command, options)) => Ok((
+            asked_of(alloc, command, options)?,
+            words_of(alloc, command, options)?,
+        )),
+        None => Err(Unasked::Memory),
+    }
+}

@@ -1,0 +1,105 @@
+//! The first wrong answer of a journal, beside the right one.
+use crate::texts::shown;
+use asm_element::{Location, Value};
+use asm_journal::{ToJson, from_text, judge_event, value_json};
+use asm_play::aggregator::chosen;
+use asm_state::State;
+use asm_storage::{Call, Event};
+use asm_trace::push_standard_note;
+use asm_update::Lookup;
+use serde_json::Value as Json;
+use std::alloc::{AllocError, Global};
+
+// How many bytes of an answer are made, of which fewer are shown.
+const MADE: usize = 1000;
+
+// The value of a location, as JSON.
+fn value_text(alloc: Global, value: Option<&Value>) -> Result<String, AllocError> {
+    match value {
+        Some(value) => value_json(alloc, value)?.to_string(alloc),
+        None => String::from_str(alloc, "null"),
+    }
+}
+
+// The right answer to a read of these locations, or its beginning.
+fn right_read(alloc: Global, state: &State, places: &[Location]) -> Result<String, AllocError> {
+    let number = state.number();
+    let mut text = format!(in alloc; "{{\"number\":{number},\"values\":[")?;
+    for (index, place) in places.iter().enumerate() {
+        if text.len() > MADE {
+            return Ok(text);
+        }
+        if index > 0 {
+            text.push_str(",")?;
+        }
+        text.push_str(value_text(alloc, state.get(place))?.as_str())?;
+    }
+    text.push_str("]}")?;
+    Ok(text)
+}
+
+// The right answer in the note of an event.
+fn right_in(alloc: Global, note: &str) -> Result<String, AllocError> {
+    match Json::from_slice(alloc, note.as_bytes()) {
+        Ok(json) => match json.get("right") {
+            Some(right) => right.to_string(alloc),
+            None => String::from_str(alloc, "another"),
+        },
+        Err(_) => String::from_str(alloc, "another"),
+    }
+}
+
+// The right answer to the call of the event with this number, behind those that the state has followed.
+fn right_answer(
+    alloc: Global,
+    state: &mut State,
+    capacity: u32,
+    number: u64,
+    event: &Event,
+) -> Result<String, AllocError> {
+    if let Call::Read(places) = &event.call {
+        return right_read(alloc, state, places.as_slice());
+    }
+    if state.number() == u32::MAX {
+        return String::from_str(alloc, "another");
+    }
+    let mut note = String::new(alloc);
+    push_standard_note(alloc, &mut note, state, capacity, number, event)?;
+    right_in(alloc, note.as_str())
+}
+
+// What is said of the event with this number.
+fn said_of(
+    alloc: Global,
+    state: &mut State,
+    capacity: u32,
+    number: u64,
+    event: &Event,
+) -> Result<String, AllocError> {
+    let right = right_answer(alloc, state, capacity, number, event)?;
+    let right = shown(alloc, right.as_str())?;
+    let call = shown(alloc, event.call.to_json(alloc)?.to_string(alloc)?.as_str())?;
+    let reply = shown(
+        alloc,
+        event.answer.to_json(alloc)?.to_string(alloc)?.as_str(),
+    )?;
+    let (agent, line) = (event.agent, number.saturating_add(2));
+    format!(in alloc;
+        "line {line}: agent {agent} was answered {reply}, where {right} is right (call {number}: {call})"
+    )
+}
+
+/// The call of a journal whose answer is wrong, with that answer and the right one.
+pub(crate) fn wrong_answer(alloc: Global, bytes: &[u8]) -> Result<Option<String>, AllocError> {
+    let Ok(history) = from_text(alloc, bytes) else {
+        return Ok(None);
+    };
+    let mut state = State::new(alloc, history.init.copy(alloc)?)?;
+    for (number, event) in history.events.as_slice().iter().enumerate() {
+        if !judge_event(alloc, &chosen(), &mut state, history.capacity, event)? {
+            let said = said_of(alloc, &mut state, history.capacity, number as u64, event)?;
+            return Ok(Some(said));
+        }
+    }
+    Ok(None)
+}
