@@ -1,4 +1,4 @@
-"""The abstract storage of a CoreASM engine, for Python, over libfolugben.so by ctypes.
+"""The abstract storage of a CoreASM engine, for Python.
 
 A Storage is opened with a state; each Agent of it reads locations and fires moves, in a thread of its own. A location is a
 list ["name", argument, ..], a value is what docs/FORMATS.md says as JSON. An agent that is given back is closed with the
@@ -28,10 +28,10 @@ A Location is prepared once, and a Move is gathered, for steps that write and re
         step.push(move.clear().put(count, step.get(count) + 1))
         step.fire()
 
-Any thread may call a Storage, an Agent, a Step, a Location or a Move: each has a lock, a Step that of its agent, so that no
-slot is in two calls at the same time. ctypes releases the interpreter's lock while a call runs, but for the shortest, so
-agents in different threads do run at the same time. Of the header's calls only asm_agents has no method here: call
-`Storage.agent` for each number. A storage makes one agent of each number.
+Any thread may call a Storage, an Agent, a Step, a Location or a Move, and so may signal handlers and finalizers: a call is done
+or not begun. Short calls keep the interpreter's lock. Closes, journals, states, long texts, and an agent that is far behind
+release it; a thread that comes to what is in such a call waits for its end. Of the header's calls only asm_agents has no method
+here: call `Storage.agent` for each number. A storage makes one agent of each number.
 
 A storage has room for 1,048,576 moves at most. A Run goes on without an end: its agents go from one storage to the next by
 themselves, and its folder has the journals of all of them, which `audit` checks in memory that doesn't grow:
@@ -43,19 +43,16 @@ themselves, and its folder has the journals of all of them, which `audit` checks
 The journal tells every move: where an agent that fired was freed and not given back, `close_journal` raises `Missing` for
 good. A `with` gives its agent back. The error of a refused text says where and why, as `explain` does.
 
-Signal handlers and finalizers should call none of these: where one interrupts a call of its own thread, on whichever of
-them, its calls raise `Nested` and do nothing. A handler does better to set a flag. An exception that it lets through ends
-the call which it interrupted, though the library may have answered that one: `Agent.answer` tells, and of a step `fired`. An
-instruction that was ended so isn't in its `Move`, and can be made again. A trace function that raises at the end of one of
-Python's `with`s leaves the lock held, which here is that of an agent or a storage; its own thread goes on.
+A run's own calls are Python: a signal handler or a finalizer that makes one in the midst of another one of its thread raises
+`Nested`, and nothing is done.
 
 The storage tells true from 1 and false from 0, but in Python True == 1 and False == 0, and equal keys are one. So don't
 hold elements in Python's sets or as keys of its dicts: {True, 1} has one item, while {"set": [True, 1]}, as a set is written
 here, has two. Likewise ["f", True] and ["f", 1] are two locations, and a value that was read as true equals 1; compare by
 `is True` where both may occur.
 """
-from ._agent import Agent
 from ._auditor import Auditor, Counts
+from ._core import Agent, Location, Move, Step, Storage
 from ._errors import BadJournal, Broken, Busy, Clash, Damaged, Deep, Error, Full, Large, Many, Mismatch, Missing, Moved, Over
 from ._errors import Past, Retry, Stale, TooLong, Unknown, error_text, explain
 from ._explore import Differs, Explored, explore
@@ -64,15 +61,11 @@ from ._held import Forked, Nested
 from ._import import import_run
 from ._library import APART, BUSY, CLASH, CUT, DEEP, DONE, EMPTY, EVENT, FULL, ILLEGAL, LARGE, LOCATIONS, MANY, MEMORY, MISSING
 from ._library import MOVE, MOVED, NONE, NOT_JSON, NUMBER, OTHER, RANGE, SCRIPT, SHAPE, SMALL, STALE, STATE, TAKEN, VERSION
-from ._location import Location
-from ._move import Move
 from ._reading import audit, part
 from ._run import Run
 from ._run_agent import RunAgent
 from ._runs import states
 from ._shared import SharedAgent, SharedRun
-from ._step import Step
-from ._storage import Storage
 from ._turns import Endless, interleave
 from ._types import Element, Place, Update, Value
 

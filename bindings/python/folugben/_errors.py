@@ -4,8 +4,9 @@ import operator
 from collections.abc import Iterable
 from typing import Any, TypeAlias
 
-from ._library import BUSY, CLASH, DEEP, DONE, FULL, ILLEGAL, LARGE, MANY, MEMORY, MISSING, MOVE, MOVED
-from ._library import NOT_JSON, RANGE, SHAPE, STALE, Buffer, lib
+from . import _core
+from ._library import BUSY, CLASH, DEEP, DONE, ERROR_TEXT, EXPLAIN, FULL, ILLEGAL, LARGE, MANY, MEMORY, MISSING, MOVE, MOVED
+from ._library import NOT_JSON, RANGE, SHAPE, STALE
 
 # A text in UTF-8, or as Python has it.
 Text: TypeAlias = bytes | bytearray | memoryview | str
@@ -27,9 +28,7 @@ READS = b'{"fire":[],"reads":%b}'
 def error_text(code: int) -> str:
     """What a code means, in a line."""
     code = int.__index__(operator.index(code))
-    # ctypes would take 2**32 for 0.
-    code = code if -(2**31) <= code < 2**31 else -1
-    return Buffer().text(lib.asm_error_text, code)[1].decode()
+    return _core.told(ERROR_TEXT, code if -(2**31) <= code < 2**31 else -1)[1].decode()
 
 
 class Error(Exception):
@@ -236,7 +235,7 @@ def explain(form: int, text: Text) -> str:
     form, text = int.__index__(operator.index(form)), exact(text, "a text")
     if not 0 <= form < 2**31:
         raise Error(RANGE)
-    code, said = Buffer().text(lib.asm_explain, form, text, len(text))
+    code, said, *_ = _core.told(EXPLAIN, form, text)
     expect(code)
     return said.decode()
 

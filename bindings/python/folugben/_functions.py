@@ -1,47 +1,37 @@
 """What is told of journals and of moves, without a storage."""
-import ctypes
 from collections.abc import Iterable, Iterator, Sequence
 from typing import Any
 
+from . import _core
 from ._errors import INSTRUCTIONS, BadJournal, Text, exact, expect, expect_part, expect_read, explain, refusal
-from ._library import CLASH, EVENT, LARGE, MOVE, NOT_JSON, SHAPE, STATE, Buffer, lib
+from ._library import AGGREGATE, CHECK, CLASH, COMPOSE, EVENT, LARGE, MOVE, NOT_JSON, REPLAY, SHAPE, STATE, TRACE
 from ._texts import Form, decoded, encoded
 
 
 def version() -> int:
     """The version of the library: a million for each major one, a thousand for each minor one."""
-    return int(lib.asm_version())
+    return _core.version()
 
 
-def _expect_journal(code: int, journal: bytes, number: int) -> None:
-    """Raises what the code of a call on the journal says, with the number of the call or of the line, unless it is DONE."""
+def _told(call: int, journal: Text) -> tuple[bytes, int, int]:
+    """What a call on a journal told: a text, and two numbers."""
+    text = exact(journal, "a journal")
+    code, told, number, moves = _core.told(call, 0, text)
     said = ""
     if code in (NOT_JSON, SHAPE) and number > 1:
-        said = explain(EVENT, journal.split(b"\n", number)[number - 1])
+        said = explain(EVENT, text.split(b"\n", number)[number - 1])
     expect(code, BadJournal, (number,), said)
-
-
-def _bytes(journal: Text) -> bytes:
-    return exact(journal, "a journal")
+    return told, number, moves
 
 
 def check(journal: Text) -> tuple[int, int]:
     """The numbers of calls and of moves of a journal that is legal. `BadJournal` where it isn't, or is none."""
-    journal = _bytes(journal)
-    calls, moves = ctypes.c_uint64(), ctypes.c_uint32()
-    code = lib.asm_check(journal, len(journal), calls, moves)
-    _expect_journal(code, journal, calls.value)
-    return calls.value, moves.value
+    return _told(CHECK, journal)[1:]
 
 
 def replay(journal: Text) -> list[Any]:
     """The state that the moves of a journal leave, as a list of pairs."""
-    journal = _bytes(journal)
-    line = ctypes.c_uint64()
-    # The text of a state is shorter than that of its journal, and where a buffer is too small all is replayed again.
-    code, state = Buffer(len(journal)).text(lib.asm_replay, journal, len(journal), after=(line,))
-    _expect_journal(code, journal, line.value)
-    pairs: list[Any] = decoded(state)
+    pairs: list[Any] = decoded(_told(REPLAY, journal)[0])
     return pairs
 
 
@@ -51,12 +41,7 @@ def trace(journal: Text) -> Iterator[dict[str, Any]]:
     An event has `right` where a storage of one thread gives another answer, and `updates` where its move was fired: the page
     on formats has them. `BadJournal` where it is no journal, before the first object.
     """
-    journal = _bytes(journal)
-    line = ctypes.c_uint64()
-    # A trace is seldom twice as long as its journal, and where a buffer is too small all is traced again.
-    code, lines = Buffer(2 * len(journal)).text(lib.asm_trace, journal, len(journal), after=(line,))
-    _expect_journal(code, journal, line.value)
-    return map(decoded, lines.split(b"\n")[:-1])
+    return map(decoded, _told(TRACE, journal)[0].split(b"\n")[:-1])
 
 
 def aggregate(state: Iterable[Form], instructions: Sequence[Form]) -> list[Any]:
@@ -66,7 +51,7 @@ def aggregate(state: Iterable[Form], instructions: Sequence[Form]) -> list[Any]:
     where the updates clash, with the least location that does.
     """
     old, move = encoded(list(state), "state"), encoded(instructions, "instructions")
-    code, told = Buffer().text(lib.asm_aggregate, old, len(old), move, len(move))
+    code, told, *_ = _core.told(AGGREGATE, 0, old, move)
     # The code is that of the state where that is at fault.
     if code in (NOT_JSON, SHAPE) and explain(STATE, old):
         expect_read(code, STATE, old)
@@ -80,7 +65,7 @@ def compose(first: Sequence[Form], second: Sequence[Form]) -> list[Any]:
     where it would have more than 4,096 instructions.
     """
     one, two = encoded(first, "first"), encoded(second, "second")
-    code, told = Buffer().text(lib.asm_compose, one, len(one), two, len(two))
+    code, told, *_ = _core.told(COMPOSE, 0, one, two)
     if code in (NOT_JSON, SHAPE) and explain(MOVE, INSTRUCTIONS % one):
         expect_part(code, INSTRUCTIONS, one)
     return _answered(code, told, two)

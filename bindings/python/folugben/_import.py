@@ -8,11 +8,11 @@ from collections.abc import Iterator
 from typing import BinaryIO
 
 from ._auditor import Auditor, Counts
+from ._core import Storage
 from ._errors import BadJournal
 from ._folder import CHUNK, RunWriter, sync_folder
 from ._library import CUT, NOT_JSON, SHAPE
 from ._reading import HEADER
-from ._storage import Storage
 from ._texts import decoded
 
 

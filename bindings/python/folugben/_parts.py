@@ -27,19 +27,18 @@ it has its own.
 """
 import atexit
 import contextlib
-import ctypes
 import re
 import threading
 import time
 import weakref
 
-from ._errors import Broken, Error, TooLong, expect
+from ._core import Storage
+from ._errors import Broken, Error, Missing, TooLong
 from ._folder import RunWriter
 from ._held import Locked, one_call
-from ._library import EMPTY, MISSING, NONE, NUMBER, Buffer, lib
+from ._library import EMPTY, NUMBER
 from ._lines import expect_lines, expect_state
 from ._part import PATIENCE, Part, PartAgent
-from ._storage import Storage
 from ._turns import here
 
 # The chains of runs that go on, which the end of the program closes.
@@ -64,8 +63,7 @@ class Chain(Locked):
         self._locked_by(lock)
         # How many parts and moves are on the disk.
         self.saved = folder.last.number + 1, folder.last.end
-        self._oldest = Part(self, *self.saved, moves)
-        self._oldest.storage = storage
+        self._oldest = Part(self, *self.saved, moves, storage)
         self._fault: tuple[int, BaseException] | None = None
         self.is_closing = self._is_over = False
         self._writer = threading.Thread(target=self._write, name=f"writer of {folder.path}", daemon=True)
@@ -87,7 +85,7 @@ class Chain(Locked):
 
     def newest(self) -> Part:
         part = self._oldest
-        while part.next is not None and part.next.is_open():
+        while part.next is not None:
             part = part.next
         return part
 
@@ -109,7 +107,7 @@ class Chain(Locked):
         """The same, or None where another thread has to go on before."""
         self.expect_going()
         newest = self.newest()
-        if before is not None and before.part is newest and before.is_held():
+        if before is not None and before.part is newest and before._is_full:
             if self._is_at_end(before):
                 if self._is_behind():
                     return None
@@ -118,13 +116,11 @@ class Chain(Locked):
             elif newest.most > 0:
                 return before
         if before is not None and before.part is not newest:
-            before.give_back()
+            before.__exit__(None, None, None)
             self._changed.notify_all()
         if newest.most == 0 and not self._is_rested(newest):
             return None
-        agent = self._into(self.newest(), own)
-        agent.is_taken = False
-        return agent
+        return self._into(self.newest(), own)
 
     def _take_by_turns(self) -> None:
         """Gives back who stays in a step, by turns, of a part that too many have come behind: time has no part in it."""
@@ -138,24 +134,20 @@ class Chain(Locked):
 
     def _is_at_end(self, agent: PartAgent) -> bool:
         """Looks on: whether it has seen as many moves as its part has room for."""
-        seen = ctypes.c_uint32()
-        with agent._lock:
-            expect(lib.asm_follow(agent._slot, seen))
-        return seen.value == agent.part.capacity
+        return agent.follow() == agent.part.capacity
 
     def _open_behind(self, agent: PartAgent) -> None:
         part = agent.part
-        expect_state(len(agent.state_text()[1]))
+        expect_state(len(agent._state_text()[1]))
         part.until = time.monotonic() + PATIENCE
-        further = part.next = Part(self, part.number + 1, part.base + part.capacity, self._moves)
-        with agent._lock:
-            expect(lib.asm_go_on(agent._slot, self._moves, further.storage._slot))
+        further = Part(self, part.number + 1, part.base + part.capacity, self._moves, agent.go_on(self._moves))
+        part.next = further
         self._changed.notify_all()
 
     def _is_behind(self) -> bool:
         """Whether so many ended parts wait for the writer that no further one may be opened."""
         part, waiting = self._oldest, 0
-        while part.next is not None and part.next.is_open():
+        while part.next is not None:
             # By turns none comes to rest while another one waits, so nobody waits for such a part.
             waiting += not here.is_by_turns or self._is_left(part)
             part = part.next
@@ -165,27 +157,27 @@ class Chain(Locked):
         agent = part.agents.get(own)
         if agent is None:
             agent = part.agents[own] = PartAgent(part, own)
-        with part.storage._lock, agent._lock:
-            if not agent._slot.full:
-                code = lib.asm_take(part.storage._slot, own, agent._slot)
-                if code == NONE:
-                    code = lib.asm_agent(part.storage._slot, own, agent._slot)
-                expect(code, said=f"agent {own} was abandoned" if code == NUMBER else "")
+        try:
+            agent._come()
+        except Error as error:
+            if error.code == NUMBER:
+                raise Error(NUMBER, said=f"agent {own} was abandoned") from None
+            raise
         return agent
 
     @one_call
     def leave(self, agent: PartAgent) -> None:
         """Gives an agent back."""
         with self._lock:
-            agent.give_back()
+            agent.__exit__(None, None, None)
             self._changed.notify_all()
 
     @one_call
     def abandon(self, agent: PartAgent) -> None:
         """Releases an agent, whose moves are missing."""
         with self._lock:
-            agent.is_abandoned = agent.is_abandoned or agent.is_held()
-            agent.release()
+            agent.is_abandoned = agent.is_abandoned or agent._is_full
+            agent.free()
             self._changed.notify_all()
 
     @one_call
@@ -207,19 +199,12 @@ class Chain(Locked):
 
     def _last_state(self, part: Part) -> tuple[int, bytes]:
         """The number of moves of a part and the state after them, by an agent that isn't held, which stays so for its thread."""
-        idle = (own for own, agent in part.agents.items() if not agent.is_abandoned and not agent.is_held())
+        idle = (own for own, agent in part.agents.items() if not agent.is_abandoned and not agent._is_full)
         own = next(idle, None)
         if own is None:
             own = next(it for it in range(257) if it not in part.agents)
             part.agents[own] = PartAgent(part, own)
-        agent = part.agents[own]
-        with part.storage._lock, agent._lock:
-            self._into(part, own)
-            try:
-                self._is_at_end(agent)
-                return agent.state_text()
-            finally:
-                agent.give_back()
+        return part.agents[own]._glimpse()
 
     # A part that ends before it is full.
 
@@ -244,27 +229,21 @@ class Chain(Locked):
 
     def _end_at_rest(self, part: Part) -> None:
         expect_state(len(self._last_state(part)[1]))
-        missing, slot = ctypes.c_uint32(), part.storage._slot
-        with part.storage._lock:
-            code = lib.asm_close(slot, missing)
-            # The writer comes to it and tells it, once the parts before it are written.
-            part.is_last = code == MISSING
-            if not part.is_last:
-                expect(code)
-                further = part.next = Part(self, part.number + 1, part.base + part.moves(), self._moves)
-                expect(lib.asm_next(slot, self._moves, further.storage._slot))
+        # The writer comes to a move that is missing and tells it, once the parts before it are written.
+        part.is_last = part.storage._close() > 0
+        if not part.is_last:
+            further = Part(self, part.number + 1, part.base + part.moves(), self._moves, part.storage.next(self._moves))
+            part.next = further
         self._changed.notify_all()
 
     def _is_left(self, part: Part) -> bool:
         """Whether no agent is in a part, once those are given back that may be."""
-        return all([agent.is_left(self._may_take) for agent in part.agents.values()])
+        return all([agent._leave(self._may_take(agent)) for agent in part.agents.values()])
 
     def _may_take(self, agent: PartAgent) -> bool:
-        """Whether an agent may be given back by another thread than its own; its lock is held."""
-        if self.is_closing or agent.is_at_rest():
-            return True
+        """Whether an agent that is in a step may be given back by another thread than its own."""
         is_waited_for = agent.is_by_turns and not agent.part.is_forced
-        return not is_waited_for and time.monotonic() > agent.part.until
+        return self.is_closing or not is_waited_for and time.monotonic() > agent.part.until
 
     @one_call
     def flush(self) -> None:
@@ -292,11 +271,10 @@ class Chain(Locked):
     # What the writer does.
 
     def _write(self) -> None:
-        buffer = Buffer()
         part: Part | None = None
         try:
             while (part := self._due()) is not None:
-                journal, moves = self._journal(part, buffer)
+                journal, moves = self._journal(part)
                 events = _EVENTS.match(journal)
                 assert events is not None
                 # An empty part behind all others is none.
@@ -338,25 +316,20 @@ class Chain(Locked):
             part.end_at_rest()
             self._is_rested(part)
 
-    def _journal(self, part: Part, buffer: Buffer) -> tuple[memoryview, int]:
+    def _journal(self, part: Part) -> tuple[memoryview, int]:
         """The journal of a part, and how many moves it tells."""
-        number, slot = ctypes.c_uint32(), part.storage._slot
-        with part.storage._lock:
-            code = lib.asm_close(slot, number)
-            if code == MISSING:
-                raise part.missing(number.value)
-            expect(code)
-            expect(lib.asm_moves(slot, number))
-            code, journal = buffer.view(lib.asm_journal, slot)
-        expect(code)
+        try:
+            journal = memoryview(part.storage.close_journal())
+        except Missing as missing:
+            raise part.missing(missing.numbers[0]) from None
         expect_lines(journal)
-        return journal, number.value
+        return journal, part.moves()
 
     def _let_go(self, part: Part) -> None:
         part.storage.free()
         with self._lock:
             part.is_written = True
-            if part.next is None or not part.next.is_open():
+            if part.next is None:
                 self._is_over = True
             else:
                 # Nobody who still knows the part holds all those behind it.
@@ -370,9 +343,8 @@ class Chain(Locked):
             part: Part | None = self._oldest
             while part is not None:
                 for agent in part.agents.values():
-                    agent.release()
-                with part.storage._lock:
-                    lib.asm_free(part.storage._slot)
+                    agent.free()
+                part.storage.free()
                 part = part.next
             self._changed.notify_all()
 

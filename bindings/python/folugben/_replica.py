@@ -2,23 +2,19 @@
 import re
 from typing import NamedTuple
 
-from ._agent import AGENTS, Agent
 from ._auditor import Auditor
-from ._errors import Error, Many, TooLong, expect, expect_read
+from ._core import Agent, Storage
+from ._errors import Error, Many, TooLong
 from ._folder import Segment
-from ._library import CLASH, DONE, MANY, MEMORY, STALE, STATE, Buffer, lib, quick
+from ._library import CLASH, MANY, STALE
 from ._lines import expect_state
 from ._log import Call, Log
-from ._storage import Storage, unopened
 
 _OWN, _HEADER = re.compile(rb'^\{"agent":0,', re.MULTILINE), re.compile(rb'\{"agents":\d+,')
 # A segment ends after so many calls for each of its moves, as stale ones are kept too.
 _CALLS = 2
-
-
-# As calls of a log are short and many, they keep the interpreter's lock, but for long ones.
-_fire_at_once, _LONG = quick.asm_try_fire_over, 1 << 16
-_fire_at_once.argtypes = lib.asm_try_fire_over.argtypes
+# How many agents a storage makes: their numbers are below it.
+_AGENTS = 256
 
 
 class Answer(NamedTuple):
@@ -42,26 +38,28 @@ class Era:
     def __init__(self, state: bytes, number: int, base: int, moves: int) -> None:
         self.number, self.base = number, base
         # The numbers that agents of this process may have in the storage.
-        self._free, self._used = list(range(AGENTS - 1, 0, -1)), set[int]()
-        self.storage = unopened()
-        expect_read(lib.asm_open(state, len(state), moves, self.storage._slot), STATE, state)
-        self.applier = Agent(self.storage, 0)
+        self._free, self._used = list(range(_AGENTS - 1, 0, -1)), set[int]()
+        self.storage = Storage._opened(state, moves)
+        self.applier = self.storage.agent(0)
         # The agents of the calls, as the log has them.
         self.agents: list[int] = []
 
     def agent(self) -> Agent:
         """An agent of this process, to begin steps with; it fires nothing."""
         if not self._free:
-            raise Many(MANY, said=f"one process has at most {AGENTS - 1} agents of a shared run")
+            raise Many(MANY, said=f"one process has at most {_AGENTS - 1} agents of a shared run")
         number = self._free.pop()
         if number in self._used:
-            return self.storage.take(number)
-        self._used.add(number)
-        return self.storage.agent(number)
+            agent = self.storage.take(number)
+        else:
+            self._used.add(number)
+            agent = self.storage.agent(number)
+        agent._base = self.base
+        return agent
 
     def leave(self, agent: Agent) -> None:
         """Take back an agent of this process."""
-        if agent._slot.full:
+        if agent._is_full:
             self.storage.give(agent)
             self._free.append(agent.number)
 
@@ -103,16 +101,20 @@ class Replica:
         return answer, self._end(era, place)
 
     def _fire(self, era: Era, call: Call, is_own: bool) -> Answer | None:
-        text, scans, numbers = call.call.encode(), call.scans.encode(), era.applier._numbers
-        fire = _fire_at_once if len(text) < _LONG else lib.asm_try_fire_over
-        while (code := fire(era.applier._slot, text, len(text), scans, len(scans), numbers)) == MEMORY:
-            pass
-        if code in (DONE, STALE, CLASH):
+        text, scans, fired, error = call.call.encode(), call.scans.encode(), 0, None
+        while True:
+            try:
+                fired = era.applier._fire(text, scans)
+            except MemoryError:
+                continue
+            except Error as refused:
+                error = refused
+            break
+        if error is None or error.code in (STALE, CLASH):
             era.agents.append(call.agent)
-        if code == DONE:
-            self._fired = numbers.fired
-            return Answer(era.base + numbers.fired, None) if is_own else None
-        return Answer(0, _error(era.applier, code, text, scans)) if is_own else None
+        if error is None:
+            self._fired = fired
+        return Answer(fired and era.base + fired, error) if is_own else None
 
     def _end(self, era: Era, place: int) -> Ended:
         state = self.state_text()[1]
@@ -126,19 +128,9 @@ class Replica:
     def state_text(self) -> tuple[int, bytes]:
         """The number of moves of the run up to its place, and the text of the state after them."""
         era = self.era
-        number = era.applier.follow()
-        code, text = Buffer().text(lib.asm_state, era.applier._slot, era.applier._number)
-        expect(code)
+        era.applier.follow()
+        number, text = era.applier._state_text()
         return era.base + number, text
-
-
-def _error(applier: Agent, code: int, text: bytes, scans: bytes) -> Error:
-    """The error of a code of a fire."""
-    try:
-        applier._fired(code, applier._numbers, text, scans)
-    except Error as error:
-        return error
-    return Error(code)
 
 
 def rest(log: Log, last: Segment) -> list[bytes]:

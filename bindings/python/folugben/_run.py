@@ -9,16 +9,16 @@ from collections.abc import Callable, Iterable
 from types import FrameType, TracebackType
 from typing import Any, Literal, NoReturn, Self
 
-from ._agent import own_number
-from ._errors import Broken, Error, expect_read
+from ._core import Storage
+from ._errors import Broken, Error
 from ._folder import RunWriter
 from ._held import Forked, is_in_call, one_call
-from ._library import NUMBER, STATE, lib
+from ._library import NUMBER
 from ._lines import expect_state
 from ._parts import Chain
 from ._reading import Reading
+from ._refusals import capacity_of, own_number
 from ._run_agent import RunAgent
-from ._storage import Storage, capacity_of, unopened
 from ._texts import Form, decoded
 
 # The runs whose `with` goes on, which SIGTERM ends.
@@ -98,7 +98,7 @@ class Run:
         except BaseException:
             folder.close()
             raise
-        run._begin(folder, lambda: _opened(state, capacity), capacity)
+        run._begin(folder, lambda: Storage._opened(state, capacity), capacity)
         return run
 
     def _prepare(self, path: str | os.PathLike[str], moves: int, every: float | None, receipts: int | None) -> int:
@@ -208,9 +208,3 @@ class Run:
         if chain is not None and not chain.is_closing:
             chain.is_closing = True
             warnings.warn(f"a run wasn't closed: {self._path}", ResourceWarning, stacklevel=2, source=self)
-
-
-def _opened(state: bytes, capacity: int) -> Storage:
-    storage = unopened()
-    expect_read(lib.asm_open(state, len(state), capacity, storage._slot), STATE, state)
-    return storage

@@ -4,14 +4,13 @@ from collections.abc import Callable, Iterable, Sequence
 from types import TracebackType
 from typing import TYPE_CHECKING, Any, NoReturn, Self, TypeVar, overload
 
-from ._agent import back_off
+from ._core import Location, Step
 from ._errors import Error, Full, Past, ahead
 from ._held import is_in_call
 from ._library import EMPTY, RANGE
 from ._lines import LINE_LIMIT, SHORT, expect_call, too_long
-from ._location import Location
 from ._part import PartAgent, PartStep
-from ._step import Step
+from ._refusals import back_off
 from ._texts import Form, encoded
 
 if TYPE_CHECKING:
@@ -43,13 +42,12 @@ class RunAgent:
             agent = self._in
             if agent is not None:
                 try:
-                    step = PartStep(agent)
-                except Error:
+                    step = agent.begin()
+                except Error as error:
                     # It was given back meanwhile, as it was at rest in a part that had ended.
-                    if agent._slot.full:
-                        raise
+                    self._expect_given(agent, error)
                 else:
-                    if step._number < agent.part.most:
+                    if step._own_number < agent.part.most:
                         return step
                     step.free()
             self._go_on()
@@ -81,15 +79,13 @@ class RunAgent:
 
         `TooLong`: the values have more than 8,388,608 bytes as text, half of what a line of the journal may have.
         """
-        text = encoded(places, "places")
-
         def look(agent: PartAgent) -> tuple[int, list[Any]]:
             agent.tried()
             agent.follow()
-            length = len(text) + agent.peek_length(text)
+            length = agent._peek_length(places)
             if length > LINE_LIMIT // 2:
                 raise too_long("the read", length)
-            return agent._read(text)
+            return agent.read(places)
 
         return self._looked(look)
 
@@ -190,7 +186,7 @@ class RunAgent:
     @staticmethod
     def _expect_given(agent: PartAgent, error: Error) -> None:
         """Raises an error that doesn't come of a part's end, when another thread has given the agent back."""
-        if error.code != EMPTY or agent._slot.full:
+        if error.code != EMPTY or agent._is_full:
             raise error
 
     @staticmethod
@@ -214,7 +210,7 @@ class RunAgent:
             raise Error(EMPTY, said="the agent was given back")
         was, now = self._in, self._chain.come(self._own, self._in)
         if now is not was:
-            before = self._before + (was.counts()[1] if was is not None else 0) - now.counts()[1]
+            before = self._before + (was._counts()[1] if was is not None else 0) - now._counts()[1]
             self._before, self._in = before, now
 
     @property
@@ -226,13 +222,13 @@ class RunAgent:
     def seen(self) -> int:
         """How many moves of the run it has seen."""
         agent = self._in
-        return agent.part.base + agent.counts()[0] if agent is not None else self._seen
+        return agent.part.base + agent._counts()[0] if agent is not None else self._seen
 
     @property
     def won(self) -> int:
         """How many moves it fired."""
         agent = self._in
-        return self._before + (agent.counts()[1] if agent is not None else 0)
+        return self._before + (agent._counts()[1] if agent is not None else 0)
 
     def give(self) -> None:
         """Gives it back; it may be called again."""
@@ -245,7 +241,7 @@ class RunAgent:
     def _end(self, leave: Callable[[PartAgent], None]) -> None:
         self._is_gone, agent = True, self._in
         if agent is not None:
-            seen, won = agent.counts()
+            seen, won = agent._counts()
             leave(agent)
             # Another agent may have its number from now on, and its slot.
             before = self._before + won

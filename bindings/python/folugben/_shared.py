@@ -5,16 +5,14 @@ from collections.abc import Callable, Iterable, Sequence
 from types import TracebackType
 from typing import Any, NoReturn, Self, TypeVar, overload
 
-from ._agent import Agent, back_off, own_number
-from ._errors import Broken, Error, Past, expect
-from ._held import Forked, is_in_call, one_call
-from ._library import CLASH, EMPTY, NUMBER, STALE, lib
+from ._core import Agent, Location, Step, Storage
+from ._errors import Broken, Error, Past
+from ._held import Forked, is_in_call
+from ._library import CLASH, EMPTY, NUMBER, STALE
 from ._lines import expect_call, expect_state
-from ._location import Location
 from ._log import Log
+from ._refusals import back_off, capacity_of, own_number
 from ._replica import Era
-from ._step import Step
-from ._storage import Storage, capacity_of
 from ._texts import Form, decoded, encoded
 from ._worker import Worker
 
@@ -24,19 +22,13 @@ _R = TypeVar("_R")
 class SharedStep(Step):
     """A step of an agent of a shared run, whose numbers are those of the run."""
 
+    def __new__(cls, shared: "SharedAgent", agent: Agent, era: Era) -> Self:
+        return super().__new__(cls, agent)
+
     def __init__(self, shared: "SharedAgent", agent: Agent, era: Era) -> None:
         self._shared, self._era = shared, era
         # The functions that it has scanned.
         self._scans: dict[str, None] = {}
-        super().__init__(agent)
-
-    @property
-    def number(self) -> int:
-        return self._era.base + self._number
-
-    @property
-    def fired(self) -> int:
-        return self._fired and self._era.base + self._fired
 
     def scan(self, name: str) -> list[list[Any]]:
         """The same as of any step."""
@@ -79,29 +71,23 @@ class SharedStep(Step):
         if answer is None:
             raise Past(EMPTY, said="the segment of the run has ended, so begin another step")
         if answer.error is None:
-            self._fired, self._is_fired = answer.fired - self._era.base, True
             self._shared._won, self._shared._fired = self._shared._won + 1, answer.fired
-            self.free()
-            return self._fired
+            self._end(answer.fired - self._era.base)
+            return answer.fired - self._era.base
         self._is_tried = True
         if answer.error.code in vain:
             return 0
         raise answer.error
 
-    def _expect_on(self, code: int) -> None:
-        if code == EMPTY and self._slot.full and not self._agent._slot.full and not self._shared._is_gone:
+    def _expect_held(self) -> None:
+        if not self._shared._is_gone:
             raise Past(EMPTY, said="the agent has gone on to another segment, so begin another step")
-        super()._expect_on(code)
 
-    @one_call
     def _call(self) -> tuple[bytes, bytes]:
         """What the fire offers, and the scans that it rests on."""
-        with self._agent._lock:
-            code, call = self._agent._buffer.text(lib.asm_offer, self._slot)
-            self._expect_on(code)
-        expect(code)
+        call = self._offer_text()
         expect_call(call)
-        return call, encoded([[name, self._number] for name in self._scans], "scans")
+        return call, encoded([[name, self._own_number] for name in self._scans], "scans")
 
 
 class SharedRun:

@@ -8,7 +8,7 @@ import weakref
 from collections.abc import Callable, Iterable, Iterator
 from typing import TypeVar
 
-from ._agent import Agent
+from ._core import Agent
 from ._database import Lost, reaching
 from ._errors import Broken, Error, Unknown
 from ._held import Locked

@@ -1,7 +1,6 @@
 """All tests of the package and of the engine: python3 bindings/python/tests/test.py [-v] [-k NAME]
 
-FOLUGBEN_LIBRARY is the library, where that isn't where ./build_c puts it, and FOLUGBEN_ROOT the repository, where this is a
-copy of the tests.
+FOLUGBEN_ROOT is the repository, where this is a copy of the tests.
 """
 import pathlib
 import sys

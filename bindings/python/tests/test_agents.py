@@ -8,7 +8,7 @@ from unittest import mock
 
 import folugben
 from folugben import Agent, BadJournal, Busy, Clash, Error, Full, Missing, Stale, Storage, check, replay
-from folugben import _agent, _functions, _library, _storage
+from folugben import _library
 from threads import in_threads
 
 COUNT = [["count"]]
@@ -121,7 +121,7 @@ class Agents(unittest.TestCase):
             with self.assertRaises(Missing) as caught:
                 self.storage.close_journal()
             self.assertEqual(caught.exception.numbers, (wanted,))
-            if first._slot.full:
+            if first._is_full:
                 first.give()
         self.storage.free()
         self.assertEqual(self.code_of(self.storage.moves), folugben.EMPTY)
@@ -150,21 +150,6 @@ class Agents(unittest.TestCase):
         self.assertEqual(agent.read([["y"]]), (1, [None]))
         agent.give()
         self.assertEqual(replay(self.storage.close_journal()), [[["count"], "x" * 5000]])
-
-    def test_a_buffer_is_kept_and_a_journal_replayed_once(self):
-        agent = self.storage.agent(0)
-        agent.fire([["put", ["count"], "x" * 5000]])
-        lib = mock.Mock(wraps=_library.lib)
-        with mock.patch.object(_agent, "lib", lib), mock.patch.object(_storage, "lib", lib):
-            for _ in range(3):
-                agent.read(COUNT)
-            self.assertEqual(lib.asm_answer.call_count, 4)
-            agent.give()
-            journal = self.storage.close_journal()
-            self.assertEqual(lib.asm_journal.call_count, 2)
-        with mock.patch.object(_functions, "lib", mock.Mock(wraps=_library.lib)) as lib:
-            self.assertEqual(replay(journal), [[["count"], "x" * 5000]])
-            self.assertEqual(lib.asm_replay.call_count, 1)
 
     def test_threads_that_make_and_give_agents_of_one_storage(self):
         # A large state makes the calls that close long, so that others begin meanwhile.
@@ -286,15 +271,8 @@ class Agents(unittest.TestCase):
 
     def test_a_library_of_another_version_is_refused(self):
         with mock.patch.object(_library, "WRITTEN_FOR", 1000), self.assertRaises(ImportError) as caught:
-            _library.load()
+            _library.expect_version()
         self.assertIn("has version 2000, and this package was written for 1000", str(caught.exception))
-
-    def test_an_empty_path_is_none(self):
-        there, none = pathlib.Path(__file__), pathlib.Path("/none")
-        for path, inside, found in (("", none, _library.BUILT), ("", there, there), ("/a/b.so", there, "/a/b.so")):
-            with mock.patch.dict(os.environ, FOLUGBEN_LIBRARY=path), mock.patch.object(_library, "INSIDE", inside):
-                self.assertEqual(_library.path(), str(found))
-
 
 if __name__ == "__main__":
     unittest.main()

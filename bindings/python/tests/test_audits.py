@@ -148,35 +148,7 @@ class Audits(unittest.TestCase):
             self.assertEqual(auditor.state(), replay(journal))
         self.assertEqual(repr(auditor), f"<Auditor, {total.calls} calls, {total.moves} moves, 4 parts>")
 
-    def test_refused_memory_leaves_the_rest_for_the_next_call(self):
-        asked, real = [], _auditor.lib.asm_audit
-
-        def refused(slot, text, size, taken, numbers):
-            asked.append(size)
-            if len(asked) % 2 and size > 10:
-                real(slot, text, 10, taken, numbers)
-                return folugben.DONE if size == 10 else 3  # MEMORY
-            return real(slot, text, size, taken, numbers)
-
-        auditor = Auditor()
-        with mock.patch.object(_auditor.lib, "asm_audit", refused):
-            for start in range(0, len(self.text), 1000):
-                try:
-                    auditor.feed(self.text[start : start + 1000])
-                except MemoryError:
-                    auditor.feed(b"")
-        self.assertEqual(auditor.end(), audit(io.BytesIO(self.text)))
-        self.assertGreater(len(asked), 3)
-
-    def test_an_audit_that_was_ended_in_a_feed_or_freed_says_so(self):
-        def raises(*_):
-            raise KeyboardInterrupt
-
-        auditor = Auditor()
-        with mock.patch.object(_auditor.lib, "asm_audit", raises), self.assertRaises(KeyboardInterrupt):
-            auditor.feed(self.text)
-        with self.assertRaisesRegex(Error, "begin another"):
-            auditor.feed(b"")
+    def test_an_audit_that_was_freed_says_so(self):
         with Auditor() as freed:
             freed.feed(self.text)
         for call in (lambda: freed.feed(b""), freed.end, freed.state):

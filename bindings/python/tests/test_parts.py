@@ -169,7 +169,7 @@ class Parts(Rooms):
             run.agent(0).play(raised)  # nobody holds it any more
             gc.collect()
             self.assertEqual(run.agent(0).play(raised), (13, None))
-            for number, said in [(256, "numbers are below 256"), (-1, "a number is 0 to")]:
+            for number, said in [(256, "numbers are below 256"), (-1, "numbers are below 256")]:
                 with self.assertRaisesRegex(Error, said):
                     run.agent(number)
             self.assertEqual(repr(run.agent(3)), "<RunAgent 3, 0 moves seen>")
@@ -216,7 +216,7 @@ class Parts(Rooms):
         def slow(folder, journal, *counts):
             part, count = chain._oldest, 0
             while part is not None:
-                part, count = part.next, count + part.is_open()
+                part, count = part.next, count + 1
             most[0] = max(most[0], count)
             time.sleep(0.02)
             real(folder, journal, *counts)

@@ -5,10 +5,9 @@ import pickle
 import random
 import unittest
 from collections import Counter
-from unittest import mock
 
 import folugben
-from folugben import Clash, Deep, Error, Full, Location, Many, Move, Moved, Nested, Over, Stale, Storage, _library, check
+from folugben import Clash, Deep, Error, Full, Location, Many, Move, Moved, Over, Stale, Storage, check
 from threads import in_threads
 
 VALUES = [
@@ -158,24 +157,6 @@ class Plain(unittest.TestCase):
             step.pop()
             self.assertEqual((step.get(at), step.fire()), ({"set": []}, 1))
 
-    def test_a_popped_move_that_was_cut_off_is_cleared(self):
-        at = Location(["count"])
-        with self.agent.step() as step:
-            step.push([["put", ["count"], 1]])
-            move = step.pop_move()
-
-            def cut_off(*arguments):
-                raise KeyboardInterrupt
-
-            quick = mock.Mock(wraps=_library.quick)
-            quick.asm_instruct = cut_off
-            with mock.patch.object(folugben._move, "quick", quick):
-                self.assertRaises(KeyboardInterrupt, move.inc, at, 1)
-            for call, *words in ((step.push, move), (move.inc, at, 1)):
-                self.assertEqual(self.code_of(call, *words)[0], folugben.EMPTY)
-            step.push(move.clear().put(at, 2))
-            self.assertEqual((step.get(at), step.fire()), (2, 1))
-
     def test_limits(self):
         at = Location(["count"])
         with self.agent.step() as step:
@@ -287,19 +268,12 @@ class Plain(unittest.TestCase):
             step.push(move)
             return step.try_fire()
 
-    def test_no_copy_shares_a_slot_and_what_is_dropped_is_freed(self):
+    def test_no_copy_shares_a_slot(self):
         for held in (Location(["x"]), Move()):
             for copied in (copy.copy, copy.deepcopy, pickle.dumps):
                 with self.assertRaises(TypeError) as caught:
                     copied(held)
                 self.assertEqual(str(caught.exception), f"cannot copy or pickle '{type(held).__name__}' object")
-        at = Location(["x"])
-        move = Move().put(at, 1)
-        with mock.patch.object(folugben._held, "lib", mock.Mock(wraps=_library.lib)) as lib:
-            del at
-            self.assertEqual(lib.asm_free.call_count, 1)
-            del move
-            self.assertEqual(lib.asm_free.call_count, 2)
 
     def test_threads_that_share_a_location_and_a_move(self):
         at, other, shared = Location(["count"]), Location(["other"]), Move()
@@ -322,36 +296,6 @@ class Plain(unittest.TestCase):
             step.push(shared)
             self.assertEqual((step.get(at), step.get(other), step.fire()), (800, len(shared), 801))
         self.assertEqual(check(storage.close_journal())[1], 801)
-
-    def test_a_handler_that_interrupts_a_plain_call_is_refused(self):
-        at, move = Location(["count"]), Move()
-        move.put(at, 1)
-        step, other = self.agent.step(), self.agent.step()
-        get, instruct, push, commit = (getattr(_library.quick, name) for name in (
-            "asm_get_at", "asm_instruct", "asm_push_move", "asm_commit"))
-
-        def between(call):
-            def made(*arguments):
-                for nested, *words in [
-                    (other.get, at), (other.see, at), (other.pop_move,), (other.offer,), (self.agent.peek, at), (move.put, at, 2),
-                    (move.clear,), (other.push, move), (at.free,), (other.extend, move), (other.fire,), (other.try_fire,),
-                    (self.agent.step,), (move.free,), (Move().free,), (self.rival.step,), (self.storage.moves,),
-                ]:
-                    self.assertRaises(Nested, nested, *words)
-                return call(*arguments)
-
-            return made
-
-        quick = mock.Mock(wraps=_library.quick)
-        quick.asm_get_at, quick.asm_instruct = between(get), between(instruct)
-        quick.asm_push_move, quick.asm_commit = between(push), between(commit)
-        with mock.patch.object(folugben._step, "quick", quick), mock.patch.object(folugben._move, "quick", quick):
-            self.assertIsNone(step.get(at))
-            step.push(move.inc(at, 3).clear().put(at, 4))
-            self.assertEqual(step.get(at), 4)
-            self.assertEqual(step.fire(), 1)
-        self.assertEqual((step.depth, other.depth, len(move)), (0, 0, 1))
-
 
 if __name__ == "__main__":
     unittest.main()

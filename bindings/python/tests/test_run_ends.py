@@ -10,7 +10,7 @@ import time
 import unittest
 from unittest import mock
 
-from folugben import Broken, Error, Forked, Missing, Nested, Run, _parts, audit
+from folugben import Agent, Broken, Error, Forked, Missing, Nested, Run, Storage, audit
 from rooms import AT, COUNT, INIT, Rooms, called, raised, until
 from threads import in_threads
 
@@ -152,23 +152,27 @@ class Ends(Rooms):
             self.assertEqual(self.assert_broken(mock.patch.object(os, "fsync", fails), OSError, number == 8), 4)
 
     def test_refused_memory_of_the_writer_ends_the_run(self):
-        real, asked = _parts.lib.asm_close, [0]
+        real, asked = Storage.close_journal, [0]
 
-        def refused(slot, number):
+        def refused(storage):
             asked[0] += 1
-            return 3 if asked[0] == 3 else real(slot, number)  # MEMORY
+            if asked[0] == 3:
+                raise MemoryError
+            return real(storage)
 
-        self.assertEqual(self.assert_broken(mock.patch.object(_parts.lib, "asm_close", refused), MemoryError), 3)
+        self.assertEqual(self.assert_broken(mock.patch.object(Storage, "close_journal", refused), MemoryError), 3)
 
     def test_refused_memory_of_an_opening_is_told_and_tried_again(self):
-        real, asked = _parts.lib.asm_go_on, [0]
+        real, asked = Agent.go_on, [0]
 
         def refused(*words):
             asked[0] += 1
-            return 3 if asked[0] % 2 else real(*words)  # MEMORY
+            if asked[0] % 2:
+                raise MemoryError
+            return real(*words)
 
         with Run(self.path, INIT, 3) as run, run.agent(0) as agent:
-            with mock.patch.object(_parts.lib, "asm_go_on", refused):
+            with mock.patch.object(Agent, "go_on", refused):
                 told = 0
                 for _ in range(20):
                     try:
@@ -338,7 +342,7 @@ class Signals(Rooms):
 
     def test_no_call_comes_between_two_lines_of_another(self):
         told = []
-        real = _parts.lib.asm_go_on
+        real = Agent.go_on
 
         def between(*words):
             for call in (
@@ -353,7 +357,7 @@ class Signals(Rooms):
 
         with Run(self.path, INIT, 2) as run, run.agent(0) as agent, run.agent(1) as other:
             other.play(raised)
-            with mock.patch.object(_parts.lib, "asm_go_on", between):
+            with mock.patch.object(Agent, "go_on", between):
                 for _ in range(3):
                     agent.play(raised)
         self.assertEqual(told, ["nested"] * 7)

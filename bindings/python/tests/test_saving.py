@@ -11,8 +11,7 @@ import time
 import unittest
 from unittest import mock
 
-from folugben import BadJournal, Error, Past, Run, Storage, __main__, _part, audit, import_run, interleave, states
-from folugben._held import Held
+from folugben import BadJournal, Error, Past, Run, Storage, __main__, audit, import_run, interleave, states
 from rooms import AT, BANK, COUNT, INIT, Rooms, called, environment, raised, segments, text_of, transfer, until
 from threads import in_threads
 
@@ -20,65 +19,41 @@ from threads import in_threads
 class Races(Rooms):
     """What the writer sees of an agent while that is in the midst of a call."""
 
-    def test_a_step_that_has_not_begun_is_none(self):
-        real, looked = Held._hold, []
-
-        def between(step):
-            if isinstance(step, _part.PartStep):
-                with agent._in._lock:
-                    looked.append(agent._in.is_at_rest())
-            real(step)
-
-        with Run(self.path, INIT, 3) as run, run.agent(0) as agent, mock.patch.object(Held, "_hold", between):
-            for number in range(1, 10):
-                self.assertEqual(agent.play(raised), (number, None))
-        self.assertEqual(set(looked), {True})
+    def test_an_agent_is_given_back_between_its_steps_alone(self):
+        with Run(self.path, INIT, 100) as run, run.agent(0) as agent:
+            agent.play(raised)
+            step = agent.step()
+            self.assertFalse(agent._in._leave(False))
+            step.push([["inc", COUNT, 1]])
+            self.assertEqual((step.fire(), step.number, step.fired), (2, 1, 2))
+            self.assertTrue(agent._in._leave(False))
+            self.assertEqual(agent.play(raised), (3, None))
+            with agent.step() as step:
+                self.assertTrue(agent._in._leave(True))
+                with self.assertRaises(Past):
+                    step.get([COUNT])
+            self.assertEqual(agent.play(raised), (4, None))
+        self.assertEqual(audit(self.path).moves, 4)
 
     def test_an_agent_that_is_in_a_call_is_not_given_back(self):
-        real, inside, go = _part.lib.asm_state, threading.Event(), threading.Event()
+        # A large state makes its calls long, and those that give it back come in their midst.
+        state, ended = INIT + [[["y", number], "y" * 100] for number in range(50_000)], threading.Event()
 
-        def slow(slot, *words):
-            # A slot looks empty while the library has taken it.
-            slot.full = False
-            inside.set()
-            go.wait(10)
-            slot.full = True
-            return real(slot, *words)
+        def looks():
+            while not ended.is_set():
+                inner._leave(False)
 
-        with Run(self.path, INIT, 3) as run, run.agent(0) as agent, run.agent(1) as other:
-            agent.play(raised)
-            with mock.patch.object(_part.lib, "asm_state", slow):
-                thread = threading.Thread(target=agent.state)
-                thread.start()
-                inside.wait()
-                for _ in range(3):
-                    part = agent._in.part
-                    self.assertFalse(all([it._slot.full for it in part.agents.values()]))
-                    looked = []
-                    looking = threading.Thread(target=lambda: looked.append(run._chain._is_left(part)))
-                    looking.start()
-                    looking.join(0.05)
-                    self.assertEqual(looked, [])  # it waits for the call
-                go.set()
-                thread.join()
-                looking.join()
-            for _ in range(10):
-                other.play(raised)
-        self.assertEqual(audit(self.path).moves, 11)
-
-    def test_a_storage_that_is_in_a_call_is_open(self):
-        with Run(self.path, INIT, 2) as run, run.agent(0) as agent, run.agent(1) as slow:
-            with slow.step() as step:
-                for _ in range(3):
-                    agent.play(raised)
-                storage = run._chain.newest().storage
-                storage._slot.full = False
-                try:
-                    self.assertTrue(slow._in.part.has_ended())
-                    self.assertIs(run._chain.newest().storage, storage)
-                finally:
-                    storage._slot.full = True
-                step.free()
+        with Run(self.path, state, 1000) as run, run.agent(0) as agent:
+            thread = threading.Thread(target=looks)
+            agent.follow()
+            inner = agent._in
+            thread.start()
+            for _ in range(5):
+                self.assertEqual(len(agent.state()[1]), 50_000 + len(INIT))
+                agent.play(raised)
+            ended.set()
+            thread.join()
+        self.assertEqual(audit(self.path).moves, 5)
 
 
 class Saving(Rooms):

@@ -10,6 +10,7 @@ from collections.abc import Iterator
 
 import folugben
 from folugben import Agent, Error, Forked, Location, Missing, Move, Retry, Stale, Storage, check
+from folugben._held import one_call
 
 COUNT = ["count"]
 
@@ -129,12 +130,7 @@ class Scopes(unittest.TestCase):
         other = self.storage.agent(1)
         generator = held()
         next(generator)
-        mark = folugben._held.here.mark
-        mark.in_call = True  # as within a call of this thread
-        try:
-            generator.close()
-        finally:
-            mark.in_call = False
+        one_call(generator.close)()
         put(other, 2)
         other.give()
         self.assertEqual(check(self.storage.close_journal()), (2, 2))
@@ -248,7 +244,7 @@ class Scopes(unittest.TestCase):
             (r'\{"bag": \[\.\.\]\}, and not \[1\]', lambda: move.put(place, [1])),
             ("learns from an agent", lambda: agent.learn(self.storage)),
             ("takes back an agent", lambda: self.storage.give(None)),
-            ("made before", lambda: agent.__init__(self.storage, 5)),
+            ("made before", lambda: self.storage.__init__([], 5)),
             ("no value: values are", lambda: put(agent, object())),
             ("True and 1 are one in a Python set", lambda: put(agent, {True})),
             ("a journal is bytes or a str", lambda: check(7)),

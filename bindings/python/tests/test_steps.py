@@ -4,10 +4,9 @@ import json
 import pathlib
 import pickle
 import unittest
-from unittest import mock
 
 import folugben
-from folugben import Clash, Deep, Error, Full, Location, Many, Moved, Over, Stale, Storage, _library, _step, check
+from folugben import Clash, Deep, Error, Full, Location, Many, Moved, Over, Stale, Storage, _refusals, check
 
 COUNT = [["count"]]
 
@@ -243,22 +242,18 @@ class Steps(unittest.TestCase):
                 self.assertEqual(str(caught.exception), "cannot copy or pickle 'Step' object")
 
     def test_a_step_that_is_dropped_is_freed(self):
-        with mock.patch.object(folugben._held, "lib", mock.Mock(wraps=_library.lib)) as lib:
-            step = self.agent.step()
-            del step
-            self.assertEqual(lib.asm_free.call_count, 1)
+        places = [["x", "y" * 1000, number] for number in range(64)]
+        before = 0
+        for number in range(1000):
+            self.agent.step().get(places)
+            before = before or memory() * (number == 200)
+        self.assertLess(memory() - before, 2**22)
 
     def test_an_amount_that_is_too_large_has_a_location(self):
         # No step of the agent's own storage leads to it, so the library's answer is made up.
-        def push(agent, step, move, size, out, room, written):
-            out[:17] = b'{"large":["bag"]}'
-            written._obj.value = 17
-            return folugben.LARGE
-
-        with self.agent.step() as step, mock.patch.object(_step.lib, "asm_push", push):
-            with self.assertRaises(folugben.Large) as caught:
-                step.push([])
-            self.assertEqual(caught.exception.at, ["bag"])
+        with self.assertRaises(folugben.Large) as caught:
+            _refusals.pushed(folugben.LARGE, b"[]", b'{"large":["bag"]}')
+        self.assertEqual(caught.exception.at, ["bag"])
 
     def test_gets_take_no_memory(self):
         places = [["f", 1], ["f", 2], ["count"], ["bag"], ["x" * 64, "y" * 64]]

@@ -1,0 +1,309 @@
+/* Agents: the calls that take and write texts. */
+#include "core.h"
+
+/* Raises what the code of a call says that was passed a text of a form. */
+static PyObject *text_refused(Agent *self, int32_t code, int form, Text *text)
+{
+    if (code == ASM_EMPTY)
+        return agent_refused(self, code);
+    return refuse(self->held.core, code, "read", "(iiy#)", (int)code, form, text->at, (Py_ssize_t)text->len);
+}
+
+static void saw(Agent *self)
+{
+    self->seen = asm_seen(SLOT(self));
+}
+
+static int32_t reads(Agent *self, Text *text, Room *room)
+{
+    int32_t code = asm_read(SLOT(self), BYTES(text));
+    if (code == ASM_DONE)
+        TOLD(code, room, asm_answer(SLOT(self), ROOM(room)));
+    return code;
+}
+
+static PyObject *numbered(Core *core, Room *room)
+{
+    uint32_t number;
+    PyObject *values = read_values(core, room, &number);
+    return values ? Py_BuildValue("IN", (unsigned)number, values) : NULL;
+}
+
+PyObject *agent_read(Agent *self, PyObject *places)
+{
+    Text text;
+    Room room;
+    PyObject *told = NULL;
+    int32_t code;
+    if (write_named(self->held.core, &text, places, "places"))
+        return NULL;
+    room_begin(&room);
+    if (!UNREADY(&self->held)) {
+        CALL(code, &self->held, IS_LONG(&text) || agent_is_far(self), reads(self, &text, &room));
+        saw(self);
+        told = code == ASM_DONE ? numbered(self->held.core, &room) : text_refused(self, code, ASM_FORM_LOCATIONS, &text);
+    }
+    room_end(&room);
+    text_end(&text);
+    return told;
+}
+
+typedef struct {
+    const uint8_t *call, *scans;
+    Py_ssize_t len, scans_len;
+} Offer;
+
+static int32_t fires(Agent *self, const Offer *its, Room *room, asm_numbers *numbers)
+{
+    int32_t answered, code = asm_try_fire_over(SLOT(self), its->call, (size_t)its->len, its->scans, (size_t)its->scans_len, numbers);
+    if (code != ASM_STALE && code != ASM_CLASH)
+        return code;
+    TOLD(answered, room, asm_answer(SLOT(self), ROOM(room)));
+    return answered == ASM_DONE ? code : answered;
+}
+
+static PyObject *fire(Agent *self, const Offer *its)
+{
+    Room room;
+    asm_numbers numbers = {0};
+    int32_t code;
+    if (UNREADY(&self->held))
+        return NULL;
+    room_begin(&room);
+    int is_long = its->len > LONG_TEXT || its->scans_len > LONG_TEXT || agent_is_far(self);
+    CALL(code, &self->held, is_long, fires(self, its, &room, &numbers));
+    saw(self);
+    if (numbers.fired > self->storage->last)
+        self->storage->last = numbers.fired;
+    PyObject *told = code == ASM_DONE ? PyLong_FromUnsignedLong(numbers.fired) : NULL;
+    if (code == ASM_EMPTY)
+        agent_refused(self, code);
+    else if (code != ASM_DONE)
+        refuse(self->held.core, code, "fired", "(iOy#IIy#y#)", (int)code, (PyObject *)self, room.at, (Py_ssize_t)room.written,
+            (unsigned)numbers.from, (unsigned)numbers.to, its->call, its->len, its->scans, its->scans_len);
+    room_end(&room);
+    return told;
+}
+
+/* Writes what an iterable has, behind a word of JSON. */
+static int write_list(Core *core, Text *text, const char *word, size_t len, PyObject *its, const char *name)
+{
+    PyObject *list = its ? PySequence_List(its) : PyList_New(0);
+    int failed = !list || text_put(text, word, len) || write_more(core, text, list, name);
+    Py_XDECREF(list);
+    return failed;
+}
+
+PyObject *agent_fire(Agent *self, PyObject *words, PyObject *named)
+{
+    static const char first[] = "{\"fire\":", second[] = ",\"reads\":";
+    static char *names[] = {"instructions", "reads", "scans", NULL};
+    Core *core = self->held.core;
+    PyObject *move, *reads = NULL, *over = NULL, *told = NULL;
+    Text call, scans;
+    if (!PyArg_ParseTupleAndKeywords(words, named, "O|OO", names, &move, &reads, &over))
+        return NULL;
+    text_begin(&call);
+    text_begin(&scans);
+    int failed = text_put(&call, first, sizeof first - 1) || write_more(core, &call, move, "instructions") ||
+                 write_list(core, &call, second, sizeof second - 1, reads, "reads") || text_put(&call, "}", 1) ||
+                 write_list(core, &scans, "", 0, over, "scans");
+    if (!failed) {
+        Offer its = {(uint8_t *)call.at, (uint8_t *)scans.at, (Py_ssize_t)call.len, (Py_ssize_t)scans.len};
+        told = fire(self, &its);
+    }
+    text_end(&call);
+    text_end(&scans);
+    return told;
+}
+
+/* The same with both texts. */
+PyObject *agent_fire_texts(Agent *self, PyObject *words)
+{
+    Offer its;
+    return PyArg_ParseTuple(words, "y#y#", &its.call, &its.len, &its.scans, &its.scans_len) ? fire(self, &its) : NULL;
+}
+
+PyObject *agent_answer(Agent *self, PyObject *Py_UNUSED(none))
+{
+    Room room;
+    int32_t code;
+    if (UNREADY(&self->held))
+        return NULL;
+    room_begin(&room);
+    TOLD(code, &room, asm_answer(SLOT(self), ROOM(&room)));
+    PyObject *told = code == ASM_DONE ? read_text(self->held.core, room.at, room.written) : agent_refused(self, code);
+    room_end(&room);
+    return told;
+}
+
+PyObject *agent_learn(Agent *self, PyObject *other)
+{
+    Core *core = self->held.core;
+    if (!PyObject_TypeCheck(other, core->agent))
+        return refuse(core, ASM_EMPTY, "no_agent", "(sO)", "an agent learns from an agent", other);
+    Agent *from = (Agent *)other;
+    if (from->storage != self->storage)
+        return refuse(core, ASM_OTHER, "expect", "(i)", ASM_OTHER);
+    do
+        if (UNREADY(&self->held) || UNREADY(&from->held))
+            return NULL;
+    while (ODD(self->held.is_busy | from->held.is_busy));
+    int32_t code = asm_learn(SLOT(self), SLOT(from));
+    saw(self);
+    return code == ASM_DONE ? Py_NewRef(Py_None) : agent_refused(IS_FULL(self) ? from : self, code);
+}
+
+PyObject *agent_follow(Agent *self, PyObject *Py_UNUSED(none))
+{
+    uint32_t number;
+    int32_t code;
+    if (UNREADY(&self->held))
+        return NULL;
+    CALL(code, &self->held, agent_is_far(self), asm_follow(SLOT(self), &number));
+    saw(self);
+    return code == ASM_DONE ? PyLong_FromUnsignedLong(number) : agent_refused(self, code);
+}
+
+static PyObject *peek_at(Agent *self, Location *at)
+{
+    Core *core = self->held.core;
+    Room room;
+    asm_value value;
+    uint32_t number;
+    int32_t code;
+    if (UNREADY(&self->held) || UNREADY(&at->held))
+        return NULL;
+    room_begin(&room);
+    TOLD(code, &room, asm_peek_at(SLOT(self), SLOT(at), &number, &value, ROOM(&room)));
+    PyObject *one = code == ASM_DONE ? value_of(core, &value, &room) : NULL;
+    if (code != ASM_DONE && (IS_FULL(self) || code != ASM_EMPTY))
+        location_refused(at, code);
+    else if (code != ASM_DONE)
+        agent_refused(self, code);
+    room_end(&room);
+    return one ? Py_BuildValue("IN", (unsigned)number, one) : NULL;
+}
+
+static PyObject *peek(Agent *self, PyObject *places, int is_length)
+{
+    Text text;
+    Room room;
+    PyObject *told = NULL;
+    int32_t code;
+    if (write_named(self->held.core, &text, places, "places"))
+        return NULL;
+    room_begin(&room);
+    if (!UNREADY(&self->held)) {
+        RUN(&self->held, IS_LONG(&text), TOLD(code, &room, asm_peek(SLOT(self), BYTES(&text), ROOM(&room))));
+        if (code != ASM_DONE)
+            text_refused(self, code, ASM_FORM_LOCATIONS, &text);
+        else
+            told = is_length ? PyLong_FromSize_t(text.len + room.written) : numbered(self->held.core, &room);
+    }
+    room_end(&room);
+    text_end(&text);
+    return told;
+}
+
+PyObject *agent_peek(Agent *self, PyObject *places)
+{
+    return is_location(self->held.core, places) ? peek_at(self, (Location *)places) : peek(self, places, 0);
+}
+
+/* How many bytes the texts of the places and of what `peek` tells of them have. */
+PyObject *agent_peek_length(Agent *self, PyObject *places)
+{
+    return peek(self, places, 1);
+}
+
+static PyObject *state(Agent *self, int is_text)
+{
+    Room room;
+    uint32_t number = 0;
+    int32_t code;
+    if (UNREADY(&self->held))
+        return NULL;
+    room_begin(&room);
+    RUN(&self->held, 1, TOLD(code, &room, asm_state(SLOT(self), &number, ROOM(&room))));
+    PyObject *its = NULL;
+    if (code != ASM_DONE)
+        agent_refused(self, code);
+    else
+        its = is_text ? PyBytes_FromStringAndSize((char *)room.at, (Py_ssize_t)room.written)
+                      : read_text(self->held.core, room.at, room.written);
+    room_end(&room);
+    return its ? Py_BuildValue("IN", (unsigned)number, its) : NULL;
+}
+
+PyObject *agent_state(Agent *self, PyObject *Py_UNUSED(none))
+{
+    return state(self, 0);
+}
+
+PyObject *agent_state_text(Agent *self, PyObject *Py_UNUSED(none))
+{
+    return state(self, 1);
+}
+
+PyObject *agent_scan(Agent *self, PyObject *name)
+{
+    Room room;
+    uint32_t number = 0;
+    int32_t code;
+    Py_ssize_t len;
+    const uint8_t *text = name_of(self->held.core, name, &len);
+    if (!text || UNREADY(&self->held))
+        return NULL;
+    room_begin(&room);
+    RUN(&self->held, 1, TOLD(code, &room, asm_scan(SLOT(self), text, (size_t)len, &number, ROOM(&room))));
+    PyObject *its = code == ASM_DONE ? read_text(self->held.core, room.at, room.written) : agent_refused(self, code);
+    room_end(&room);
+    return its ? Py_BuildValue("IN", (unsigned)number, its) : NULL;
+}
+
+PyObject *agent_stands(Agent *self, PyObject *named)
+{
+    Text text;
+    Room room;
+    PyObject *told = NULL;
+    int32_t code;
+    text_begin(&text);
+    room_begin(&room);
+    if (!write_list(self->held.core, &text, "", 0, named, "reads") && !UNREADY(&self->held)) {
+        int is_long = IS_LONG(&text) || agent_is_far(self);
+        RUN(&self->held, is_long, TOLD(code, &room, asm_stands(SLOT(self), BYTES(&text), ROOM(&room))));
+        saw(self);
+        if (code == ASM_DONE)
+            told = Py_NewRef(Py_None);
+        else if (code == ASM_EMPTY)
+            agent_refused(self, code);
+        else if (code == ASM_STALE)
+            told = read_text(self->held.core, room.at + sizeof "{\"stale\":" - 1, room.written - sizeof "{\"stale\":}" + 1);
+        else
+            refuse(self->held.core, code, "stands", "(iOy#)", (int)code, (PyObject *)self, text.at, (Py_ssize_t)text.len);
+    }
+    room_end(&room);
+    text_end(&text);
+    return told;
+}
+
+PyObject *agent_go_on(Agent *self, PyObject *words, PyObject *named)
+{
+    uint32_t capacity;
+    int32_t code;
+    Storage *next = storage_next_of(&self->held, words, named, &capacity);
+    if (!next || UNREADY(&self->held)) {
+        Py_XDECREF((PyObject *)next);
+        return NULL;
+    }
+    CALL(code, &self->held, 1, asm_go_on(SLOT(self), capacity, SLOT(next)));
+    if (code == ASM_DONE)
+        return (PyObject *)next;
+    if (code == ASM_NONE)
+        refuse(self->held.core, code, "not_full", "(I)", (unsigned)asm_seen(SLOT(self)));
+    else
+        agent_refused(self, code);
+    Py_DECREF((PyObject *)next);
+    return NULL;
+}

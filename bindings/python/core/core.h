@@ -1,0 +1,197 @@
+/* The types of folugben that are written in C: storages, agents, steps, locations, moves and audits.
+ *
+ * THE RULE. Each method has four parts, in this order: it makes C values of its arguments, which may run Python's code; it asks
+ * whether it may call; it calls the library; it makes Python's values of the answer. From the second part to the end of the
+ * third nothing of Python runs, so no signal handler, finalizer or other thread comes between two calls of the library, and no
+ * slot is in two calls at once.
+ *
+ * A call that may take long releases the interpreter's lock. Its slot is busy meanwhile, and a thread that comes to a busy slot
+ * waits. A thread that waits, or is in such a call, runs no code of Python either. */
+#ifndef FOLUGBEN_CORE_H
+#define FOLUGBEN_CORE_H
+
+#define PY_SSIZE_T_CLEAN
+#ifndef Py_LIMITED_API
+#define Py_LIMITED_API 0x030b0000
+#endif
+#include <Python.h>
+#include <structmember.h>
+
+#include "folugben.h"
+
+#define ODD(it) __builtin_expect(!!(it), 0)
+/* The slot as a handle of any kind, which all have the layout of a slot. */
+#define SLOT(it) ((void *)&(it)->held.slot)
+#define IS_FULL(it) ((it)->held.slot.full)
+#define METHOD(call) ((PyCFunction)(void (*)(void))(call))
+/* An agent that is so many moves behind, and a text of so many bytes, release the interpreter's lock. */
+enum { FAR = 1024, LONG_TEXT = 16384 };
+/* How many agents a storage makes, and how many moves it has room for; how long a line of a journal may be. */
+enum { AGENTS = 256, CAPACITY = 1048576, LINE_LIMIT = 16777216 };
+
+typedef struct {
+    PyTypeObject *storage, *agent, *step, *location, *move, *audit;
+    PyObject *refusals; /* the module of Python whose functions raise errors */
+    PyObject *counter;  /* collections.Counter */
+} Core;
+
+/* What holds a slot. */
+typedef struct {
+    PyObject_HEAD
+    asm_slot slot;
+    Core *core;
+    PyObject *weak;
+    unsigned born; /* the number of forks when it was made */
+    int is_busy, waiters;
+    PyThread_type_lock lock; /* held while the slot is busy; made when it first is */
+} Held;
+
+typedef struct Agent Agent;
+typedef struct Step Step;
+
+typedef struct {
+    Held held;
+    uint32_t last;      /* the greatest number of a move that is known to be fired */
+    int64_t closed;     /* how many moves the last journal has, -1 without one */
+    int is_abandoned;   /* an agent was freed that wasn't given back */
+    char is_made;
+    Agent *first;       /* its agents, without references */
+    PyObject *journal;  /* the path of its journal, or null */
+} Storage;
+
+struct Agent {
+    Held held;
+    Storage *storage;
+    uint32_t own, seen, kept_seen, kept_won; /* the kept numbers are those of an agent that was given back */
+    uint64_t base;                           /* how many moves of a run came before its storage */
+    char is_taken;                           /* another thread has given it back */
+    Step *last;                              /* the step that it began last, without a reference */
+    Agent *next, **before;
+};
+
+struct Step {
+    Held held;
+    Agent *agent;
+    uint32_t number, fired;
+    uint64_t size; /* about how many bytes of text it has got and pushed */
+    char is_fired, is_tried, is_pushed;
+};
+
+typedef struct {
+    Held held;
+    PyObject *text;
+} Location;
+
+typedef struct {
+    Held held;
+    Py_ssize_t count;
+    uint64_t size;
+    char is_freed, is_popped;
+} Move;
+
+/* held.c: who may call, and what all types have. */
+extern unsigned forks;
+void watch_forks(void);
+PyObject *refuse(Core *core, int32_t code, const char *how, const char *format, ...);
+int unready(Held *held);
+PyThreadState *let_go(Held *held);
+void come_back(Held *held, PyThreadState *was);
+Core *core_of(PyTypeObject *type);
+void *held_new(PyTypeObject *type, Core *core);
+void held_gone(void *it);
+PyObject *held_same(PyObject *self, PyObject *none);
+PyObject *held_copy(PyObject *self, PyObject *none);
+PyObject *held_free(Held *self, PyObject *none);
+PyObject *held_exit(Held *self, PyObject *const *words, Py_ssize_t count);
+int number_of(Core *core, PyObject *value, const char *what, uint32_t least, uint32_t most, uint32_t *number);
+extern PyGetSetDef held_gets[];
+extern PyMemberDef held_members[];
+
+#define HELD_METHODS                                             \
+    {"__enter__", held_same, METH_NOARGS, NULL},                 \
+    {"__reduce__", held_copy, METH_NOARGS, NULL}
+
+/* Asks whether a call on a slot may be made now; not 0 with an exception. */
+#define UNREADY(held_) (ODD((held_)->is_busy | ((held_)->born != forks)) && unready(held_))
+
+/* Makes calls on a slot, without the interpreter's lock where they are long. */
+#define RUN(held_, is_long, calls)                                    \
+    do {                                                              \
+        PyThreadState *was_ = ODD(is_long) ? let_go(held_) : NULL;    \
+        calls;                                                        \
+        if (was_)                                                     \
+            come_back(held_, was_);                                   \
+    } while (0)
+#define CALL(code, held_, is_long, call) RUN(held_, is_long, (code) = (call))
+
+/* Room for what the library writes. */
+typedef struct {
+    uint8_t own[512], *at;
+    size_t room, written;
+} Room;
+void room_begin(Room *room);
+void room_end(Room *room);
+int room_grow(Room *room, int32_t *code);
+#define ROOM(its) (its)->at, (its)->room, &(its)->written
+/* Makes a call that writes, and again where the room is too small; RUN takes it. */
+#define TOLD(code, its, call)                        \
+    do                                               \
+        (code) = (call);                             \
+    while (ODD((code) == ASM_SMALL) && room_grow(its, &(code)))
+
+/* write.c: texts of values. */
+typedef struct {
+    char own[512], *at;
+    size_t len, room;
+    PyObject *odd, *path; /* what is refused, and where it is */
+} Text;
+void text_begin(Text *text);
+void text_end(Text *text);
+int text_put(Text *text, const char *what, size_t len);
+int write_more(Core *core, Text *text, PyObject *value, const char *name);
+int write_named(Core *core, Text *text, PyObject *value, const char *name);
+const uint8_t *name_of(Core *core, PyObject *name, Py_ssize_t *len);
+#define BYTES(text) (const uint8_t *)(text)->at, (text)->len
+#define IS_LONG(text) ((text)->len > LONG_TEXT)
+
+/* read.c: values of texts. */
+PyObject *read_text(Core *core, const void *text, size_t len);
+PyObject *read_values(Core *core, Room *room, uint32_t *number);
+PyObject *value_of(Core *core, const asm_value *value, const Room *room);
+
+/* storage.c, location.c */
+Storage *storage_next_of(Held *held, PyObject *words, PyObject *named, uint32_t *capacity);
+PyObject *storage_refused(Storage *self, int32_t code);
+PyObject *location_refused(Location *self, int32_t code);
+
+/* agent.c, and agent_texts.c */
+PyObject *agent_made(Storage *storage, PyObject *number, int is_taken);
+int32_t agent_give(Agent *self);
+int agent_is_far(const Agent *self);
+PyObject *agent_refused(Agent *self, int32_t code);
+PyObject *agent_read(Agent *self, PyObject *places);
+PyObject *agent_fire(Agent *self, PyObject *words, PyObject *named);
+PyObject *agent_fire_texts(Agent *self, PyObject *words);
+PyObject *agent_answer(Agent *self, PyObject *none);
+PyObject *agent_learn(Agent *self, PyObject *other);
+PyObject *agent_follow(Agent *self, PyObject *none);
+PyObject *agent_peek(Agent *self, PyObject *places);
+PyObject *agent_peek_length(Agent *self, PyObject *places);
+PyObject *agent_state(Agent *self, PyObject *none);
+PyObject *agent_state_text(Agent *self, PyObject *none);
+PyObject *agent_scan(Agent *self, PyObject *name);
+PyObject *agent_stands(Agent *self, PyObject *reads);
+PyObject *agent_go_on(Agent *self, PyObject *words, PyObject *named);
+
+/* step.c */
+Step *step_begun(Agent *agent, PyTypeObject *type);
+int64_t step_fires(Step *self, int is_try);
+
+extern PyType_Spec storage_spec, agent_spec, step_spec, location_spec, move_spec, audit_spec;
+
+static inline int is_location(const Core *core, PyObject *it)
+{
+    return Py_TYPE(it) == core->location;
+}
+
+#endif

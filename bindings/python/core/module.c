@@ -1,0 +1,144 @@
+/* The module, and the calls that need no slot. */
+#include "core.h"
+
+/* Has the module of Python by whose functions errors are raised. */
+static PyObject *core_use(PyObject *module, PyObject *refusals)
+{
+    Core *core = PyModule_GetState(module);
+    PyObject *was = core->refusals;
+    core->refusals = Py_NewRef(refusals);
+    Py_XDECREF(was);
+    return Py_NewRef(Py_None);
+}
+
+static PyObject *core_encoded(PyObject *module, PyObject *words)
+{
+    PyObject *value, *told = NULL;
+    const char *name;
+    Text text;
+    if (!PyArg_ParseTuple(words, "Os", &value, &name) || write_named(PyModule_GetState(module), &text, value, name))
+        return NULL;
+    told = PyBytes_FromStringAndSize(text.at, (Py_ssize_t)text.len);
+    text_end(&text);
+    return told;
+}
+
+static PyObject *core_decoded(PyObject *module, PyObject *it)
+{
+    char *at;
+    Py_ssize_t len;
+    return PyBytes_AsStringAndSize(it, &at, &len) ? NULL : read_text(PyModule_GetState(module), at, (size_t)len);
+}
+
+enum { CHECK, REPLAY, TRACE, AGGREGATE, COMPOSE, EXPLAIN, ERROR_TEXT };
+
+/* Makes a call that needs no slot: (call, form, text, text) to (code, text, number, moves). */
+static PyObject *core_told(PyObject *Py_UNUSED(module), PyObject *words)
+{
+    int call, form = 0;
+    const uint8_t *one = NULL, *two = NULL;
+    Py_ssize_t len = 0, two_len = 0;
+    uint64_t number = 0;
+    uint32_t moves = 0;
+    int32_t code = ASM_RANGE;
+    Room room;
+    if (!PyArg_ParseTuple(words, "ii|y#y#", &call, &form, &one, &len, &two, &two_len))
+        return NULL;
+    room_begin(&room);
+    PyThreadState *was = PyEval_SaveThread();
+    do
+        switch (call) {
+        case CHECK: code = asm_check(one, (size_t)len, &number, &moves); break;
+        case REPLAY: code = asm_replay(one, (size_t)len, ROOM(&room), &number); break;
+        case TRACE: code = asm_trace(one, (size_t)len, ROOM(&room), &number); break;
+        case AGGREGATE: code = asm_aggregate(one, (size_t)len, two, (size_t)two_len, ROOM(&room)); break;
+        case COMPOSE: code = asm_compose(one, (size_t)len, two, (size_t)two_len, ROOM(&room)); break;
+        case EXPLAIN: code = asm_explain(form, one, (size_t)len, ROOM(&room)); break;
+        case ERROR_TEXT: code = asm_error_text(form, ROOM(&room)); break;
+        }
+    while (code == ASM_SMALL && room_grow(&room, &code));
+    PyEval_RestoreThread(was);
+    PyObject *told = Py_BuildValue("iy#KI", (int)code, room.at, (Py_ssize_t)room.written, (unsigned long long)number, (unsigned)moves);
+    room_end(&room);
+    return code == ASM_MEMORY ? (Py_XDECREF(told), PyErr_NoMemory()) : told;
+}
+
+static PyObject *core_version(PyObject *Py_UNUSED(module), PyObject *Py_UNUSED(none))
+{
+    return PyLong_FromUnsignedLong(asm_version());
+}
+
+static int core_begin(PyObject *module)
+{
+    Core *core = PyModule_GetState(module);
+    struct {
+        PyType_Spec *spec;
+        PyTypeObject **type;
+    } types[] = {{&storage_spec, &core->storage}, {&agent_spec, &core->agent}, {&step_spec, &core->step},
+        {&location_spec, &core->location}, {&move_spec, &core->move}, {&audit_spec, &core->audit}};
+    watch_forks();
+    for (size_t k = 0; k < sizeof types / sizeof *types; k++) {
+        *types[k].type = (PyTypeObject *)PyType_FromModuleAndSpec(module, types[k].spec, NULL);
+        if (!*types[k].type || PyModule_AddType(module, *types[k].type))
+            return -1;
+    }
+    PyObject *collections = PyImport_ImportModule("collections");
+    core->counter = collections ? PyObject_GetAttrString(collections, "Counter") : NULL;
+    Py_XDECREF(collections);
+    return core->counter ? 0 : -1;
+}
+
+static int core_traverse(PyObject *module, visitproc visit, void *arg)
+{
+    Core *core = PyModule_GetState(module);
+    Py_VISIT(core->storage);
+    Py_VISIT(core->agent);
+    Py_VISIT(core->step);
+    Py_VISIT(core->location);
+    Py_VISIT(core->move);
+    Py_VISIT(core->audit);
+    Py_VISIT(core->refusals);
+    Py_VISIT(core->counter);
+    return 0;
+}
+
+static int core_clear(PyObject *module)
+{
+    Core *core = PyModule_GetState(module);
+    Py_CLEAR(core->storage);
+    Py_CLEAR(core->agent);
+    Py_CLEAR(core->step);
+    Py_CLEAR(core->location);
+    Py_CLEAR(core->move);
+    Py_CLEAR(core->audit);
+    Py_CLEAR(core->refusals);
+    Py_CLEAR(core->counter);
+    return 0;
+}
+
+static void core_free(void *module)
+{
+    core_clear(module);
+}
+
+static PyMethodDef methods[] = {
+    {"use", core_use, METH_O, NULL},
+    {"encoded", core_encoded, METH_VARARGS, NULL},
+    {"decoded", core_decoded, METH_O, NULL},
+    {"told", core_told, METH_VARARGS, NULL},
+    {"version", core_version, METH_NOARGS, NULL},
+    {0},
+};
+/* From 3.12 on each interpreter may have a lock of its own; before that the second slot isn't known. */
+static PyModuleDef_Slot module_slots[] = {{Py_mod_exec, core_begin}, {0}, {0}};
+static PyModuleDef definition = {
+    PyModuleDef_HEAD_INIT, "folugben._core", NULL, sizeof(Core), methods, module_slots, core_traverse, core_clear, core_free};
+
+PyMODINIT_FUNC PyInit__core(void)
+{
+    if (Py_Version >= 0x030c0000) {
+        module_slots[1].slot = 3;          /* Py_mod_multiple_interpreters */
+        module_slots[1].value = (void *)2; /* Py_MOD_PER_INTERPRETER_GIL_SUPPORTED */
+    }
+    return PyModuleDef_Init(&definition);
+}

@@ -1,0 +1,293 @@
+"""What tests of the C part do in processes of their own: python3 core_work.py leaks|refusals|stress."""
+import contextlib
+import ctypes
+import gc
+import itertools
+import os
+import random
+import signal
+import sys
+import threading
+import time
+import warnings
+from collections import Counter
+from collections.abc import Callable
+
+import folugben
+from folugben import Auditor, Error, Location, Move, Storage, check
+
+_SIZES = "arena ordblks smblks hblks hblkhd usmblks fsmblks uordblks fordblks keepcost"
+
+
+class _Memory(ctypes.Structure):
+    _fields_ = [(name, ctypes.c_size_t) for name in _SIZES.split()]
+
+
+def used() -> int:
+    """The bytes that malloc has handed out."""
+    call = ctypes.CDLL(None).mallinfo2
+    call.restype = _Memory
+    told = call()
+    return told.uordblks + told.hblkhd
+
+
+class World:
+    """A storage with agents, and what steps are made of."""
+
+    def __init__(self, capacity: int = 100) -> None:
+        init = [[["x", k], 0] for k in range(8)] + [[["t"], "text"], [["s"], {"set": [1, 2]}], [["b"], Counter("aab")]]
+        self.storage = Storage(init, capacity)
+        self.agent, self.other = self.storage.agent(0), self.storage.agent(1)
+        self.at, self.text, self.set, self.move = Location(["x", 3]), Location(["t"]), Location(["s"]), Move()
+        self.freed = Location(["x", 9])
+        self.freed.free()
+
+    def step(self, rule: Callable[[folugben.Step], object]) -> None:
+        with self.agent.step() as step:
+            rule(step)
+
+    def fire(self, step: folugben.Step) -> None:
+        step.push(self.move.clear().put(self.at, step.get(self.at) + 1))
+        step.fire()
+
+    def be_stale(self, step: folugben.Step) -> None:
+        step.get(self.at)
+        self.other.play(lambda it: it.push(Move().put(self.at, 7)))
+        step.push(self.move.clear().put(self.at, 8))
+        refused(step.fire)
+        step.try_fire()
+
+    def open(self) -> None:
+        with Storage([[["x"], 0]], 10) as storage:
+            one = storage.agent(0)
+            one.step().push([["put", ["x"], 1]])
+            with storage.agent(1), storage.agent(2) as it:
+                it.fire([["put", ["x"], 1]])
+            one.fire([["put", ["x"], 2]])
+            refused(storage.close_journal)
+            one.give()
+            journal = storage.close_journal()
+            with storage.next(10) as following, Auditor() as auditor:
+                auditor.feed(journal)
+                auditor.end(), auditor.state(), following.moves(), check(journal), list(folugben.trace(journal))
+
+    def calls(self) -> dict[str, Callable[[], object]]:
+        """Each method, also where it is refused."""
+        agent, at, move, step, wrong = self.agent, self.at, self.move, self.step, (1.5, 2**70, "\ud800", object(), {"a": 1}, [1])
+        return {
+            "begin": lambda: agent.step(), "fire": lambda: step(self.fire), "stale": lambda: step(self.be_stale),
+            "get": lambda: step(lambda it: (it.get(at), it.get(self.text), it.get(self.set), it.see(at), it.scan("x"))),
+            "texts": lambda: step(lambda it: (it.get([["x", 3], ["t"], ["s"], ["b"]]), it.see([["t"]]), it.offer())),
+            "push": lambda: step(lambda it: (it.push([["put", ["x", 1], "t" * 600]]), it.extend([["put", ["x", 2], {1, 2}]]))),
+            "pop": lambda: step(lambda it: (it.push([["inc", ["x", 1], 1]]), it.pop_move(), it.push([]), it.pop(), refused(it.pop))),
+            "clash": lambda: step(lambda it: refused(lambda: it.push([["put", ["x", 1], 1], ["put", ["x", 1], 2]]))),
+            "wrong texts": lambda: [refused(lambda: agent.fire([["put", ["x", 1], it]])) for it in wrong],
+            "wrong shapes": lambda: [refused(lambda: it(["x"])) for it in (agent.peek, agent.read, agent.step().get, agent.stands)],
+            "play": lambda: agent.play(lambda it: it.push(move.clear().put(at, 1))),
+            "play that raises": lambda: refused(lambda: agent.play(lambda it: it.get(1.5j))),
+            "peek": lambda: (agent.peek(at), agent.peek([["x", 1], ["t"]]), agent.state(), agent.scan("x"), agent.follow()),
+            "read": lambda: (agent.read([["x", 1]]), agent.answer(), agent.stands([[["x", 1], agent.seen]]), agent.learn(self.other)),
+            "agent's fire": lambda: agent.fire([["put", ["x", 1], ["a"][0]]], [[["x", 2], agent.seen]], [("t", agent.seen)]),
+            "stale fire": lambda: (self.other.fire([["put", ["x", 1], 1]]), refused(lambda: agent.fire([], [[["x", 1], 0]]))),
+            "move": lambda: Move().put(at, 1).put(at, None).put(at, True).put(at, "t").put(at, {1}).inc(at, -1).bagadd(at, 1, 2),
+            "location": lambda: (Location(["x", 1]).place, repr(at), repr(move)), "no location": lambda: refused(lambda: Location(1)),
+            "wrong values": lambda: [refused(lambda: move.put(at, it)) for it in wrong],
+            "wrong words": lambda: [refused(it) for it in (lambda: move.put(at), lambda: move.put(1, 2), lambda: move.bagadd(at, 1, -1))],
+            "freed": lambda: [refused(it) for it in (lambda: step(lambda it: it.get(self.freed)), lambda: move.put(self.freed, 1))],
+            "over": lambda: refused(lambda: [it.free() or it.get(at) for it in [agent.step()]]), "open": self.open,
+            "no agent": lambda: [refused(lambda: self.storage.agent(it)) for it in (0, 2**40, -1, "a")],
+            "told": lambda: (repr(agent), repr(self.storage), repr(agent.step()), agent.seen, agent.won, self.storage.moves()),
+            "close": lambda: (agent.fire([]), refused(self.storage.close_journal)), "copy": lambda: refused(agent.__reduce__),
+            "forgotten": lambda: step(lambda it: it.push(move.clear().put(at, 1))),
+            "functions": lambda: (folugben.aggregate([], [["put", ["x"], 1]]), folugben.compose([], []), folugben.explain(0, "[")),
+        }
+
+
+def refused(call: Callable[[], object]) -> None:
+    try:
+        call()
+    except (Error, TypeError, ValueError, MemoryError):
+        return
+    raise AssertionError("nothing was refused")
+
+
+def leaks(times: int = 1000) -> None:
+    warnings.simplefilter("ignore")
+    world, left = World(100_000), {}
+    for name, call in world.calls().items():
+        # Calls that leave receipts or moves keep memory, which the storage has.
+        keeps = {"fire", "stale", "play", "read", "agent's fire", "stale fire", "close"}
+        for _ in range(20):
+            call()
+        gc.collect()
+        before = used()
+        for _ in range(times):
+            call()
+        gc.collect()
+        grown = used() - before
+        if grown > (2_000 if name in keeps else 8) * times:
+            left[name] = grown
+    assert not left, left
+
+
+def refusals() -> None:
+    """Refuses each allocation of each call in turn: the call raises MemoryError, or is done, and can be made again."""
+    library = ctypes.PyDLL(folugben._core.__file__)
+    library.shim_left.restype = ctypes.c_long
+    warnings.simplefilter("ignore")
+    count = 0
+    for name, call in World().calls().items():
+        for number in itertools.count(1):
+            world = World()
+            call = world.calls()[name]
+            library.shim_refuse(ctypes.c_long(number))
+            try:
+                with contextlib.suppress(MemoryError):
+                    call()
+            finally:
+                left = library.shim_left()
+                library.shim_refuse(ctypes.c_long(0))
+            call()
+            world.agent.give(), world.other.give()
+            check(world.storage.close_journal())
+            if left > 0:
+                break
+            count += 1
+    assert count > 100, count
+    print(count, "allocations refused")
+
+
+def _threads(seconds: float) -> None:
+    """Threads on the same agents, steps, locations, moves and storages, some of which are in long calls."""
+    storage, at, move = Storage([[["n"], 0], *([["y", k], "y" * 50] for k in range(2000))], 200_000), Location(["n"]), Move()
+    agents = [storage.agent(k) for k in range(3)]
+    steps, errors, end = [agents[0].step()], [], time.monotonic() + seconds
+
+    def shared() -> None:
+        try:
+            steps[0].get(at), steps[0].push(move), steps[0].get([["n"]]), move.inc(at, 1) if len(move) < 9 else move.clear()
+            steps[0].try_fire()
+        except Error:
+            steps[0] = agents[0].step()
+
+    def closes() -> None:
+        with contextlib.suppress(Error):
+            storage.close_journal()
+
+    def dies() -> None:
+        other = Storage([], 3)
+        one = other.agent(0)
+        del one
+        other.close_journal()
+
+    works = [
+        closes, shared, shared, dies, lambda: (agents[0].state(), agents[1].state(), agents[0].follow(), repr(steps[0])),
+        lambda: agents[2].play(lambda it: it.push(Move().inc(at, 1))), lambda: (agents[1].learn(agents[2]), agents[2].learn(agents[1])),
+    ]
+
+    def work(call: Callable[[], object]) -> None:
+        try:
+            while time.monotonic() < end:
+                call()
+        except BaseException as error:
+            errors.append(repr(error))
+
+    threads = [threading.Thread(target=work, args=(call,)) for call in works]
+    for thread in threads:
+        thread.start()
+    for thread in threads:
+        thread.join(seconds + 60)
+    assert not errors and not any(thread.is_alive() for thread in threads), errors
+
+
+class Alarm(Exception):
+    pass
+
+
+def _signals(seconds: float) -> None:
+    """A handler that calls in and raises, while steps are taken: each count is right behind that."""
+    signal.signal(signal.SIGINT, signal.default_int_handler)
+    storage, n, m, move, mine = Storage([[["n"], 0], [["m"], 0], [["q"], 0]], 200_000), Location(["n"]), Location(["m"]), Move(), Move()
+    agent, other = storage.agent(0), storage.agent(1)
+    current: list[folugben.Step | None] = [None]
+    counts, is_ready, is_inside = [0, 0], False, False
+
+    def handler(*_: object) -> None:
+        nonlocal is_ready, is_inside
+        if is_inside:
+            return
+        is_inside = True
+        try:
+            if (step := current[0]) is not None and not step.fired and step.depth < 60:
+                with contextlib.suppress(Error):  # as its agent may have gone on
+                    step.get(m), step.push([["inc", ["q"], 1]]), step.get([["n"], ["q"]])
+            other.play(lambda it: it.push(mine.clear().inc(m, 1)))
+            counts[0] += 1
+        finally:
+            is_inside = False
+        if is_ready and random.random() < 0.5:
+            is_ready = False
+            raise Alarm
+
+    signal.signal(signal.SIGALRM, handler)
+    signal.setitimer(signal.ITIMER_REAL, 0.0003, 0.0003)
+    end = time.monotonic() + seconds
+    while time.monotonic() < end:
+        step = None
+        try:
+            is_ready = True
+            step = current[0] = agent.step()
+            for _ in range(5):
+                move.inc(n, 1)
+            step.push(move)
+            step.get([["n"]])
+            step.fire()
+        except (Alarm, Error):
+            pass
+        is_ready = False
+        counts[1] += len(move) if step is not None and step.fired else 0
+        move.clear()
+        current[0] = None
+    signal.setitimer(signal.ITIMER_REAL, 0)
+    assert agent.step().get([["n"], ["m"]]) == [counts[1], counts[0]]
+
+
+def _forks() -> None:
+    """A child of a fork amid calls of other threads is refused what its parent made, and makes its own."""
+    storage, stop = Storage([[["n"], 0], *([["y", k], "y" * 50] for k in range(2000))], 200_000), threading.Event()
+    agents = [storage.agent(k) for k in range(2)]
+
+    def work() -> None:
+        while not stop.is_set():
+            agents[0].state()
+
+    thread = threading.Thread(target=work)
+    thread.start()
+    for _ in range(20):
+        child = os.fork()
+        if child == 0:
+            status = 1
+            try:
+                for call in (agents[0].state, agents[1].step, storage.close_journal, agents[0].give, lambda: agents[0].seen):
+                    with contextlib.suppress(folugben.Forked):
+                        call()
+                        os._exit(2)
+                with Storage([[["n"], 0]], 10) as own, own.agent(0) as agent:
+                    agent.play(lambda it: it.push([["put", ["n"], 1]]))
+                    status = own.moves() - 1
+            finally:
+                os._exit(status)
+        assert os.waitpid(child, 0)[1] == 0
+    stop.set()
+    thread.join()
+
+
+def stress(seconds: float = 1.5) -> None:
+    sys.setswitchinterval(1e-5)
+    _threads(seconds)
+    _signals(seconds)
+    _forks()
+
+
+if __name__ == "__main__":
+    {"leaks": leaks, "refusals": refusals, "stress": stress}[sys.argv[1]]()
