@@ -376,13 +376,16 @@ FOLUGBEN_NODISCARD int32_t asm_get_all(struct asm_agent *agent, struct asm_step 
  * than 256 places, so that nothing is tracked. ASM_LARGE, with {"large":LOC}: never for a step of the
  * agent's storage. ASM_MOVED, ASM_EMPTY (one of the slots), ASM_SMALL (for the text of a refusal),
  * ASM_NOT_JSON, ASM_SHAPE, ASM_MEMORY. It costs by the move's own instructions, however many others
- * are pushed, and by the size of a set or a bag that they change. */
+ * are pushed, and by the size of a set or a bag that they change and the earlier updates of it. */
 FOLUGBEN_NODISCARD int32_t asm_push(struct asm_agent *agent, struct asm_step *step,
     const uint8_t *move, size_t len, uint8_t *out, size_t room, size_t *written);
 
 /* The same, but the move joins the one that was pushed last, and is popped with it: a loop of a
- * thousand rounds is one move deep, and each round costs by what it does itself; of a set or a bag
- * also by its size and the earlier updates of it. Without a pushed move it is pushed. Never ASM_DEEP. */
+ * thousand rounds is one move deep, and each round costs by what it does itself. A round of one partial
+ * update changes a set in place, and so a bag that the step has put: it costs by the logarithm of the
+ * size, after the first two in a pushed move, which copy the value. Any other round costs also by the
+ * size of a set or a bag that it changes and the earlier updates of it. Without a pushed move it is
+ * pushed. Never ASM_DEEP. */
 FOLUGBEN_NODISCARD int32_t asm_extend(struct asm_agent *agent, struct asm_step *step,
     const uint8_t *move, size_t len, uint8_t *out, size_t room, size_t *written);
 

@@ -1,11 +1,13 @@
 -- A step may go to another thread, and so may what a pop hands back.
 use denote.Param.Send.{IsSend, sendable}
-use denote.Param.SendFields.{declared_send}
+use denote.Param.SendFields.{declared_send, variants_send}
 use Rattle.std.proofs.Crossing.{Vec-send}
 use Rattle.std.proofs.MapsCrossing.{BTreeMap-send}
-use Rattle.asm_element.proofs.Crossing.{location_is_sent, value_is_sent}
+use Rattle.asm_element.proofs.Crossing.{location_is_sent, set_is_sent, value_is_sent}
 use Rattle.asm_update.proofs.Crossing.{instructions_is_sent}
 use Rattle.asm_update.proofs.Crossing.{action_is_sent}
+use Rattle.asm_step.specs.contracts.front.Front as Front
+use Rattle.asm_step.specs.contracts.front.Sides as Sides
 use Rattle.asm_step.specs.contracts.layer.OwnLayer as Layer
 use Rattle.asm_step.specs.contracts.outcomes.Outcome as Outcome
 use Rattle.asm_step.specs.contracts.outcomes.Outcome.TheInside as InsideOutcome
@@ -18,10 +20,21 @@ use Rattle.asm_step.specs.contracts.popped.Popped.TheInside as InsidePopped
 use Rattle.asm_step.specs.contracts.step.Step as Step
 use Rattle.asm_step.specs.contracts.step.Step.TheInside as InsideStep
 
+sides_is_sent : IsSend Sides.the_row
+sides_is_sent = declared_send Sides.the_type (set_is_sent, (set_is_sent, tt))
+
+front_is_sent : IsSend Front.the_row
+front_is_sent = variants_send Front.enum (tt, (tt, ((sides_is_sent, tt), tt)))
+
 inside_outcome_is_sent : IsSend InsideOutcome.the_row
 inside_outcome_is_sent =
-    declared_send InsideOutcome.the_type
-    (value_is_sent, (search (sendable, Vec-send, action_is_sent) depth 20, (search sendable depth 20, (search sendable depth 20, tt))))
+    declared_send InsideOutcome.the_type (
+      value_is_sent,
+      (
+        front_is_sent,
+        (search (sendable, Vec-send, action_is_sent) depth 20, (search sendable depth 20, (search sendable depth 20, tt))),
+      ),
+    )
 
 outcome_is_sent : IsSend Outcome.the_row
 outcome_is_sent = search (sendable, inside_outcome_is_sent) depth 20

@@ -1,5 +1,7 @@
 -- What a move of one put comes to, and what a layer has of it.
-use Rattle.std.proofs.Common.{◌≡◌, Bool, true, false, cond, [], ◌∷◌, Option, Some, None, refl, sym, ap, ◌∙◌}
+use Rattle.std.proofs.Common.{◌≡◌, Bool, true, false, cond, [], ◌∷◌, Option, Some, None, Result, refl, sym, ap, subst, ◌∙◌}
+use Rattle.std.specs.Prelude.{IfOk, OnErr}
+use Rattle.std.specs.declared.alloc.AllocError.{AllocError}
 use Rattle.std.specs.FinMap as finite
 use Rattle.std.specs.Option.{option_map_or, option_or}
 use Rattle.std.specs.Ordering.{eq_by_cmp}
@@ -8,8 +10,12 @@ use Rattle.asm_element.proofs.Ordered.{no_entries}
 use Rattle.asm_element.specs.Place.{Place, location_cmp, location_cmp_total}
 use Rattle.asm_element.specs.Tests.{flipped}
 use Rattle.asm_element.specs.declared.value.Value.{Value}
+use Rattle.asm_update.specs.Aggregator.{Meaning}
 use Rattle.asm_update.specs.Move.{Move}
+use Rattle.asm_update.specs.declared.action.Action.{Action}
+use Rattle.asm_step.specs.Front.{IsGoneOnAt}
 use Rattle.asm_step.specs.Outcomes.{Outcome, Outcomes, own_of, put_alone, put_outcome, resting_in}
+use Rattle.asm_step.specs.declared.front.Grown.{Grown}
 use Rattle.asm_step.proofs.Rested.{rests_nowhere}
 
 -- a layer of a move of one put, and another one
@@ -72,3 +78,15 @@ module _ (M : Move) (each own : Outcomes) (k : Place) (v : Value) (is : own_of M
         by_test : (b : Bool) → option_map_or (λ (o : Outcome). o.rests) (cond b (Some (put_outcome v)) None) false ≡ false
         by_test true = refl
         by_test false = refl
+
+-- outcomes that go on where there is no such move
+pub each_gone_on : (a : Meaning) (r : Result (Option Grown) AllocError) (M : Move) (each more own : Outcomes) (l : Place) (x : Action) →
+    own_of M each ≡ own → only_put M ≡ None → IfOk r (IsGoneOnAt a l x each more) → OnErr r (more ≡ each) →
+    IfOk r (IsGoneOnAt a l x own (own_of M more)) × OnErr r (own_of M more ≡ own)
+each_gone_on a r M each more own l x is none gone same =
+    let old : each ≡ own = as_each M each own is none in
+    let new : more ≡ own_of M more = as_each M more (own_of M more) refl none in (
+      subst (λ (m : Outcomes). IfOk r (IsGoneOnAt a l x m (own_of M more))) old
+          (subst (λ (m : Outcomes). IfOk r (IsGoneOnAt a l x each m)) new gone),
+      subst (λ (m : Outcomes). OnErr r (own_of M more ≡ m)) old (subst (λ (m : Outcomes). OnErr r (m ≡ each)) new same),
+    )

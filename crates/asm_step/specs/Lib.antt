@@ -1,6 +1,9 @@
 pub mod Answer
 pub mod Column
 pub mod Continued
+pub mod Front
+pub mod GoneOn
+pub mod InPlace
 pub mod InTurn
 pub mod Layers
 pub mod Next

@@ -4,41 +4,32 @@ ghost use Rattle.asm_aggregate.specs.Compose.{placed};
 ghost use Rattle.asm_update.specs.Limits.{instructions_limit};
 ghost use Rattle.asm_step.specs.Outcomes.{acts, put_outcome};
 
-use crate::listing::{append, push_within};
+use crate::listing::push_put;
 use crate::outcomes::Outcome;
 use asm_element::{Location, Value};
-use asm_update::{Action, Instruction, Instructions};
+use asm_update::Instructions;
 use std::alloc::{AllocError, Global};
 use std::marker::Model;
 
 /// An outcome, or a put that stands for one; contracts see it as the outcome.
 #[derive(Drop)]
 pub(crate) struct Held<'a> {
+    /// The value that is put, where there is no outcome.
     value: &'a Value,
-    /// None where it is a put of the value.
-    actions: Option<&'a [Action]>,
-    builds: bool,
-    rests: bool,
+    outcome: Option<&'a Outcome>,
 }
 
 impl<'a> Model for Held<'a> {
-    ghost use Rattle.std.specs.Prelude.{◌∷◌, []};
     ghost use Rattle.std.specs.Option.{option_map_or};
     ghost use Rattle.asm_element.specs.contracts.value.Value.{the_row as value_row};
     ghost use Rattle.asm_update.specs.contracts.action.Action.{the_row as action_row};
-    ghost use Rattle.asm_update.specs.declared.action.Action.TheVariants.{Regular};
-    ghost use Rattle.asm_step.specs.Outcomes.{Outcome, outcome_code};
+    ghost use Rattle.asm_step.specs.Outcomes.{Outcome, outcome_code, put_outcome};
 
     ghost Value = { Outcome };
 
     ghost coded = { outcome_code value_row.coded action_row.coded };
 
-    ghost view = { λ h. record {
-      value = h.value.now;
-      actions = option_map_or (λ xs. xs.now) h.actions (Regular h.value.now ∷ []);
-      builds = h.builds;
-      rests = h.rests;
-    } };
+    ghost view = { λ h. option_map_or (λ o. o.now) h.outcome (put_outcome h.value.now) };
 }
 
 impl<'a> Held<'a> {
@@ -48,9 +39,7 @@ impl<'a> Held<'a> {
     {
         Held {
             value,
-            actions: None,
-            builds: false,
-            rests: false,
+            outcome: None,
         }
     }
 
@@ -60,9 +49,7 @@ impl<'a> Held<'a> {
     {
         Held {
             value: outcome.value(),
-            actions: Some(outcome.actions()),
-            builds: outcome.builds(),
-            rests: outcome.rests(),
+            outcome: Some(outcome),
         }
     }
 
@@ -70,15 +57,18 @@ impl<'a> Held<'a> {
     pub(crate) fn value(&self) -> &'a Value
         ensures { result.now ≡ self.now.value }
     {
-        self.value
+        match self.outcome {
+            Some(outcome) => outcome.value(),
+            None => self.value,
+        }
     }
 
     /// Whether there are actions.
     pub(crate) fn acts(&self) -> bool
         ensures { result ≡ acts self.now.actions }
     {
-        match self.actions {
-            Some(actions) => !actions.is_empty(),
+        match self.outcome {
+            Some(outcome) => outcome.acts(),
             None => true,
         }
     }
@@ -87,14 +77,20 @@ impl<'a> Held<'a> {
     pub(crate) fn builds(&self) -> bool
         ensures { result ≡ self.now.builds }
     {
-        self.builds
+        match self.outcome {
+            Some(outcome) => outcome.builds(),
+            None => false,
+        }
     }
 
     /// Whether it rests on that.
     pub(crate) fn rests(&self) -> bool
         ensures { result ≡ self.now.rests }
     {
-        self.rests
+        match self.outcome {
+            Some(outcome) => outcome.rests(),
+            None => false,
+        }
     }
 
     /// Appends a copy of each of the actions, at the location.
@@ -107,15 +103,9 @@ impl<'a> Held<'a> {
         requires { length list.old + length self.now.actions ≤ instructions_limit }
         ensures { OnOk result (list.new ≡ list.old ++ placed at.now self.now.actions) }
     {
-        match self.actions {
-            Some(actions) => append(alloc, list, at, actions),
-            None => {
-                let put = Instruction {
-                    at: at.copy(alloc)?,
-                    action: Action::Regular(self.value.copy(alloc)?),
-                };
-                push_within(list, put)
-            }
+        match self.outcome {
+            Some(outcome) => outcome.append_to(alloc, list, at),
+            None => push_put(alloc, list, at, self.value),
         }
     }
 }

@@ -5,14 +5,16 @@ ghost use Rattle.asm_element.specs.Place.{Place};
 ghost use Rattle.asm_update.specs.Aggregator.{Meaning};
 ghost use Rattle.asm_update.specs.Move.{Move};
 ghost use Rattle.std.specs.Option.{option_copied, option_or};
+ghost use Rattle.asm_step.specs.GoneOn.{IsLayerGoneOn};
 ghost use Rattle.asm_step.specs.Layers.{alone_in};
 ghost use Rattle.asm_step.specs.Next.{IsComposed, IsFrame};
 
 use crate::error::StepError;
+use crate::in_place::InPlace;
 use crate::own::Own;
 use crate::popped::Popped;
 use asm_aggregate::{ComposeError, aggregate, compose};
-use asm_update::{AggError, Aggregator, Instructions, Lookup, UpdateSet};
+use asm_update::{AggError, Aggregator, INSTRUCTIONS_LIMIT, Instructions, Lookup, UpdateSet};
 use std::alloc::{AllocError, Global};
 
 /// What a pushed move and those that extend it write.
@@ -37,6 +39,44 @@ impl OwnLayer {
             return Some(self.moves.moves().0);
         }
         None
+    }
+
+    /// Takes in a move of one partial update in place, at a location that these moves have written; whether that is done
+    /// here. After an error nothing is changed.
+    pub(crate) fn go_on<A: InPlace>(
+        &mut self,
+        alloc: Global,
+        aggregator: &A,
+        instructions: &Instructions,
+    ) -> Result<bool, AllocError>
+        ensures ok { IfOk result (IsLayerGoneOn (A.meaning aggregator.now) instructions.now self.old self.new) }
+        ensures err { OnErr result (self.new ≡ self.old) }
+    {
+        if instructions.len() != 1 {
+            return Ok(false);
+        }
+        let one = instructions.get(0);
+        if self.count >= INSTRUCTIONS_LIMIT {
+            return Ok(false);
+        }
+        // What is done in turn is promised of proper moves.
+        instructions.proper();
+        self.moves.push(instructions.copy(alloc)?)?;
+        match self.own.go_on(alloc, aggregator, &one.at, &one.action) {
+            Ok(Some(grown)) => {
+                self.is_alone = false;
+                self.count = (self.count + grown.more).saturating_sub(grown.less);
+                Ok(true)
+            }
+            Ok(None) => {
+                self.moves.take_back();
+                Ok(false)
+            }
+            Err(error) => {
+                self.moves.take_back();
+                Err(error)
+            }
+        }
     }
 
     /// Takes in the layer of a move that extends this one. After an error nothing is changed.

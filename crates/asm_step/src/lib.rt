@@ -6,8 +6,10 @@
 #![tactic(auto)]
 
 mod error;
+mod front;
 mod gathered;
 mod held;
+mod in_place;
 mod layer;
 mod listing;
 mod next;
@@ -19,6 +21,7 @@ mod scan;
 mod step;
 
 pub use error::StepError;
+pub use in_place::{InPlace, Known};
 pub use over::OverStep;
 pub use popped::Popped;
 pub use step::Step;

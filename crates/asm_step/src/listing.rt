@@ -2,10 +2,11 @@
 ghost use Rattle.std.specs.Prelude.{◌≡◌, ◌≤◌, ◌+◌, ◌++◌, ◌∷◌, [], OnOk, IfOk, length};
 ghost use Rattle.asm_aggregate.specs.Compose.{placed};
 ghost use Rattle.asm_update.specs.Limits.{instructions_limit};
+ghost use Rattle.asm_update.specs.declared.action.Action.TheVariants.{Regular};
 ghost use Rattle.asm_step.specs.Outcomes.{listed, resting_in};
 
 use crate::gathered::Gathered;
-use asm_element::Location;
+use asm_element::{Location, Value};
 use asm_update::{Action, Instruction, Instructions};
 use std::alloc::{AllocError, Global};
 
@@ -41,6 +42,23 @@ pub(crate) fn push_within(
         Ok(()) => Ok(()),
         Err(_) => Err(AllocError),
     }
+}
+
+/// Appends a put of a copy of the value at the location.
+pub(crate) fn push_put(
+    alloc: Global,
+    list: &mut Instructions,
+    at: &Location,
+    value: &Value,
+) -> Result<(), AllocError>
+    requires { length list.old + 1 ≤ instructions_limit }
+    ensures { OnOk result (list.new ≡ list.old ++ placed at.now (Regular value.now ∷ [])) }
+{
+    let put = Instruction {
+        at: at.copy(alloc)?,
+        action: Action::Regular(value.copy(alloc)?),
+    };
+    push_within(list, put)
 }
 
 /// The instructions of all outcomes, by location.

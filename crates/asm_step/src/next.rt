@@ -1,9 +1,11 @@
 //! The layer of a move that is next.
-ghost use Rattle.std.specs.Prelude.{◌≡◌, ◌≤◌, ◌+◌, ◌++◌, ◌∷◌, [], true, false, length, Some, None, IfOk, OnOk, if◌then◌else◌};
+ghost use Rattle.std.specs.Prelude.{◌≡◌, ◌≢◌, ◌≤◌, ◌+◌, ◌++◌, ◌∷◌, [], true, false, length, Some, None, IfOk, OnErr, OnOk, if◌then◌else◌};
 ghost use Rattle.std.specs.List.{flat_map};
 ghost use Rattle.std.specs.Option.{option_copied, option_map};
 ghost use Rattle.std.specs.FinMap as finite;
 ghost use Rattle.asm_aggregate.specs.Compose.{placed};
+ghost use Rattle.asm_update.specs.Fire.{Old};
+ghost use Rattle.asm_step.specs.GoneOn.{IsStepGoneOn};
 ghost use Rattle.asm_update.specs.Limits.{instructions_limit};
 ghost use Rattle.asm_step.specs.Layers.{outcomes_of, top_of};
 ghost use Rattle.asm_step.specs.Next.{IsNext, AreFilled, AreMarked, AreOpened, IsLayerFrom, count_of, is_first, on_top, opened_at, those};
@@ -11,6 +13,8 @@ ghost use Rattle.asm_update.specs.Action.{is_regular};
 ghost use Rattle.asm_step.specs.Outcomes.{acts_at, actions_in, listed, own_of, with_put};
 
 use crate::error::StepError;
+use crate::front::one_if;
+use crate::in_place::InPlace;
 use crate::layer::{OwnLayer, frame_on, move_after};
 use crate::listing::push_within;
 use crate::outcomes::{Outcome, Outcomes};
@@ -21,12 +25,6 @@ use asm_aggregate::only_put;
 use asm_element::{Location, Value};
 use asm_update::{Aggregator, INSTRUCTIONS_LIMIT, Instruction, Instructions, Lookup, UpdateSet};
 use std::alloc::{AllocError, Global};
-
-fn one_if(test: bool) -> usize
-    ensures { result ≡ if test then 1 else 0 }
-{
-    if test { 1 } else { 0 }
-}
 
 // Appends a copy of each of the instructions' actions to those at its location; how many were.
 fn fill(outcomes: &mut Outcomes, instructions: &Instructions) -> Result<usize, AllocError>
@@ -76,6 +74,22 @@ fn put_layer(alloc: Global, put: &Instructions) -> Result<OwnLayer, AllocError>
 }
 
 impl Step {
+    /// Extends the topmost layer by a move in place; whether that is done here. After an error nothing is changed.
+    pub(crate) fn go_on<A: InPlace>(
+        &mut self,
+        alloc: Global,
+        aggregator: &A,
+        instructions: &Instructions,
+    ) -> Result<bool, AllocError>
+        requires { self.old ≢ [] }
+        ensures ok { IfOk result (λ done. (old : Old) → IsStepGoneOn (A.meaning aggregator.now) old self.old self.new
+            instructions.now done) }
+        ensures err { OnErr result (self.new ≡ self.old) }
+    {
+        let last = self.layers.len() - 1;
+        self.layers[last].go_on(alloc, aggregator, instructions)
+    }
+
     // How many instructions the moves come to.
     pub(crate) fn count(&self) -> usize
         ensures count { result ≡ count_of self.now }

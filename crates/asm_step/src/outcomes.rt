@@ -1,14 +1,20 @@
 //! What moves come to at each location that they write, and how more comes in.
-ghost use Rattle.std.specs.Prelude.{◌≡◌, ◌++◌, ◌∷◌, [], true, IfOk, OnOk, OnErr, IfErr, Some, None};
+ghost use Rattle.std.specs.Prelude.{◌≡◌, ◌≤◌, ◌+◌, ◌++◌, ◌∷◌, [], true, length, IfOk, OnOk, OnErr, IfErr, Some, None};
 ghost use Rattle.std.specs.Bool.{OnFalse};
 ghost use Rattle.std.specs.Option.{option_or};
 ghost use Rattle.std.specs.FinMap as map;
 ghost use Rattle.asm_element.specs.Place.{Place};
-ghost use Rattle.asm_step.specs.Outcomes.{Outcome, Outcomes, with_action, resting_in, with_put, AreReplaced};
+ghost use Rattle.asm_aggregate.specs.Compose.{placed};
+ghost use Rattle.asm_update.specs.Limits.{instructions_limit};
+ghost use Rattle.asm_step.specs.Front.{IsGoneOn, IsGoneOnAt};
+ghost use Rattle.asm_step.specs.Outcomes.{Outcome, Outcomes, acts, with_action, resting_in, with_put, AreReplaced};
 
+use crate::front::{Front, Grown};
 use crate::held::Held;
+use crate::in_place::InPlace;
+use crate::listing::append;
 use asm_element::{Location, Value};
-use asm_update::Action;
+use asm_update::{Action, Instructions};
 use std::alloc::{AllocError, Global};
 use std::collections::BTreeMap;
 use std::collections::btree_map::{IntoIter, Iter};
@@ -20,8 +26,10 @@ use std::mem;
 pub(crate) struct Outcome {
     /// The value that they leave there.
     value: Value,
-    /// What does there what they do in turn.
-    actions: Vec<Action>,
+    /// What does there what they do in turn: first this.
+    front: Front,
+    /// Then these, one by one.
+    rest: Vec<Action>,
     /// Whether they build on the value below: the first that writes there has partial updates alone.
     builds: bool,
     /// Whether they rest on it: a later one writes there too.
@@ -31,13 +39,22 @@ pub(crate) struct Outcome {
 impl Model for Outcome {
     ghost use Rattle.asm_element.specs.contracts.value.Value.{the_row as value_row};
     ghost use Rattle.asm_update.specs.contracts.action.Action.{the_row as action_row};
+    ghost use Rattle.std.specs.Prelude.{◌++◌};
+    ghost use Rattle.asm_step.specs.Front.{IsFront, front_list};
     ghost use Rattle.asm_step.specs.Outcomes.{Outcome, outcome_code};
 
     ghost Value = { Outcome };
 
     ghost coded = { outcome_code value_row.coded action_row.coded };
 
-    ghost view = { λ o. record { value = o.value; actions = o.actions.items; builds = o.builds; rests = o.rests } };
+    ghost view = { λ o. record {
+      value = o.value;
+      actions = front_list o.value o.front ++ o.rest.items;
+      builds = o.builds;
+      rests = o.rests;
+    } };
+
+    ghost invariant = { λ o. IsFront o.front };
 }
 
 impl Outcome {
@@ -47,7 +64,8 @@ impl Outcome {
     {
         Outcome {
             value,
-            actions: Vec::new(alloc),
+            front: Front::Nothing,
+            rest: Vec::new(alloc),
             builds,
             rests,
         }
@@ -59,10 +77,11 @@ impl Outcome {
         &self.value
     }
 
-    pub(crate) fn actions(&self) -> &[Action]
-        ensures { result.now ≡ self.now.actions }
+    /// Whether there are actions.
+    pub(crate) fn acts(&self) -> bool
+        ensures { result ≡ acts self.now.actions }
     {
-        self.actions.as_slice()
+        self.front.acts() || !self.rest.is_empty()
     }
 
     pub(crate) fn builds(&self) -> bool
@@ -80,7 +99,7 @@ impl Outcome {
     pub(crate) fn add(&mut self, action: Action) -> Result<(), AllocError>
         ensures { OnOk result (self.new ≡ record self.old { actions = self.old.actions ++ action ∷ [] }) }
     {
-        self.actions.push(action)?;
+        self.rest.push(action)?;
         Ok(())
     }
 
@@ -88,6 +107,58 @@ impl Outcome {
         ensures { self.new ≡ record self.old { builds = self.old.rests } }
     {
         self.builds = self.rests;
+    }
+
+    /// Appends a copy of each of the actions, at the location.
+    pub(crate) fn append_to(
+        &self,
+        alloc: Global,
+        list: &mut Instructions,
+        at: &Location,
+    ) -> Result<(), AllocError>
+        requires { length list.old + length self.now.actions ≤ instructions_limit }
+        ensures { OnOk result (list.new ≡ list.old ++ placed at.now self.now.actions) }
+    {
+        self.front.append_to(alloc, list, at, &self.value)?;
+        append(alloc, list, at, self.rest.as_slice())
+    }
+
+    // Moves the actions to the front, if one stands for them.
+    fn settle(&mut self, alloc: Global) -> Result<(), AllocError>
+        ensures { self.new ≡ self.old }
+    {
+        if let Front::Nothing = self.front {
+            if let Some(front) = Front::of(alloc, &self.value, self.rest.as_slice())? {
+                self.front = front;
+                self.rest = Vec::new(alloc);
+            }
+        }
+        Ok(())
+    }
+
+    /// Goes on with one partial update of a later move, in place; None where that isn't done here. After an error nothing
+    /// is changed.
+    fn go_on<A: InPlace>(
+        &mut self,
+        alloc: Global,
+        aggregator: &A,
+        action: &Action,
+    ) -> Result<Option<Grown>, AllocError>
+        ensures ok { IfOk result (IsGoneOn (A.meaning aggregator.now) action.now self.old self.new) }
+        ensures err { OnErr result (self.new ≡ self.old) }
+    {
+        if action.family().is_none() || !self.acts() {
+            return Ok(None);
+        }
+        self.settle(alloc)?;
+        if !self.rest.is_empty() {
+            return Ok(None);
+        }
+        let grown = self.front.join(alloc, aggregator, &mut self.value, action)?;
+        if grown.is_some() {
+            self.rests = self.builds;
+        }
+        Ok(grown)
     }
 }
 
@@ -195,6 +266,24 @@ impl Outcomes {
             return;
         };
         outcome.mark();
+    }
+
+    /// Goes on at the location with one partial update of a later move, in place; None where that isn't done here.
+    /// After an error nothing is changed.
+    pub(crate) fn go_on<A: InPlace>(
+        &mut self,
+        alloc: Global,
+        aggregator: &A,
+        at: &Location,
+        action: &Action,
+    ) -> Result<Option<Grown>, AllocError>
+        ensures ok { IfOk result (IsGoneOnAt (A.meaning aggregator.now) at.now action.now self.old self.new) }
+        ensures err { OnErr result (self.new ≡ self.old) }
+    {
+        let Some(outcome) = self.tree.get_mut(at) else {
+            return Ok(None);
+        };
+        outcome.go_on(alloc, aggregator, action)
     }
 
     /// Replaces the outcome of the location by this one and hands the old one back; where there is none,

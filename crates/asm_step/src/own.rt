@@ -4,10 +4,13 @@ ghost use Rattle.std.specs.Bool.{OnFalse};
 ghost use Rattle.std.specs.Option.{option_or};
 ghost use Rattle.std.specs.FinMap as map;
 ghost use Rattle.asm_element.specs.Place.{Place};
+ghost use Rattle.asm_step.specs.Front.{IsGoneOnAt};
 ghost use Rattle.asm_step.specs.Outcomes.{own_of, put_alone, resting_in};
 
+use crate::front::Grown;
 use crate::gathered::Gathered;
 use crate::held::Held;
+use crate::in_place::InPlace;
 use crate::outcomes::{Outcome, Outcomes};
 use asm_aggregate::only_put;
 use asm_element::{Location, Value};
@@ -97,6 +100,24 @@ impl Own {
         match only_put(&self.put) {
             Some((at, value)) => all.put(at, Held::of_put(value)),
             None => all.take(&self.each),
+        }
+    }
+
+    /// Goes on at the location with one partial update of a later move, in place; None where that isn't done here.
+    /// After an error nothing is changed.
+    pub(crate) fn go_on<A: InPlace>(
+        &mut self,
+        alloc: Global,
+        aggregator: &A,
+        at: &Location,
+        action: &Action,
+    ) -> Result<Option<Grown>, AllocError>
+        ensures ok { IfOk result (IsGoneOnAt (A.meaning aggregator.now) at.now action.now self.old self.new) }
+        ensures err { OnErr result (self.new ≡ self.old) }
+    {
+        match only_put(&self.put) {
+            Some(_) => Ok(None),
+            None => self.each.go_on(alloc, aggregator, at, action),
         }
     }
 

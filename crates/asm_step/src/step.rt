@@ -13,6 +13,7 @@ ghost use Rattle.asm_overlay.specs.Frames.{under, seen_through, topmost};
 ghost use Rattle.asm_overlay.specs.Limits.{frames_limit};
 ghost use Rattle.asm_step.specs.Answer.{IsPushAnswer, IsPushAnswerOn, IsFollowedBy, IsLastOn};
 ghost use Rattle.asm_step.specs.Column.{IsClashOfOne};
+ghost use Rattle.asm_step.specs.GoneOn.{IsTakenIn};
 ghost use Rattle.asm_step.specs.InTurn.{fire_all, all_but_last, Agrees, DoesAll};
 ghost use Rattle.asm_step.specs.Layers.{Layer, frames_of, outcomes_of, one_move, all_moves, resting_of, shows_below};
 ghost use Rattle.asm_step.specs.Layers.{alone_in, behind, extended, laid_on, moves_of, top_of, IsSound, IsStepOf};
@@ -22,6 +23,7 @@ ghost use Rattle.asm_step.specs.Resting.{left_by, rests, sees_below, AgreesAtRes
 use crate::error::StepError;
 use crate::gathered::Gathered;
 use crate::held::Held;
+use crate::in_place::InPlace;
 use crate::layer::{OwnLayer, move_after};
 use crate::listing::{listing, resting_places};
 use crate::over::OverStep;
@@ -104,6 +106,26 @@ impl Step {
         Ok(())
     }
 
+    // Extends the topmost layer by a move, in place where that is done.
+    fn take_in<A: InPlace, L: Lookup>(
+        &mut self,
+        alloc: Global,
+        aggregator: &A,
+        below: &L,
+        instructions: &Instructions,
+    ) -> Result<(), StepError>
+        requires { (z : Layer) × (top_of self.old ≡ Some z) }
+        ensures { IsTakenIn (A.meaning aggregator.now) (L.value_at below.now) self.old self.new instructions.now result }
+    {
+        let done = self.go_on(alloc, aggregator, instructions)?;
+        if done {
+            return Ok(());
+        }
+        let next = self.next_layer(alloc, aggregator, below, instructions)?;
+        self.extend_top(alloc, next)?;
+        Ok(())
+    }
+
     /// Pushes a move: its instructions are aggregated on what is seen through the step's moves, and the one move goes
     /// on with it. At a location that both write the two are composed; elsewhere each stays as it is. The step's first
     /// move is its one move, as it was pushed.
@@ -145,9 +167,10 @@ impl Step {
     /// Extends the move that was pushed last: what the instructions write goes into its layer, and the step is
     /// no deeper. A step without moves has one after it, as after a push.
     ///
-    /// It costs by its own instructions, as a push does. The errors come where a push would answer them, but never
-    /// `Deep`. After an error nothing is changed.
-    pub fn extend<A: Aggregator, L: Lookup>(
+    /// It costs as a push does; but one partial update of a set that the topmost layer has changed already, or of any value
+    /// that it has put, is applied in place. The errors come where a push would answer them, but never `Deep`. After an
+    /// error nothing is changed.
+    pub fn extend<A: InPlace, L: Lookup>(
         &mut self,
         alloc: Global,
         aggregator: &A,
@@ -171,9 +194,7 @@ impl Step {
         if self.top().is_none() {
             return self.push(alloc, aggregator, below, instructions);
         }
-        let next = self.next_layer(alloc, aggregator, below, instructions)?;
-        self.extend_top(alloc, next)?;
-        Ok(())
+        self.take_in(alloc, aggregator, below, instructions)
     }
 
     /// The move that was pushed last, with those that extend it, as a pop would hand them back.

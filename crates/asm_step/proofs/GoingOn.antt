@@ -1,0 +1,241 @@
+-- A move of one partial update that a layer takes in, as the layer of a next move.
+use Rattle.std.proofs.Common.{◌≡◌, ◌≤◌, ◌<◌, ◌+◌, ◌-◌, ◌||◌, ◌&&◌, ℕ, Bool, true, false, cond, not, List, [], ◌∷◌, ◌++◌, length, map, All, Option, Some, None, is_some, unwrap_or, Ok, refl, sym, ap, subst, ◌∙◌, arith, append-nil}
+use Rattle.std.specs.Prelude.{is_none, IsSomeAnd}
+use Rattle.std.specs.FinMap as finite
+use Rattle.std.specs.List.{flat_map, list_all, list_any}
+use Rattle.std.specs.Option.{option_map, option_map_or, option_or}
+use Rattle.std.specs.Ordering.{eq_by_cmp}
+use Rattle.std.proofs.lemmas.List.Elements.{All-cons, All-head, All-nil, All-tail}
+use Rattle.std.proofs.lemmas.List.Folds.{list_any-append}
+use Rattle.asm_element.proofs.Ordered.{no_entries}
+use Rattle.asm_element.specs.Place as place
+use Rattle.asm_element.specs.Place.{Place, location_cmp, location_cmp_total, same_location}
+use Rattle.asm_element.specs.Tests.{flipped, itself, or_false}
+use Rattle.asm_element.specs.declared.value.Value.{Value}
+use Rattle.asm_update.specs.Action.{family_of, is_partial, is_regular, AllProper, IsProper, IsProperInstruction}
+use Rattle.asm_update.specs.Aggregator.{Meaning, AggregatorLaws, Joined}
+use Rattle.asm_update.specs.Fire.{Old, IsUpdateSet, locations, res, result_at}
+use Rattle.asm_update.specs.Move.{Move, actions_at, writes}
+use Rattle.asm_update.specs.State.{Updates}
+use Rattle.asm_update.specs.declared.action.Action.{Action}
+use Rattle.asm_update.specs.declared.action.Family.{Family}
+use Rattle.asm_update.proofs.FireLemmas.{places}
+use Rattle.asm_overlay.specs.Frames.{seen_through}
+use Rattle.asm_aggregate.specs.Bundle.{bundle_of}
+use Rattle.asm_aggregate.specs.Compose.{IsSequence, composed, composed_at, composition, in_turn, placed}
+use Rattle.asm_aggregate.proofs.Composing.{keeps_sequence, same_places}
+use Rattle.asm_aggregate.proofs.Sequence.{actions_placed}
+use Rattle.asm_step.specs.Front.{GoneOn}
+use Rattle.asm_step.specs.Layers.{Layer, IsSound, frames_of, laid_on, outcomes_of, top_of}
+use Rattle.asm_step.specs.Next.{AreNext, IsComposed, IsNextLayer, is_first, next_at, those}
+use Rattle.asm_step.specs.Outcomes.{Outcome, Outcomes, acts, acts_at, actions_in, builds_at, listed, sees_at}
+use Rattle.asm_step.specs.declared.front.Grown.{Grown}
+use Rattle.asm_step.specs.declared.layer.OwnLayer.{OwnLayer}
+use Rattle.asm_step.proofs.Alone.{res_partial}
+use Rattle.asm_step.proofs.Laid.{kept_at, kept_within, placed_length}
+use Rattle.asm_step.proofs.Nexts.{next_ok, topmost_is}
+use Rattle.asm_step.proofs.Prefixes.{top_sound}
+
+-- one value at a location, and nothing elsewhere
+abbrev pub only : {X : Type 0} → Place → X → finite.FinMap location_cmp X
+only l v = finite.insert finite.empty l v
+
+abbrev none_yet : (X : Type 0) → finite.FinMap location_cmp X
+none_yet X = finite.empty
+
+pub get-only : {X : Type 0} (l : Place) (v : X) (q : Place) → finite.get (only l v) q ≡ cond (eq_by_cmp location_cmp q l) (Some v) None
+get-only {X = X} l v q =
+    finite.get-insert location_cmp_total (none_yet X) l v q
+    ∙ ap (cond (eq_by_cmp location_cmp q l) (Some v)) (finite.get-empty location_cmp q)
+
+entries-only : {X : Type 0} (l : Place) (v : X) → finite.entries (only l v) ≡ (l, v) ∷ []
+entries-only {X = X} l v =
+    finite.entries-insert location_cmp_total (none_yet X) l v
+    ∙ ap (finite.put location_cmp l v)
+    (no_entries _ (sym (finite.len-entries (none_yet X)) ∙ finite.len-empty location_cmp X))
+
+-- instructions at one location
+writes_placed : (l q : Place) (xs : List Action) →
+    (writes (placed l xs) q || eq_by_cmp location_cmp q l) ≡ eq_by_cmp location_cmp q l
+writes_placed l q [] = refl
+writes_placed l q (x ∷ xs) =
+    ap (λ b. (b || writes (placed l xs) q) || eq_by_cmp location_cmp q l) (flipped location_cmp_total l q)
+    ∙ by_test (eq_by_cmp location_cmp q l) (writes (placed l xs) q) (writes_placed l q xs) where
+      by_test : (e w : Bool) → (w || e) ≡ e → ((e || w) || e) ≡ e
+      by_test true w h = refl
+      by_test false w h = h
+
+proper_placed : (l : Place) (xs : List Action) → place.IsProper l → AllProper xs → All IsProperInstruction (placed l xs)
+proper_placed l [] here all = All-nil IsProperInstruction
+proper_placed l (x ∷ xs) here all =
+    All-cons IsProperInstruction (record { at = l; action = x }) (placed l xs) (here, All-head IsProper x xs all)
+    (proper_placed l xs here (All-tail IsProper x xs all))
+
+not_regular : (x : Action) → is_partial x ≡ true → list_any is_regular (x ∷ []) ≡ false
+not_regular x h = by_family (family_of x) h where
+  by_family : (o : Option Family) → is_some o ≡ true → (is_none o || false) ≡ false
+  by_family (Some f) h = refl
+  by_family None h = cc
+
+module _ {a : Meaning} (laws : AggregatorLaws a) (old : Old) (s : List Layer) (sound : All IsSound s)
+    (z : Layer) (top : top_of s ≡ Some z) (room : z.count < 4096) (l : Place) (x : Action) (o w : Outcome) (grown : Grown)
+    (here : finite.get (outcomes_of s) l ≡ Some o) (gone : GoneOn a x o w grown)
+    (proper : All IsProperInstruction (record { at = l; action = x } ∷ [])) where
+  abbrev M : Move
+  M = record { at = l; action = x } ∷ []
+
+  abbrev os : Outcomes
+  os = outcomes_of s
+
+  abbrev U : Updates
+  U = only l w.value
+
+  abbrev own : Outcomes
+  own = only l w
+
+  abbrev E : Move
+  E = placed l o.actions
+
+  abbrev F : Move
+  F = placed l w.actions ++ []
+
+  at_one : (q : Place) → writes M q ≡ eq_by_cmp location_cmp q l
+  at_one q = or_false _ ∙ flipped location_cmp_total l q
+
+  does_one : actions_at M l ≡ x ∷ []
+  does_one = actions_placed l l (x ∷ []) true (itself location_cmp_total l)
+
+  seen_here : seen_through (frames_of s) old l ≡ o.value
+  seen_here = ap (λ t. unwrap_or t (old l)) (topmost_is s l ∙ ap (option_map (λ (o : Outcome). o.value)) here)
+
+  one_partial : list_all is_partial (x ∷ []) ≡ true
+  one_partial = ap (λ b. b && true) gone.partial
+
+  result_here : result_at a.part (seen_through (frames_of s) old) M l ≡ Ok w.value
+  result_here =
+      (λ i. res a.part (seen_here i) (does_one i)) ∙ res_partial a.part o.value (x ∷ []) one_partial ∙ gone.applied.value
+
+  set : IsUpdateSet a.part (seen_through (frames_of s) old) M U
+  set = record {
+    written = λ q h.
+        let same : eq_by_cmp location_cmp q l ≡ true = sym (at_one q) ∙ h in
+        subst (λ (u : Option Value). IsSomeAnd u (λ v. result_at a.part (seen_through (frames_of s) old) M q ≡ Ok v))
+        (sym (get-only l w.value q ∙ ap (λ b. cond b (Some w.value) None) same))
+        (subst (λ p. result_at a.part (seen_through (frames_of s) old) M p ≡ Ok w.value) (sym (same_location q l same)) result_here);
+    others = λ q h. get-only l w.value q ∙ ap (λ b. cond b (Some w.value) None) (sym (at_one q) ∙ h);
+  }
+
+  acts_here : actions_in os l ≡ o.actions
+  acts_here = ap (λ (t : Option Outcome). option_map_or (λ (o : Outcome). o.actions) t []) here
+
+  kept : E ≡ kept_at os (finite.entries U)
+  kept =
+      ap (placed l) (sym acts_here) ∙ sym (append-nil (placed l (actions_in os l)))
+      ∙ ap (kept_at os) (sym (entries-only l w.value))
+
+  some_here : acts_at os l ≡ true
+  some_here = ap acts acts_here ∙ gone.some
+
+  shared : M ≡ those true os M
+  shared = ap (λ b. cond b M []) (sym some_here)
+
+  apart : [] ≡ those false os M
+  apart = ap (λ b. cond (not b) M []) (sym some_here)
+
+  proper_here : All IsProperInstruction E
+  proper_here = proper_placed l o.actions (All-head IsProperInstruction (record { at = l; action = x }) [] proper).0 gone.applied.proper
+
+  written_here : (q : Place) → is_some (finite.get U q) ≡ writes (E ++ M) q
+  written_here q =
+      ap is_some (get-only l w.value q) ∙ by_test (eq_by_cmp location_cmp q l) ∙ sym (writes_placed l q o.actions)
+      ∙ ap (λ b. writes E q || b) (sym (at_one q))
+      ∙ sym (list_any-append _ E M) where
+        by_test : (b : Bool) → is_some (cond b (Some w.value) None) ≡ b
+        by_test true = refl
+        by_test false = refl
+
+  at_here : locations (E ++ M) ≡ l ∷ []
+  at_here = sym (same_places U (E ++ M) written_here) ∙ ap places (entries-only l w.value)
+
+  composed_here : composed_at a E M l ≡ Ok w.actions
+  composed_here =
+      (λ i. composed a (bundle_of (actions_placed l l o.actions true (itself location_cmp_total l) i)) (bundle_of (does_one i)))
+      ∙ gone.applied.joined
+
+  gave : composition a E M ≡ Ok F
+  gave =
+      ap (λ ls. in_turn (map (λ (k : Place). (k, composed_at a E M k)) ls)) at_here
+      ∙ ap (λ (j : Joined). in_turn ((l, j) ∷ [])) composed_here
+
+  outcomes_top : os ≡ z.outcomes
+  outcomes_top = ap (λ (t : Option Layer). option_map_or (λ (y : Layer). y.outcomes) t finite.empty) top
+
+  count : z.count ≡ length (listed os)
+  count = (top_sound s z sound top).count ∙ ap (λ (m : Outcomes). length (listed m)) (sym outcomes_top)
+
+  within : length o.actions ≤ z.count
+  within =
+      let most = kept_within os U in
+      let long = ap length kept in
+      let many = placed_length l o.actions in
+      omega (arith, most, long, many, count)
+
+  long : length F ≡ length w.actions
+  long = ap length (append-nil (placed l w.actions)) ∙ placed_length l w.actions
+
+  few_here : length F ≤ 4096
+  few_here =
+      let longer = gone.applied.longer in
+      let one = gone.applied.few in
+      omega (arith, longer, one, within, room, long)
+
+  composed_is : IsComposed a (option_map (λ (y : Layer). E) (top_of s)) M (Ok F)
+  composed_is =
+      subst (λ (t : Option Layer). IsComposed a (option_map (λ (y : Layer). E) t) M (Ok F)) (sym top)
+      ((gave, few_here), keeps_sequence laws E M (Ok F) proper_here proper (gave, few_here))
+
+  next_here : w ≡ next_at os (F ++ []) M l w.value
+  next_here = λ i. record {
+    value = w.value;
+    actions = (sym (ap (λ (K : Move). actions_at K l) (append-nil (placed l w.actions ++ []) ∙ append-nil (placed l w.actions))
+        ∙ actions_placed l l w.actions true (itself location_cmp_total l))) i;
+    builds = (gone.builds ∙ sym (ap (λ (t : Option Outcome). option_map_or (λ (o : Outcome). o.builds) t true) here)
+        ∙ ap (λ b. cond b (builds_at os l) (sees_at os l)) (sym (ap (list_any is_regular) does_one ∙ not_regular x gone.partial))) i;
+    rests = (gone.rests ∙ sym (ap (λ (t : Option Outcome). option_map_or (λ (o : Outcome). o.builds) t false) here)) i;
+  }
+
+  next : AreNext os U (F ++ []) M own
+  next q =
+      get-only l w q ∙ by_test (eq_by_cmp location_cmp q l) refl
+      ∙ ap (option_map (next_at os (F ++ []) M q)) (sym (get-only l w.value q)) where
+        by_test : (b : Bool) → eq_by_cmp location_cmp q l ≡ b →
+            cond b (Some w) None ≡ option_map (next_at os (F ++ []) M q) (cond b (Some w.value) None)
+        by_test true e =
+            subst (λ (p : Place). Some w ≡ Some (next_at os (F ++ []) M p w.value)) (sym (same_location q l e)) (ap Some next_here)
+        by_test false e = refl
+
+  -- the layer of the move
+  abbrev pub going : OwnLayer
+  going = record { own = own; moves = M ∷ []; is_alone = false; count = (z.count + grown.more) - grown.less }
+
+  listed_here : length (listed own) ≡ length w.actions
+  listed_here =
+      ap (λ (es : List (Place × Outcome)). length (flat_map (λ (e : Place × Outcome). placed e.0 e.1.actions) es)) (entries-only l w)
+      ∙ long
+
+  counted : going.count ≡ (z.count - length E) + length (listed own)
+  counted =
+      let longer = gone.applied.longer in
+      let many = placed_length l o.actions in
+      omega (arith, longer, within, listed_here, many)
+
+  few : going.count ≤ 4096
+  few = let one = gone.applied.few in omega (arith, one, room)
+
+  first : false ≡ is_first s
+  first = ap (λ (t : Option Layer). option_map_or (λ (y : Layer). false) t true) (sym top)
+
+  pub goes_on : IsNextLayer a old s M (laid_on os going)
+  goes_on =
+      next_ok laws old s M E M [] U sound set kept shared apart proper_here proper (omega arith) F composed_is z.count count
+      going next counted few refl first

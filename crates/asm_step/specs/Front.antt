@@ -1,0 +1,99 @@
+-- What is done at a location, kept so that one more partial update joins it.
+use Rattle.std.specs.Prelude.{◌≡◌, ◌≤◌, ◌+◌, ◌++◌, ℕ, Bool, true, false, List, [], ◌∷◌, length, map, Option, Some, None, Ok}
+use Rattle.std.specs.FinMap as finite
+use Rattle.asm_aggregate.specs.Bundle.{bundle_of}
+use Rattle.asm_aggregate.specs.Compose.{composed}
+use Rattle.asm_aggregate.specs.Sets.{meets}
+use Rattle.asm_element.specs.Place.{Place}
+use Rattle.asm_element.specs.declared.element.Element.{Element}
+use Rattle.asm_element.specs.Set.{ElementSet, elements}
+use Rattle.asm_element.specs.declared.value.Value.{Value}
+use Rattle.asm_update.specs.Action.{is_partial, AllProper}
+use Rattle.asm_update.specs.Aggregator.{Meaning}
+use Rattle.asm_update.specs.declared.action.Action.{Action}
+use Rattle.asm_update.specs.declared.action.Action.TheVariants.{Regular, SetAdd, SetRemove}
+use Rattle.asm_step.specs.Outcomes.{Outcome, Outcomes, acts}
+use Rattle.asm_step.specs.declared.front.Front.{Front}
+use Rattle.asm_step.specs.declared.front.Front.TheVariants.{Nothing, Put, Sets}
+use Rattle.asm_step.specs.declared.front.Grown.{Grown}
+use Rattle.asm_step.specs.declared.front.Sides.{Sides}
+
+-- the addition of an element to a set, or its removal
+abbrev pub set_update : Bool → Element → Action
+set_update true e = SetAdd e
+set_update false e = SetRemove e
+
+-- the additions of the set's elements, or their removals, in ascending order
+abbrev pub set_updates : Bool → ElementSet → List Action
+set_updates adds s = map (set_update adds) (elements s)
+
+-- additions by element, then removals by element
+abbrev pub set_list : ElementSet → ElementSet → List Action
+set_list added removed = set_updates true added ++ set_updates false removed
+
+abbrev pub sides_list : Sides → List Action
+sides_list s = set_list s.added s.removed
+
+-- the actions that a front stands for, which leave this value
+abbrev pub front_list : Value → Front → List Action
+front_list v Nothing = []
+front_list v Put = Regular v ∷ []
+front_list v (Sets s) = sides_list s
+
+-- what it adds to a set and what it removes have nothing in common
+abbrev pub IsFront : Front → Type 0
+IsFront (Sets s) = meets s.added s.removed ≡ false
+IsFront f = Unit {0}
+
+-- the value is what the partial update gives on the old one; or nothing is changed
+abbrev pub IsChanged : Meaning → Action → Value → Value → Bool → Type 0
+IsChanged a x v w true = a.part v None (x ∷ []) ≡ Ok w
+IsChanged a x v w false = w ≡ v
+
+-- the set is the one that is wanted; or nothing is changed
+abbrev pub IsExchanged : ElementSet → ElementSet → ElementSet → Option Grown → Type 0
+IsExchanged old new wanted (Some grown) = new ≡ wanted
+IsExchanged old new wanted None = new ≡ old
+
+-- what has so many is now so much longer, by one at most
+abbrev pub IsLonger : ℕ → ℕ → Option Grown → Type 0
+IsLonger old new (Some grown) = (new + grown.less ≡ old + grown.more) × (grown.more ≤ 1)
+IsLonger old new None = Unit {0}
+
+-- a value and the actions that leave it, before and after one more partial update
+pub record Applied (a : Meaning) (x : Action) (v : Value) (xs : List Action) (w : Value) (ys : List Action) (grown : Grown) : Type 0 where
+  pub value : a.part v None (x ∷ []) ≡ Ok w
+  pub joined : composed a (bundle_of xs) (bundle_of (x ∷ [])) ≡ Ok ys
+  pub longer : length ys + grown.less ≡ length xs + grown.more
+  pub few : grown.more ≤ 1
+  pub proper : AllProper xs
+
+-- so it is; or nothing is changed
+abbrev pub IsApplied : Meaning → Action → Value → List Action → Value → List Action → Option Grown → Type 0
+IsApplied a x v xs w ys (Some grown) = Applied a x v xs w ys grown
+IsApplied a x v xs w ys None = (w ≡ v) × (ys ≡ xs)
+
+-- an outcome that goes on with a partial update of a later move
+pub record GoneOn (a : Meaning) (x : Action) (old new : Outcome) (grown : Grown) : Type 0 where
+  pub partial : is_partial x ≡ true
+  pub some : acts old.actions ≡ true
+  pub applied : Applied a x old.value old.actions new.value new.actions grown
+  pub builds : new.builds ≡ old.builds
+  pub rests : new.rests ≡ old.builds
+
+-- so it is; or nothing is changed
+abbrev pub IsGoneOn : Meaning → Action → Outcome → Outcome → Option Grown → Type 0
+IsGoneOn a x old new (Some grown) = GoneOn a x old new grown
+IsGoneOn a x old new None = new ≡ old
+
+-- the same at a location
+pub record GoneOnAt (a : Meaning) (l : Place) (x : Action) (old new : Outcomes) (grown : Grown) : Type 0 where
+  pub before : Outcome
+  pub after : Outcome
+  pub there : finite.get old l ≡ Some before
+  pub written : new ≡ finite.insert old l after
+  pub goes_on : GoneOn a x before after grown
+
+abbrev pub IsGoneOnAt : Meaning → Place → Action → Outcomes → Outcomes → Option Grown → Type 0
+IsGoneOnAt a l x old new (Some grown) = GoneOnAt a l x old new grown
+IsGoneOnAt a l x old new None = new ≡ old
