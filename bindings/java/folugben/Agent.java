@@ -2,8 +2,6 @@ package folugben;
 
 import java.util.List;
 import java.util.Objects;
-import java.util.SortedMap;
-import java.util.concurrent.locks.LockSupport;
 
 /**
  * An agent of a storage, which reads locations and fires moves, most easily by a {@link Step}.
@@ -11,12 +9,8 @@ import java.util.concurrent.locks.LockSupport;
  * lone surrogate is refused by an IllegalArgumentException. Any thread may call it. Nothing is
  * released by the garbage collector; call close(), which gives the agent back to its storage.
  */
-public final class Agent implements AutoCloseable {
+public final class Agent implements Actor {
     private static final Object LEARNING = new Object();
-
-    /** After so many tries in vain an agent waits between them: 1 << LONGEST_WAIT us at most. */
-    private static final int TRIES_WITHOUT_WAIT = 8;
-    private static final int LONGEST_WAIT = 10;
 
     /** The agent's slot, and the lock of the calls on it and on its steps. */
     final AgentSlot slot = new AgentSlot();
@@ -24,8 +18,8 @@ public final class Agent implements AutoCloseable {
     private final Room room = slot.room;
     private final Storage storage;
     private final int number;
-    /** The part of a run that it is of; else null. */
-    private volatile Part part;
+    /** What it is of where that is of a run; else null. */
+    private volatile Chained chain;
     private int vain;
 
     Agent(Storage storage, int number) {
@@ -34,6 +28,7 @@ public final class Agent implements AutoCloseable {
     }
 
     /** Its number among the agents of its storage. */
+    @Override
     public int number() {
         return number;
     }
@@ -42,104 +37,20 @@ public final class Agent implements AutoCloseable {
     int held(int code) {
         if (code != FolugbenException.EMPTY || slot.isFull())
             return code;
-        if (isOver())
+        if (isPast())
             throw PartException.full();
         throw FolugbenException.closed("the agent was given back");
     }
 
     /** Whether it is of a part of a run that is over. */
-    private boolean isOver() {
-        Part own = part;
+    boolean isPast() {
+        Chained own = chain;
         return own != null && own.isOver();
     }
 
     /** What is expected of the code of a call on it. */
     void expect(int code) {
         FolugbenException.expect(held(code));
-    }
-
-    /**
-     * What became of a fire, or of reads that were looked at again. `answer` is the text
-     * {"stale":LOC} or {"clash":[LOC,CAUSE]} of what was answered so, and else null; `isOfStep`
-     * tells whether it was a step that was fired, and `isOfRun` whether it was an agent of a {@link
-     * Run}.
-     */
-    public record Reply(int code, int move, int from, int to, String answer, boolean isOfStep,
-            boolean isOfRun) {
-        /** What became of a fire that was none of a step, or of reads. */
-        public Reply(int code, int move, int from, int to, String answer) {
-            this(code, move, from, to, answer, false, false);
-        }
-
-        /** What became of a fire, or of reads, on an agent that is none of a run. */
-        public Reply(
-                int code, int move, int from, int to, String answer, boolean isOfStep) {
-            this(code, move, from, to, answer, isOfStep, false);
-        }
-
-        /** Its code, for a switch. */
-        public Code kind() {
-            return Code.of(code);
-        }
-
-        /** Whether a move was fired; `move` is then its number, from 1 up. */
-        public boolean isFired() {
-            return code == FolugbenException.DONE && move != 0;
-        }
-
-        /** Whether a named location was written since it was read. */
-        public boolean isStale() {
-            return code == FolugbenException.STALE;
-        }
-
-        /** Whether the updates clash. */
-        public boolean isClash() {
-            return code == FolugbenException.CLASH;
-        }
-
-        /**
-         * Whether a named location was written since it was read, or 64 offers were lost; of a step
-         * also whether its updates clash, as they do only with what was written since it began; and
-         * of a run whether its part is full, as another step goes on in the next one.
-         */
-        public boolean shouldRetry() {
-            return isStale() || code == FolugbenException.BUSY || (isOfStep && isClash())
-                    || (isOfRun && code == FolugbenException.FULL);
-        }
-
-        /** The least location that is stale or clashes; else null. */
-        public Location at() {
-            return answer == null ? null : JsonReader.objection(answer).at();
-        }
-
-        /** Why the updates clash; else null. */
-        public Cause cause() {
-            return answer == null ? null : JsonReader.objection(answer).cause();
-        }
-
-        /**
-         * The number of the move that was fired, from 1 up; 0 of reads that stand.
-         *
-         * @throws FolugbenException as a {@link StaleException}, {@link ClashException}, {@link
-         *         FullException} or {@link BusyException} where it is another reply; of a run as a
-         *         {@link PartException} for a {@link FullException}
-         */
-        public int orThrow() {
-            if (code != FolugbenException.DONE)
-                throw FolugbenException.of(this);
-            return move;
-        }
-    }
-
-    /**
-     * A state [PAIR, ..], or a part of it: as it is after so many moves, and, where a step tells it,
-     * as it is seen through the pushed ones.
-     */
-    public record State(int number, String pairs) {
-        /** Its locations that aren't empty with their values, in ascending order. */
-        public SortedMap<Location, Value> values() {
-            return JsonReader.state(pairs);
-        }
     }
 
     /** Reads the locations [LOC, ..]; the answer is {"number":N,"values":[VALUE, ..]}. */
@@ -171,23 +82,23 @@ public final class Agent implements AutoCloseable {
      * @throws FolugbenException as a {@link StaleException}, {@link ClashException}, {@link
      *         FullException} or {@link BusyException}; as tryFire
      */
-    public int fire(List<? extends Instruction> instructions, List<Named> reads) {
+    public long fire(List<? extends Instruction> instructions, List<Named> reads) {
         return tryFire(instructions, reads).orThrow();
     }
 
     /** The same of instructions that rest on the whole functions of the scans too, as tryFire. */
-    public int fire(
+    public long fire(
             List<? extends Instruction> instructions, List<Named> reads, List<Scanned> scans) {
         return tryFire(instructions, reads, scans).orThrow();
     }
 
     /** The same of the instructions [INSTR, ..], which rest on the reads [NAMED, ..]. */
-    public int fire(String instructions, String reads) {
+    public long fire(String instructions, String reads) {
         return tryFire(instructions, reads).orThrow();
     }
 
     /** The same of instructions that rest on the scans [[NAME,NUMBER], ..] too. */
-    public int fire(String instructions, String reads, String scans) {
+    public long fire(String instructions, String reads, String scans) {
         return tryFire(instructions, reads, scans).orThrow();
     }
 
@@ -240,11 +151,7 @@ public final class Agent implements AutoCloseable {
         byte[] call = Texts.utf8(move, "the move");
         byte[] both = Texts.utf8(move + Texts.oneValue(scans, "scans"), "the move");
         synchronized (slot) {
-            int code = room.make(both,
-                    (text, out, length, written)
-                            -> Calls.asm_try_fire_over(slot.at, text, call.length,
-                                    text + call.length, both.length - call.length,
-                                    room.numbers()));
+            int code = fireOver(both, call.length);
             if (code == FolugbenException.NOT_JSON || code == FolugbenException.SHAPE)
                 FolugbenException.expectFire(code, call);
             if (code == FolugbenException.RANGE)
@@ -253,18 +160,27 @@ public final class Agent implements AutoCloseable {
         }
     }
 
+    /** The code of a fire of a move, whose text has so many bytes, over the scans behind it. */
+    int fireOver(byte[] both, int move) {
+        return room.make(both,
+                (text, out, length, written)
+                        -> Calls.asm_try_fire_over(slot.at, text, move, text + move,
+                                both.length - move, room.numbers()));
+    }
+
     /** The code of a fire, FULL where it came too late for the part of a run. */
     private int inTime(int code) {
-        boolean isTooLate = code == FolugbenException.EMPTY && !slot.isFull() && isOver();
+        boolean isTooLate = code == FolugbenException.EMPTY && !slot.isFull() && isPast();
         return isTooLate ? FolugbenException.FULL : code;
     }
 
     /** What became of a fire with this code, on which the agent's lock is still held. */
     Reply reply(int told, boolean isOfStep) {
         int code = inTime(told);
-        int move = room.number(0);
-        int from = room.number(1);
-        int to = room.number(2);
+        long before = before();
+        long move = code == FolugbenException.DONE ? before + room.number(0) : 0;
+        long from = before + room.number(1);
+        long to = before + room.number(2);
         String answer = null;
         switch (code) {
             case FolugbenException.STALE, FolugbenException.CLASH -> {
@@ -275,17 +191,17 @@ public final class Agent implements AutoCloseable {
             case FolugbenException.BUSY -> {}
             default -> expect(code);
         }
-        return new Reply(code, move, from, to, answer, isOfStep, part != null);
+        return new Reply(code, move, from, to, answer, isOfStep, chain != null);
     }
 
     /** Has the agent be one of this part of a run. */
-    void joins(Part part) {
-        this.part = part;
+    void joins(Chained chain) {
+        this.chain = chain;
     }
 
-    /** Its part of a run; else null. */
-    Part part() {
-        return part;
+    /** How many moves of its run come before those of its storage. */
+    long before() {
+        return chain == null ? 0 : chain.before();
     }
 
     /** How many of its calls were answered and fired nothing, since it was made or taken. */
@@ -311,60 +227,21 @@ public final class Agent implements AutoCloseable {
 
     /** Tells the run, if it is of one that may wait for that, that a step is over; with its lock. */
     void endStep() {
-        if (part != null)
-            part.endStep();
+        if (chain != null)
+            chain.endStep();
     }
 
     /** Throws what has ended the run, if it is of one. */
     void expectGoing() {
-        if (part != null)
-            part.expectGoing();
-    }
-
-    /** What is played on a step; it tells what the play is to answer. */
-    @FunctionalInterface
-    public interface Rule<T> {
-        /** Gets from the step and pushes to it; what it answers is told with the move. */
-        T play(Step step);
-    }
-
-    /** The number of the move that was fired, from 1 up, and what the rule told. */
-    public record Played<T>(int move, T told) {}
-
-    /**
-     * Begins a step, plays the rule on it and fires it, and begins anew where other agents were
-     * quicker: where it was stale or busy, or clashed with what was written since. Between tries in
-     * vain other threads run, and after some it waits for up to a millisecond.
-     *
-     * <p>What the rule throws ends it, and nothing is fired.
-     *
-     * @throws FolugbenException as a {@link FullException} or {@link ManyException} of the fire
-     */
-    public <T> Played<T> play(Rule<T> rule) {
-        Objects.requireNonNull(rule, "rule");
-        for (int tries = 0;; tries++) {
-            try (Step step = step()) {
-                T told = rule.play(step);
-                Reply reply = step.tryFire();
-                if (!reply.shouldRetry())
-                    return new Played<>(reply.orThrow(), told);
-            }
-            backOff(tries);
-        }
-    }
-
-    /** Waits between tries in vain, of which there were so many before. */
-    static void backOff(int tries) {
-        if (tries < TRIES_WITHOUT_WAIT)
-            Thread.yield();
-        else
-            LockSupport.parkNanos(1000L << Math.min(tries - TRIES_WITHOUT_WAIT, LONGEST_WAIT));
+        if (chain != null)
+            chain.expectGoing();
     }
 
     /**
      * Begins a step on the agent's own state, which follows all moves that are found first. Several
      * steps may be under way, as long as the state doesn't move on.
      */
+    @Override
     public Step step() {
         Interleave.turn();
         return begin();
@@ -382,7 +259,8 @@ public final class Agent implements AutoCloseable {
      * state moves on only here and in read, fire, stands and step, and as a step is fired. No
      * receipt is made: a look isn't in the journal.
      */
-    public int follow() {
+    @Override
+    public long follow() {
         synchronized (slot) {
             expect(Calls.asm_follow(slot.at, room.numbers()));
             return room.number(0);
@@ -407,13 +285,11 @@ public final class Agent implements AutoCloseable {
     }
 
     /** The same of any number of locations as objects. */
+    @Override
     public Reading peek(List<Location> locations) {
         List<Location> copy = Copies.of(locations, "locations");
         return JsonReader.reading(peek(JsonWriter.locations(copy)), copy);
     }
-
-    /** The value of a prepared location after so many moves. */
-    public record Peeked(int number, Value value) {}
 
     /** The same of a prepared location. */
     public Peeked peek(PreparedLocation location) {
@@ -446,6 +322,7 @@ public final class Agent implements AutoCloseable {
     }
 
     /** The agent's own state, in ascending order of locations, without a look or a receipt. */
+    @Override
     public State state() {
         synchronized (slot) {
             Calls.Told told = room.told(
@@ -461,6 +338,7 @@ public final class Agent implements AutoCloseable {
      * doesn't notice that a further one is written later; one that rests on the scan does, as a step
      * that scans.
      */
+    @Override
     public State scan(String name) {
         byte[] bytes = Texts.utf8(name, "name");
         synchronized (slot) {
@@ -548,14 +426,16 @@ public final class Agent implements AutoCloseable {
     }
 
     /** How many moves it has seen. */
-    public int seen() {
+    @Override
+    public long seen() {
         synchronized (slot) {
             return Calls.asm_seen(slot.at);
         }
     }
 
     /** How many moves it fired. */
-    public int won() {
+    @Override
+    public long won() {
         synchronized (slot) {
             return Calls.asm_won(slot.at);
         }

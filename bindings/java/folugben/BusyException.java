@@ -5,11 +5,11 @@ public final class BusyException extends RetryException {
     private static final long serialVersionUID = 1;
 
     /** How many moves the agent had seen at the start of the call. */
-    private final int from;
+    private final long from;
     /** How many at its end. */
-    private final int to;
+    private final long to;
 
-    BusyException(int from, int to) {
+    BusyException(long from, long to) {
         super(BUSY, 0, "",
                 "the agent had seen " + from + " moves at the start of the call and " + to
                         + " at its end",
@@ -19,12 +19,12 @@ public final class BusyException extends RetryException {
     }
 
     /** How many moves the agent had seen at the start of the call. */
-    public int from() {
+    public long from() {
         return from;
     }
 
     /** How many at its end. */
-    public int to() {
+    public long to() {
         return to;
     }
 }

@@ -1,20 +1,16 @@
 package folugben;
 
 import com.sun.jna.Native;
-import com.sun.jna.NativeLibrary;
 
 import java.io.IOException;
-import java.nio.charset.Charset;
 import java.nio.file.FileSystemException;
 import java.nio.file.Files;
 import java.nio.file.LinkOption;
-import java.nio.file.NoSuchFileException;
 import java.nio.file.Path;
 import java.nio.file.StandardOpenOption;
 import java.nio.file.attribute.BasicFileAttributes;
 import java.nio.file.attribute.FileAttribute;
 import java.nio.file.attribute.PosixFilePermissions;
-import java.util.Arrays;
 import java.util.Set;
 
 /**
@@ -27,10 +23,7 @@ final class FileGuard implements AutoCloseable {
     static final FileAttribute<?> OWN =
             PosixFilePermissions.asFileAttribute(PosixFilePermissions.fromString("rw-------"));
 
-    private static final int READ_AND_WRITE_CLOSED_BY_EXEC = 0x80002;
     private static final int EXCLUSIVE_AT_ONCE = 6;
-    private static final int IS_NOT_THERE = 2;
-    private static final int WOULD_WAIT = 11;
 
     private final Path path;
     private final Object key;
@@ -46,14 +39,9 @@ final class FileGuard implements AutoCloseable {
         this.path = path;
         Files.newByteChannel(path, Set.of(StandardOpenOption.WRITE, StandardOpenOption.CREATE,
                                            LinkOption.NOFOLLOW_LINKS), OWN).close();
-        byte[] name = path.toAbsolutePath().toString().getBytes(
-                Charset.forName(System.getProperty("sun.jnu.encoding", "UTF-8")));
-        byte[] ended = Arrays.copyOf(name, name.length + 1);
-        descriptor = call("open", ended, READ_AND_WRITE_CLOSED_BY_EXEC);
-        if (descriptor < 0)
-            throw fault();
+        descriptor = Posix.open(path, Posix.READ_AND_WRITE);
         try {
-            if (call("flock", descriptor, EXCLUSIVE_AT_ONCE) != 0)
+            if (Posix.call("flock", descriptor, EXCLUSIVE_AT_ONCE) != 0)
                 throw fault();
             // That of the open file, whatever its name leads to by now.
             key = Files.readAttributes(Path.of("/proc/self/fd/" + descriptor),
@@ -64,19 +52,12 @@ final class FileGuard implements AutoCloseable {
         }
     }
 
-    private static int call(String name, Object... words) {
-        return NativeLibrary.getInstance("c").getFunction(name).invokeInt(words);
-    }
-
     private IOException fault() {
         int number = Native.getLastError();
-        return switch (number) {
-            case IS_NOT_THERE -> new NoSuchFileException(path.toString());
-            case WOULD_WAIT -> new FileSystemException(
-                    path.getParent().toString(), null, "another run is at work in the folder");
-            default -> new FileSystemException(
-                    path.toString(), null, "it can't be locked (errno " + number + ")");
-        };
+        return number == Posix.WOULD_WAIT
+                ? new FileSystemException(path.getParent().toString(), null,
+                        "another run is at work in the folder")
+                : Posix.fault(path, "locked", number);
     }
 
     /** What tells the locked file from all others. */
@@ -87,7 +68,7 @@ final class FileGuard implements AutoCloseable {
     @Override
     public void close() {
         if (descriptor >= 0)
-            call("close", descriptor);
+            Posix.call("close", descriptor);
         descriptor = -1;
     }
 }

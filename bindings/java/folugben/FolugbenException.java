@@ -98,12 +98,12 @@ public sealed class FolugbenException extends RuntimeException
     }
 
     /** The exception of named reads of which one has a number above what the agent has seen. */
-    static FolugbenException ahead(String reads, int seen) {
+    static FolugbenException ahead(String reads, long seen) {
         return ahead(reads, "[]", seen);
     }
 
     /** The same of named reads and scans. */
-    static FolugbenException ahead(String reads, String scans, int seen) {
+    static FolugbenException ahead(String reads, String scans, long seen) {
         int place = 0;
         for (JsonReader.Read read : JsonReader.reads(reads)) {
             place++;
@@ -119,7 +119,7 @@ public sealed class FolugbenException extends RuntimeException
         return of(RANGE, 0, "", "");
     }
 
-    private static FolugbenException ahead(String what, long number, int seen) {
+    private static FolugbenException ahead(String what, long number, long seen) {
         return of(RANGE, 0,
                 what + " is named at " + number + ", and the agent has seen " + seen, "");
     }
@@ -295,6 +295,11 @@ public sealed class FolugbenException extends RuntimeException
     /** The exception for a number that an agent has or had. */
     static FolugbenException numberTaken(int agent) {
         return of(NUMBER, 0, "agent " + agent, "");
+    }
+
+    /** The exception for a number that an agent of another process has. */
+    static FolugbenException numberHeld(int agent) {
+        return of(NUMBER, 0, "agent " + agent + " is in use by another process", "");
     }
 
     /** The exception for a journal that lacks a move, with what is said of the agents. */

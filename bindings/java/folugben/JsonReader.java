@@ -92,7 +92,7 @@ final class JsonReader {
     static Reading reading(String answer, List<Location> locations) {
         return parsed(answer, "reading", reader -> {
             reader.key("number");
-            int number = Math.toIntExact(reader.number());
+            long number = reader.number();
             reader.nextKey("values");
             List<Value> values = reader.list(JsonReader::value);
             reader.end(JsonToken.END_OBJECT);
@@ -110,7 +110,7 @@ final class JsonReader {
             reader.end(JsonToken.END_OBJECT);
             return new Step.Offer(fire,
                     reads.stream()
-                            .map(it -> new Named(it.location(), Math.toIntExact(it.number())))
+                            .map(it -> new Named(it.location(), it.number()))
                             .toList());
         });
     }

@@ -1,5 +1,7 @@
 package folugben;
 
+import java.util.Locale;
+
 /**
  * An amount or a sum of composed updates is too large; or there are more calls than the
  * 4,294,967,295 that a journal holds; or what a run does would make a line of its journal that is
@@ -12,10 +14,11 @@ public final class LargeException extends FolugbenException {
         super(LARGE, 0, said, "", answer);
     }
 
-    /** Of a line of so many bytes. */
-    static LargeException line(long length) {
-        return new LargeException(
-                "a line of " + length + " bytes, and an audit reads 16,777,216", null);
+    /** Of a line of so many bytes, which something would make. */
+    static LargeException line(String what, long length) {
+        return new LargeException(String.format(Locale.ROOT,
+                "%s would make a line of about %,d bytes, and an audit reads %,d", what, length,
+                Lines.LIMIT), null);
     }
 
     /** The location of the updates; null of a journal or a line. */

@@ -8,6 +8,10 @@ public final class ManyException extends FolugbenException {
     private static final long serialVersionUID = 1;
 
     ManyException() {
-        super(MANY, 0, "", "", null);
+        this("");
+    }
+
+    ManyException(String said) {
+        super(MANY, 0, said, "", null);
     }
 }

@@ -7,11 +7,11 @@ package folugben;
  *
  * <p>Its lock is taken after that of an agent of the run, and before those of slots.
  */
-final class Part {
+final class Part implements Chained {
     /** Its number among the segments, from 0. */
     final long number;
     /** How many moves the parts before it have. */
-    final long before;
+    private final long before;
     final Storage storage;
     final int capacity;
 
@@ -93,7 +93,8 @@ final class Part {
     }
 
     /** Whether no agent is taken in it any more. */
-    boolean isOver() {
+    @Override
+    public boolean isOver() {
         return isOver;
     }
 
@@ -108,12 +109,19 @@ final class Part {
     }
 
     /** Has whoever waits for the agents of a part that is over look again. */
-    void endStep() {
+    @Override
+    public void endStep() {
         if (isOver)
             run.wake();
     }
 
-    void expectGoing() {
+    @Override
+    public void expectGoing() {
         run.expectGoing();
+    }
+
+    @Override
+    public long before() {
+        return before;
     }
 }

@@ -16,10 +16,10 @@ public final class PartException extends RetryException {
         return new PartException(FULL, "the run goes on in its next part");
     }
 
-    /** Of numbers of one part in another. */
-    static PartException apart(long seen, long now) {
-        return new PartException(MOVED,
-                "what was looked at is of part " + seen + " of the run, and the agent is in part "
-                        + now);
+    /** Of a number of a part that is over. */
+    static PartException past(Named read, long begin) {
+        return new PartException(RANGE,
+                read.location() + " is named at " + read.number() + ", and that part has ended at "
+                        + begin + ", so read again");
     }
 }

@@ -13,8 +13,6 @@ final class PartWriter {
     private static final int BEHIND = 1;
     /** How long an agent may stay, in ms, in a step of a part that is full, or ends at rest. */
     private static final long PATIENCE = 100;
-    /** How many bytes a line may have, its line feed apart: what an audit reads. */
-    private static final int LINE = 16_777_216;
 
     private final Run run;
     private final RunFolder folder;
@@ -36,7 +34,7 @@ final class PartWriter {
         this.folder = folder;
         head = first;
         parts = first.number;
-        saved = first.before;
+        saved = first.before();
         thread.setDaemon(true);
     }
 
@@ -173,8 +171,8 @@ final class PartWriter {
 
     private void add(Part whole, ByteBuffer journal, long events) throws IOException {
         Part next = whole.next();
-        long end = next == null ? whole.before + whole.storage.moves() : next.before;
-        folder.save(journal.duplicate(), end - whole.before, events);
+        long end = next == null ? whole.before() + whole.storage.moves() : next.before();
+        folder.save(journal.duplicate(), end - whole.before(), events);
         saved = end;
         parts++;
     }
@@ -186,8 +184,8 @@ final class PartWriter {
         for (int at = 0; at < journal.limit(); at++) {
             if (journal.get(at) != '\n')
                 continue;
-            if (at - begin > LINE)
-                throw LargeException.line(at - begin);
+            if (at - begin > Lines.LIMIT)
+                throw LargeException.line("what was done", at - begin);
             begin = at + 1;
             lines++;
         }

@@ -3,7 +3,7 @@ package folugben;
 import java.util.List;
 
 /** The values of locations, in the order in which these were passed, after so many moves. */
-public record Reading(int number, List<Location> locations, List<Value> values) {
+public record Reading(long number, List<Location> locations, List<Value> values) {
     /** Copies of both, which are of one length. */
     public Reading {
         locations = Copies.of(locations, "locations");
@@ -23,6 +23,11 @@ public record Reading(int number, List<Location> locations, List<Value> values) 
         if (at < 0)
             throw new IllegalArgumentException("not read: " + location);
         return values.get(at);
+    }
+
+    /** The same at a number that counts so many moves more. */
+    Reading plus(long before) {
+        return before == 0 ? this : new Reading(number + before, locations, values);
     }
 
     /** The locations with the number: what a fire names that rests on all of them. */

@@ -1,8 +1,6 @@
 package folugben;
 
-import java.util.ArrayList;
 import java.util.List;
-import java.util.Objects;
 import java.util.function.Function;
 
 /**
@@ -10,7 +8,7 @@ import java.util.function.Function;
  * have no two steps of one agent under way at once, as the first ends where the second goes on in
  * the next part. Within a step, wait for no other agent.
  */
-public final class RunAgent implements AutoCloseable {
+public final class RunAgent implements Actor {
     private final Run run;
     private final int number;
 
@@ -32,51 +30,9 @@ public final class RunAgent implements AutoCloseable {
     }
 
     /** Its number among the agents of the run. */
+    @Override
     public int number() {
         return number;
-    }
-
-    /**
-     * The part and the number of the move in it that was fired, from 1 up, and what the rule told.
-     */
-    public record Played<T>(long part, int move, T told) {}
-
-    /** What was looked at: the values of locations after so many moves of a part. */
-    public record Look(long part, Reading reading) {
-        /** Both. */
-        public Look {
-            Objects.requireNonNull(reading, "reading");
-        }
-
-        /** The value of the location, which was looked at. */
-        public Value value(Location location) {
-            return reading.value(location);
-        }
-    }
-
-    /**
-     * Plays the rule on a step and fires it, and begins anew where other agents were quicker or the
-     * part is full, as {@link Agent#play} does.
-     *
-     * @throws RunException if a part of the run couldn't be written
-     */
-    public <T> Played<T> play(Agent.Rule<T> rule) {
-        Objects.requireNonNull(rule, "rule");
-        for (int tries = 0;; tries++) {
-            try (Step step = step()) {
-                Part in = step.agent().part();
-                try {
-                    T told = rule.play(step);
-                    Agent.Reply reply = step.tryFire();
-                    if (!reply.shouldRetry())
-                        return new Played<>(in.number, reply.orThrow(), told);
-                } catch (PartException over) {
-                    if (!in.isOver())
-                        throw over;
-                }
-            }
-            Agent.backOff(tries);
-        }
     }
 
     /**
@@ -88,69 +44,75 @@ public final class RunAgent implements AutoCloseable {
      *
      * @throws RunException if a part of the run couldn't be written
      */
+    @Override
     public Step step() {
         Interleave.turn();
         return whereOpen(agent -> {
             isByTurns = Interleave.isPlayed();
             Step step = agent.begin();
-            if (step.number() < part.capacity && !part.isOverWith(step.number()))
+            if (step.own() < part.capacity && !part.isOverWith(step.own()))
                 return step;
             step.close();
-            if (step.number() == part.capacity)
+            if (step.own() == part.capacity)
                 part.passOn(agent);
             return null;
         });
     }
 
     /**
-     * The values of the locations, at most 256, as they are after all moves that are found. No
-     * receipt is made: a look isn't in the journal.
+     * The values of the locations, any number of them, as they are after all moves that are found.
+     * No receipt is made: a look isn't in the journal.
      */
-    public Look look(List<Location> locations) {
+    @Override
+    public Reading peek(List<Location> locations) {
         List<Location> copy = Copies.of(locations, "locations");
         return whereOpen(agent -> {
             agent.follow();
-            return new Look(part.number, agent.peek(copy));
+            return agent.peek(copy).plus(part.before());
         });
     }
 
-    /**
-     * All locations that aren't empty with their values, as look tells some; its number is of the
-     * moves of the part.
-     */
-    public Agent.State state() {
+    /** All locations that aren't empty with their values, as peek tells some. */
+    @Override
+    public State state() {
         return whereOpen(agent -> {
             agent.follow();
-            return agent.state();
+            return ofRun(agent.state());
         });
     }
 
     /** The same of the locations of one function name alone. */
-    public Agent.State scan(String name) {
+    @Override
+    public State scan(String name) {
         return whereOpen(agent -> {
             agent.follow();
-            return agent.scan(name);
+            return ofRun(agent.scan(name));
         });
     }
 
+    private State ofRun(State state) {
+        return new State(part.before() + state.number(), state.pairs());
+    }
+
     /**
-     * Fires the instructions, at most 4,096, which rest on what was looked at, of at most 256
-     * locations; the part and the number of the move.
+     * Fires the instructions, at most 4,096, which rest on the reads, at most 256, with the numbers
+     * of the moves that they were read after; the number of the move.
      *
-     * @throws FolugbenException as a {@link PartException} where something was looked at in a part
-     *         that is over: look again; as a {@link StaleException}, {@link BusyException} or {@link
-     *         ClashException}; as a {@link ManyException}
+     * @throws FolugbenException as a {@link PartException} where something was read in a part that
+     *         is over: read again; as a {@link StaleException}, {@link BusyException} or {@link
+     *         ClashException}; as a {@link ManyException}; RANGE if a number is above that of the
+     *         moves that the agent has seen
      * @throws RunException if a part of the run couldn't be written
      */
-    public Played<List<Look>> fire(List<? extends Instruction> instructions, List<Look> looks) {
-        List<Look> rests = Copies.of(looks, "looks");
+    public long fire(List<? extends Instruction> instructions, List<Named> reads) {
+        List<Named> rests = Copies.of(reads, "reads");
         List<Instruction> move = Copies.of(instructions, "instructions");
         return whereOpen(agent -> {
-            if (part.isOverWith(agent.seen()))
+            if (part.isOverWith((int) agent.seen()))
                 return null;
-            Agent.Reply reply = agent.tryFire(move, named(rests));
+            Reply reply = agent.tryFire(move, named(rests));
             if (reply.code() != FolugbenException.FULL)
-                return new Played<>(part.number, reply.orThrow(), rests);
+                return reply.orThrow();
             agent.follow();
             part.passOn(agent);
             return null;
@@ -158,14 +120,16 @@ public final class RunAgent implements AutoCloseable {
     }
 
     /** What a fire names in the part that it is in, with the lock. */
-    private List<Named> named(List<Look> looks) {
-        List<Named> named = new ArrayList<>();
-        for (Look look : looks) {
-            if (look.part() != part.number)
-                throw PartException.apart(look.part(), part.number);
-            named.addAll(look.reading().named());
+    private List<Named> named(List<Named> reads) {
+        long before = part.before();
+        long seen = before + own.seen();
+        for (Named it : reads) {
+            if (it.number() < before)
+                throw PartException.past(it, before);
+            if (it.number() > seen)
+                throw FolugbenException.ahead(JsonWriter.reads(reads), seen);
         }
-        return named;
+        return reads.stream().map(it -> it.plus(-before)).toList();
     }
 
     /**
@@ -258,6 +222,7 @@ public final class RunAgent implements AutoCloseable {
     }
 
     /** How many moves it fired, in all parts since it was made. */
+    @Override
     public long won() {
         synchronized (lock) {
             return own == null ? won : won + own.won();
@@ -265,8 +230,14 @@ public final class RunAgent implements AutoCloseable {
     }
 
     /** Looks on; how many moves of all parts it has then seen, of this run and those it resumes. */
+    @Override
     public long follow() {
-        return whereOpen(agent -> part.before + agent.follow());
+        return whereOpen(agent -> part.before() + agent.follow());
+    }
+
+    @Override
+    public long seen() {
+        return whereOpen(agent -> part.before() + agent.seen());
     }
 
     boolean isClosed() {

@@ -90,12 +90,17 @@ final class RunFolder implements AutoCloseable {
         }
     }
 
-    /** Where a path leads to, be it there or not. */
-    static Path real(Path path) throws IOException {
+    /** Where the path of a run's folder leads to, be it there or not. */
+    private static Path real(Path path) throws IOException {
         if (Files.isRegularFile(path))
             throw new FileSystemException(path.toString(), null,
                     "a run is a folder; a run of version 0.2, one file, is imported by: python -m"
                             + " folugben import");
+        return reached(path);
+    }
+
+    /** Where a path leads to, be it there or not. */
+    static Path reached(Path path) throws IOException {
         if (Files.exists(path))
             return path.toRealPath();
         Path whole = path.toAbsolutePath();
@@ -116,7 +121,8 @@ final class RunFolder implements AutoCloseable {
         }
     }
 
-    private static void force(Path folder) throws IOException {
+    /** Flushes the names in a folder. */
+    static void force(Path folder) throws IOException {
         try (FileChannel opened = FileChannel.open(folder, StandardOpenOption.READ)) {
             opened.force(true);
         }

@@ -7,7 +7,7 @@ import java.util.Objects;
  * that have a value and those that have none: a move that rests on it is fired only if none of them
  * was written since.
  */
-public record Scanned(String name, int number) {
+public record Scanned(String name, long number) {
     /** Both, if the number is 0 or more. */
     public Scanned {
         Objects.requireNonNull(name, "name");

@@ -34,8 +34,13 @@ record Segment(long number, long first, long moves, long events, String digest) 
             "([0-9]{8})-(0|[1-9][0-9]{0,17})-(0|[1-9][0-9]{0,17})-([0-9a-f]{64})\\.journal");
 
     /** Takes a piece of a text. */
-    private interface Sink {
+    interface Sink {
         void take(byte[] piece, int length);
+    }
+
+    /** What gives its text, piece by piece. */
+    interface Source {
+        void give(Sink sink) throws IOException;
     }
 
     /** The name of its file. */
@@ -57,7 +62,7 @@ record Segment(long number, long first, long moves, long events, String digest) 
     }
 
     /** The digest of all that comes before its text. */
-    private MessageDigest begun(String previous, long length) {
+    MessageDigest begun(String previous, long length) {
         String line = previous + " " + number + " " + first + " " + moves + " " + events + " " + length;
         try {
             MessageDigest digest = MessageDigest.getInstance("SHA-256");
@@ -68,7 +73,7 @@ record Segment(long number, long first, long moves, long events, String digest) 
         }
     }
 
-    private static String hex(MessageDigest digest) {
+    static String hex(MessageDigest digest) {
         return HexFormat.of().formatHex(digest.digest());
     }
 
@@ -115,11 +120,16 @@ record Segment(long number, long first, long moves, long events, String digest) 
      * @throws AuditException if its text isn't legal
      */
     void audit(Path folder, Segment before, Auditor auditor) throws IOException {
-        read(folder, before.digest, (piece, length) -> {}); // the digest comes first
+        audit(sink -> read(folder, before.digest, sink), auditor);
+    }
+
+    /** The same of what a source gives, which checks the digest. */
+    void audit(Source source, Auditor auditor) throws IOException {
+        source.give((piece, length) -> {}); // the digest comes first
         Auditor.Counts all = auditor.counts();
         Auditor.Counts told;
         try {
-            read(folder, before.digest, (piece, length) -> auditor.feed(piece, 0, length));
+            source.give((piece, length) -> auditor.feed(piece, 0, length));
             told = auditor.end();
         } catch (AuditException fault) {
             throw new AuditException(fault.code(), number, fault.number());

@@ -26,12 +26,13 @@ import java.util.SortedMap;
  * and stands, and in another step that begins or fires, getting and pushing throw MOVED: begin
  * another step. Nothing is released by the garbage collector; call close().
  */
-public final class Step implements AutoCloseable {
+public sealed class Step implements AutoCloseable permits SharedStep {
     private static final byte[] NO_INSTRUCTIONS = {'[', ']'};
 
     private final Agent agent;
     private final Room room;
     private final int number;
+    private final long before;
 
     /** The step's slot, until the step is over: the agent then has it for another. */
     private final AgentSlot.StepSlot slot;
@@ -45,6 +46,7 @@ public final class Step implements AutoCloseable {
         try {
             agent.expect(Calls.asm_begin(agent.slot.at, slot.at, room.numbers()));
             number = room.number(0);
+            before = agent.before();
             isBegun = true;
         } finally {
             if (!isBegun)
@@ -52,7 +54,7 @@ public final class Step implements AutoCloseable {
         }
     }
 
-    private void end() {
+    void end() {
         agent.slot.giveStep(slot, this);
         agent.endStep();
     }
@@ -69,14 +71,24 @@ public final class Step implements AutoCloseable {
         return slot;
     }
 
-    /** The number of moves that its state is after. */
-    public int number() {
+    /** The number of moves that its state is after: of a run all of its moves. */
+    public long number() {
+        return before() + number;
+    }
+
+    /** How many moves of the run come before those of its storage. */
+    long before() {
+        return before;
+    }
+
+    /** The number of moves of its storage that its state is after. */
+    int own() {
         return number;
     }
 
-    /** The agent that began it. */
-    Agent agent() {
-        return agent;
+    /** Whether its agent, if that is one of a run, has to go on to another part. */
+    boolean isPast() {
+        return agent.isPast();
     }
 
     /** A call on an agent and a step that is passed a text and tells one. */
@@ -240,7 +252,7 @@ public final class Step implements AutoCloseable {
     public Agent.State scan(String name) {
         Calls.Told told = told(Calls::asm_get_all, Texts.utf8(name, "name"));
         FolugbenException.expect(told.code());
-        return new Agent.State(number, told.text());
+        return new Agent.State(number(), told.text());
     }
 
     /** The values of such a scan: the locations with their values, in ascending order. */
@@ -399,14 +411,19 @@ public final class Step implements AutoCloseable {
             fire = Copies.of(fire, "fire");
             reads = Copies.of(reads, "reads");
         }
+
+        /** The same with numbers that count so many moves more. */
+        private Offer plus(long before) {
+            return new Offer(fire, reads.stream().map(it -> it.plus(before)).toList());
+        }
     }
 
     /** What a fire would offer by now. */
     public Offer offer() {
-        return JsonReader.offer(offerText());
+        return JsonReader.offer(offerText()).plus(before());
     }
 
-    /** The same as the text {"fire":[INSTR, ..],"reads":[NAMED, ..]}. */
+    /** The same as the text {"fire":[INSTR, ..],"reads":[NAMED, ..]}, with numbers of its storage. */
     public String offerText() {
         synchronized (agent.slot) {
             long step = slot().at;
@@ -451,7 +468,7 @@ public final class Step implements AutoCloseable {
      *         ClashException} where another step is to be begun, as {@link Agent#play} does; as a
      *         {@link FullException} or {@link ManyException}
      */
-    public int fire() {
+    public long fire() {
         return tryFire().orThrow();
     }
 

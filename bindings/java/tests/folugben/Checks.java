@@ -5,7 +5,9 @@ final class Checks {
     private Checks() {}
 
     static void equal(Object told, Object wanted) {
-        if (!told.equals(wanted))
+        boolean areNumbers = told instanceof Number && wanted instanceof Number;
+        if (areNumbers ? ((Number) told).longValue() != ((Number) wanted).longValue()
+                       : !told.equals(wanted))
             throw new IllegalStateException("told " + told + ", wanted " + wanted);
     }
 

@@ -259,9 +259,7 @@ final class ResumeTests {
     private static String python(Path path, int steps) throws IOException {
         ProcessBuilder builder = new ProcessBuilder(
                 "python3", "-c", PYTHON, path.toString(), String.valueOf(steps));
-        builder.environment().put("PYTHONPATH", System.getProperty("folugben.python"));
-        builder.environment().put("FOLUGBEN_LIBRARY",
-                Path.of(System.getProperty("jna.library.path"), "libfolugben.so").toString());
+        OtherProcess.forPython(builder);
         Process process = builder.redirectError(ProcessBuilder.Redirect.INHERIT).start();
         return new String(process.getInputStream().readAllBytes(), StandardCharsets.UTF_8);
     }

@@ -82,7 +82,7 @@ final class RunEndTests {
         toldByAll(run, told, List.of(agent));
         equal(RunTests.counted(path, 4), new Auditor.Counts(3, 4, 4));
         try (Run again = Run.resume(path, 2); RunAgent other = again.agent(0)) {
-            equal(RunTests.count(other), new RunAgent.Played<>(3, 1, 4L));
+            equal(RunTests.count(other), new RunAgent.Played<>(5, 4L, 0));
         }
         equal(RunTests.counted(path, 5), new Auditor.Counts(4, 5, 5));
     }

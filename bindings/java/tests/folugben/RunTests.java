@@ -95,11 +95,14 @@ final class RunTests {
     private static void agentsGoOn(Path path) throws Exception {
         try (Run run = open(path, 3); RunAgent agent = run.agent(0)) {
             for (int i = 0; i < 10; i++) {
-                equal(count(agent), new RunAgent.Played<>(1 + i / 3, i % 3 + 1, (long) i));
+                equal(count(agent), new RunAgent.Played<>(i + 1, (long) i, 0));
                 equal(agent.won(), i + 1L);
             }
             equal(agent.follow(), 10L);
-            equal(agent.look(List.of(COUNT)).value(COUNT), Element.of(10));
+            equal(agent.peek(List.of(COUNT)),
+                    new Reading(10, List.of(COUNT), List.of(Element.of(10))));
+            equal(agent.seen(), 10L);
+            equal(agent.state().number(), 10L);
             equal(agent.state().values(), Map.of(COUNT, Element.of(10)));
             equal(agent.scan("count").values(), Map.of(COUNT, Element.of(10)));
             equal(agent.scan("other").values(), Map.of());
@@ -187,7 +190,7 @@ final class RunTests {
                 step.push(up());
                 isFull(step.tryFire());
             }
-            equal(count(slow), new RunAgent.Played<>(2, 2, 4L));
+            equal(count(slow), new RunAgent.Played<>(5, 4L, 0));
             try (Step step = slow.step()) {
                 step.push(up());
                 for (int i = 0; i < 12; i++) count(agent);
@@ -217,11 +220,14 @@ final class RunTests {
     /** No step and no number goes on in another part than its own. */
     private static void partsAreApart(Path path) {
         try (Run run = open(path, 2); RunAgent slow = run.agent(0); RunAgent agent = run.agent(1)) {
-            RunAgent.Look look = slow.look(List.of(COUNT));
-            equal(slow.fire(List.of(Instruction.put(COUNT, 1)), List.of(look)).move(), 1);
+            List<Named> first = slow.peek(List.of(COUNT)).named();
+            equal(slow.fire(List.of(Instruction.put(COUNT, 1)), first), 1L);
             refused(FolugbenException.STALE,
-                    () -> slow.fire(List.of(Instruction.put(COUNT, 9)), List.of(look)));
-            RunAgent.Look old = slow.look(List.of(COUNT));
+                    () -> slow.fire(List.of(Instruction.put(COUNT, 9)), first));
+            List<Named> old = slow.peek(List.of(COUNT)).named();
+            equal(old, List.of(new Named(COUNT, 1)));
+            refused(FolugbenException.RANGE,
+                    () -> slow.fire(List.of(up()), List.of(new Named(COUNT, 2))));
             try (Step step = slow.step()) {
                 step.push(up());
                 count(agent);
@@ -229,21 +235,22 @@ final class RunTests {
                 FolugbenException told = refused(FolugbenException.FULL, step::fire);
                 equal(told instanceof PartException && told instanceof RetryException, true);
                 try (Step next = slow.step()) {
-                    equal(next.number(), 1);
+                    equal(next.number(), 3L);
                     equal(next.get(COUNT), Element.of(3));
                     refused(FolugbenException.FULL, () -> step.get(COUNT));
                     refused(FolugbenException.FULL, step::fire);
                 }
             }
-            equal(look.part(), 1L);
-            FolugbenException told = refused(FolugbenException.MOVED,
-                    () -> slow.fire(List.of(Instruction.put(COUNT, 9)), List.of(old)));
+            FolugbenException told = refused(FolugbenException.RANGE,
+                    () -> slow.fire(List.of(Instruction.put(COUNT, 9)), old));
             equal(told instanceof PartException, true);
-            equal(told.getMessage().contains(
-                          "looked at is of part 1 of the run, and the agent is in part 2"),
+            equal(told.getMessage().endsWith(
+                          "count is named at 1, and that part has ended at 2, so read again"),
                     true);
-            equal(slow.fire(List.of(up()), List.of()), new RunAgent.Played<>(2, 2, List.of()));
-            equal(slow.fire(List.of(up()), List.of()), new RunAgent.Played<>(3, 1, List.of()));
+            equal(slow.fire(List.of(up()), List.of()), 4L);
+            equal(slow.fire(List.of(up()), List.of()), 5L);
+            List<Named> now = slow.peek(List.of(COUNT)).named();
+            equal(slow.fire(List.of(Instruction.put(COUNT, 9)), now), 6L);
         }
     }
 
@@ -263,14 +270,14 @@ final class RunTests {
             Step open = rival.step();
             CountDownLatch isDone = new CountDownLatch(1);
             Thread thread = new Thread(() -> {
-                equal(count(agent), new RunAgent.Played<>(2, 1, 4L));
+                equal(count(agent).told(), 4L);
                 isDone.countDown();
             });
             thread.start();
             isFired = firesInTime(open);
             isDone.await();
             equal(run.parts() <= 2, true);
-            equal(count(idle).part(), 2L);
+            count(idle);
         }
         equal(counted(path, 6), new Auditor.Counts(3, isFired ? 10 : 9, isFired ? 7 : 6));
     }
@@ -296,8 +303,8 @@ final class RunTests {
             Step step = lasting.step();
             step.push(up());
             for (int i = 0; i < 3; i++) count(agent);
-            equal(agent.fire(List.of(up()), List.of()).part(), 1L);
-            equal(count(agent), new RunAgent.Played<>(2, 1, 4L));
+            equal(agent.fire(List.of(up()), List.of()), 4L);
+            equal(count(agent), new RunAgent.Played<>(5, 4L, 0));
             equal(refused(FolugbenException.FULL, () -> step.get(COUNT)) instanceof PartException,
                     true);
             isFull(step.tryFire());
@@ -332,7 +339,7 @@ final class RunTests {
             try (RunAgent again = run.agent(7)) {
                 equal(again.won(), 0L);
                 for (int i = 1; i < 5; i++)
-                    equal(count(again), new RunAgent.Played<>(1 + i / 3, i % 3 + 1, (long) i));
+                    equal(count(again), new RunAgent.Played<>(i + 1, (long) i, 0));
                 equal(again.won(), 4L);
             }
         }
@@ -375,9 +382,9 @@ final class RunTests {
         equal(Files.exists(path), false);
         try (Run run = open(path, 5); RunAgent agent = run.agent(0)) {
             thrown(kind, "rule", () -> agent.play(null));
-            thrown(kind, "looks[0] is null",
+            thrown(kind, "reads[0] is null",
                     () -> agent.fire(List.of(), Collections.singletonList(null)));
-            thrown(kind, "locations", () -> agent.look(null));
+            thrown(kind, "locations", () -> agent.peek(null));
             thrown(IllegalStateException.class, "no", () -> agent.play(step -> {
                 step.push(up());
                 throw new IllegalStateException("no");

@@ -27,7 +27,7 @@ final class ScopeTests {
         return Instruction.put(COUNT, value);
     }
 
-    private static int put(Agent agent, long value) {
+    private static long put(Agent agent, long value) {
         return agent.fire(List.of(put(value)), List.of());
     }
 
@@ -42,7 +42,7 @@ final class ScopeTests {
                 step.push(put(seen + 1));
                 return seen;
             });
-            equal(played, new Agent.Played<>(12, 110L));
+            equal(played, new Agent.Played<>(12, 110L, 11));
             equal(tries.size(), 12);
             thrown(IllegalStateException.class, "no", () -> agent.play(step -> {
                 step.push(put(5));

@@ -61,7 +61,7 @@ final class StepTests {
     static void scans() {
         try (Storage storage = new Storage(INIT, 8); Agent agent = storage.agent(0);
                 Agent rival = storage.agent(1)) {
-            int number = agent.scan("y").number();
+            long number = agent.scan("y").number();
             List<Scanned> scans = List.of(new Scanned("z", 0), new Scanned("y", number));
             Instruction move = Instruction.inc(Location.of("x"), 1);
             equal(agent.fire(List.of(move), List.of(), scans), 1);

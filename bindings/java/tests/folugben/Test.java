@@ -229,5 +229,6 @@ public final class Test {
         RunTests.all();
         RunEndTests.all();
         ResumeTests.all();
+        SharedTests.all();
     }
 }

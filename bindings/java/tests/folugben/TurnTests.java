@@ -57,15 +57,15 @@ final class TurnTests {
     private static String run(long seed, Transfer transfer) {
         try (Storage storage = Storage.open(opening(), 1000)) {
             List<Agent> agents = List.of(storage.agent(0), storage.agent(1), storage.agent(2));
-            Interleave.Work<Agent, Integer> work = agent -> {
+            Interleave.Work<Agent, Long> work = agent -> {
                 for (int i = 0; i < 8; i++) {
                     int from = i + agent.number();
                     transfer.play(agent, account(from), account(from + 1 + i % 3));
                 }
                 return agent.won();
             };
-            List<Integer> won = Interleave.play(agents, Collections.nCopies(3, work), seed);
-            equal(won.stream().mapToInt(Integer::intValue).sum(), storage.moves());
+            List<Long> won = Interleave.play(agents, Collections.nCopies(3, work), seed);
+            equal(won.stream().mapToLong(Long::longValue).sum(), storage.moves());
             agents.forEach(Agent::close);
             return storage.closeJournal();
         }

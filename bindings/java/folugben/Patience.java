@@ -1,0 +1,35 @@
+package folugben;
+
+import java.util.concurrent.TimeUnit;
+import java.util.concurrent.locks.LockSupport;
+
+/** Waits that no interruption cuts short. */
+final class Patience {
+    private Patience() {}
+
+    /** Rests for so many ms. */
+    static void rest(long most) {
+        long end = System.nanoTime() + TimeUnit.MILLISECONDS.toNanos(most);
+        boolean isInterrupted = false;
+        for (long left; (left = end - System.nanoTime()) > 0;) {
+            LockSupport.parkNanos(left);
+            isInterrupted |= Thread.interrupted();
+        }
+        if (isInterrupted)
+            Thread.currentThread().interrupt();
+    }
+
+    /** Waits until a thread has ended. */
+    static void join(Thread thread) {
+        boolean isInterrupted = false;
+        while (true)
+            try {
+                thread.join();
+                if (isInterrupted)
+                    Thread.currentThread().interrupt();
+                return;
+            } catch (InterruptedException error) {
+                isInterrupted = true;
+            }
+    }
+}

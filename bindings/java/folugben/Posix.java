@@ -1,0 +1,48 @@
+package folugben;
+
+import com.sun.jna.Native;
+import com.sun.jna.NativeLibrary;
+
+import java.io.IOException;
+import java.nio.charset.Charset;
+import java.nio.file.FileSystemException;
+import java.nio.file.NoSuchFileException;
+import java.nio.file.Path;
+import java.util.Arrays;
+
+/** Calls of the system that Java doesn't have: locks that belong to an open file. */
+final class Posix {
+    /** The flags of open, which read and write, and close the file where another program begins. */
+    static final int READ_AND_WRITE = 0x80002;
+    /** Besides: a file is made where there is none, and no link is followed. */
+    static final int MADE_WITHOUT_LINKS = READ_AND_WRITE | 0x40 | 0x20000;
+    /** What errno is where a lock is another's. */
+    static final int WOULD_WAIT = 11;
+
+    private static final int IS_NOT_THERE = 2;
+    private static final int FOR_THE_OWNER = 0600;
+
+    private Posix() {}
+
+    static int call(String name, Object... words) {
+        return NativeLibrary.getInstance("c").getFunction(name).invokeInt(words);
+    }
+
+    /** The descriptor of a file that is opened. */
+    static int open(Path path, int flags) throws IOException {
+        byte[] name = path.toAbsolutePath().toString().getBytes(
+                Charset.forName(System.getProperty("sun.jnu.encoding", "UTF-8")));
+        int descriptor = call("open", Arrays.copyOf(name, name.length + 1), flags, FOR_THE_OWNER);
+        if (descriptor >= 0)
+            return descriptor;
+        int number = Native.getLastError();
+        throw number == IS_NOT_THERE ? new NoSuchFileException(path.toString())
+                                     : fault(path, "opened", number);
+    }
+
+    /** The exception of a call on a file that failed with this errno. */
+    static FileSystemException fault(Path path, String what, int number) {
+        return new FileSystemException(
+                path.toString(), null, "it can't be " + what + " (errno " + number + ")");
+    }
+}

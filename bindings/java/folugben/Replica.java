@@ -1,0 +1,160 @@
+package folugben;
+
+import java.io.IOException;
+import java.nio.ByteBuffer;
+import java.nio.charset.StandardCharsets;
+import java.util.ArrayList;
+import java.util.Arrays;
+import java.util.List;
+
+/**
+ * The state of a shared run up to a place of its log: a storage to which one agent fires the calls
+ * of the log, in their order. Equal calls in equal order have equal answers, so all replicas of a
+ * run agree on each answer, and on where a segment ends.
+ */
+final class Replica {
+    /** A segment ends after so many calls for each of its moves, as stale ones are kept too. */
+    private static final int CALLS = 2;
+
+    /** The answer to a call of this process: a reply, or the error that it was answered with. */
+    record Answer(Actor.Reply reply, FolugbenException error) {}
+
+    /** A segment that has ended, with its text and the place of its last call. */
+    record Ended(Segment segment, byte[] text, long place) {}
+
+    /** What a call came to: its answer, and what it has ended, each null where there is none. */
+    record Applied(Answer answer, Ended ended) {}
+
+    private final int moves;
+    private Segment segment;
+    private long applied;
+    private volatile Era era;
+    private int fired;
+
+    /** The replica behind a segment, which is checked. */
+    Replica(SharedLog log, SharedLog.Ended last) throws IOException {
+        moves = log.moves();
+        segment = last.segment();
+        applied = last.place();
+        try (Auditor auditor = new Auditor()) {
+            log.text(segment, last.before().digest(),
+                    (piece, length) -> auditor.feed(piece, 0, length));
+            auditor.end();
+            era = new Era(auditor.state(), segment.number() + 1, segment.end(), moves);
+        }
+    }
+
+    /** Its storage by now. */
+    Era era() {
+        return era;
+    }
+
+    /** The place of the last call that was applied. */
+    long applied() {
+        return applied;
+    }
+
+    /** Fires the call at the next place; of another process's call no answer is told. */
+    Applied apply(SharedLog.Placed next, boolean isOwn) {
+        SharedLog.Call call = next.call();
+        Answer answer = isOwn ? new Answer(past(), null) : null;
+        if (call.segment() == era.number)
+            answer = fire(call, isOwn);
+        applied = next.place();
+        boolean goesOn = fired < moves && era.events() < (long) CALLS * moves;
+        return new Applied(answer, goesOn ? null : end());
+    }
+
+    /** The reply to a call whose segment had ended. */
+    private static Actor.Reply past() {
+        return new Actor.Reply(FolugbenException.FULL, 0, 0, 0, null, true, true);
+    }
+
+    private Answer fire(SharedLog.Call call, boolean isOwn) {
+        byte[] move = call.call().getBytes(StandardCharsets.UTF_8);
+        byte[] scans = call.scans().getBytes(StandardCharsets.UTF_8);
+        byte[] both = Arrays.copyOf(move, move.length + scans.length);
+        System.arraycopy(scans, 0, both, move.length, scans.length);
+        Agent applier = era.applier;
+        synchronized (applier.slot) {
+            int code;
+            do code = applier.fireOver(both, move.length);
+            while (code == FolugbenException.MEMORY);
+            boolean isEvent = code == FolugbenException.DONE || code == FolugbenException.STALE
+                    || code == FolugbenException.CLASH;
+            if (isEvent)
+                era.note(call.agent());
+            if (code == FolugbenException.DONE)
+                fired = applier.slot.room.number(0);
+            return isOwn ? answer(applier, code, move) : null;
+        }
+    }
+
+    private Answer answer(Agent applier, int code, byte[] move) {
+        try {
+            FolugbenException.expectFire(isReply(code) ? FolugbenException.DONE : code, move);
+            Actor.Reply own = applier.reply(code, true);
+            return new Answer(new Actor.Reply(code, own.move() == 0 ? 0 : era.base + own.move(), 0, 0,
+                                      own.answer(), true, true),
+                    null);
+        } catch (FolugbenException error) {
+            return new Answer(null, error);
+        }
+    }
+
+    private static boolean isReply(int code) {
+        return code == FolugbenException.STALE || code == FolugbenException.CLASH
+                || code == FolugbenException.BUSY;
+    }
+
+    private Ended end() {
+        Era ended = era;
+        String state = state().pairs();
+        Lines.expectState(Lines.bytes(state));
+        Era next = new Era(state, ended.number + 1, ended.base + fired, moves);
+        byte[] text = ended.journal();
+        segment = segment.following(fired, ended.events(), ByteBuffer.wrap(text));
+        era = next;
+        fired = 0;
+        return new Ended(segment, text, applied);
+    }
+
+    /** The number of moves of the run up to its place, and the state after them. */
+    Actor.State state() {
+        Agent applier = era.applier;
+        applier.follow();
+        Actor.State own = applier.state();
+        return new Actor.State(era.base + own.number(), own.pairs());
+    }
+
+    void close() {
+        era.close();
+    }
+
+    /**
+     * The journals of what the log has behind a saved segment.
+     *
+     * @throws SharedLog.BehindException if further segments were saved meanwhile
+     */
+    static List<byte[]> rest(SharedLog log, Segment last)
+            throws IOException, SharedLog.BehindException {
+        Replica replica = new Replica(log, log.ended(last));
+        List<byte[]> journals = new ArrayList<>();
+        try {
+            List<SharedLog.Placed> placed;
+            while (!(placed = log.exchange(List.of(), replica.applied)).isEmpty())
+                for (SharedLog.Placed next : placed) {
+                    Ended ended = replica.apply(next, false).ended();
+                    if (ended != null)
+                        journals.add(ended.text());
+                }
+        } catch (LargeException full) {
+            // It is the last one, whose state is too long for a line.
+        }
+        if (replica.era.events() > 0)
+            journals.add(replica.era.journal());
+        else
+            replica.close();
+        return journals;
+    }
+}

@@ -1,0 +1,182 @@
+package folugben;
+
+import java.io.IOException;
+import java.io.UncheckedIOException;
+import java.util.List;
+
+/**
+ * An agent of a {@link SharedRun}. It begins its steps on a replica in its own process, so that to
+ * get and to push takes no round trip. A fire waits for the database.
+ */
+public final class SharedAgent implements Actor {
+    private final SharedRun run;
+    private final SharedWorker worker;
+    private final int own;
+    /** What its agents in segments have of it. */
+    private final Chained chain = new Chain();
+
+    /** The lock of all below. */
+    private final Object lock = new Object();
+    private Agent agent;
+    private Era era;
+    private long won;
+    private long fired;
+    private volatile boolean isGone;
+
+    SharedAgent(SharedRun run, SharedWorker worker, int own) {
+        this.run = run;
+        this.worker = worker;
+        this.own = own;
+    }
+
+    private final class Chain implements Chained {
+        @Override
+        public boolean isOver() {
+            return !isGone;
+        }
+
+        @Override
+        public void endStep() {
+            // Nobody waits for it.
+        }
+
+        @Override
+        public void expectGoing() {
+            worker.expectGoing();
+        }
+
+        @Override
+        public long before() {
+            return 0;
+        }
+    }
+
+    /** Does something with its agent in the newest segment. */
+    private interface Work<T> {
+        T done(Agent agent, Era era);
+    }
+
+    private <T> T now(Work<T> work) {
+        synchronized (lock) {
+            if (isGone)
+                throw FolugbenException.closed("the agent was given back");
+            worker.expectGoing();
+            if (era != worker.era()) {
+                leave();
+                Era[] place = new Era[1];
+                agent = worker.come(place);
+                era = place[0];
+                agent.joins(chain);
+            }
+            return work.done(agent, era);
+        }
+    }
+
+    /** Gives its agent in a segment back, with the lock. */
+    private void leave() {
+        if (agent != null)
+            worker.leave(era, agent);
+        agent = null;
+        era = null;
+    }
+
+    @Override
+    public int number() {
+        return own;
+    }
+
+    /**
+     * Begins a step on the state of this process's replica. Its fire returns once the move is
+     * durable in the log.
+     */
+    @Override
+    public Step step() {
+        return now((agent, era) -> {
+            synchronized (agent.slot) {
+                return new SharedStep(this, agent, era);
+            }
+        });
+    }
+
+    /** Appends what a step offers to the log; what it came to. */
+    Reply fire(Era era, String call, String scans) {
+        Reply reply = worker.answer(era.number, own, call, scans);
+        if (reply.isFired())
+            synchronized (lock) {
+                won++;
+                fired = Math.max(fired, reply.move());
+            }
+        return reply;
+    }
+
+    /** Waits until the replica has all that is in the log now, and follows it. */
+    @Override
+    public long follow() {
+        worker.follow();
+        return now((agent, era) -> era.base + agent.follow());
+    }
+
+    @Override
+    public Reading peek(List<Location> locations) {
+        return now((agent, era) -> agent.peek(locations).plus(era.base));
+    }
+
+    /** The value of a prepared location in its own state. */
+    public Peeked peek(PreparedLocation location) {
+        return now((agent, era) -> {
+            Peeked own = agent.peek(location);
+            return new Peeked(era.base + own.number(), own.value());
+        });
+    }
+
+    @Override
+    public State state() {
+        return now((agent, era) -> ofRun(agent.state(), era));
+    }
+
+    @Override
+    public State scan(String name) {
+        return now((agent, era) -> ofRun(agent.scan(name), era));
+    }
+
+    private static State ofRun(State own, Era era) {
+        return new State(era.base + own.number(), own.pairs());
+    }
+
+    @Override
+    public long seen() {
+        return now((agent, era) -> Math.max(fired, era.base + agent.seen()));
+    }
+
+    @Override
+    public long won() {
+        synchronized (lock) {
+            return won;
+        }
+    }
+
+    /** Gives it back: its number is free then. It may be called again. */
+    @Override
+    public void close() {
+        synchronized (lock) {
+            if (isGone)
+                return;
+            isGone = true;
+            leave();
+        }
+        try {
+            worker.link().let(own);
+        } catch (IOException fault) {
+            throw new UncheckedIOException(fault);
+        }
+    }
+
+    boolean isClosed() {
+        return isGone;
+    }
+
+    @Override
+    public String toString() {
+        return "agent " + own + " of " + run + (isGone ? ", given back" : "");
+    }
+}

@@ -1,0 +1,218 @@
+package folugben;
+
+import java.io.IOException;
+import java.io.OutputStream;
+import java.io.UncheckedIOException;
+import java.nio.ByteBuffer;
+import java.util.List;
+import java.util.Map;
+import java.util.Objects;
+
+/**
+ * A run whose moves are kept in a database, and whose agents may be in many processes, on many
+ * machines.
+ *
+ * <pre>{@code
+ * try (SharedRun run = SharedRun.open(Map.of(Location.of("balance"), 0), "bank.db");
+ *         SharedAgent anna = run.agent(0)) {
+ *     anna.play(deposit);
+ * }
+ * }</pre>
+ *
+ * <p>The target is a file of SQLite, for the processes of one machine, or postgresql://host/base,
+ * for those of many; a name behind a # is the schema, one for each run. The JDBC driver is the
+ * caller's. The first process opens the run, with its opening state and the number of moves of a
+ * segment; others join it. Runs of the Python package are the same.
+ *
+ * <p>An answer is returned when its move is durable in the database. No answered move is lost or
+ * done twice, whichever process, connection or server dies. All processes have the same states in
+ * the same order. Call close().
+ */
+public final class SharedRun implements AutoCloseable {
+    /** How many moves a segment has, where nothing else is said. */
+    public static final int MOVES = 10_000;
+
+    private final String target;
+    private final SharedWorker worker;
+    private final SharedAgent[] agents = new SharedAgent[Storage.AGENTS];
+
+    private SharedRun(String target, SharedLog.Opening opening, int moves) throws IOException {
+        this.target = target;
+        worker = new SharedWorker(SharedLog.open(target, opening, moves));
+    }
+
+    /**
+     * Opens the run, or joins it where it is there. The values of its opening state are such as
+     * {@link Value#of} takes.
+     *
+     * @throws MismatchException if it has another opening state, or tables of another version
+     * @throws DamagedException if there is something else than a run
+     * @throws UncheckedIOException if the server doesn't answer, as a ConnectException; if the file
+     *         can't be opened or the database not be written, as an AccessDeniedException
+     * @throws IllegalStateException if no JDBC driver is on the class path
+     * @throws LargeException if the opening state is too long for a line
+     */
+    public static SharedRun open(Map<Location, ?> init, String target) {
+        return open(init, target, MOVES);
+    }
+
+    /** The same; where it isn't there yet, a segment has so many moves, 1 to 1,048,576. */
+    public static SharedRun open(Map<Location, ?> init, String target, int moves) {
+        return open(JsonWriter.state(init, "init"), target, moves);
+    }
+
+    /** The same of an opening state [PAIR, ..]. */
+    public static SharedRun open(String init, String target, int moves) {
+        Objects.requireNonNull(init, "init");
+        Storage.expectCapacity(moves);
+        return reaching(() -> new SharedRun(target(target), most -> opening(init, most), moves));
+    }
+
+    /**
+     * Joins a run that is there.
+     *
+     * @throws UncheckedIOException as a NoSuchFileException if there is none; as open
+     * @throws MismatchException if it has tables of another version
+     */
+    public static SharedRun join(String target) {
+        return reaching(() -> new SharedRun(target(target), null, MOVES));
+    }
+
+    private static String target(String target) {
+        return Objects.requireNonNull(target, "target");
+    }
+
+    private static byte[] opening(String init, int moves) {
+        try (Storage storage = new Storage(init, moves)) {
+            ByteBuffer journal = storage.closeJournal(new Room());
+            Lines.expectState(journal.remaining());
+            byte[] text = new byte[journal.remaining()];
+            journal.get(text);
+            return text;
+        }
+    }
+
+    private interface Work<T> {
+        T done() throws IOException;
+    }
+
+    private static <T> T reaching(Work<T> work) {
+        try {
+            return work.done();
+        } catch (LostException lost) {
+            throw new UncheckedIOException(Postgres.unanswered(lost));
+        } catch (IOException fault) {
+            throw new UncheckedIOException(fault);
+        }
+    }
+
+    /** Where it is kept. */
+    public String target() {
+        return target;
+    }
+
+    /**
+     * An agent with this number, 0 to 255, which no other one has, here or in another process that
+     * lives.
+     *
+     * @throws FolugbenException NUMBER if it is in use
+     * @throws RunException if the run has ended
+     */
+    public SharedAgent agent(int number) {
+        Storage.expectNumber(number);
+        synchronized (agents) {
+            worker.expectGoing();
+            if (agents[number] != null && !agents[number].isClosed())
+                throw FolugbenException.numberTaken(number);
+            if (!reaching(() -> worker.link().hold(number)))
+                throw FolugbenException.numberHeld(number);
+            return agents[number] = new SharedAgent(this, worker, number);
+        }
+    }
+
+    /** The number of moves by now, of all processes, and the state after them. */
+    public Actor.State state() {
+        worker.follow();
+        return worker.state();
+    }
+
+    /**
+     * Leaves the run, which goes on in other processes; it may be called again.
+     *
+     * @throws RunException if the run has ended for this process by a fault
+     */
+    @Override
+    public void close() {
+        worker.close();
+    }
+
+    @Override
+    public String toString() {
+        return "SharedRun " + target;
+    }
+
+    /**
+     * Audits a shared run, also while it goes on.
+     *
+     * @throws AuditException if it isn't legal
+     * @throws DamagedException if a segment isn't the one that was saved
+     * @throws UncheckedIOException as {@link #join}
+     */
+    public static Auditor.Counts audit(String target) {
+        try (Auditor auditor = new Auditor()) {
+            read(target, (log, segment, before)
+                    -> segment.audit(sink -> log.text(segment, before.digest(), sink), auditor),
+                    auditor::feed);
+            return auditor.end();
+        }
+    }
+
+    /** Writes all that is in the log by now as one file, which {@link Auditor#audit} reads. */
+    public static void save(String target, OutputStream out) {
+        read(target, (log, segment, before) -> {
+            log.text(segment, before.digest(), (piece, length) -> {}); // the digest comes first
+            log.text(segment, before.digest(), (piece, length) -> write(out, piece));
+        }, text -> write(out, text));
+    }
+
+    private static void write(OutputStream out, byte[] text) {
+        try {
+            out.write(text);
+        } catch (IOException fault) {
+            throw new UncheckedIOException(fault);
+        }
+    }
+
+    private interface SegmentReader {
+        void read(SharedLog log, Segment segment, Segment before) throws IOException;
+    }
+
+    private interface TextReader {
+        void read(byte[] text);
+    }
+
+    /** Reads all segments of a run, and the journals of what is behind the last one. */
+    private static void read(String target, SegmentReader segments, TextReader rest) {
+        reaching(() -> {
+            SharedLog log = SharedLog.read(target(target));
+            try {
+                Segment last = Segment.START;
+                while (true) {
+                    List<Segment> all = log.segments();
+                    for (Segment next : all.subList((int) last.number() + 1, all.size())) {
+                        segments.read(log, next, last);
+                        last = next;
+                    }
+                    try {
+                        Replica.rest(log, last).forEach(rest::read);
+                        return null;
+                    } catch (SharedLog.BehindException behind) {
+                        // Further segments were saved meanwhile.
+                    }
+                }
+            } finally {
+                log.close();
+            }
+        });
+    }
+}

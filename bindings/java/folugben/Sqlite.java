@@ -1,0 +1,205 @@
+package folugben;
+
+import java.io.IOException;
+import java.nio.file.AccessDeniedException;
+import java.nio.file.FileAlreadyExistsException;
+import java.nio.file.FileSystemException;
+import java.nio.file.Files;
+import java.nio.file.Path;
+import java.nio.file.attribute.BasicFileAttributes;
+import java.sql.Connection;
+import java.sql.Driver;
+import java.sql.PreparedStatement;
+import java.sql.SQLException;
+import java.util.ArrayList;
+import java.util.List;
+import java.util.Properties;
+
+/**
+ * A file of SQLite, with a write-ahead log that is flushed at the end of each transaction. Beside it
+ * is one for agents' numbers. Only SQLite opens the file: another close in this process would drop
+ * SQLite's locks.
+ */
+final class Sqlite extends JdbcDatabase {
+    /** What a file has in its header that is a run. */
+    private static final int APPLICATION = 0x466F6C75;
+    /** How long a transaction waits for those of other processes, in ms. */
+    private static final int PATIENCE = 60_000;
+    /** Opened to read and write, by the name of a URI, with a mutex, and not made. */
+    private static final int OPEN = 0x2 | 0x40 | 0x10000;
+
+    private static final int PERM = 3;
+    private static final int BUSY = 5;
+    private static final int READ_ONLY = 8;
+    private static final int CORRUPT = 11;
+    private static final int CAN_NOT_OPEN = 14;
+    private static final int NOT_A_DATABASE = 26;
+
+    private final Path path;
+    private final Object key;
+    private final Connection connection;
+    /** The locks of agents' numbers; null where nothing is written. */
+    private final ByteLocks agents;
+
+    Sqlite(Path path, boolean writes, boolean makes) throws IOException {
+        this.path = path;
+        if (makes)
+            make(path);
+        key = key();
+        Driver driver = driver("jdbc:sqlite:", "sqlite-jdbc (Debian: libxerial-sqlite-jdbc-java)");
+        Properties words = new Properties();
+        words.setProperty("open_mode", "" + OPEN);
+        words.setProperty("busy_timeout", "" + PATIENCE);
+        try {
+            connection = connected(driver, "jdbc:sqlite:" + path.toUri(), words);
+        } catch (SQLException thrown) {
+            throw fault(thrown);
+        }
+        try {
+            if (hasRun() || makes)
+                writeAhead();
+            run("pragma synchronous = full");
+            if (!writes)
+                run("pragma query_only = on");
+            agents = writes ? new ByteLocks(path.resolveSibling(path.getFileName() + "-agents"))
+                            : null;
+        } catch (IOException | RuntimeException | Error fault) {
+            super.close();
+            throw fault;
+        }
+    }
+
+    private static void make(Path path) throws IOException {
+        try {
+            Files.createFile(path, FileGuard.OWN);
+            RunFolder.force(path.toAbsolutePath().getParent());
+        } catch (FileAlreadyExistsException there) {
+            // It is opened.
+        }
+    }
+
+    /** Has it write ahead; SQLite doesn't wait for another process that is about to do so too. */
+    private void writeAhead() throws IOException {
+        long end = System.nanoTime() + PATIENCE * 1_000_000L;
+        while (true)
+            try (PreparedStatement set = connection.prepareStatement("pragma journal_mode = wal")) {
+                set.execute();
+                return;
+            } catch (SQLException thrown) {
+                if (thrown.getErrorCode() != BUSY || System.nanoTime() > end)
+                    throw fault(thrown);
+                Patience.rest(10);
+            }
+    }
+
+    private Object key() throws IOException {
+        return Files.readAttributes(path, BasicFileAttributes.class).fileKey();
+    }
+
+    @Override
+    Connection connection() {
+        return connection;
+    }
+
+    @Override
+    IOException fault(SQLException thrown) {
+        String said = "SQLite: " + thrown.getMessage();
+        switch (thrown.getErrorCode()) {
+            case NOT_A_DATABASE, CORRUPT:
+                throw new DamagedException(0, path + ": " + said);
+            case READ_ONLY, PERM, CAN_NOT_OPEN:
+                return (IOException) new AccessDeniedException("" + path, null, said).initCause(thrown);
+            default:
+                return (IOException) new FileSystemException("" + path, null, said).initCause(thrown);
+        }
+    }
+
+    @Override
+    public String blob() {
+        return "blob";
+    }
+
+    @Override
+    public List<Object[]> append(List<Object[]> calls, long since, int most) throws IOException {
+        if (calls.isEmpty())
+            return run(SINCE, since, most);
+        List<List<Object[]>> found = new ArrayList<>();
+        transact(() -> {
+            long last = ((Number) run("select coalesce(max(place), 0) from call").get(0)[0]).longValue();
+            insert(calls, last);
+            found.add(run(SINCE, since, most));
+        });
+        return found.get(0);
+    }
+
+    private void insert(List<Object[]> calls, long last) throws IOException {
+        String sql = "insert into call values (?, ?, ?, ?, ?, ?) on conflict (token) do nothing";
+        try (PreparedStatement statement = connection.prepareStatement(sql)) {
+            long place = last;
+            for (Object[] call : calls) {
+                statement.setObject(1, ++place);
+                for (int at = 0; at < call.length; at++) statement.setObject(at + 2, call[at]);
+                statement.execute();
+            }
+        } catch (SQLException thrown) {
+            throw fault(thrown);
+        }
+    }
+
+    @Override
+    public void transact(Work work) throws IOException {
+        // Neither SQLite nor a new connection notices a file that was removed.
+        if (!key().equals(key))
+            throw new DamagedException(0, path + " was removed or replaced");
+        run("begin immediate");
+        boolean isDone = false;
+        try {
+            work.done();
+            run("commit");
+            isDone = true;
+        } finally {
+            if (!isDone)
+                rollBack();
+        }
+    }
+
+    private void rollBack() {
+        try {
+            run("rollback");
+        } catch (IOException over) {
+            // SQLite has rolled it back itself.
+        }
+    }
+
+    @Override
+    public boolean hasRun() throws IOException {
+        Number tables = (Number) run("select count(*) from sqlite_schema").get(0)[0];
+        if (tables.longValue() == 0)
+            return false;
+        if (((Number) run("pragma application_id").get(0)[0]).intValue() != APPLICATION)
+            throw new DamagedException(0, path + " is another database than a run's");
+        return true;
+    }
+
+    @Override
+    public void make() throws IOException {
+        run("pragma application_id = " + APPLICATION);
+    }
+
+    @Override
+    public boolean hold(int agent) throws IOException {
+        return agents.lock(agent);
+    }
+
+    @Override
+    public void let(int agent) throws IOException {
+        agents.unlock(agent);
+    }
+
+    @Override
+    public void close() {
+        super.close();
+        if (agents != null)
+            agents.close();
+    }
+}
