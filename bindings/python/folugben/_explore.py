@@ -13,10 +13,13 @@ from typing import TYPE_CHECKING, NamedTuple, TypeAlias
 from ._errors import Error
 from ._footprint import Footprint, Noted
 from ._found import Breach, Event, Holds, Invariant, listed
-from ._turns import Turns, interleave, play_all
+from ._turns import Endless, Turns, interleave, play_all
 
 if TYPE_CHECKING:
     from . import Agent, Storage
+
+# After so many looks without a move an agent lets others go on.
+_VAIN = 4
 
 Make: TypeAlias = "Callable[[], Storage]"
 Program: TypeAlias = "Callable[[Agent], object]"
@@ -136,10 +139,18 @@ class _Play:
             awake = [it for it in alive if it not in self._node.asleep]
             if not awake:
                 raise _Blocked
-            self._last = self._last if self._last in awake else awake[0]
+            self._last = self._usual(awake)
         self._node.chosen.add(self._last)
         self._is_open = True
         return self._last
+
+    def _usual(self, awake: list[int]) -> int:
+        """Whoever was at work; but who has only looked for a while may wait for another one, and the next one goes on then."""
+        if self._last not in awake:
+            return awake[0]
+        is_waiting = len(self.events) >= _VAIN and all(it.agent == self._last and not it.is_move for it in self.events[-_VAIN:])
+        others = awake[awake.index(self._last) + 1 :] + awake[: awake.index(self._last)]
+        return others[0] if is_waiting and others else self._last
 
     def _end_event(self) -> None:
         """Notes the event of whoever was at work, all of which is known by now, and the races that it ends."""
@@ -201,7 +212,8 @@ def explore(
     The search ends at the first finding, after so many schedules or seconds, or when it has tried all.
 
     Raises:
-        Endless: a schedule hasn't ended after so many turns, as where an agent waits for another one.
+        Endless: a schedule hasn't ended after so many turns, as where agents wait for each other. Who looks again and again is
+            made to wait for others, but then there is no end of schedules.
         Differs: the programs did something else in the same schedule.
     """
     end, holds, played, pushed = time.monotonic() + seconds, Holds(invariant, at_end), 0, 0
@@ -216,23 +228,32 @@ def explore(
             heappush(queue, (length, pushed, plan))
         breach = None if play.is_blocked else holds.breach(play.events, play.errors, play.journal)
         if breach is not None:
-            found = listed(breach.events, play.events, play.begins)
-            journal = _replayed(make, programs, found, turns)
+            turns_of, journal = _replayed(make, programs, breach, play, turns)
             if breach.error is None and not holds.is_broken(journal):
-                raise Differs(f"{breach.broken}, but not when it was played again by the turns {found}")
-            return Explored(played, False, found, journal, breach.broken, breach.error)
+                raise Differs(f"{breach.broken}, but not when it was played again by the turns {turns_of}")
+            return Explored(played, False, turns_of, journal, breach.broken, breach.error)
         if not queue and tree.has_grown:
             tree, queue = _Tree(tree.footprints), [(0, 0, [])]
     return Explored(played, is_exact and not queue)
 
 
-def _replayed(make: Make, programs: Sequence[Program], turns: list[int], most: int) -> bytes:
-    """The journal of the programs, played by these turns."""
-    with make() as storage:
-        agents = [storage.agent(number) for number in range(len(programs))]
-        with suppress(Exception):
-            interleave(agents, programs, turns, most=most)
-        for agent in agents:
-            with suppress(Error):
-                agent.give()
-        return storage.close_journal()
+def _replayed(make: Make, programs: Sequence[Program], breach: Breach, play: _Play, most: int) -> tuple[list[int], bytes]:
+    """The turns of a finding, and the journal that they leave: those up to it, where all programs end behind that."""
+    rest = [event for event in play.events if event not in breach.events]
+    for events in breach.events, breach.events + rest:
+        turns, is_ended = listed(events, play.events, play.begins), True
+        with make() as storage:
+            agents = [storage.agent(number) for number in range(len(programs))]
+            try:
+                interleave(agents, programs, turns, most=most)
+            except Endless:
+                is_ended = False
+            except Exception:
+                pass  # which may be the finding
+            for agent in agents:
+                with suppress(Error):
+                    agent.give()
+            journal = storage.close_journal()
+        if is_ended:
+            break
+    return turns, journal
