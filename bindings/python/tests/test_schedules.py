@@ -143,11 +143,17 @@ with Storage([], 100) as storage:
     interleave([storage.agent(0), storage.agent(1)], [waits, waits], 1, most=10**12)
 """
         command = [sys.executable, "-c", code]
-        with subprocess.Popen(command, env=environment(), stdout=subprocess.PIPE, stderr=subprocess.PIPE) as child:
-            self.assertEqual(child.stdout.readline(), b"begun\n")
-            child.send_signal(signal.SIGINT)
-            self.assertIn(b"KeyboardInterrupt", child.communicate(timeout=30)[1])
-            self.assertEqual(child.returncode, -signal.SIGINT)
+        # A process in the background of a script ignores Ctrl-C, and so would its child.
+        heard = {"preexec_fn": lambda: signal.signal(signal.SIGINT, signal.SIG_DFL)}
+        pipes = {"stdout": subprocess.PIPE, "stderr": subprocess.PIPE}
+        with subprocess.Popen(command, env=environment(), **pipes, **heard) as child:
+            try:
+                self.assertEqual(child.stdout.readline(), b"begun\n")
+                child.send_signal(signal.SIGINT)
+                self.assertIn(b"KeyboardInterrupt", child.communicate(timeout=30)[1])
+                self.assertEqual(child.returncode, -signal.SIGINT)
+            finally:
+                child.kill()
 
 
 class Explored(unittest.TestCase):
