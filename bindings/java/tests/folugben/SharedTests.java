@@ -28,7 +28,7 @@ final class SharedTests {
     private static final List<OnTarget> ALL = List.of(SharedTests::agentsInThreads,
             SharedTests::replicasHaveEqualStates, SharedTests::readsAndScansAreRestedOn,
             SharedTests::stepsOfEndedSegments, SharedTests::numbersOfAgents,
-            SharedTests::whatIsToldMustFit);
+            SharedTests::whatIsToldMustFit, SharedTests::sampleOfThePage);
 
     private SharedTests() {}
 
@@ -100,6 +100,17 @@ final class SharedTests {
         told.sort(null);
         for (int i = 0; i < 40; i++) equal(told.get(i), i + 1);
         isRun(target, 40);
+    }
+
+    private static void sampleOfThePage(String target) {
+        try (SharedRun run = SharedRun.open(Map.of(Location.of("balance"), 0), target);
+                SharedAgent anna = run.agent(0)) {
+            anna.play(step -> {
+                step.push(Instruction.inc(Location.of("balance"), 10));
+                return null;
+            });
+        }
+        System.out.println(SharedRun.audit(target));
     }
 
     private static void replicasHaveEqualStates(String target) {
