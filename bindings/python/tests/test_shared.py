@@ -28,8 +28,6 @@ class OnSqlite(shared_plays.Plays):
         (self.room / "text").write_text("text")
         with self.assertRaisesRegex(Damaged, "file is not a database: .*text"):
             SharedRun(self.room / "text")
-        with self.assertRaisesRegex(ValueError, "is no name of a server"):
-            SharedRun("postgresql://[bad/base")
 
     def test_a_step_of_an_agent_that_was_given_back(self):
         with SharedRun(self.target, INIT) as run:
@@ -104,6 +102,10 @@ class OnPostgres(shared_plays.Plays):
 
     def alter(self, sql):
         self.server.run(f'set search_path = "run {OnPostgres.count}"; {sql}')
+
+    def test_what_is_no_name_of_a_server(self):
+        with self.assertRaisesRegex(ValueError, "is no name of a server"):
+            SharedRun("postgresql://[bad/base")
 
     def test_a_server_that_does_not_answer(self):
         for target in f"postgresql://folugben@/postgres?host={self.room}", "postgresql://127.0.0.1:1/x":
