@@ -78,7 +78,7 @@ static bool instruct(model *m, char *text) {
 
 /* Now and then a put comes in front, and often a second partial update at another location. */
 static void push_or_extend(uint32_t number, bool is_push) {
-    char text[LONGEST], move[LONGEST];
+    char text[LONGEST], move[LONGEST + 2];
     model next = levels[top];
     bool has = true;
     if (any(12) == 0) {
