@@ -76,7 +76,7 @@ static void illegal(void) {
           "{'agents':1,'capacity':2,'events':2,'init':[],'trace':1}\n"
           "{'agent':0,'call':{'fire':[],'reads':[]},'event':0,'reply':{'fired':1},'updates':[]}\n"
           "{'agent':0,'call':{'read':[]},'event':1,'reply':{'number':0,'values':[]},"
-          "'right':{'number':1,'values':[]}}\n",
+          "'right':{'differs':[],'number':1}}\n",
           asm_trace(TEXT(text), OUT, &line));
     REQUIRE(line == 0);
 }
