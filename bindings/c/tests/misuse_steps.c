@@ -173,8 +173,9 @@ static void gets_all(unsigned at, unsigned of_step) {
         asm_get_all(ANY(at), ANY(of_step), *names[name] ? (const uint8_t *)names[name] : NULL,
                     strlen(names[name]), OUT(b));
     if (is_written(code, wanted, &b) && wanted.text) {
-        s->has_got[X_PLACE] |= name == 0 && top_of(s).seen.x >= 0;
-        s->has_got[Y_PLACE] |= name == 1 && top_of(s).seen.y >= 0 && !top_of(s).puts;
+        /* A scan covers its function's locations, present or not. */
+        s->has_got[X_PLACE] |= name == 0;
+        s->has_got[Y_PLACE] |= name == 1;
     }
 }
 
@@ -212,7 +213,13 @@ static void pops(unsigned at) {
     account *s = &accounts[at];
     int32_t wanted = s->kind != STEP ? ASM_EMPTY : s->depth == 0 ? ASM_NONE : ASM_DONE;
     REQUIRE(asm_pop(ANY(at)) == wanted);
-    s->depth -= wanted == ASM_DONE;
+    if (wanted != ASM_DONE)
+        return;
+    /* That the popped moves were accepted has told of what they update in part. */
+    const gathered own = top_of(s).own;
+    s->has_got[X_PLACE] |= own.raises > 0;
+    s->has_got[S_PLACE] |= own.adds || own.removes;
+    s->depth--;
 }
 
 /* An offer tells how the step stands, and changes nothing. */
