@@ -2,21 +2,21 @@
  *
  * A storage holds the state of an abstract state machine. Its agents read that state and fire moves
  * on it, each in a thread of its own and without locks: a move fires only if no location that it
- * names was written since the number of moves at which it is named. So no update is lost where an
- * agent names what it rests on as it read it itself, or as an agent did of which it has learnt.
- * Agents that are given back are closed into a journal, which tells what each call was answered, and
- * which can be checked again.
+ * names was written since the number of moves at which it is named. So no update is lost if an
+ * agent names what its move depends on, as it read it itself or as an agent did whose moves it has
+ * learnt. asm_close makes the journal of the returned agents: each call with its answer, which can
+ * be checked again.
  *
  * An engine's agent works in steps: asm_begin; asm_get and asm_push in any order, all of which see
  * one state; and asm_commit, which fires one move that does what the pushed ones do in turn, unless
- * something was written since that the step rests on. The commit names that by itself. A step that
- * is stale by then, or clashes with what was written since, is begun anew.
+ * something was written since that the step depends on (its read set). The commit names that by
+ * itself. If a step is stale by then, or clashes with what was written since, begin it again.
  *
- * WHAT THE CALLER OWES
+ * REQUIREMENTS ON THE CALLER
  *
  *  - Threads. Never use one slot in two calls at the same time. Different slots may be in calls at
  *    once, those of one storage too. A slot goes from one thread to another by the start or the end
- *    of a thread, or under a lock. No call starts a thread, waits, or takes a lock, apart from what
+ *    of a thread, or under a lock. No call starts a thread, waits, or takes a lock, except as
  *    malloc, realloc and free do; and each returns. Make no call from a signal handler, nor in the
  *    child of a fork of a process with threads.
  *  - Slots. Initialise a slot with {0}. Never move it or pass a copy of it. It may lie anywhere.
@@ -26,12 +26,11 @@
  *    asm_free(NULL) isn't allowed either.
  *  - Buffers. A buffer is at least `room` bytes long. The bytes passed, the buffer and the numbers
  *    that a call writes overlap neither one another nor a slot. No text has a zero byte at its end.
- *  - Storages. asm_learn and asm_take_state take two agents of one storage, and asm_give an agent of
- *    the storage. A step goes with agents of the storage that it began on; with one of another
- *    storage, what is got and committed has no meaning, and no code tells so.
- *    ASM_OTHER reports a mistake, except possibly while other threads are in asm_learn,
- *    asm_take_state or asm_give on both storages. The behaviour is undefined where a mistake isn't
- *    reported.
+ *  - Storages. asm_learn and asm_take_state take two agents of one storage, and asm_give an agent
+ *    of the storage. A step goes with agents of the storage that it began on; with one of another
+ *    storage, what is got and committed has no meaning, and no code reports it. ASM_OTHER reports a
+ *    mistake, except possibly while other threads are in asm_learn, asm_take_state or asm_give on
+ *    both storages. The behaviour is undefined where a mistake isn't reported.
  *  - Stack. A call without text took less than 16 KiB of its thread's stack, and one with texts up to
  *    84 KiB, that of a text which is nested as deep as any is read; both were measured. So a thread
  *    that makes calls with texts has 128 KiB or more.
@@ -49,15 +48,16 @@
  *  - An offer is one try to make the agent's move the next one of the storage; it is lost if
  *    another agent's move is there first.
  *
- * WHAT STANDS AFTER A CALL
+ * STATE AFTER A CALL
  *
  *  - asm_read and asm_try_fire add a receipt with ASM_DONE, ASM_STALE, ASM_CLASH and ASM_FULL.
  *    So do asm_try_fire_over and asm_commit. Any other code of these four means that no receipt was
  *    added; the agent may have seen more moves. No other call adds one.
  *  - After asm_follow, asm_stands and asm_begin the agent may have seen more moves, with ASM_MEMORY
- *    too. asm_audit takes bytes with each code but ASM_TAKEN. A push or an extension that is refused
- *    (ASM_CLASH, ASM_MANY, ASM_LARGE, ASM_SMALL) leaves what is pushed as it was, and may track
- *    locations. After any other call, each code but ASM_DONE means that the slots are as they were.
+ *    too. asm_audit takes bytes with each code except ASM_TAKEN. A push or an extension that is
+ *    refused (ASM_CLASH, ASM_MANY, ASM_LARGE, ASM_SMALL) leaves the pushed moves unchanged, and may
+ *    track locations. After any other call, each code except ASM_DONE means that the slots are
+ *    unchanged.
  *  - A number that a call writes is 0 unless its code is said to set it. `*written` is set with
  *    ASM_DONE and with each code that is said to come with a text, to the length of the text, and
  *    with ASM_SMALL.
@@ -72,7 +72,7 @@
  *    VALUE   ELEMENT, {"set":[ELEMENT,..]} or {"bag":[[ELEMENT,COUNT],..]}
  *    PAIR    [LOC,VALUE]                  COUNT    1 to 4294967295, as AMOUNT
  *    NAMED   [LOC,NUMBER], with the number that the read of the location answered
- *    SCAN    ["name",NUMBER], with the number at which asm_scan told the function of this name
+ *    SCAN    ["name",NUMBER], with the number at which asm_scan returned the function of this name
  *    INSTR   ["put",LOC,VALUE]; of a set ["add",LOC,ELEMENT] and ["remove",LOC,ELEMENT]; of a bag
  *            ["bagadd",LOC,ELEMENT,AMOUNT] and ["bagremove",LOC,ELEMENT,AMOUNT]; of a number
  *            ["inc",LOC,N], with a whole number N
@@ -122,8 +122,8 @@
 extern "C" {
 #endif
 
-/* What is refused hasn't been done, so each code is to be looked at: C++17 and C23 warn where one
- * isn't. To have no warnings, define this as nothing before the header is included. */
+/* A refused call has done nothing, so look at each code: C++17 and C23 warn where one isn't. To
+ * have no warnings, define this as nothing before the header is included. */
 #ifndef FOLUGBEN_NODISCARD
 #if (defined(__cplusplus) && __cplusplus >= 201703L) || \
     (defined(__STDC_VERSION__) && __STDC_VERSION__ >= 202311L)
@@ -133,7 +133,7 @@ extern "C" {
 #endif
 #endif
 
-/* The version of this header, as asm_version tells that of the library: a million for each major
+/* The version of this header, as asm_version returns that of the library: a million for each major
  * version, a thousand for each minor one. */
 #define FOLUGBEN_VERSION 2000
 
@@ -152,12 +152,12 @@ enum asm_code {
     ASM_BUSY = 8,      /* 64 offers were lost to other agents; nothing was fired */
     ASM_MANY = 9,      /* more than 256 locations, or locations and scanned functions; or a move of
                           more than 4,096 instructions */
-    ASM_NONE = 10,     /* no call was answered yet; no journal since an agent was given back or taken;
-                          no move is pushed; no agent with the number was given back; no part has
+    ASM_NONE = 10,     /* no call was answered yet; no journal since an agent was returned or taken;
+                          no move is pushed; no agent with the number was returned; no part has
                           begun; or the storage isn't full */
     ASM_TAKEN = 11,    /* a slot that was to be filled holds something else */
     ASM_NUMBER = 12,   /* an agent of the storage with this number was made before */
-    ASM_MISSING = 13,  /* a move has no receipt among the agents that were given back */
+    ASM_MISSING = 13,  /* a move has no receipt among the returned agents */
     ASM_OTHER = 14,    /* the two slots are of two storages */
     ASM_ILLEGAL = 15,  /* the journal isn't legal */
     ASM_NOT_JSON = 16, /* the bytes, or a line of the journal, are not JSON */
@@ -166,7 +166,7 @@ enum asm_code {
     ASM_CUT = 19,      /* the journal ends too early */
     ASM_LARGE = 20,    /* more calls than the 4,294,967,295 that a journal holds; too long a line; or
                           too large an amount or sum */
-    ASM_MOVED = 21,    /* the agent's own state doesn't stand at the number of the step */
+    ASM_MOVED = 21,    /* the agent's own state isn't at the step's number */
     ASM_DEEP = 22,     /* 64 moves are pushed already */
     ASM_APART = 23     /* a part of a run opens with another state than the one before it leaves */
 };
@@ -238,23 +238,23 @@ typedef struct asm_numbers {
 
 /* Fires the move {"fire":[INSTR, ..],"reads":[NAMED, ..]} of at most 4,096 instructions (else
  * ASM_SHAPE), unless one of the at most 256 named locations (else ASM_MANY) was written since the
- * number of moves under which it is named: that of a reading of this agent, or of one of which it has
- * learnt. A number above what asm_seen tells when the call begins would guard nothing: ASM_RANGE,
- * before a look is made and before ASM_MANY. After asm_next numbers begin anew. ASM_DONE: fired.
- * ASM_STALE, ASM_CLASH and ASM_FULL are answers too: asm_answer writes {"fired":N}, {"stale":LOC},
- * {"clash":[LOC,CAUSE]} or "full". ASM_BUSY, ASM_EMPTY, ASM_NOT_JSON, ASM_SHAPE, ASM_RANGE, ASM_MANY,
- * ASM_MEMORY: not answered, and nothing was fired. */
+ * number of moves under which it is named: that of a reading of this agent, or of one of which it
+ * has learnt. A number above what asm_seen returns when the call begins would guard nothing:
+ * ASM_RANGE, before a look is made and before ASM_MANY. After asm_next numbers begin again at 0.
+ * ASM_DONE: fired. ASM_STALE, ASM_CLASH and ASM_FULL are answers too: asm_answer writes
+ * {"fired":N}, {"stale":LOC}, {"clash":[LOC,CAUSE]} or "full". ASM_BUSY, ASM_EMPTY, ASM_NOT_JSON,
+ * ASM_SHAPE, ASM_RANGE, ASM_MANY, ASM_MEMORY: not answered, and nothing was fired. */
 FOLUGBEN_NODISCARD int32_t asm_try_fire(struct asm_agent *agent, const uint8_t *call, size_t len,
     asm_numbers *numbers);
 
-/* The same of a move that rests on whole functions too, those of the scans [SCAN, ..]: on all
- * locations with the name, those that have a value and those that have none, as they were at the scan's
- * number. Where one of these was written since, be it with its first value, the answer is ASM_STALE
- * too, and the receipt names the least such location of one scan, behind the others; else the journal
- * tells nothing of scans. Named locations and scans are at most 256 together (ASM_MANY), each at a number
- * that the agent has seen (ASM_RANGE). ASM_NOT_JSON, ASM_SHAPE: the call, or else the scans. All else
- * is as of asm_try_fire. A scan costs a walk of the locations of this name that moves wrote; with a
- * text that is no name of a function, of all that they wrote. */
+/* The same for a move that depends on whole functions too, those of the scans [SCAN, ..]: on all
+ * locations with the name, those that have a value and those that have none, as they were at the
+ * scan's number. Where one of these was written since, also with its first value, the answer is
+ * ASM_STALE too, and the receipt names the smallest such location of one scan, behind the others;
+ * otherwise the journal doesn't record scans. Named locations and scans are at most 256 together
+ * (ASM_MANY), each at a number that the agent has seen (ASM_RANGE). ASM_NOT_JSON, ASM_SHAPE: the
+ * call, or else the scans. All else is as of asm_try_fire. A scan costs a walk of the locations of
+ * this name that moves wrote; with a text that is no name of a function, of all that they wrote. */
 FOLUGBEN_NODISCARD int32_t asm_try_fire_over(struct asm_agent *agent, const uint8_t *call,
     size_t call_len, const uint8_t *scans, size_t scans_len, asm_numbers *numbers);
 
@@ -269,79 +269,80 @@ FOLUGBEN_NODISCARD int32_t asm_answer(struct asm_agent *agent, uint8_t *out, siz
 FOLUGBEN_NODISCARD int32_t asm_learn(struct asm_agent *agent, struct asm_agent *other);
 
 /* Takes in what the other agent of the same storage has seen, as asm_learn does, and exchanges the
- * states of the two where the other's stands at more moves. For agents that one thread plays by turns:
- * the one that is about to act calls it on the one that acted last, and then asm_begin or asm_read. So
- * each move is followed about once, and not once for each agent. It polls nothing and takes no memory;
- * the receipts and the counts of both are unchanged. A step of the other agent is ASM_MOVED while that
- * agent's state stands at another number. Neither slot may be in another call. ASM_EMPTY (one of the
- * slots, or they are one), ASM_OTHER. */
+ * states of the two if the other's is at more moves. For agents that one thread plays by turns: the
+ * one that is about to act calls it on the one that acted last, and then asm_begin or asm_read. So
+ * each move is followed about once, and not once for each agent. It polls nothing and takes no
+ * memory; the receipts and the counts of both are unchanged. A step of the other agent is ASM_MOVED
+ * while that agent's state is at another number. Neither slot may be in another call. ASM_EMPTY
+ * (one of the slots, or they are one), ASM_OTHER. */
 FOLUGBEN_NODISCARD int32_t asm_take_state(struct asm_agent *agent, struct asm_agent *other);
 
-/* AN AGENT'S OWN STATE stands at one number of moves, and moves on only in asm_follow, asm_stands,
- * asm_begin, asm_read, asm_try_fire, asm_try_fire_over and asm_commit; asm_take_state exchanges it.
- * A move that the agent fired itself is taken in by its next look, as asm_follow makes one. What
- * asm_peek, asm_state and asm_scan tell is of that state: no look is made and no receipt. A later fire
- * may name each location, and rest on each function that was scanned, with the number that they
- * tell. */
+/* AN AGENT'S OWN STATE is the state after a number of moves, its version. It moves on only in
+ * asm_follow, asm_stands, asm_begin, asm_read, asm_try_fire, asm_try_fire_over and asm_commit;
+ * asm_take_state exchanges it. A move that the agent fired itself is taken in by its next look, as
+ * asm_follow makes one. asm_peek, asm_state and asm_scan read that state, without a look or a
+ * receipt. A later fire may name each location, and each scanned function, with the number that
+ * they return. */
 
-/* Looks on until nothing more is found, and has the agent's own state follow: `*number` is then how
- * many moves it has seen. ASM_EMPTY, ASM_MEMORY. */
+/* Polls until no further move is found; the agent's own state follows. `*number` is then how many
+ * moves it has seen. ASM_EMPTY, ASM_MEMORY. */
 FOLUGBEN_NODISCARD int32_t asm_follow(struct asm_agent *agent, uint32_t *number);
 
-/* Writes {"number":N,"values":[VALUE, ..]}: the values of the locations [LOC, ..], any number of them,
- * in the agent's own state, which stands at N moves. ASM_EMPTY, ASM_SMALL, ASM_NOT_JSON, ASM_SHAPE,
+/* Writes {"number":N,"values":[VALUE, ..]}: the values of the locations [LOC, ..], any number of
+ * them, in the agent's own state, after N moves. ASM_EMPTY, ASM_SMALL, ASM_NOT_JSON, ASM_SHAPE,
  * ASM_MEMORY. */
 FOLUGBEN_NODISCARD int32_t asm_peek(struct asm_agent *agent, const uint8_t *locations, size_t len,
     uint8_t *out, size_t room, size_t *written);
 
-/* Writes the agent's own state [PAIR, ..], in ascending order of locations, which stands at `*number`
- * moves; with ASM_SMALL `*number` is set too. ASM_EMPTY, ASM_MEMORY. */
+/* Writes the agent's own state [PAIR, ..], in ascending order of locations, after `*number` moves;
+ * with ASM_SMALL `*number` is set too. ASM_EMPTY, ASM_MEMORY. */
 FOLUGBEN_NODISCARD int32_t asm_state(struct asm_agent *agent, uint32_t *number, uint8_t *out,
     size_t room, size_t *written);
 
 /* The same with the locations of one function name alone, which is passed in UTF-8 without quotes.
- * A fire that names each that was found doesn't notice that a further one is written later; one over
- * the scan does (asm_try_fire_over), as the commit of a step that tells them by asm_get_all.
+ * A fire that names each that was found doesn't notice that a further one is written later; one
+ * over the scan does (asm_try_fire_over), as the commit of a step that reads them by asm_get_all.
  * ASM_EMPTY, ASM_SHAPE (the name isn't UTF-8), ASM_SMALL, ASM_MEMORY. */
 FOLUGBEN_NODISCARD int32_t asm_scan(struct asm_agent *agent, const uint8_t *name, size_t len,
     uint32_t *number, uint8_t *out, size_t room, size_t *written);
 
-/* Tells whether the named reads [NAMED, ..], at most 256, still stand: it looks on, as asm_follow does.
- * ASM_DONE: none of the locations was written since. ASM_STALE, with the text {"stale":LOC}: the least
- * location that was. A fire may still be refused, by a move that comes in between. ASM_RANGE as of
- * asm_try_fire. ASM_EMPTY, ASM_MANY, ASM_SMALL, ASM_NOT_JSON, ASM_SHAPE, ASM_MEMORY. */
+/* Validates the named reads [NAMED, ..], at most 256, after a poll as asm_follow makes one.
+ * ASM_DONE: none of the locations was written since. ASM_STALE, with the text {"stale":LOC}: the
+ * smallest location that was. A fire may still be refused, by a move that comes in between.
+ * ASM_RANGE as of asm_try_fire. ASM_EMPTY, ASM_MANY, ASM_SMALL, ASM_NOT_JSON, ASM_SHAPE,
+ * ASM_MEMORY. */
 FOLUGBEN_NODISCARD int32_t asm_stands(struct asm_agent *agent, const uint8_t *reads, size_t len,
     uint8_t *out, size_t room, size_t *written);
 
-/* A STEP is what an engine does between a look and a fire. Its slot keeps the number of moves at
- * which it began, the moves that were pushed, the locations that are tracked and the functions that
- * were scanned. asm_free_step abandons it.
+/* A STEP is a transaction, what an engine does between a poll and a fire. Its slot holds the number
+ * of moves at which it began, the pushed moves, the tracked locations and the scanned functions.
+ * asm_free_step abandons it.
  *
- * A location is got where what is told of it is made from the state at the step's number: where no
- * pushed move writes it, or the first that does has partial updates alone there (it adds, removes or
- * increments). Where that one puts a value, what is told is the step's own. Locations that are got are
- * tracked: the step rests on them. So are, where a get would get them:
- *  - of a push or an extension that is refused, the location of the refusal, and the smaller ones at
- *    which its move has partial updates: that it comes there tells that these fit. Of one that has too
- *    many instructions, each at which it has partial updates.
+ * A get is tracked if its value comes from the state at the step's number: if no pushed move writes
+ * the location, or the first that does has partial updates alone there (it adds, removes or
+ * increments). If that one puts a value, the value is the step's own. The step depends on tracked
+ * locations. These are tracked too, where a get of them would be:
+ *  - of a push or an extension that is refused, the location of the refusal, and the smaller ones
+ *    at which its move has partial updates: that it comes there shows that these fit. Of one that
+ *    has too many instructions, each at which it has partial updates.
  *  - of moves that asm_pop takes away, each location at which they have partial updates: that they
- *    were taken tells that these fit.
+ *    were accepted shows that these fit.
  *  - of moves that asm_pop_move takes away, each location where the first of them that writes has
  *    partial updates alone and another of them writes too: their one move may come to less there.
- *    Else it tells nothing that isn't judged again once the move is pushed. A popped move which is
- *    neither pushed again nor judged by the caller's own gets leaves no trace.
- * A step rests on what is tracked, and on each location where the first of its moves that writes has
- * partial updates alone and another one writes too; asm_commit names these, and no others. So steps
- * that each add to one set don't make each other stale; what one move alone adds, removes or
+ *    Else it reports nothing that isn't judged again once the move is pushed. A popped move which
+ *    is neither pushed again nor judged by the caller's own gets leaves no trace.
+ * A step depends on what is tracked, and on each location where the first of its moves that writes
+ * has partial updates alone and another one writes too; asm_commit names these, and no others. So
+ * steps that each add to one set don't make each other stale; what one move alone adds, removes or
  * increments is judged when it is fired.
  *
- * A function is scanned by asm_get_all. The step then rests on all its locations, those that have a
- * value and those that have none, so that a value which comes to a further one makes the commit
- * stale. What is tracked and scanned takes at most 256 places: one for each location, and one for each
- * function, however many locations it has. A location that is told by a scan alone isn't got.
+ * asm_get_all scans a function. The step then depends on all its locations, those that have a value
+ * and those that have none, so that a value which comes to a further one makes the commit stale.
+ * What is tracked and scanned takes at most 256 places: one for each location, and one for each
+ * function, whatever its number of locations. A location that only a scan returned isn't tracked.
  *
- * ASM_MOVED: the agent's own state has moved on since the step began, which is to be begun again; or
- * it is that of a second agent, which hasn't come so far and has to follow, as an agent has whose state
+ * ASM_MOVED: the agent's own state has moved on since the step began, so begin it again; or it is
+ * that of a second agent, which hasn't come so far and has to follow, as an agent has whose state
  * another one took (asm_take_state). */
 
 /* Follows, and begins a step at `*number` moves, in a slot that is empty or holds a step, which is
@@ -356,9 +357,9 @@ FOLUGBEN_NODISCARD int32_t asm_begin(struct asm_agent *agent, struct asm_step *s
 FOLUGBEN_NODISCARD int32_t asm_get(struct asm_agent *agent, struct asm_step *step,
     const uint8_t *locations, size_t len, uint8_t *out, size_t room, size_t *written);
 
-/* Writes what asm_get writes, and notes nothing: no location is got, so a commit fires though another
- * agent has written there since. It is for what is told or shown, and for what the step doesn't go by.
- * The codes are those of asm_get but ASM_MANY. */
+/* Writes what asm_get writes, and tracks nothing, so a commit fires though another agent has
+ * written there since. It is for what is only shown. The codes are those of asm_get except
+ * ASM_MANY. */
 FOLUGBEN_NODISCARD int32_t asm_see(struct asm_agent *agent, struct asm_step *step,
     const uint8_t *locations, size_t len, uint8_t *out, size_t room, size_t *written);
 
@@ -370,13 +371,14 @@ FOLUGBEN_NODISCARD int32_t asm_get_all(struct asm_agent *agent, struct asm_step 
     const uint8_t *name, size_t len, uint8_t *out, size_t room, size_t *written);
 
 /* Pushes the move [INSTR, ..]: what is got and pushed later is seen through what it leaves. A push
- * that is refused, or is popped, is a dry run, on which the step rests. ASM_CLASH, with the text
+ * that is refused, or is popped, is a dry run, on which the step depends. ASM_CLASH, with the text
  * {"clash":[LOC,CAUSE]}: its updates clash on what is seen. ASM_DEEP. ASM_MANY: the one move of all
- * would have more than 4,096 instructions; or the move is refused, and what that tells would take more
- * than 256 places, so that nothing is tracked. ASM_LARGE, with {"large":LOC}: never for a step of the
- * agent's storage. ASM_MOVED, ASM_EMPTY (one of the slots), ASM_SMALL (for the text of a refusal),
- * ASM_NOT_JSON, ASM_SHAPE, ASM_MEMORY. It costs by the move's own instructions, however many others
- * are pushed, and by the size of a set or a bag that they change and the earlier updates of it. */
+ * would have more than 4,096 instructions; or the move is refused, and tracking it would take more
+ * than 256 places, so that nothing is tracked. ASM_LARGE, with {"large":LOC}: never for a step of
+ * the agent's storage. ASM_MOVED, ASM_EMPTY (one of the slots), ASM_SMALL (for the text of a
+ * refusal), ASM_NOT_JSON, ASM_SHAPE, ASM_MEMORY. It costs by the move's own instructions, not by
+ * those pushed before, and by the size of a set or a bag that they change and the earlier updates
+ * of it. */
 FOLUGBEN_NODISCARD int32_t asm_push(struct asm_agent *agent, struct asm_step *step,
     const uint8_t *move, size_t len, uint8_t *out, size_t room, size_t *written);
 
@@ -389,46 +391,46 @@ FOLUGBEN_NODISCARD int32_t asm_push(struct asm_agent *agent, struct asm_step *st
 FOLUGBEN_NODISCARD int32_t asm_extend(struct asm_agent *agent, struct asm_step *step,
     const uint8_t *move, size_t len, uint8_t *out, size_t room, size_t *written);
 
-/* Takes away the move that was pushed last, with those that joined it, and tracks the locations where
- * these have partial updates that were judged on the state. What was got and scanned stays so.
- * ASM_NONE, ASM_EMPTY, ASM_MANY (more than 256 places would be taken), ASM_MEMORY. */
+/* Takes away the move that was pushed last, with those that joined it, and tracks the locations
+ * where these have partial updates that were judged on the state. What was tracked and scanned
+ * stays so. ASM_NONE, ASM_EMPTY, ASM_MANY (more than 256 places would be taken), ASM_MEMORY. */
 FOLUGBEN_NODISCARD int32_t asm_pop(struct asm_step *step);
 
-/* Takes these away too, and puts the one move that does what they do in turn into a slot that is empty
- * or holds a move, which is then dropped: asm_push_move and asm_extend_move take it, on this step or
- * on another. A move that none joined is put as it was pushed, and tracks nothing; of others the
- * locations are tracked that two of them change, where the first has partial updates alone that were
- * judged on the state. ASM_TAKEN (`move` holds something else), before all others; ASM_EMPTY (`step`),
- * ASM_NONE; ASM_MANY: the first of the moves come to more than 4,096 instructions, though all might
- * come to fewer; or more than 256 places would be taken; ASM_CLASH, ASM_LARGE: never for a step of the
- * agent's storage; ASM_MEMORY. */
+/* Takes these away too, and puts the one move that does what they do in turn into a slot that is
+ * empty or holds a move, which is then dropped: asm_push_move and asm_extend_move take it, on this
+ * step or on another. A move that none joined is put unchanged, and tracks nothing; of others the
+ * locations are tracked that two of them change, where the first has partial updates alone that
+ * were judged on the state. ASM_TAKEN (`move` holds something else), before all others; ASM_EMPTY
+ * (`step`), ASM_NONE; ASM_MANY: the first of the moves come to more than 4,096 instructions, though
+ * all might come to fewer; or more than 256 places would be taken; ASM_CLASH, ASM_LARGE: never for
+ * a step of the agent's storage; ASM_MEMORY. */
 FOLUGBEN_NODISCARD int32_t asm_pop_move(struct asm_step *step, struct asm_move *move);
 
 /* How many moves are pushed; 0 for a slot without a step. */
 uint32_t asm_depth(struct asm_step *step);
 
-/* Writes {"fire":[INSTR, ..],"reads":[NAMED, ..]}: the one move that asm_commit would offer, and the
- * locations that it would name, as the step stands; asm_try_fire takes it, where these are at most
- * 256. The functions that were scanned aren't in it; a commit rests on them too. ASM_EMPTY, ASM_SMALL,
- * ASM_MEMORY. */
+/* Writes {"fire":[INSTR, ..],"reads":[NAMED, ..]}: the one move that asm_commit would offer, and
+ * the locations that it would name, as the step is now; asm_try_fire takes it if these are at most
+ * 256. The functions that were scanned aren't in it; a commit depends on them too. ASM_EMPTY,
+ * ASM_SMALL, ASM_MEMORY. */
 FOLUGBEN_NODISCARD int32_t asm_offer(struct asm_step *step, uint8_t *out, size_t room,
     size_t *written);
 
-/* Fires one move that does what the pushed moves do in turn, with each location named, at the step's
- * number, on which the step rests: codes, numbers and receipt as of asm_try_fire, and asm_answer tells
- * the reply whole. With ASM_DONE the step is over, and its slot is empty; with any other code it
- * stays, until asm_begin or asm_free_step. ASM_CLASH: each push was taken on what was seen, and something
- * was written since that one of the moves doesn't fit, such as a bag out of which another agent took
- * what it removes; begin again, as after ASM_STALE. ASM_STALE comes too where a location of a function
- * that was scanned was written since: the receipt names the least of these besides. ASM_MANY: the
- * locations that would be named and the functions that were scanned are more than 256. It looks on, so
- * it answers neither ASM_MOVED nor ASM_RANGE. */
+/* Fires one move that does what the pushed moves do in turn, naming each location on which the step
+ * depends, at the step's number. Codes, numbers and receipt are as of asm_try_fire, and asm_answer
+ * writes the reply in full. With ASM_DONE the step is over, and its slot is empty; with any other
+ * code it stays, until asm_begin or asm_free_step. ASM_CLASH: each push was accepted, and something
+ * was written since that one of the moves doesn't fit, such as a bag out of which another agent
+ * took what it removes; begin again, as after ASM_STALE. ASM_STALE comes too where a location of a
+ * function that was scanned was written since: the receipt names the smallest of these too.
+ * ASM_MANY: the locations that would be named and the functions that were scanned are more than
+ * 256. It polls, so it answers neither ASM_MOVED nor ASM_RANGE. */
 FOLUGBEN_NODISCARD int32_t asm_commit(struct asm_agent *agent, struct asm_step *step,
     asm_numbers *numbers);
 
 /* WITHOUT TEXT: calls that do what asm_peek, asm_get, asm_push and asm_extend do, with a location
- * that is prepared once, and with a move that is gathered in a slot. No JSON is made or read, but for
- * the value of a list, a set or a bag. */
+ * that is prepared once, and with a move that is gathered in a slot. No JSON is made or read,
+ * except for the value of a list, a set or a bag. */
 
 /* What a value is, or an operand. */
 enum asm_kind {
@@ -451,8 +453,8 @@ enum asm_verb {
     ASM_INC = 5
 };
 
-/* A value but for its bytes. The number is that of ASM_KIND_NUM, and 0 or 1 of ASM_KIND_BOOL; of any
- * other kind it is 0. */
+/* A value without its bytes. The number is that of ASM_KIND_NUM, and 0 or 1 of ASM_KIND_BOOL; of
+ * any other kind it is 0. */
 typedef struct asm_value {
     int32_t kind; /* an asm_kind */
     int64_t number;
@@ -463,8 +465,8 @@ typedef struct asm_value {
 FOLUGBEN_NODISCARD int32_t asm_location(const uint8_t *location, size_t len,
     struct asm_location *at);
 
-/* Tells the value at a prepared location in the agent's own state, which stands at `*number` moves.
- * The bytes of the value, if it is of a kind that has some, are written to the buffer. `*number` and
+/* Returns the value at a prepared location in the agent's own state, after `*number` moves. The
+ * bytes of the value, if it is of a kind that has some, are written to the buffer. `*number` and
  * `*value` are 0 with each code but ASM_DONE. ASM_EMPTY (one of the slots), ASM_SMALL, ASM_MEMORY. */
 FOLUGBEN_NODISCARD int32_t asm_peek_at(struct asm_agent *agent, struct asm_location *at,
     uint32_t *number, asm_value *value, uint8_t *out, size_t room, size_t *written);
@@ -475,16 +477,16 @@ FOLUGBEN_NODISCARD int32_t asm_peek_at(struct asm_agent *agent, struct asm_locat
 FOLUGBEN_NODISCARD int32_t asm_get_at(struct asm_agent *agent, struct asm_step *step,
     struct asm_location *at, asm_value *value, uint8_t *out, size_t room, size_t *written);
 
-/* Puts an instruction at a prepared location behind those of the move in a slot; an empty slot holds
- * the move of this instruction then. The operand is told by its kind, its number (as in asm_value)
- * and its bytes, of which a text, a list, a set and a bag alone have any; a set and a bag can be put,
- * and no more. `amount` is 1 or above for ASM_BAGADD and ASM_BAGREMOVE, and 0 for any other verb.
- * ASM_INC takes a number alone. ASM_TAKEN (`move` holds something else than a move), ASM_EMPTY
- * (`at`), ASM_RANGE (the verb, the kind, the number or the bytes of this kind, the amount, or a set or
- * a bag that isn't put), ASM_NOT_JSON (the bytes of a list, a set or a bag), ASM_SHAPE (these are JSON
- * of no value of this kind, or the bytes of a text aren't UTF-8), ASM_MANY (the move has 4,096
- * instructions), ASM_MEMORY. ASM_TAKEN comes before all others; where several of these hold, one of
- * them is answered. */
+/* Puts an instruction at a prepared location behind those of the move in a slot; an empty slot
+ * holds the move of this instruction then. The operand is given by its kind, its number (as in
+ * asm_value) and its bytes, of which a text, a list, a set and a bag alone have any; a set and a
+ * bag can be put, and no more. `amount` is 1 or above for ASM_BAGADD and ASM_BAGREMOVE, and 0 for
+ * any other verb. ASM_INC takes a number alone. ASM_TAKEN (`move` holds something else than a
+ * move), ASM_EMPTY (`at`), ASM_RANGE (the verb, the kind, the number or the bytes of this kind, the
+ * amount, or a set or a bag that isn't put), ASM_NOT_JSON (the bytes of a list, a set or a bag),
+ * ASM_SHAPE (these are JSON of no value of this kind, or the bytes of a text aren't UTF-8),
+ * ASM_MANY (the move has 4,096 instructions), ASM_MEMORY. ASM_TAKEN comes before all others; where
+ * several of these hold, one of them is answered. */
 FOLUGBEN_NODISCARD int32_t asm_instruct(struct asm_move *move, struct asm_location *at,
     int32_t verb, int32_t kind, int64_t number, const uint8_t *bytes, size_t len, uint32_t amount);
 
@@ -512,46 +514,45 @@ uint64_t asm_misses(struct asm_agent *agent);
  * and agents may fire more meanwhile. ASM_EMPTY. */
 FOLUGBEN_NODISCARD int32_t asm_moves(struct asm_storage *storage, uint32_t *moves);
 
-/* Gives an agent back to its storage, in any order; its slot is then empty, and the journal of an
+/* Returns an agent to its storage, in any order; its slot is then empty, and the journal of an
  * earlier asm_close is discarded. ASM_EMPTY (one of the slots), ASM_OTHER, ASM_MEMORY, and
- * ASM_NUMBER for an agent of another storage, if it isn't told as such: of one storage no two
+ * ASM_NUMBER for an agent of another storage, if ASM_OTHER didn't detect it: of one storage no two
  * agents have the same number. */
 FOLUGBEN_NODISCARD int32_t asm_give(struct asm_storage *storage, struct asm_agent *agent);
 
-/* Takes an agent that was given back out of its storage again, in an empty slot: it goes on where it
- * was, with its number and its receipts. So agents that leave and come again need no further numbers.
+/* Checks a returned agent out of its storage again, into an empty slot: it goes on where it was,
+ * with its number and its receipts. So agents that leave and come again need no further numbers.
  * The journal of an earlier asm_close is discarded. ASM_TAKEN (`agent` is full), ASM_EMPTY
- * (`storage`), ASM_NONE (no agent with this number was given back), ASM_MEMORY; the first of these that
- * holds is answered. */
+ * (`storage`), ASM_NONE (no agent with this number was returned), ASM_MEMORY; the first of these
+ * that holds is answered. */
 FOLUGBEN_NODISCARD int32_t asm_take(struct asm_storage *storage, uint32_t number,
     struct asm_agent *agent);
 
-/* Makes the journal of the agents that were given back, if they have a receipt of every move that
- * was fired before this call. ASM_MISSING: the move `*number`, the least such, has none among
- * them; give back the agent that fired it, and close again. The moves of an agent that was freed
- * are missing for good. Else `*number` is 0. ASM_EMPTY, ASM_LARGE, ASM_MEMORY. */
+/* Makes the journal of the returned agents, if they have a receipt of every move that was fired
+ * before this call. ASM_MISSING: the move `*number`, the smallest such, has none among them; return
+ * the agent that fired it, and close again. The moves of an agent that was freed are missing for
+ * good. Else `*number` is 0. ASM_EMPTY, ASM_LARGE, ASM_MEMORY. */
 FOLUGBEN_NODISCARD int32_t asm_close(struct asm_storage *storage, uint32_t *number);
 
 /* Writes the journal that asm_close made. ASM_EMPTY, ASM_NONE, ASM_SMALL. */
 FOLUGBEN_NODISCARD int32_t asm_journal(struct asm_storage *storage, uint8_t *out, size_t room,
     size_t *written);
 
-/* Opens a storage for 1 to 1,048,576 moves, in an empty slot, that goes on where a closed one ended:
- * its opening state is the one that the moves of the kept journal leave, its agents start anew, and
- * numbers begin at 0: keep none of a reading before, as it is taken for one of this storage once so
- * many moves were seen.
- * The journals of both, one after the other, tell one run; moves that were fired after asm_close
- * are in neither. ASM_TAKEN (`next`), ASM_EMPTY (`storage`), ASM_NONE, ASM_RANGE (the capacity),
- * ASM_MEMORY. */
+/* Opens a storage for 1 to 1,048,576 moves, in an empty slot, that goes on where a closed one
+ * ended: its opening state is the one that the journal's moves leave, its agents start again, and
+ * numbers begin at 0: keep no number of a read before, as it is taken for one of this storage once
+ * so many moves were seen. The journals of both, one after the other, are one run; moves that were
+ * fired after asm_close are in neither. ASM_TAKEN (`next`), ASM_EMPTY (`storage`), ASM_NONE,
+ * ASM_RANGE (the capacity), ASM_MEMORY. */
 FOLUGBEN_NODISCARD int32_t asm_next(struct asm_storage *storage, uint32_t capacity,
     struct asm_storage *next);
 
-/* Opens a storage for 1 to 1,048,576 moves, in an empty slot, with the agent's own state, where that
- * stands at all moves that its storage has room for: that storage is full, and the agent has looked
- * on to the end (asm_follow, asm_begin). No journal is needed, and no other agent waits: each may
- * read on, be given back and be closed into the first storage's journal later. The journals of both,
- * one after the other, tell one run. Numbers begin at 0, as after asm_next. ASM_TAKEN (`next`),
- * ASM_EMPTY (`agent`), ASM_NONE (the agent's own state stands at fewer moves), ASM_RANGE (the
+/* Opens a storage for 1 to 1,048,576 moves, in an empty slot, with the agent's own state, if that
+ * is after all moves that its storage has room for: the storage is full, and the agent has polled
+ * to the end (asm_follow, asm_begin). No journal is needed, and no other agent waits: each may read
+ * on, be returned and be closed into the first storage's journal later. The journals of both, one
+ * after the other, are one run. Numbers begin at 0, as after asm_next. ASM_TAKEN (`next`),
+ * ASM_EMPTY (`agent`), ASM_NONE (the agent's own state is at fewer moves), ASM_RANGE (the
  * capacity), ASM_MEMORY; the first of these that holds is answered. */
 FOLUGBEN_NODISCARD int32_t asm_go_on(struct asm_agent *agent, uint32_t capacity,
     struct asm_storage *next);
@@ -586,20 +587,20 @@ static inline void asm_free_audit(struct asm_audit *audit) {
         asm_free(&audit->slot);
 }
 
-/* Checks a journal: whether each answer is the one that a storage of one thread gives there.
- * ASM_DONE: it is legal, with the numbers of its calls and of its moves. ASM_ILLEGAL: `*calls` is
- * the number of the first call whose answer is another, from 0 up. ASM_NOT_JSON, ASM_SHAPE:
- * `*calls` is the number of the line, from 1 up. ASM_VERSION, ASM_CUT, ASM_MEMORY. */
+/* Checks a journal: whether each answer is the one that a sequential storage gives there. ASM_DONE:
+ * it is legal, with the numbers of its calls and of its moves. ASM_ILLEGAL: `*calls` is the number
+ * of the first call whose answer is another, from 0 up. ASM_NOT_JSON, ASM_SHAPE: `*calls` is the
+ * number of the line, from 1 up. ASM_VERSION, ASM_CUT, ASM_MEMORY. */
 FOLUGBEN_NODISCARD int32_t asm_check(const uint8_t *journal, size_t len, uint64_t *calls,
     uint32_t *moves);
 
-/* AN AUDIT checks a run of any length as its bytes come: parts, each a whole journal, one behind the
- * other, each of which opens with the state that the one before it leaves. It holds that state and the
- * line that hasn't ended. asm_free_audit abandons it. */
+/* AN AUDIT checks a run of any length as its bytes come: parts, each a complete journal, one behind
+ * the other, each of which opens with the state that the one before it leaves. It holds that state
+ * and the line that hasn't ended. asm_free_audit abandons it. */
 
 /* The numbers of an audit; what a code isn't said to set is 0. */
 typedef struct asm_audit_numbers {
-    uint64_t parts; /* how many parts are whole; of a part that is at fault its number, from 0 */
+    uint64_t parts; /* how many parts are complete; of a part that is at fault its number, from 0 */
     uint64_t calls; /* how many calls were judged, of all parts; with ASM_ILLEGAL the number of the
                        call in its part, from 0; with ASM_NOT_JSON and ASM_SHAPE the number of the
                        line in it, from 1 */
@@ -608,8 +609,8 @@ typedef struct asm_audit_numbers {
 
 /* Takes the next bytes, any number of them, into a slot that holds an audit or is empty: then one
  * begins. `*taken` is how many of them were taken. ASM_DONE: all were, and each answer in the lines
- * that have ended is right, with the numbers so far. With any other code those before the one at which
- * it comes were taken; what is told of a line comes at its line feed. ASM_ILLEGAL: the first wrong
+ * that have ended is right, with the numbers so far. With any other code those before the one at
+ * which it comes were taken; a line is judged at its line feed. ASM_ILLEGAL: the first wrong
  * answer, with its part and its call. ASM_NOT_JSON and ASM_SHAPE, with part and line, ASM_VERSION,
  * ASM_CUT and ASM_APART, with the part: the first fault. ASM_LARGE: a line of more than 16,777,216
  * bytes. ASM_MEMORY: pass the bytes that weren't taken again. ASM_TAKEN: `audit` holds something
@@ -617,9 +618,9 @@ typedef struct asm_audit_numbers {
 FOLUGBEN_NODISCARD int32_t asm_audit(struct asm_audit *audit, const uint8_t *bytes, size_t len,
     size_t *taken, asm_audit_numbers *told);
 
-/* Tells what is so if no further byte comes; more may come. ASM_DONE: the run is whole parts, one at
- * least, and legal, with its numbers. ASM_CUT, ASM_NOT_JSON: its last part or its last line isn't
- * whole, with the numbers that asm_audit tells with them. ASM_EMPTY, ASM_MEMORY. */
+/* Reports what holds if no further byte comes; more may come. ASM_DONE: the run is complete parts,
+ * at least one, and legal, with its numbers. ASM_CUT, ASM_NOT_JSON: its last part or its last line
+ * isn't complete, with the numbers that asm_audit sets with them. ASM_EMPTY, ASM_MEMORY. */
 FOLUGBEN_NODISCARD int32_t asm_audited(struct asm_audit *audit, asm_audit_numbers *told);
 
 /* Writes the state [PAIR, ..] that the moves so far leave, in ascending order of locations. ASM_EMPTY,
@@ -639,11 +640,11 @@ FOLUGBEN_NODISCARD int32_t asm_replay(const uint8_t *journal, size_t len, uint8_
 FOLUGBEN_NODISCARD int32_t asm_trace(const uint8_t *journal, size_t len, uint8_t *out, size_t room,
     size_t *written, uint64_t *line);
 
-/* Writes the updates [PAIR, ..] of the move [INSTR, ..] on the state [PAIR, ..], in ascending order of
- * locations; null leaves a location empty, as each is that the state doesn't have. The state needs
- * the locations of partial updates alone. ASM_CLASH, with the text {"clash":[LOC,CAUSE]} of the least
- * location that clashes. ASM_NOT_JSON, ASM_SHAPE (the state, or else the move), ASM_SMALL,
- * ASM_MEMORY. */
+/* Writes the updates [PAIR, ..] of the move [INSTR, ..] on the state [PAIR, ..], in ascending order
+ * of locations; null leaves a location empty, as each is that the state doesn't have. The state
+ * needs the locations of partial updates alone. ASM_CLASH, with the text {"clash":[LOC,CAUSE]} of
+ * the smallest location that clashes. ASM_NOT_JSON, ASM_SHAPE (the state, or else the move),
+ * ASM_SMALL, ASM_MEMORY. */
 FOLUGBEN_NODISCARD int32_t asm_aggregate(const uint8_t *state, size_t state_len,
     const uint8_t *move, size_t move_len, uint8_t *out, size_t room, size_t *written);
 
@@ -665,14 +666,14 @@ enum asm_form {
     ASM_FORM_SCRIPT = 4     /* {"agents":[AGENT, ..],"init":[PAIR, ..]}, which asm_driver plays */
 };
 
-/* Writes a sentence that says where and why a text is refused as ASM_NOT_JSON or ASM_SHAPE, such
- * as "instruction 3: a set can't hold a set", "4,097 instructions, at most 4,096" or "not JSON at
- * byte 17"; the parts, the lines and the bytes of a text are counted from 1. Of a script it tells
- * "agent 1 step 0 block 0 instruction 2: unknown word \"putt\"", all counted from 0. The text is
- * empty, with `*written` 0, exactly where the form's readers accept what they are passed: nothing
- * is said of what makes ASM_MANY, nor of an event that doesn't fit the journal's first line; a
- * script is within its limits. The sentences may change with the version. ASM_RANGE (the form),
- * ASM_SMALL, ASM_MEMORY. */
+/* Writes a sentence that says where and why a text is refused as ASM_NOT_JSON or ASM_SHAPE, such as
+ * "instruction 3: a set can't hold a set", "4,097 instructions, at most 4,096" or "not JSON at byte
+ * 17"; the parts, the lines and the bytes of a text are counted from 1. Of a script it says "agent
+ * 1 step 0 block 0 instruction 2: unknown word \"putt\"", all counted from 0. The text is empty,
+ * with `*written` 0, exactly where the form's readers accept what they are passed: nothing is said
+ * of what makes ASM_MANY, nor of an event that doesn't fit the journal's first line; a script is
+ * within its limits. The sentences may change with the version. ASM_RANGE (the form), ASM_SMALL,
+ * ASM_MEMORY. */
 FOLUGBEN_NODISCARD int32_t asm_explain(int32_t form, const uint8_t *text, size_t len, uint8_t *out,
     size_t room, size_t *written);
 
