@@ -1,4 +1,5 @@
 """Schedules: agents that are played by turns, and the search for the schedule that breaks an invariant."""
+import functools
 import importlib.util
 import itertools
 import json
@@ -11,13 +12,15 @@ import sys
 import unittest
 from unittest import mock
 
-from folugben import Agent, Clash, Differs, Endless, Stale, Step, Storage, check, explore, interleave, states
+from folugben import Agent, Clash, Differs, Endless, Stale, Step, Storage, check, interleave, states
 from folugben import _explore, _footprint
 from folugben_engine import bank, rules
 from checkout import ROOT
 from rooms import Rooms, environment
 
 COUNT = ["count"]
+# A machine that is busy with other things is slow.
+explore = functools.partial(_explore.explore, seconds=600)
 PRINTS = """
 test_a_blind_transfer_is_found()
 test_a_transfer_keeps_the_sum()
@@ -185,7 +188,7 @@ class Explored(unittest.TestCase):
             explored = explore(make, [collect(False)] * 3, has_all)
             self.assertEqual(explored.turns, [0, 0, 1], explored)
             self.assert_breaks(explored, make, [collect(False)] * 3, has_all)
-            held = explore(make, [collect(True)] * 3, has_all, seconds=600)
+            held = explore(make, [collect(True)] * 3, has_all)
             self.assertTrue(held.is_exhaustive, held)
 
     def test_a_state_of_another_order_of_moves_that_are_apart(self):
@@ -252,7 +255,7 @@ class Page(Rooms):
     def test_the_page_does_what_it_shows(self):
         page = (ROOT / "docs" / "SCHEDULES.md").read_text()
         (code,) = re.findall(r"```python\n([\s\S]*?)```", page)
-        (self.room / "test_bank.py").write_text(code + PRINTS)
+        (self.room / "test_bank.py").write_text(code.replace("sum_stays)\n", "sum_stays, seconds=600)\n") + PRINTS)
         command = [sys.executable, "test_bank.py"]
         told = subprocess.run(command, cwd=self.room, env=environment(), capture_output=True, text=True)
         self.assertEqual((told.returncode, told.stderr), (0, ""))
@@ -275,7 +278,7 @@ class Counts(unittest.TestCase):
     def test_steps_at_mostly_different_locations(self):
         work = raising(lambda own, count: ["x", "all" if own == count else own], 4)
         init = [[["x", it], 0] for it in (0, 1, 2, "all")]
-        told = explore(lambda: Storage(init, 100), [work] * 3, at_end=lambda values: sum(values.values()) == 12, seconds=600)
+        told = explore(lambda: Storage(init, 100), [work] * 3, at_end=lambda values: sum(values.values()) == 12)
         self.assertTrue(told.is_exhaustive, told)
         # Each step is a look and a fire, where none is stale.
         self.assertLess(told.schedules * 100, math.factorial(24) // math.factorial(8) ** 3)
@@ -343,7 +346,7 @@ class Random(unittest.TestCase):
 
         meets = (lambda *_: True) if is_naive else _footprint.Footprint.meets
         with mock.patch.object(_footprint.Footprint, "meets", meets):
-            explored = _explore.explore(lambda: Storage(self.INIT, 100), works, invariant, at_end=at_end, seconds=600)
+            explored = explore(lambda: Storage(self.INIT, 100), works, invariant, at_end=at_end)
         self.assertTrue(explored.is_exhaustive, explored)
         return ends, moments, explored.schedules
 
