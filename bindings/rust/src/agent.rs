@@ -47,27 +47,27 @@ pub struct Agent {
 
 impl Agent {
     /// Its number among the agents of its storage.
-    #[must_use] 
+    #[must_use]
     pub fn number(&self) -> u8 {
         self.number
     }
 
     /// How many moves it has seen.
-    #[must_use] 
+    #[must_use]
     pub fn seen(&self) -> MoveNumber {
         // SAFETY: the slots are held by this agent, no call is at work on them, and the texts and numbers outlive the call.
         unsafe { sys::asm_seen(self.slot.at()) }.into()
     }
 
     /// How many moves it fired.
-    #[must_use] 
+    #[must_use]
     pub fn won(&self) -> u32 {
         // SAFETY: the slots are held by this agent, no call is at work on them, and the texts and numbers outlive the call.
         unsafe { sys::asm_won(self.slot.at()) }
     }
 
     /// How many of its looks found no further move.
-    #[must_use] 
+    #[must_use]
     pub fn misses(&self) -> u64 {
         // SAFETY: the slots are held by this agent, no call is at work on them, and the texts and numbers outlive the call.
         unsafe { sys::asm_misses(self.slot.at()) }

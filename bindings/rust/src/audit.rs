@@ -155,13 +155,13 @@ pub struct Auditor {
 
 impl Auditor {
     /// An auditor that has read nothing.
-    #[must_use] 
+    #[must_use]
     pub fn new() -> Auditor {
         Auditor { slot: Held::empty(), counts: Counts::default(), fault: None }
     }
 
     /// How much was found right so far.
-    #[must_use] 
+    #[must_use]
     pub fn counts(&self) -> Counts {
         self.counts
     }
@@ -212,7 +212,8 @@ impl Auditor {
     fn feed(&mut self, bytes: &[u8]) -> (i32, usize, sys::AuditNumbers) {
         let (mut taken, mut numbers) = (0, sys::AuditNumbers::default());
         // SAFETY: the slot is held by this auditor, and the bytes and numbers outlive the call.
-        let code = unsafe { sys::asm_audit(self.slot.at(), bytes.as_ptr(), bytes.len(), &raw mut taken, &raw mut numbers) };
+        let code =
+            unsafe { sys::asm_audit(self.slot.at(), bytes.as_ptr(), bytes.len(), &raw mut taken, &raw mut numbers) };
         (code, taken, numbers)
     }
 }

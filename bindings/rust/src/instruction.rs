@@ -21,7 +21,7 @@ pub enum Instruction {
 
 impl Instruction {
     /// The location that it writes.
-    #[must_use] 
+    #[must_use]
     pub fn at(&self) -> &Location {
         match self {
             Instruction::Put(at, _)
@@ -51,7 +51,7 @@ pub struct Move {
 
 impl Move {
     /// The move without instructions.
-    #[must_use] 
+    #[must_use]
     pub fn new() -> Move {
         Move::default()
     }
@@ -100,19 +100,19 @@ impl Move {
     }
 
     /// How many instructions there are.
-    #[must_use] 
+    #[must_use]
     pub fn len(&self) -> usize {
         self.instructions.len()
     }
 
     /// Whether there are none.
-    #[must_use] 
+    #[must_use]
     pub fn is_empty(&self) -> bool {
         self.instructions.is_empty()
     }
 
     /// The instructions, in the order in which they came.
-    #[must_use] 
+    #[must_use]
     pub fn instructions(&self) -> &[Instruction] {
         &self.instructions
     }

@@ -27,7 +27,7 @@ pub enum Legality {
 
 impl Legality {
     /// Whether each answer is right.
-    #[must_use] 
+    #[must_use]
     pub fn is_legal(self) -> bool {
         matches!(self, Legality::Legal { .. })
     }
@@ -91,13 +91,13 @@ pub struct Journal {
 
 impl Journal {
     /// The text.
-    #[must_use] 
+    #[must_use]
     pub fn as_bytes(&self) -> &[u8] {
         &self.text
     }
 
     /// The text.
-    #[must_use] 
+    #[must_use]
     pub fn into_bytes(self) -> Vec<u8> {
         self.text
     }
@@ -231,7 +231,7 @@ pub fn compose(first: &Move, second: &Move) -> Result<Move, Error> {
 }
 
 /// The version of the library: a million for each major version, a thousand for each minor one.
-#[must_use] 
+#[must_use]
 pub fn version() -> u32 {
     // SAFETY: the texts and numbers outlive the call, and no slot is passed.
     unsafe { sys::asm_version() }

@@ -35,7 +35,7 @@ impl Prepared {
     }
 
     /// The location.
-    #[must_use] 
+    #[must_use]
     pub fn location(&self) -> &Location {
         &self.location
     }
@@ -70,7 +70,7 @@ pub struct PreparedMove {
 
 impl PreparedMove {
     /// The move without instructions.
-    #[must_use] 
+    #[must_use]
     pub fn new() -> PreparedMove {
         PreparedMove { len: 0, size: 0, slot: Held::empty() }
     }
@@ -83,13 +83,13 @@ impl PreparedMove {
     }
 
     /// How many instructions it has; what was popped into it is one of them.
-    #[must_use] 
+    #[must_use]
     pub fn len(&self) -> usize {
         self.len
     }
 
     /// Whether it has none.
-    #[must_use] 
+    #[must_use]
     pub fn is_empty(&self) -> bool {
         self.len == 0
     }

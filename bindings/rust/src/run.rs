@@ -265,13 +265,13 @@ impl Run {
     }
 
     /// Its folder.
-    #[must_use] 
+    #[must_use]
     pub fn path(&self) -> &Path {
         &self.path
     }
 
     /// How much of the run is on the disk. Each move with a number up to `moves` is safe, also from a power failure.
-    #[must_use] 
+    #[must_use]
     pub fn saved(&self) -> Counts {
         self.core.saved()
     }

@@ -186,7 +186,7 @@ impl Storage {
     }
 
     /// How many moves were fired. It looks along all of them.
-    #[must_use] 
+    #[must_use]
     pub fn moves(&self) -> u32 {
         let mut moves = 0;
         let slots = self.shared.slots();

@@ -70,13 +70,13 @@ impl Value {
     pub const UNDEF: Value = Value::Plain(Element::Undef);
 
     /// Whether it is undef.
-    #[must_use] 
+    #[must_use]
     pub fn is_undef(&self) -> bool {
         *self == Value::UNDEF
     }
 
     /// The number, if it is one.
-    #[must_use] 
+    #[must_use]
     pub fn as_num(&self) -> Option<i64> {
         match self {
             Value::Plain(Element::Num(number)) => Some(*number),
@@ -85,7 +85,7 @@ impl Value {
     }
 
     /// The boolean, if it is one.
-    #[must_use] 
+    #[must_use]
     pub fn as_bool(&self) -> Option<bool> {
         match self {
             Value::Plain(Element::Bool(is_true)) => Some(*is_true),
@@ -94,7 +94,7 @@ impl Value {
     }
 
     /// The text, if it is one.
-    #[must_use] 
+    #[must_use]
     pub fn as_text(&self) -> Option<&str> {
         match self {
             Value::Plain(Element::Text(text)) => Some(text),
@@ -103,7 +103,7 @@ impl Value {
     }
 
     /// The list, if it is one.
-    #[must_use] 
+    #[must_use]
     pub fn as_list(&self) -> Option<&[Element]> {
         match self {
             Value::Plain(Element::List(items)) => Some(items),
@@ -112,7 +112,7 @@ impl Value {
     }
 
     /// The set, if it is one.
-    #[must_use] 
+    #[must_use]
     pub fn as_set(&self) -> Option<&BTreeSet<Element>> {
         match self {
             Value::Set(elements) => Some(elements),
@@ -121,7 +121,7 @@ impl Value {
     }
 
     /// The bag, if it is one.
-    #[must_use] 
+    #[must_use]
     pub fn as_bag(&self) -> Option<&BTreeMap<Element, u32>> {
         match self {
             Value::Bag(counts) => Some(counts),
@@ -235,13 +235,13 @@ impl Location {
     }
 
     /// The function's name.
-    #[must_use] 
+    #[must_use]
     pub fn name(&self) -> &str {
         &self.name
     }
 
     /// The arguments.
-    #[must_use] 
+    #[must_use]
     pub fn args(&self) -> &[Element] {
         &self.args
     }

@@ -20,7 +20,7 @@ pub struct RunAgent {
 
 impl RunAgent {
     /// Its number among the agents of the run.
-    #[must_use] 
+    #[must_use]
     pub fn number(&self) -> u8 {
         self.seat.number()
     }
