@@ -84,6 +84,26 @@ final class JsonReader {
         });
     }
 
+    /** What the header of a journal tells of the storage: its capacity and its opening state. */
+    record Header(int capacity, String init) {}
+
+    static Header header(String line) {
+        return parsed(line, "header", reader -> {
+            reader.key("agents");
+            reader.number();
+            reader.nextKey("capacity");
+            int capacity = Math.toIntExact(reader.number());
+            reader.nextKey("events");
+            reader.number();
+            reader.nextKey("init");
+            List<Pair> init = reader.list(JsonReader::pair);
+            reader.nextKey("version");
+            reader.number();
+            reader.end(JsonToken.END_OBJECT);
+            return new Header(capacity, JsonWriter.state(init, "init"));
+        });
+    }
+
     static List<Instruction> move(String move) {
         return parsed(move, "move", reader -> reader.list(JsonReader::instruction));
     }

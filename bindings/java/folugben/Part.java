@@ -86,6 +86,11 @@ final class Part implements Chained {
         return isOver;
     }
 
+    /** Whether no move was fired in it. One that isn't the newest may be written and closed. */
+    synchronized boolean isEmpty() {
+        return !isOver && storage.moves() == 0;
+    }
+
     /** Has no agent be taken in it any more; the part behind it, if there is one. */
     synchronized Part end() {
         isOver = true;

@@ -3,6 +3,7 @@ package folugben;
 import java.io.IOException;
 import java.io.UncheckedIOException;
 import java.nio.ByteBuffer;
+import java.time.Duration;
 
 /**
  * A thread that closes the parts of a run, one after the other, saves their journals in its folder,
@@ -11,6 +12,8 @@ import java.nio.ByteBuffer;
 final class PartWriter {
     /** How many parts are over and not written before agents wait, but the one that is next. */
     private static final int BEHIND = 1;
+    /** How often the first move of a part is looked for at least, in ms. */
+    private static final long LOOK = 50;
     /** How long an agent may stay, in ms, in a step of a part that is full, or ends at rest. */
     private static final long PATIENCE = 100;
 
@@ -24,6 +27,8 @@ final class PartWriter {
     private volatile Part head;
     private volatile long parts;
     private volatile long saved;
+    /** After how many ns from its first move a part ends at rest; 0 for never. */
+    private volatile long every;
     /** All below with the lock of this. How often something has changed that may be waited for. */
     private long changes;
     private boolean isClosing;
@@ -84,6 +89,20 @@ final class PartWriter {
         }
     }
 
+    /** Waits until the part with this number is written, or the run has ended. */
+    synchronized void awaitWritten(long number) {
+        boolean isInterrupted = false;
+        while (run.isGoing() && head.number <= number) isInterrupted |= !awaitChange(0);
+        if (isInterrupted)
+            Thread.currentThread().interrupt();
+    }
+
+    /** Has a part end at rest so long after its first move. */
+    void every(Duration time) {
+        every = time.toNanos();
+        wake();
+    }
+
     /** Has all that was fired be written, and waits for that. */
     synchronized void close() {
         isClosing = true;
@@ -122,9 +141,12 @@ final class PartWriter {
     /** Waits until the part that is next is whole, and takes back who is in no step, or too long. */
     private void awaitWhole() {
         long begin = 0;
+        long first = 0;
         while (true) {
             long seen = seen();
-            if (isClosing())
+            if (every > 0 && first == 0 && !head.isOver() && head.storage.moves() > 0)
+                first = System.nanoTime();
+            if (isClosing() || every > 0 && first != 0 && System.nanoTime() - first >= every)
                 head.end();
             if (head.isOver() && begin == 0)
                 begin = System.nanoTime();
@@ -133,8 +155,13 @@ final class PartWriter {
                 run.takeBack(head, isClosing(), left <= 0);
             if (head.isWhole())
                 return;
-            awaitChange(seen, head.isOver() && left > 0 ? left : 0);
+            awaitChange(seen, head.isOver() ? Math.max(left, 0) : look());
         }
+    }
+
+    /** After how many ms to look again whether a part has to end; 0 for never. */
+    private long look() {
+        return every == 0 ? 0 : Math.min(LOOK, Math.max(1, every / 4_000_000));
     }
 
     private synchronized long seen() {

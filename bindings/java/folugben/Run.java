@@ -4,6 +4,7 @@ import java.io.IOException;
 import java.io.UncheckedIOException;
 import java.nio.ByteBuffer;
 import java.nio.file.Path;
+import java.time.Duration;
 import java.util.List;
 import java.util.Map;
 import java.util.Objects;
@@ -159,6 +160,27 @@ public final class Run implements AutoCloseable {
         }
     }
 
+    /** What an import has copied, and how many bytes of an incomplete last part it left out. */
+    public record Imported(Auditor.Counts counts, long leftOut) {}
+
+    /**
+     * Imports a run of version 0.2, which is one file, into a new folder, from which {@link #resume}
+     * goes on. The file isn't changed. The folder is there as a whole, or not at all.
+     *
+     * @throws AuditException if a part isn't legal, or none is complete
+     * @throws UncheckedIOException if there is something at the folder's path; if a file can't be
+     *         read or written
+     */
+    public static Imported importFile(Path file, Path folder) {
+        Objects.requireNonNull(file, "file");
+        Objects.requireNonNull(folder, "folder");
+        try {
+            return RunImport.run(file, folder);
+        } catch (IOException fault) {
+            throw new UncheckedIOException(fault);
+        }
+    }
+
     private static void audit(Path folder, Check check, Auditor auditor) throws IOException {
         if (check == Check.ALL) {
             auditor.feed(folder);
@@ -190,6 +212,38 @@ public final class Run implements AutoCloseable {
                 throw FolugbenException.numberTaken(number);
             return agents[number] = new RunAgent(this, number);
         }
+    }
+
+    /**
+     * Has each part end at rest so long after its first move, from now on; this run.
+     *
+     * @throws IllegalArgumentException if the time isn't above 0
+     */
+    public Run every(Duration time) {
+        if (time.isNegative() || time.isZero())
+            throw new IllegalArgumentException("a time is above 0, and not " + time);
+        writer.every(time);
+        return this;
+    }
+
+    /**
+     * Saves all moves up to now: they are on the disk when this returns. It ends the part, which
+     * makes a segment, and waits for steps for a tenth of a second: one that lasts longer throws a
+     * {@link PartException}, and play begins again.
+     *
+     * @throws RunException if a part of the run couldn't be written
+     */
+    public void flush() {
+        expectGoing();
+        Part now = newest;
+        if (now.isEmpty()) {
+            writer.awaitWritten(now.number - 1);
+        } else {
+            now.end();
+            writer.wake();
+            writer.awaitWritten(now.number);
+        }
+        expectGoing();
     }
 
     /** Its folder. */

@@ -229,6 +229,7 @@ public final class Test {
         RunTests.all();
         RunEndTests.all();
         ResumeTests.all();
+        SavingTests.all();
         SharedTests.all();
     }
 }
