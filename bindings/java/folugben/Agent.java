@@ -55,13 +55,14 @@ public final class Agent implements Actor {
 
     /** Reads the locations [LOC, ..]; the answer is {"number":N,"values":[VALUE, ..]}. */
     public String read(String locations) {
+        Interleave.turn();
         byte[] call = Texts.utf8(locations, "locations");
         synchronized (slot) {
             int code = room.make(call,
                     (text, out, length, written) -> Calls.asm_read(slot.at, text, call.length));
             FolugbenException.expectRead(held(code), Storage.Form.LOCATIONS, call);
             vain++;
-            return answer();
+            return lastAnswer();
         }
     }
 
@@ -146,6 +147,7 @@ public final class Agent implements Actor {
      * @throws FolugbenException as of two arguments
      */
     public Reply tryFire(String instructions, String reads, String scans) {
+        Interleave.turn();
         String move = "{\"fire\":" + Texts.oneValue(instructions, "instructions") + ",\"reads\":"
                 + Texts.oneValue(reads, "reads") + "}";
         byte[] call = Texts.utf8(move, "the move");
@@ -185,7 +187,7 @@ public final class Agent implements Actor {
         switch (code) {
             case FolugbenException.STALE, FolugbenException.CLASH -> {
                 vain++;
-                answer = answer();
+                answer = lastAnswer();
             }
             case FolugbenException.FULL -> vain++;
             case FolugbenException.BUSY -> {}
@@ -261,6 +263,7 @@ public final class Agent implements Actor {
      */
     @Override
     public long follow() {
+        Interleave.turn();
         synchronized (slot) {
             expect(Calls.asm_follow(slot.at, room.numbers()));
             return room.number(0);
@@ -273,6 +276,7 @@ public final class Agent implements Actor {
      * each location with this number.
      */
     public String peek(String locations) {
+        Interleave.turn();
         byte[] call = Texts.utf8(locations, "locations");
         synchronized (slot) {
             Calls.Told told = room.told(call,
@@ -293,6 +297,7 @@ public final class Agent implements Actor {
 
     /** The same of a prepared location. */
     public Peeked peek(PreparedLocation location) {
+        Interleave.turn();
         synchronized (slot) {
             look(location);
             return new Peeked(room.number(0), room.told());
@@ -305,6 +310,7 @@ public final class Agent implements Actor {
      * @throws IllegalStateException if the value is no number
      */
     public long peekNumber(PreparedLocation location) {
+        Interleave.turn();
         synchronized (slot) {
             look(location);
             return room.kind() == Room.NUM ? room.number() : room.told().asLong();
@@ -324,6 +330,7 @@ public final class Agent implements Actor {
     /** The agent's own state, in ascending order of locations, without a look or a receipt. */
     @Override
     public State state() {
+        Interleave.turn();
         synchronized (slot) {
             Calls.Told told = room.told(
                     (text, out, length, written)
@@ -340,6 +347,7 @@ public final class Agent implements Actor {
      */
     @Override
     public State scan(String name) {
+        Interleave.turn();
         byte[] bytes = Texts.utf8(name, "name");
         synchronized (slot) {
             Calls.Told told = room.told(bytes,
@@ -360,6 +368,7 @@ public final class Agent implements Actor {
      *         the moves that the agent had seen
      */
     public Reply stands(String reads) {
+        Interleave.turn();
         byte[] call = Texts.utf8(reads, "reads");
         synchronized (slot) {
             Calls.Told told = room.told(call,
@@ -386,6 +395,11 @@ public final class Agent implements Actor {
 
     /** The answer to the last answered call, of whichever thread. */
     public String answer() {
+        Interleave.turn();
+        return lastAnswer();
+    }
+
+    private String lastAnswer() {
         synchronized (slot) {
             Calls.Told told = room.told(
                     (text, out, length, written)
@@ -409,6 +423,7 @@ public final class Agent implements Actor {
 
     /** Takes in what the other agent of the storage has seen. */
     public void learn(Agent other) {
+        Interleave.turn();
         Objects.requireNonNull(other, "other");
         if (other.storage != storage)
             FolugbenException.expect(FolugbenException.OTHER);
@@ -450,6 +465,7 @@ public final class Agent implements Actor {
 
     /** Gives it back to its storage. */
     public void give() {
+        Interleave.turn();
         storage.give(this);
     }
 

@@ -5,24 +5,32 @@ import java.util.Collections;
 import java.util.Iterator;
 import java.util.List;
 import java.util.Random;
+import java.util.concurrent.CancellationException;
 import java.util.concurrent.atomic.AtomicInteger;
 import java.util.concurrent.locks.Condition;
 import java.util.concurrent.locks.Lock;
 import java.util.concurrent.locks.ReentrantLock;
+import java.util.function.Supplier;
 
 /**
- * Plays agents by turns: one at a time goes on, up to where it begins a step, or gets, scans,
- * pushes, extends or fires in one; who goes on then is drawn by a seed.
+ * Plays agents by turns: one at a time goes on, up to its next call or that of one of its steps;
+ * who goes on then is drawn by a seed. What only tells a number, as {@code won}, takes no turn.
  *
  * <p>The same seed gives the same journal, byte for byte, where the works themselves draw nothing
  * else, unlike threads, which give another order each time. So a test tries many seeds, and a
  * schedule that breaks an invariant is kept as its seed. A work must not wait for what another one
- * does in a later turn of its own.
+ * does in a later turn of its own: the play ends with an {@link EndlessException} after so many turns
+ * then. Where the thread is interrupted that plays, each work ends at its next call, and a
+ * CancellationException is thrown.
  */
 public final class Interleave {
     /** How many plays are under way, so that calls of others cost no more than a look at this. */
     private static final AtomicInteger PLAYS = new AtomicInteger();
-    private static final ThreadLocal<Runnable> HERE = new ThreadLocal<>();
+    private static final ThreadLocal<Player> HERE = new ThreadLocal<>();
+    /** How many turns a play takes at most, where nothing else is said. */
+    private static final int MOST = 1_000_000;
+    /** How long works are waited for, in ms, when their play was interrupted. */
+    private static final long GRACE = 5_000;
 
     private final Lock lock = new ReentrantLock();
     private final Choice choice;
@@ -32,9 +40,14 @@ public final class Interleave {
     private final boolean[] isAlive;
     /** Whose turn it is; -1 for nobody's. */
     private int now = -1;
+    private final int most;
+    private int taken;
+    /** What ended all works, unless they have ended by themselves. */
+    private RuntimeException fault;
 
-    private Interleave(int count, Choice choice) {
+    private Interleave(int count, Choice choice, int most) {
         this.choice = choice;
+        this.most = most;
         turns = new Condition[count];
         waits = new boolean[count];
         isAlive = new boolean[count];
@@ -82,7 +95,7 @@ public final class Interleave {
      */
     public static <A, R> List<R> play(
             List<? extends A> agents, List<? extends Work<? super A, ? extends R>> works, long seed) {
-        return play(agents, works, drawn(seed));
+        return play(agents, works, seed, MOST);
     }
 
     /**
@@ -93,30 +106,51 @@ public final class Interleave {
      */
     public static <A, R> List<R> play(List<? extends A> agents,
             List<? extends Work<? super A, ? extends R>> works, List<Integer> turns) {
-        return play(agents, works, listed(Copies.of(turns, "turns")));
+        return play(agents, works, turns, MOST);
+    }
+
+    /**
+     * The same with so many turns at most.
+     *
+     * @throws EndlessException if works are still under way after them, as where one waits for
+     *         another one
+     */
+    public static <A, R> List<R> play(List<? extends A> agents,
+            List<? extends Work<? super A, ? extends R>> works, long seed, int most) {
+        return play(agents, works, drawn(seed), most);
+    }
+
+    /** The same by a list. */
+    public static <A, R> List<R> play(List<? extends A> agents,
+            List<? extends Work<? super A, ? extends R>> works, List<Integer> turns, int most) {
+        return play(agents, works, listed(Copies.of(turns, "turns")), most);
     }
 
     private static <A, R> List<R> play(List<? extends A> agents,
-            List<? extends Work<? super A, ? extends R>> works, Choice choice) {
+            List<? extends Work<? super A, ? extends R>> works, Choice choice, int most) {
         List<A> own = Copies.of(agents, "agents");
         List<Work<? super A, ? extends R>> each = Copies.of(works, "works");
         if (own.size() != each.size())
             throw new IllegalArgumentException(own.size() + " agents for " + each.size() + " works");
-        Interleave turns = new Interleave(own.size(), choice);
+        Interleave turns = new Interleave(own.size(), choice, most);
         Told<R> told = new Told<>(own.size());
         List<Thread> threads = new ArrayList<>();
         for (int i = 0; i < own.size(); i++) {
             int number = i;
             Runnable work = () -> told.set(number, each.get(number).play(own.get(number)));
-            threads.add(new Thread(() -> turns.playOne(number, work, told)));
+            Thread thread = new Thread(() -> turns.playOne(number, work, told));
+            thread.setDaemon(true); // a work that waits for something else can't be ended
+            threads.add(thread);
         }
         PLAYS.incrementAndGet();
         try {
             threads.forEach(Thread::start);
-            threads.forEach(Interleave::join);
+            turns.join(threads);
         } finally {
             PLAYS.decrementAndGet();
         }
+        if (turns.fault != null)
+            throw turns.fault;
         return told.values();
     }
 
@@ -150,38 +184,85 @@ public final class Interleave {
     }
 
     private void playOne(int number, Runnable work, Told<?> told) {
-        HERE.set(() -> waitFor(number));
+        HERE.set(new Player(number));
         try {
             waitFor(number);
             work.run();
-        } catch (RuntimeException | Error fault) {
-            told.fail(number, fault);
+        } catch (Stopped end) {
+            // What has stopped it is told.
+        } catch (RuntimeException | Error thrown) {
+            told.fail(number, thrown);
         } finally {
             HERE.remove();
             end(number);
         }
     }
 
-    private static void join(Thread thread) {
-        boolean isInterrupted = false;
-        while (true)
-            try {
-                thread.join();
-                if (isInterrupted)
-                    Thread.currentThread().interrupt();
-                return;
-            } catch (InterruptedException error) {
-                isInterrupted = true;
-            }
+    /** Ends a work at its next turn. */
+    private static final class Stopped extends Error {
+        private static final long serialVersionUID = 1;
+
+        Stopped() {
+            super("the play was ended", null, false, false);
+        }
+    }
+
+    /** Waits for all of them; an interruption ends each at its next turn. */
+    private void join(List<Thread> threads) {
+        try {
+            for (Thread thread : threads) thread.join();
+        } catch (InterruptedException interruption) {
+            stop(new CancellationException("the play was interrupted"));
+            for (Thread thread : threads) Patience.join(thread, GRACE);
+            Thread.currentThread().interrupt();
+        }
+    }
+
+    private void stop(RuntimeException why) {
+        lock.lock();
+        try {
+            if (fault == null)
+                fault = why;
+            for (Condition turn : turns) turn.signalAll();
+        } finally {
+            lock.unlock();
+        }
+    }
+
+    /** A thread that is played by turns. */
+    private final class Player {
+        private final int number;
+        private boolean isStill;
+
+        Player(int number) {
+            this.number = number;
+        }
+
+        private void turn() {
+            waitFor(number);
+        }
     }
 
     /** Has others go on, where this thread is played by turns, until it is drawn again. */
     static void turn() {
         if (PLAYS.get() == 0)
             return;
-        Runnable turn = HERE.get();
-        if (turn != null)
-            turn.run();
+        Player player = HERE.get();
+        if (player != null && !player.isStill)
+            player.turn();
+    }
+
+    /** Does something in which no call takes a turn, as others may wait for locks that are held. */
+    static <T> T still(Supplier<T> work) {
+        Player player = PLAYS.get() == 0 ? null : HERE.get();
+        if (player == null || player.isStill)
+            return work.get();
+        player.isStill = true;
+        try {
+            return work.get();
+        } finally {
+            player.isStill = false;
+        }
     }
 
     /** Whether this thread is played by turns. */
@@ -195,8 +276,10 @@ public final class Interleave {
             leave(number);
             waits[number] = true;
             choose();
-            while (now != number) turns[number].awaitUninterruptibly();
+            while (now != number && fault == null) turns[number].awaitUninterruptibly();
             waits[number] = false;
+            if (fault != null)
+                throw new Stopped();
         } finally {
             lock.unlock();
         }
@@ -232,8 +315,13 @@ public final class Interleave {
             if (isAlive[number])
                 waiting.add(number);
         }
-        if (waiting.isEmpty())
+        if (waiting.isEmpty() || fault != null)
             return;
+        if (taken >= most) {
+            stop(new EndlessException(waiting, most));
+            return;
+        }
+        taken++;
         now = choice.of(waiting);
         turns[now].signal();
     }

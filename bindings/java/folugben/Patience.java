@@ -21,10 +21,15 @@ final class Patience {
 
     /** Waits until a thread has ended. */
     static void join(Thread thread) {
+        join(thread, 0);
+    }
+
+    /** The same for so many ms at most, 0 for as long as it takes. */
+    static void join(Thread thread, long most) {
         boolean isInterrupted = false;
         while (true)
             try {
-                thread.join();
+                thread.join(most);
                 if (isInterrupted)
                     Thread.currentThread().interrupt();
                 return;

@@ -65,6 +65,7 @@ public final class RunAgent implements Actor {
      */
     @Override
     public Reading peek(List<Location> locations) {
+        Interleave.turn();
         List<Location> copy = Copies.of(locations, "locations");
         return whereOpen(agent -> {
             agent.follow();
@@ -75,6 +76,7 @@ public final class RunAgent implements Actor {
     /** All locations that aren't empty with their values, as peek tells some. */
     @Override
     public State state() {
+        Interleave.turn();
         return whereOpen(agent -> {
             agent.follow();
             return ofRun(agent.state());
@@ -84,6 +86,7 @@ public final class RunAgent implements Actor {
     /** The same of the locations of one function name alone. */
     @Override
     public State scan(String name) {
+        Interleave.turn();
         return whereOpen(agent -> {
             agent.follow();
             return ofRun(agent.scan(name));
@@ -105,6 +108,7 @@ public final class RunAgent implements Actor {
      * @throws RunException if a part of the run couldn't be written
      */
     public long fire(List<? extends Instruction> instructions, List<Named> reads) {
+        Interleave.turn();
         List<Named> rests = Copies.of(reads, "reads");
         List<Instruction> move = Copies.of(instructions, "instructions");
         return whereOpen(agent -> {
@@ -140,7 +144,7 @@ public final class RunAgent implements Actor {
         while (true) {
             synchronized (lock) {
                 if (isOut()) {
-                    T told = work.apply(own);
+                    T told = Interleave.still(() -> work.apply(own));
                     if (told != null)
                         return told;
                     putBack();
@@ -185,7 +189,7 @@ public final class RunAgent implements Actor {
             return;
         long fired = own.won();
         if (own.isHeld())
-            own.give();
+            own.storage().give(own);
         won += fired;
         own = null;
         part.back(number);
@@ -232,6 +236,7 @@ public final class RunAgent implements Actor {
     /** Looks on; how many moves of all parts it has then seen, of this run and those it resumes. */
     @Override
     public long follow() {
+        Interleave.turn();
         return whereOpen(agent -> part.before() + agent.follow());
     }
 

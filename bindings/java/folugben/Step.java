@@ -155,7 +155,7 @@ public sealed class Step implements AutoCloseable permits SharedStep {
      */
     public String see(String locations) {
         byte[] text = Texts.utf8(locations, "locations");
-        Calls.Told told = toldAtTurn(Calls::asm_see, text);
+        Calls.Told told = told(Calls::asm_see, text);
         FolugbenException.expectRead(told.code(), Storage.Form.LOCATIONS, text);
         return told.text();
     }
@@ -368,6 +368,7 @@ public sealed class Step implements AutoCloseable permits SharedStep {
      * @throws FolugbenException NONE if no move is pushed
      */
     public void pop() {
+        Interleave.turn();
         synchronized (agent.slot) {
             FolugbenException.expect(Calls.asm_pop(slot().at));
         }
@@ -390,6 +391,7 @@ public sealed class Step implements AutoCloseable permits SharedStep {
      * @throws FolugbenException as the other; EMPTY if the move is closed
      */
     public Move popMove(Move into) {
+        Interleave.turn();
         Objects.requireNonNull(into, "move");
         synchronized (agent.slot) {
             long step = slot().at;
@@ -425,6 +427,7 @@ public sealed class Step implements AutoCloseable permits SharedStep {
 
     /** The same as the text {"fire":[INSTR, ..],"reads":[NAMED, ..]}, with numbers of its storage. */
     public String offerText() {
+        Interleave.turn();
         synchronized (agent.slot) {
             long step = slot().at;
             Calls.Told told = room.told(

@@ -11,6 +11,7 @@ import java.util.List;
 import java.util.Map;
 import java.util.SortedMap;
 import java.util.TreeMap;
+import java.util.concurrent.CancellationException;
 
 /** Tests of agents that go on by turns. */
 final class TurnTests {
@@ -170,12 +171,52 @@ final class TurnTests {
         }
     }
 
+    /** A read and then a blind fire: a turn between both loses an update. */
+    private static void blindUpdatesAreLostByTurns() {
+        Location count = Location.of("count");
+        Interleave.Work<Agent, Object> blind = agent -> {
+            long there = agent.read(List.of(count)).value(count).asLong();
+            return agent.fire(List.of(Instruction.put(count, there + 1)), List.of());
+        };
+        long[] lost = new long[2];
+        for (List<Integer> turns : List.of(List.<Integer>of(), List.of(0, 0, 1)))
+            try (Storage storage = Storage.open(Map.of(count, 0), 10)) {
+                List<Agent> agents = List.of(storage.agent(0), storage.agent(1));
+                Interleave.play(agents, List.of(blind, blind), turns);
+                agents.forEach(Agent::close);
+                Value left = Storage.replayed(storage.closeJournal()).get(count);
+                lost[turns.isEmpty() ? 0 : 1] = 2 - left.asLong();
+            }
+        equal(lost[0], 0);
+        equal(lost[1], 1);
+    }
+
+    /** One who waits for another for ever is ended, and an interruption ends all. */
+    private static void playsThatDoNotEndAreEnded() {
+        try (Storage storage = Storage.open(Map.of(), 10); Agent one = storage.agent(0);
+                Agent two = storage.agent(1)) {
+            Interleave.Work<Agent, Object> waits = agent -> {
+                while (true) agent.follow();
+            };
+            Interleave.Work<Agent, Object> ends = agent -> "told";
+            thrown(EndlessException.class,
+                    "agent 0 is still at work after 1,000 turns: does one wait for another?",
+                    () -> Interleave.play(List.of(one, two), List.of(waits, ends), 3, 1000));
+            Thread.currentThread().interrupt();
+            thrown(CancellationException.class, "the play was interrupted",
+                    () -> Interleave.play(List.of(one, two), List.of(waits, waits), 3));
+            equal(Thread.interrupted(), true);
+        }
+    }
+
     static void all() {
         oneSeedGivesOneJournal();
         aSeedFindsWhatBreaks();
         worksAnswerAndThrow();
         aListTellsTheTurns();
         oneAtATimeGoesOn();
+        blindUpdatesAreLostByTurns();
+        playsThatDoNotEndAreEnded();
         System.out.println("turns");
     }
 }
