@@ -91,6 +91,9 @@ fn kill(times: u64) -> u64 {
     for round in 0..times {
         let mut child = child("plays", room.path()).stdout(Stdio::piped()).spawn().unwrap();
         let lines = BufReader::new(child.stdout.take().unwrap()).lines();
+        let mut told = lines.filter_map(|it| it.ok()?.strip_prefix("saved ")?.parse::<u64>().ok());
+        // Some are killed before their run is there.
+        let first = if round % 4 == 3 { 0 } else { told.next().unwrap() };
         let killer = thread::spawn({
             let wait = Duration::from_micros(2_000 + draw.below(60_000));
             move || {
@@ -99,7 +102,7 @@ fn kill(times: u64) -> u64 {
                 child.wait().unwrap();
             }
         });
-        let saved = lines.filter_map(|it| it.ok()?.strip_prefix("saved ")?.parse::<u64>().ok()).max().unwrap_or(0);
+        let saved = told.max().unwrap_or(first);
         killer.join().unwrap();
         let check = if round % 2 == 0 { Check::All } else { Check::Last };
         match Run::resume(room.path(), check) {
