@@ -12,7 +12,7 @@ const JOURNAL: &str =
 
 const TRACE: &str = r#"{"agents":1,"capacity":8,"events":2,"init":[[["s"],{"set":[1,2]}]],"trace":1}
 {"agent":0,"call":{"fire":[["add",["s"],3],["remove",["s"],1]],"reads":[]},"event":0,"reply":{"fired":1},"updates":[[["s"],{"added":[3],"removed":[1]}]]}
-{"agent":0,"call":{"read":[["s"]]},"event":1,"reply":{"number":1,"values":[null]},"right":{"number":1,"values":[{"set":[2,3]}]}}
+{"agent":0,"call":{"read":[["s"]]},"event":1,"reply":{"number":1,"values":[null]},"right":{"differs":[0],"number":1}}
 "#;
 
 #[test]
