@@ -1,11 +1,13 @@
 /* Agents that one thread plays by turns: each takes the state of the one that acted last, begins a
  * step, gets a location, pushes one put, and commits. A line for each number of agents has the
- * median of the nanoseconds that a move took, and its ratio to that of one agent.
+ * median of the nanoseconds that a move took, and its ratio to that of one agent. With --kept it has
+ * the bytes that a move of one agent leaves in the storage, and plays so many moves.
  *
- *     turns [--quick] */
+ *     turns [--quick | --kept MOVES] */
 #include "folugben.h"
 
 #include <inttypes.h>
+#include <malloc.h>
 #include <stdio.h>
 #include <stdlib.h>
 #include <string.h>
@@ -20,6 +22,7 @@ static struct asm_agent agents[MOST_AGENTS];
 static struct asm_step step;
 static struct asm_move move;
 static struct asm_location at[LOCATIONS];
+static size_t kept;
 
 static void require(bool holds, const char *what, int line) {
     if (!holds) {
@@ -60,6 +63,7 @@ static double time_of(size_t count, uint32_t moves) {
         add_one(&agents[0], &at[i]);
     }
     size_t last = 0;
+    size_t held = mallinfo2().uordblks;
     double begin = now();
     for (uint32_t i = 0; i < moves; i++) {
         size_t next = (last + 1) % count;
@@ -69,6 +73,7 @@ static double time_of(size_t count, uint32_t moves) {
         last = next;
     }
     double time = (now() - begin) / moves;
+    kept = mallinfo2().uordblks - held;
     for (size_t i = 0; i < count; i++)
         asm_free_agent(&agents[i]);
     for (size_t i = 0; i < LOCATIONS; i++)
@@ -94,6 +99,12 @@ int main(int count, char **words) {
     static const size_t crowds[] = {1, 8, 64, MOST_AGENTS};
     bool is_quick = count > 1 && strcmp(words[1], "--quick") == 0;
     double alone = 0;
+    if (count > 2 && strcmp(words[1], "--kept") == 0) {
+        uint32_t moves = (uint32_t)atoi(words[2]);
+        time_of(1, moves);
+        printf("%zu\n", kept / moves);
+        return 0;
+    }
     for (size_t i = 0; i < sizeof crowds / sizeof *crowds; i++) {
         double time = median_of(crowds[i], is_quick ? QUICK_MOVES : MOVES);
         alone = i == 0 ? time : alone;
