@@ -210,6 +210,7 @@ def other(random: Random, value: Any) -> Any:
 def try_directions(tries: Tries, browser: Browser) -> None:
     at = ["pay", "אב", 1000, 77, "ג"]
     fires = [{"fire": [["put", at, it]], "reads": []} for it in ("אחת", "שתיים")]
+    browser.resize(1920, 900)  # at which a location has room on one line
     browser.load(tries.trace("hebrew", journal_of((0, fires[0], {"fired": 1}), (0, fires[1], {"fired": 2}))))
     browser.press(Keys.END)
     where = """
@@ -231,6 +232,7 @@ def try_directions(tries: Tries, browser: Browser) -> None:
     tries.same("titles isolate each text", title, 'pay(\u2068"אב"\u2069, 1000, 77, \u2068"ג"\u2069)')
     browser.write("state-find", 'pay("אב"')
     tries.same("a search finds them as they are written", len(browser.all("#state .row")), 1)
+    browser.restore()
 
 
 def try_unseen(tries: Tries, browser: Browser) -> None:
