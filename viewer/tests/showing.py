@@ -74,6 +74,7 @@ def try_playing(tries: Tries, browser: Browser) -> None:
     browser.leave()
     browser.press(" ")
     browser.until("return !document.querySelector('#play.playing')", 5)
+    browser.frame()
     tries.has("Space plays, and it ends with the last event", browser.title(), f"Event {len(HISTORY.events) - 1} ")
 
 
