@@ -145,7 +145,7 @@ def try_forged(tries: Tries, browser: Browser) -> None:
     browser.click("first")
     browser.run("document.querySelector('#facts .illegal').click()")
     browser.frame()
-    tries.same("what it has and what agrees stand beside each other", browser.texts("#detail .side"), ["In the trace x 5", "By its own state x 1"])
+    tries.same("what it has and what agrees are beside each other", browser.texts("#detail .side"), ["In the trace x 5", "By its own state x 1"])
     tries.has("so it is in the list", browser.texts("#events .event")[0], "doesn't agree")
     view, page = View(tries.room / "by"), tries.room / "by.html"
     for text, told in ((write_journal(warehouse(3, 4, 1)), "legal, checked by asm_driver"), (write_trace(warehouse(3, 4, 1)), "legal, checked by this page")):
@@ -298,7 +298,7 @@ def try_policy(tries: Tries, browser: Browser) -> None:
     browser.load(tries.trace("strange", strange()))
     policy = browser.run("return document.querySelector('meta[http-equiv]').content")
     tries.claim("the page's policy allows its own script and style by hash alone", policy.count("'sha256-") == 2 and "unsafe" not in policy and "base-uri 'none'; form-action 'none'" in policy, policy)
-    tries.same("no problem is told by itself", browser.problems(), [])
+    tries.same("no problem is reported by itself", browser.problems(), [])
     tries.same("a script that gets into the page doesn't run, nor does another base", browser.run(INTRUDERS), [0, True])
     browser.problems()
 
