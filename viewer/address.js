@@ -1,10 +1,10 @@
-// The address, which tells what is shown; each jump is an entry of the browser's history.
+// The address, which says what is shown; each jump is an entry of the browser's history.
 import { filter } from "./filter.js";
 import { shown } from "./shown.js";
 import { conditionText } from "./watch.js";
 
 const REST = 200, TOGETHER = 100; // milliseconds
-// What the address tells, by its names there.
+// What the address says, by its names there.
 export function addressed(run) {
   const told = new URLSearchParams(location.hash.slice(1)), number = name => told.has(name) ? Number.parseInt(told.get(name), 10) - run.from : NaN;
   return {
@@ -38,7 +38,7 @@ function write(way) {
     // some browsers keep no address for a file
   }
 }
-// What is shown is about to change: steps that rest on no jump are kept in the entry that stands.
+// What is shown is about to change: steps since no jump are kept in the present entry.
 export function beforeChange() {
   if (due) write("replaceState");
 }

@@ -39,14 +39,14 @@ function firstStates(a, b, from) {
   return last > most ? { move: most + 1, keys: placesApart(a, b, a.eventsTo(most + 1), b.eventsTo(most + 1)) } : null;
 }
 
-// ---- what is told
+// ---- what is said
 function partingNodes(other, name) {
   const { run } = shown, at = firstApart(run, other), isSameStart = isSameBeginning(run, other);
   if (isSameStart && at === run.events.length && at === other.events.length) return [`${name} is the same run: all ${plural(at, "event")} are the same.`];
   const states = firstStates(run, other, isSameStart ? run.movesIn(at) : run.movesBefore), here = run.events[at], there = other.events[at];
   const eventWords = event => withoutIsolates(eventText(event)).replace(/^Event [\d,]+, /, "");
   return [
-    isSameStart ? `${name} parts from this run at event ${grouped(run.from + at)}, after ${plural(run.movesIn(at), "move")}.` : `${name} begins in another state.`,
+    isSameStart ? `${name} differs from this run from event ${grouped(run.from + at)} on, after ${plural(run.movesIn(at), "move")}.` : `${name} begins in another state.`,
     span("", make("b", {}, "Here: "), here ? [eventLink(here, eventWords(here)), "."] : "no more event."), span("", make("b", {}, "There: "), there ? `${eventWords(there)}.` : "no more event."),
     states && states.keys.length ? span("", `The states differ first after move ${grouped(states.move)}, at ${plural(states.keys.length, "location")}.`) : "The states differ nowhere.",
     states && states.keys.length ? placesNode(other, states) : null,

@@ -1,4 +1,4 @@
-// How the calls of a run hang together: the read that a fire rests on, its tries, and what a move made stale.
+// How the calls of a run are related: the read that a fire depends on, its tries, and what a move made stale.
 import { shown } from "./shown.js";
 import { firstFrom, grouped } from "./terms.js";
 
@@ -73,7 +73,7 @@ export function chainText(chain, event, link) {
   return [`Try ${grouped(chain.indexOf(event) + 1)} of ${grouped(chain.length)}: first `, link(chain[0]), ", ", ...end, "."];
 }
 
-// The write that made a stale fire stale: the first since it read the location that is told.
+// The write that made a stale fire stale: the first since it read the location of the answer.
 export function staledBy(event) {
   const at = answerOf(event).stale;
   if (!at) return null;
@@ -94,9 +94,9 @@ export function madeStale(event) {
   return run.staled.get(event.number) ?? [];
 }
 
-// The locations that a fired move rests on, and into which nothing was put up to the number that it names.
+// The locations that a fired move depends on, and into which nothing was put up to the number that it names.
 export function unputIn(event) {
-  if (shown.run.from || event.kind !== "fired" || !event.named.length) return []; // what was put before a window isn't told
+  if (shown.run.from || event.kind !== "fired" || !event.named.length) return []; // what was put before a window isn't known
   const isUnput = ({ location, number }) => !location.isPutIn(shown.run.eventsTo(Math.min(number, event.before)));
   return [...new Set(event.named.filter(isUnput).map(it => it.location))];
 }

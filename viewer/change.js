@@ -45,7 +45,7 @@ function replacedNode(old, value, most) {
 
 // ---- lists
 const FEW_ITEMS = 6, MOST_PARTS = 24;
-// Where two long lists differ: how many items are the same before and behind, and what stands between in each.
+// Where two long lists differ: how many items are the same before and behind, and what is between in each.
 export function listsApart(old, value) {
   if (!isList(old) || !isList(value) || Math.max(old.list.length, value.list.length) <= FEW_ITEMS) return null;
   const a = old.list, b = value.list, least = Math.min(a.length, b.length);

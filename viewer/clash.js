@@ -8,7 +8,7 @@ const REASONS = {
   Mixed: "partial updates of two families meet there: of sets, of bags or of counters",
   Kind: "a partial update finds no value of its kind there: no set, no bag, or for inc no number",
   Both: "an element is both added to the set and removed from it",
-  Against: "a regular value stands beside partial updates that don't agree with it",
+  Against: "a regular value is put beside partial updates that don't agree with it",
   Short: "more of an element is removed than the bag has of it",
 };
 const TOO_LARGE = { count: "the new count is above 4,294,967,295", number: "the new number is outside the range of 64 bits" };

@@ -69,7 +69,7 @@ class Tokens {
     this.depth--;
     return found;
   }
-  // What stands between an opening token, which is taken, and this one.
+  // What is between an opening token, which is taken, and this one.
   items(close, item) {
     const out = [];
     if (this.take(close)) return out;
@@ -84,7 +84,7 @@ class Tokens {
   joinedBy(word, read) {
     const out = [read()];
     while (this.take(word)) out.push(read());
-    if (out.length > 1 && out.some(isOperand)) throw new Fault(`${word} stands between two conditions`);
+    if (out.length > 1 && out.some(isOperand)) throw new Fault(`${word} joins two conditions`);
     return out.length > 1 ? { [word]: out } : out[0];
   }
   one() {
@@ -105,8 +105,8 @@ class Tokens {
     if (!order) return left.pattern === null && !left.part ? this.fail("a location or a condition is missing") : left;
     if (order === "changes") return { left, order };
     const right = ["has", "lacks"].includes(order) ? { value: this.element() } : this.operand(false);
-    if (!["has", "lacks", "=", "!="].includes(order) && "value" in right && !isNumber(right.value)) throw new Fault(`a number has to stand behind ${order}; ${EXAMPLES}`);
-    return isAny(right) ? this.fail("a * stands on the left side alone") : { left, order, right };
+    if (!["has", "lacks", "=", "!="].includes(order) && "value" in right && !isNumber(right.value)) throw new Fault(`a number must follow ${order}; ${EXAMPLES}`);
+    return isAny(right) ? this.fail("a * belongs on the left side only") : { left, order, right };
   }
   // Whether a location begins here: a name that is no word of a condition, or one with arguments, or with such a word behind it.
   isPlace() {
@@ -143,7 +143,7 @@ class Tokens {
   element() {
     if (this.take("[")) return { list: this.within(() => this.items("]", () => this.element())) };
     const it = this.list[this.at] ?? this.fail("a value is missing");
-    if (!it.isText && !it.isNumber && !Object.hasOwn(NAMED, it.text)) this.fail("a value has to stand here");
+    if (!it.isText && !it.isNumber && !Object.hasOwn(NAMED, it.text)) this.fail("a value is missing here");
     this.at++;
     return Object.hasOwn(NAMED, it.text) ? NAMED[it.text] : readJson(it.text);
   }

@@ -1,4 +1,4 @@
-// The chosen event: what was asked and answered, what changed, what it rested on, how it hangs together with others, and why a
+// The chosen event: what was asked and answered, what changed, what it depended on, which others it is related to, and why a
 // move wasn't fired.
 import { changeNode } from "./change.js";
 import { chainOf, chainText, madeStale, nearFire, ownRead, ownReads, retryOf, staledBy, tryBefore } from "./chains.js";
@@ -46,10 +46,10 @@ function whyNote(event, answer) {
   return null;
 }
 const note = (kind, ...children) => make("div", { class: `note ${kind}` }, ...children);
-// What the fire names at that number: a read of the agent's own, or what no read of the run tells.
+// What the fire names at that number: a read of the agent's own, or what no read of the run has.
 function seenNodes(event, named) {
   const read = ownRead(ownReads(event), named);
-  return read ? [" was read ", afterMoves(named.number), ", in ", eventLink(read), "."] : [` is named as it stood ${afterMoves(named.number)}; the ${runName()} has no read of it by agent ${event.agent}.`];
+  return read ? [" was read ", afterMoves(named.number), ", in ", eventLink(read), "."] : [` is named as it was ${afterMoves(named.number)}; the ${runName()} has no read of it by agent ${event.agent}.`];
 }
 function whyStale(event, location) {
   const named = event.named.filter(it => it.location === location).sort((a, b) => a.number - b.number)[0], write = staledBy(event);
@@ -64,7 +64,7 @@ function whyClash(event, location, cause) {
   const { run } = shown, old = run.valueAt(location, event.number), instructed = event.fire.filter((_, i) => event.targets[i] === location);
   return [
     make("p", {}, make("b", {}, `Clash, ${cause}: `), "at ", locationNode(location), clashNodes(cause, instructed, old)),
-    make("p", {}, "Before the move it held ", valueNode(old, 12), " (", writerNodes(run.lastWrite(location, event.number)), ")."),
+    make("p", {}, "Before the move it held ", valueNode(old, 12), " ", span("whole", "(", writerNodes(run.lastWrite(location, event.number)), ").")),
   ];
 }
 
@@ -79,7 +79,7 @@ function chain(event) {
     next ? ["Tried again in ", eventLink(next), `: ${outcome(next)}.`] : later ? ["Not tried again: the agent's next fire, ", eventLink(later), ", writes elsewhere."] : event.kind === "stale" ? "Not tried again: the agent fires no more." : null,
     staled.length ? [`Made ${plural(staled.length, "fire")} stale: `, staled.slice(0, MOST_STALED).flatMap((it, i) => [i ? ", " : "", eventLink(it), ` of agent ${it.agent}`]), left > 0 ? `, and ${grouped(left)} more` : "", "."] : null,
   ].filter(Boolean);
-  return lines.length ? block("How it hangs together", lines.map(it => make("p", {}, it))) : null;
+  return lines.length ? block("Tries and conflicts", lines.map(it => make("p", {}, it))) : null;
 }
 
 function changes(event) {
@@ -102,13 +102,13 @@ function readings(event) {
 // What the read of the step was answered for the location, where the run has that read.
 const readValue = (read, location) => read?.reply.values[read.read.indexOf(location)] ?? null;
 const readNode = (read, location) => read && valueNode(readValue(read, location), 8);
-// Whether a read at that number may stand before the window, of which the page knows nothing.
+// Whether a read at that number may be before the window, of which the page knows nothing.
 const mayBeBefore = number => shown.run.from > 0 && number <= shown.run.movesBefore;
 // What a fire names, each with the value there was at its number, the agent's own read, and the move that wrote it since.
 function grounds(event) {
   const { run } = shown, reads = ownReads(event);
-  if (!event.named.length) return block("What it rests on", make("p", { class: "soft" }, "Nothing: the move names no read."));
-  return block("What it rests on", table("What it rests on", ["Location", "As of", "Value read", "Since then"], event.named.map(it => {
+  if (!event.named.length) return block("What it depends on", make("p", { class: "soft" }, "Nothing: the move names no read."));
+  return block("What it depends on", table("What it depends on", ["Location", "As of", "Value read", "Since then"], event.named.map(it => {
     const { location, number } = it, since = run.writesSince(location, number, event), isThere = number <= event.before && run.isTold(number), read = ownRead(reads, it);
     const isUnput = isThere && !location.isPutIn(run.eventsTo(number));
     return [

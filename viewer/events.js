@@ -18,7 +18,7 @@ function whatNodes(event) {
   if (event.kind === "stale") return ["stale", span("names", staleNodes(event, run.location(event.reply.stale)))];
   return event.kind === "clash" ? [`clash ${event.reply.clash[1]}`, span("names", " ", span("name", locationText(event.reply.clash[0])))] : "full";
 }
-// The value that a stale fire rests on, and the one that stands there now; not of sets and bags, which would have to be made.
+// The value that a stale fire depends on, and the one that is there now; not of sets and bags, which would have to be made.
 function staleNodes(event, location) {
   const { run } = shown;
   if (run.lastWrite(location, event.number)?.items) return [" ", span("name", location.label)];

@@ -3,7 +3,7 @@
 // Why a text isn't JSON, or no trace.
 export class Fault extends Error {}
 
-// A line in which a digit might be lost, or a number might stand that is no whole one; all others go to JSON.parse.
+// A line in which a digit might be lost, or which might have a number that is no whole one; all others go to JSON.parse.
 const DELICATE = /\d{16}|\d[.eE]|-0/;
 const NUMBER = /-?(?:0|[1-9]\d*)(?![\d.eE])/y;
 const WORDS = { n: ["null", null], t: ["true", true], f: ["false", false] };
@@ -14,7 +14,7 @@ export function readJson(text) {
     try {
       return JSON.parse(text);
     } catch {
-      // read again below, which tells where the fault is
+      // read again below, which says where the fault is
     }
   }
   return new Reader(text).whole();
@@ -83,7 +83,7 @@ class Reader {
       return this.fail("a text with a wrong escape");
     }
   }
-  // Reads what stands between brackets, item by item.
+  // Reads what is between brackets, item by item.
   items(depth, close, item) {
     if (depth > MOST_NESTING) this.fail("nested too deeply");
     this.at++;

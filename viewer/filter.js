@@ -5,15 +5,15 @@ import { isBad } from "./run.js";
 import { shown } from "./shown.js";
 import { elementText, firstFrom, keyOf, valueText, withoutIsolates } from "./terms.js";
 
-// `unput` are the fired moves that rest on what was not yet put.
-export const LABELS = { all: "All events", fired: "Moves", read: "Reads", stale: "Stale fires", clash: "Clashes", full: "Full", wrong: "Wrong answers", doubt: "Events that don't agree with the trace", unput: "Moves that rest on what was not yet put" };
+// `unput` are the fired moves that depend on what was not yet put.
+export const LABELS = { all: "All events", fired: "Moves", read: "Reads", stale: "Stale fires", clash: "Clashes", full: "Full", wrong: "Wrong answers", doubt: "Events that don't agree with the trace", unput: "Moves that depend on what was not yet put" };
 const NONE = { kind: "all", agent: "all", place: null, cause: null, text: "" };
 export const filter = { ...NONE };
 let listed = null, mask = null, version = 0; // the numbers of the events in the list, and for each event whether it is there; null for all
 let texts = null, textsOf = null; // what is searched of each event, and at which location
 const CAUSE = /^(Two|Mixed|Kind|Both|Against|Short|Large)$/;
 
-// What is asked for in words: each has to be there, a number as a whole one, what stands between quotes as a phrase, and `agent 3`,
+// What is asked for in words: each has to be there, a number as a whole one, what is between quotes as a phrase, and `agent 3`,
 // `event 3` and `move 3` of the event itself.
 const TERM = /"([^"]*)"?|(agent|event|move)\s+(\d+)(?!\S)|(\S+)/g;
 const MARKS = /[.*+?^${}()|[\]\\]/g;
@@ -45,7 +45,7 @@ export function nextOf(list, number, by) {
 }
 export const nextListed = (number, by) => by > 0 ? listItem(listIndex(number + 1)) ?? null : listItem(listIndex(number) - 1) ?? null;
 
-// Lists what is asked for, and all else that isn't told as `asked` has it; what makes no sense there is left out.
+// Lists what is asked for, and all else as `asked` has it; what makes no sense there is left out.
 export function setFilter(asked) {
   const { run } = shown, merged = { ...NONE, ...asked };
   filter.kind = Object.hasOwn(LABELS, merged.kind) ? merged.kind : "all";
@@ -87,7 +87,7 @@ function listEvents() {
   mask = list && new Uint8Array(run.events.length);
   for (const it of list ?? []) mask[it] = 1;
 }
-// Whether the event is one of that location: where its kind tells one, it is that which it tells.
+// Whether the event is one of that location: where its kind names one, it is that one.
 function isAbout(event, place) {
   const answer = event.right ?? event.reply;
   if (filter.kind === "stale" || filter.kind === "clash") return keyOf(answer.stale ?? answer.clash?.[0] ?? null) === place.key;

@@ -77,7 +77,7 @@ function gather({ fire, targets }, effects) {
   fire.forEach((it, i) => effects.get(targets[i]).push(it));
 }
 
-// What the instructions of one location make of what it holds: the cause of a clash, or an effect, which tells whether a write fits.
+// What the instructions of one location make of what it holds: the cause of a clash, or an effect, which says whether a write fits.
 function effectOf(content, group) {
   if (group.length === 1 && group[0][0] === "put") return new Put(group[0][2]);
   const puts = group.filter(it => it[0] === "put"), partials = puts.length ? group.filter(it => it[0] !== "put") : group;

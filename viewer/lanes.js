@@ -230,7 +230,7 @@ function drawDense(pen, from, to, room) {
   const wide = view.scale >= COLUMN ? COLUMN - 0.5 : COLUMN;
   for (let i = 0; i < count * run.agents; i++) drawShares(pen, all, listed, i, GUTTER + i % count * COLUMN + apart, yOf(Math.floor(i / count)) - high / 2, wide, high);
 }
-// From the last writes of what the event read or rests on, from those that made it stale, and to what it made stale.
+// From the last writes of what the event read or depends on, from those that made it stale, and to what it made stale.
 function arcsOf(event) {
   const { run } = shown, out = new Map(), put = (write, isStale) => write && out.set(write.event, [write, event, isStale]);
   const at = write => ({ ...write, number: write.event });

@@ -3,7 +3,7 @@ import { make } from "./nodes.js";
 
 export const ROW = 26; // the height of a row, in pixels
 
-// `rows` tells `count()`, `sign(i)`, which differs wherever a row would look otherwise, `make(i)`, and `empty`, a text or a call.
+// `rows` has `count()`, `sign(i)`, which differs wherever a row would look otherwise, `make(i)`, and `empty`, a text or a call.
 export class List {
   constructor(box, height, rows) {
     Object.assign(this, { box, height, rows, made: new Map(), top: 0 });

@@ -157,7 +157,7 @@ function goOn({ count, mark, at, range }, old) {
   showRange();
   tellGrowth(shown.run, old);
 }
-// Shows what an address tells.
+// Shows what an address names.
 function goTo({ count, mark, at, condition, filter }) {
   const { run } = shown;
   Object.assign(shown, { count: within(count), mark: mark === null ? null : within(mark), location: run.locations.get(at) ?? null });

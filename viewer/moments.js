@@ -156,7 +156,7 @@ export function momentsOf(run, condition, here) {
   if (since >= 0) stretches.push([since, run.events.length + 1]);
   return { stretches, onsets };
 }
-// Finds anew at which of many locations a comparison holds, those that were written or all where its right side has changed.
+// Finds again at which of many locations a comparison holds, those that were written or all where its right side has changed.
 function renewMany(comparison, places, operands, count, writes, onsets) {
   const left = operands.get(comparison.left), right = operands.get(comparison.right), isFresh = count === 0 || comparison.order === "changes" || writes.some(it => right?.of.has(it.location));
   if (comparison.order === "changes") places.clear();

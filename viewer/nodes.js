@@ -45,7 +45,7 @@ export function glyph(kind, isWrong = false) {
   return out;
 }
 
-// An element, of which a long text or list tells its beginning; `from` is the letter at which a text begins to matter.
+// An element, of which a long text or list shows its beginning; `from` is the letter at which a text begins to matter.
 const MOST_TEXT = 160, MOST_LIST = 40;
 export function elementNode(x, from = 0, room = { left: MOST_LIST }) {
   if (x === null) return span("undef", "undef");
@@ -59,7 +59,7 @@ function longText(text, start, most) {
   const rest = left ? restNode("long", `${grouped(left)} more letters`, () => longText(text, 0, start + most + MORE)) : null;
   return span("long text", start ? "…" : "", elementText(piece), left ? [start + most < text.length ? "… " : " ", rest] : null);
 }
-// A list with the lists in it tells as many elements as there is room for.
+// A list with the lists in it shows as many elements as there is room for.
 function listNode(list, room) {
   const items = [], most = room.left;
   for (const it of list) {
@@ -102,7 +102,7 @@ export function valueNode(value, most = Infinity, from = 0) {
 
 // What a trace has: a run, or a window of a part.
 export const runName = () => shown.run.part === null ? "run" : "window";
-// What stands before the first event: the opening state of a part, or what the events before a window leave.
+// What is before the first event: the opening state of a part, or what the events before a window leave.
 export const beginningText = () => shown.run.from ? `Before event ${grouped(shown.run.from)}` : "Opening state";
 
 // The way to a move.

@@ -3,7 +3,7 @@ import { $ } from "./nodes.js";
 
 let playing = 0;
 export const isPlaying = () => playing !== 0;
-// `step` goes on by one event, and tells whether there was one.
+// `step` goes on by one event, and returns whether there was one.
 export function play(isOn, step = () => false) {
   clearInterval(playing);
   playing = 0;

@@ -15,8 +15,8 @@ try {
   // some browsers keep nothing for a file
 }
 
-// What eight rows of events take, and eight of the state beside two writes of a location.
-const LEAST_PANES = 326, LEAST_WITH_WRITES = 372;
+// What eight rows of events take, and seven of the state beside four writes of a location.
+const LEAST_PANES = 326, LEAST_WITH_WRITES = 398;
 // What the lanes can have of the height that they share with the panes; where the page is longer than the window, they share none.
 function left() {
   if (getComputedStyle($("main")).display !== "grid") return Infinity;

@@ -1,4 +1,4 @@
-// The run that a trace tells: its events, its locations, and the value of each at any move.
+// The run of a trace: its events, its locations, and the value of each at any move.
 import { Content } from "./content.js";
 import { Fault, readJson } from "./exact.js";
 import { doubtOf, effectsFor, isDone } from "./judge.js";
@@ -21,7 +21,7 @@ function rightValues({ read, reply }, { differs, number }) {
   return { number, values, differs };
 }
 
-// So many items may be told as changes after a whole value, however small that is.
+// So many items may be given as changes after a whole value, however small that is.
 const FEW = 64;
 
 class Place {
@@ -60,7 +60,7 @@ class Place {
     if (!fits) return false;
     this.content.follow(write.items);
     write.size = this.content.size;
-    // A whole value is kept wherever as many changes were told as it has items, so all these take no more room than the changes.
+    // A whole value is kept wherever as many changes were given as it has items, so all these take no more room than the changes.
     this.debt += write.items.length + 1;
     if (this.debt >= Math.max(FEW, write.size)) {
       write.kept = this.content.whole();
@@ -108,8 +108,8 @@ export class Run {
     checkHeader(header);
     this.ends = new Set(ends);
     const { agents, capacity, events, part = null, from = 0, moves = 0 } = header;
-    // Of a window of a part, `from` events with `moves` moves stand before it, of which nothing is told; its events are counted from
-    // 0 here, and told with the numbers that they have in the part, as its moves are.
+    // Of a window of a part, `from` events with `moves` moves are before it, of which nothing is known; its events are counted from
+    // 0 here, and shown with the numbers that they have in the part, as its moves are.
     Object.assign(this, { agents, capacity, told: events, part, from, movesBefore: moves });
     this.events = [];
     this.locations = new Map();
@@ -129,7 +129,7 @@ export class Run {
   add(line) {
     const number = this.events.length;
     checkEvent(line, this.from + number, this.agents);
-    if (number === this.told) throw new Fault(`the header tells of ${number} events, and this is one more`);
+    if (number === this.told) throw new Fault(`the header counts ${number} events, and this is one more`);
     const { agent, call, reply } = line;
     const event = { number, ordinal: line.event, agent, kind: kindOf(reply), reply, right: line.right, isWrong: "right" in line, before: this.movesBefore + this.moves.length };
     if ("read" in call) {
@@ -159,7 +159,7 @@ export class Run {
     event.move = this.movesBefore + this.moves.length;
     event.writes = updates.map(([at, ...told]) => {
       const location = event.targets.find(it => isSame(it.at, at)) ?? this.location(at), write = { event: event.number, move: event.move, agent: event.agent, location, index: location.writes.length };
-      if (!location.take(write, told)) throw new Fault(`its change at ${location.label} isn't one of the value that stands there`);
+      if (!location.take(write, told)) throw new Fault(`its change at ${location.label} doesn't fit the value there`);
       return write;
     });
   }
@@ -187,7 +187,7 @@ export class Run {
     const index = move - this.movesBefore;
     return index <= 0 ? 0 : index > this.moves.length ? this.events.length : this.moves[index - 1] + 1;
   }
-  // Whether the state after so many moves is told: not that before a window.
+  // Whether the state after so many moves is known: not that before a window.
   isTold(moves) {
     return moves >= this.movesBefore;
   }
@@ -251,7 +251,7 @@ export async function readRun(source, progress, ends = []) {
   return reading.finish();
 }
 
-// No line of a trace is longer: one event of a journal has at most 16 MiB, and its trace tells each value at most twice more.
+// No line of a trace is longer: one event of a journal has at most 16 MiB, and its trace has each value at most twice more.
 const MOST_LINE = 2 ** 27;
 class Lines {
   constructor(ends) {
@@ -283,7 +283,7 @@ class Lines {
       throw new Fault(fault.message.startsWith("This ") ? fault.message : `Line ${this.number} doesn't fit a trace: ${fault.message}.`);
     }
   }
-  // A trace that was cut off is one with fewer events than its header tells; half a line at its end is left out.
+  // A trace that was cut off is one with fewer events than its header counts; half a line at its end is left out.
   finish() {
     if (!this.run && !this.rest) throw new Fault("This file is empty.");
     if (!this.run) this.take(this.rest);

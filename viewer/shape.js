@@ -30,7 +30,7 @@ export function checkHeader(header) {
   ascending(header.init.map(it => it[0]), byLocation, "the locations of `init`");
   if (header.trace === 2) checkWindow(header);
 }
-// The numbers of a window of a part: which part it is, how many of its events stand before, and how many moves these fired.
+// The numbers of a window of a part: which part it is, how many of its events are before, and how many moves these fired.
 function checkWindow({ from, moves, part, events }) {
   need(isWithin(part, 0, MOST.number), "`part` isn't a whole number from 0 to 4,294,967,295");
   need(isWithin(from, 0, MOST.number - events), "`from` and `events` aren't whole numbers whose sum is at most 4,294,967,295");
@@ -164,7 +164,7 @@ const checkOne = it => checkElement(it);
 function checkElement(x, depth = 0) {
   if (x === null || typeof x === "boolean" || typeof x === "string") return;
   if (!isObject(x)) return checkNumber(x);
-  need(isOnly(x, "list"), "an object stands where an element has to");
+  need(isOnly(x, "list"), "an object is in the place of an element");
   need(depth < MOST.depth, "a list is nested deeper than 8");
   listOf(x.list, MOST.items, it => checkElement(it, depth + 1), "a list");
 }

@@ -73,7 +73,7 @@ export function prepared(canvas, high) {
 // ---- columns that several events share
 const STACK = ["fired", "read", "full", "stale", "clash"], LEAST_SHARE = 1.5;
 const SLOT = Object.fromEntries(KINDS.map(it => [it, STACK.indexOf(it)])), WRONG = STACK.length;
-// How many events of each kind, and with a wrong answer, stand in each column.
+// How many events of each kind, and with a wrong answer, are in each column.
 export class Columns {
   constructor(count) {
     this.counts = new Uint32Array(count * (WRONG + 1));

@@ -56,7 +56,7 @@ function paintPlaces(pen, wide) {
   pen.beginPath();
   pen.roundRect(from + 0.5, 0.5, Math.max(2, to - from - 1), STRIP - 1, 5);
   pen.stroke();
-  // a moment stands behind the event that leads to it, so a stretch begins with its event
+  // a moment is behind the event that leads to it, so a stretch begins with its event
   drawStretches(pen, holds, it => stripX(Math.max(0, it - 1), wide), 0, 3);
   pen.fillStyle = colors.place;
   let last = -9;

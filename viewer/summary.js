@@ -13,7 +13,7 @@ export function openingNode() {
   return make("div", { class: "detail" },
     make("h2", { class: "title" }, beginningText()),
     make("p", { class: "soft" }, hasEvents
-      ? ["This is what stood before the first event. Step on with ", make("kbd", {}, "→"), ", play with ", make("kbd", {}, "Space"), ", or press a line to list its events."]
+      ? ["The state before the first event. Step on with ", make("kbd", {}, "→"), ", play with ", make("kbd", {}, "Space"), ", or press a line to list its events."]
       : run.part === null ? "No call was made in this run, so the opening state is all there is." : "The window has no event, so this state is all there is."),
     hasEvents ? make("div", { class: "summary" }, shares(), longestChain(run), ...blocksOf(run)) : null, facts(), hasEvents ? marksNode() : null);
 }
@@ -54,7 +54,7 @@ function counted(run) {
     { title: "Clashes by location", all: clashes.length, lines: byPlace(clashes, it => [answer(it).clash?.[0]], clash) },
     { title: "Clashes by agent", all: clashes.length, lines: byAgent(clashes, clash) },
     { title: "Clashes by cause", all: clashes.length, lines: lined(clashes.map(it => answer(it).clash?.[1]).filter(Boolean), it => ({ label: it, asked: { ...clash, cause: it } })) },
-    { title: "Moves that rest on what was not yet put", all: unput.length, note: "The usual cause of a wrong value in a legal run: undef was read there before anything was put.",
+    { title: "Moves that depend on what was not yet put", all: unput.length, note: "The usual cause of a wrong value in a legal run: undef was read there before anything was put.",
       lines: byPlace(unput, it => unputIn(it).map(place => place.at), { kind: "unput" }) },
   ].filter(it => it.lines.length);
 }
@@ -107,5 +107,5 @@ export function marksNode() {
   const kinds = Object.keys(names).filter(it => run.byKind[it].length).map(it => span("", glyph(it), names[it]));
   return block("Marks in the lanes", make("div", { class: "legend" }, kinds, run.wrong.length || run.doubted.length ? span("", glyph("fired", true), "wrong or doubtful") : null,
     span("", span("dash"), "writes the chosen location"), span("", span("dash holds"), "the condition holds"),
-    span("", span("dash stale"), "from the move that made it stale"), span("", span("dash ground"), "from what it rests on")));
+    span("", span("dash stale"), "from the move that made it stale"), span("", span("dash ground"), "from what it depends on")));
 }

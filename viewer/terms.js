@@ -48,7 +48,7 @@ export function byElement(a, b) {
   if (rank === 3) return a < b ? -1 : a > b ? 1 : 0;
   return rank === 4 ? byText(a, b) : byItems(a.list, b.list, 0);
 }
-// The order of the bytes in UTF-8, which is that of code points: surrogates stand above the rest of 16 bits.
+// The order of the bytes in UTF-8, which is that of code points: surrogates are above the rest of 16 bits.
 function byText(a, b) {
   const least = Math.min(a.length, b.length);
   for (let i = 0; i < least; i++) {
@@ -73,7 +73,7 @@ const UNSEEN = /(?! )[\p{Cc}\p{Cf}\p{Cs}\p{Z}\p{Default_Ignorable_Code_Point}\u2
 // Letters that are written from right to left, with their digits and marks.
 const FROM_RIGHT = /[\u0590-\u08ff\ufb1d-\ufdff\ufe70-\ufeff\u{10800}-\u{10fff}\u{1e800}-\u{1efff}]/u;
 const escaped = it => Array.from({ length: it.length }, (_, i) => `\\u${it.charCodeAt(i).toString(16).padStart(4, "0")}`).join("");
-// A text that others stand beside: a first strong isolate keeps its direction within it.
+// A text that others are beside: a first strong isolate keeps its direction within it.
 const alone = text => FROM_RIGHT.test(text) ? `\u2068${text}\u2069` : text;
 export const withoutIsolates = text => text.replace(/[\u2068\u2069]/g, "");
 const PLAIN = /^[ -~]*$/;
@@ -90,14 +90,14 @@ export function elementText(x) {
   return String(x);
 }
 export const locationText = at => at.length > 1 ? `${at[0]}(${at.slice(1).map(elementText).join(", ")})` : at[0];
-// A value in one line, of which a long one tells its size alone.
+// A value in one line, of which a long one shows its size alone.
 export function valueText(v, most = 40) {
   const items = isSet(v) ? v.set : isBag(v) ? v.bag : null;
   if (!items) return elementText(v);
   if (items.length > most) return `${isSet(v) ? "set" : "bag"} of ${plural(items.length, "element")}`;
   return `{${items.map(it => isSet(v) ? elementText(it) : `${elementText(it[0])} ×${it[1]}`).join(", ")}}`;
 }
-// A value in a few letters, for a row that tells several.
+// A value in a few letters, for a row that shows several.
 export function shortText(v) {
   const text = valueText(v, 3);
   return text.length > MOST_SHORT ? `${cut(text, 0, MOST_SHORT)}…` : text;

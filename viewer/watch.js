@@ -7,8 +7,8 @@ import { act, shown } from "./shown.js";
 import { revealAt } from "./state.js";
 import { firstFrom, grouped, isNumber, nearestOf, plural, shortText } from "./terms.js";
 
-let condition = null; // the condition that stands, with its text and the chosen location at that time
-let fault = "", isTold = true; // what is wrong with it, and whether that is told yet
+let condition = null; // the present condition, with its text and the chosen location at that time
+let fault = "", isTold = true; // what is wrong with it, and whether that is shown yet
 let range = null, at = -1; // from where to where its numbers go, and the moment of it that was gone to
 
 export const conditionText = () => condition?.text ?? "";
@@ -67,7 +67,7 @@ export function followLocation() {
   findMoments();
 }
 
-// ---- what is told
+// ---- what is said
 export function showWatch() {
   const told = fault && !isTold ? "" : toldText(), isWrong = !!fault && isTold;
   $("watch-told").textContent = told;

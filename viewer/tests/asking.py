@@ -85,7 +85,7 @@ def try_conditions(tries: Tries, browser: Browser) -> None:
     states = moments(BUSY)
     changed = [it for it in range(1, len(states)) if states[it].get(RICE) != states[it - 1].get(RICE)]
     tries.same('stock("rice") changes where it does', browser.run("watch(arguments[0]); return shown.onsets.map(it => it.count)", 'stock("rice") changes'), changed)
-    for text, told in {'stock("rice" < 1': "is missing", "door <": "a value or a location is missing", 'door < "a"': "a number has to stand behind <", "nosuch = 1": "no location of this run", "= 1": "choose a location", "door = 1 2": "the condition ends", "door ~ 1": "can't be read"}.items():
+    for text, told in {'stock("rice" < 1': "is missing", "door <": "a value or a location is missing", 'door < "a"': "a number must follow <", "nosuch = 1": "no location of this run", "= 1": "choose a location", "door = 1 2": "the condition ends", "door ~ 1": "can't be read"}.items():
         browser.run("renewWatch(arguments[0]); showWatch()", text)
         tries.claim(f"what {text} lacks is said", told in browser.text("watch-told").lower() and browser.find("watch").get_attribute("aria-invalid") == "true", browser.text("watch-told"))
     browser.load(tries.trace("strange", strange()))
@@ -178,13 +178,13 @@ def try_summary(tries: Tries, browser: Browser) -> None:
         "Clashes by location": Counter(label(it.reply.at) for it in clashes),
         "Clashes by agent": Counter(f"agent {it.agent}" for it in clashes),
         "Clashes by cause": Counter(it.reply.cause for it in clashes),
-        "Moves that rest on what was not yet put": Counter(label(place) for _, places in unput(BUSY) for place in places),
+        "Moves that depend on what was not yet put": Counter(label(place) for _, places in unput(BUSY) for place in places),
     }
     browser.run("for (const it of document.querySelectorAll('#detail .rest-lines')) it.click()")
     blocks = browser.run("return [...document.querySelectorAll('#detail .summary .block')].map(it => [it.querySelector('h3').textContent, [...it.querySelectorAll('.tally')].map(line => [line.querySelector('.tally-name').textContent.trim(), +line.querySelector('b').textContent.replaceAll(',', '')])])")
     found = {title: dict(lines) for title, lines in blocks if title not in ("Answers", "Longest chain of tries")}
     tries.same("the summary counts by location, agent and cause", found, {title: dict(it) for title, it in wanted.items() if it})
-    tries.claim("the most frequent stand first", all([n for _, n in lines] == sorted((n for _, n in lines), reverse=True) for title, lines in blocks if title != "Answers"), blocks)
+    tries.claim("the most frequent come first", all([n for _, n in lines] == sorted((n for _, n in lines), reverse=True) for title, lines in blocks if title != "Answers"), blocks)
     tries.shot(browser, "summary")
     missed = []
     count = browser.run("return document.querySelectorAll('#detail .tally').length")
@@ -202,7 +202,7 @@ def try_summary(tries: Tries, browser: Browser) -> None:
         (0, {"fire": [["put", ["y"], 2]], "reads": [[["x"], 2]]}, {"fired": 3}),
     )
     browser.load(tries.trace("unput", legal))
-    tries.has("a move that rests on nothing yet put is found in a legal run", browser.text("detail"), "Moves that rest on what was not yet put")
+    tries.has("a move that depends on nothing yet put is found in a legal run", browser.text("detail"), "Moves that depend on what was not yet put")
     browser.run("[...document.querySelectorAll('#detail .tally')].at(-1).click()")
     browser.leave()
     browser.press(Keys.ARROW_RIGHT)

@@ -108,7 +108,7 @@ def try_kept(tries: Tries, browser: Browser) -> None:
     browser.load(tries.trace("warehouse", HISTORY), "#event=46")
     browser.choose_file(tries.file("refused", b"hello\n"))
     tries.same("a wrong file leaves the run that is shown", (browser.title()[:9], browser.text("name")), ("Event 46 ", "warehouse.trace"))
-    tries.has("and is told", browser.text("refused-told"), "refused isn't shown. This is no trace")
+    tries.has("and that is said", browser.text("refused-told"), "refused isn't shown. This is no trace")
     browser.click("refused-close")
     tries.claim("until that is closed", not browser.find("refused").is_displayed())
     browser.write("watch", 'stock("rice") < 199')

@@ -37,7 +37,7 @@ def try_words(tries: Tries, browser: Browser) -> None:
         'stock("rice")': f"It was {low} to {high}.",
         "stok(*) < 1": "No location of this run is called stok(*); did you mean stock?",
         "stock < 1": "No location of this run is called stock.",
-        "x = 1 and y": "And stands between two conditions.",
+        "x = 1 and y": "And joins two conditions.",
     }.items():
         browser.run("renewWatch(arguments[0]); showWatch()", text)
         tries.same(f"{text} is answered", browser.text("watch-told"), told)

@@ -99,7 +99,7 @@ def try_names(tries: Tries, browser: Browser) -> None:
     named = [(it["role"]["value"], it.get("name", {}).get("value", "")) for it in tree if not it["ignored"] and it["role"]["value"] in CONTROLS]
     nameless = [role for role, name in named if not name.strip()]
     tries.claim(f"each control has a name for readers of the screen: {len(named)} looked at", len(named) > 60 and not nameless, nameless)
-    tries.same("the page has one first heading, and tells its language", (len(browser.all("h1")), browser.run("return document.documentElement.lang")), (1, "en"))
+    tries.same("the page has one first heading, and says its language", (len(browser.all("h1")), browser.run("return document.documentElement.lang")), (1, "en"))
     twice = browser.run("const ids = [...document.querySelectorAll('[id]')].map(it => it.id); return ids.filter((it, i) => ids.indexOf(it) !== i)")
     tries.same("no two parts have one id", twice, [])
     browser.run("document.activeElement.blur(); scrollTo(0, 0); window.reached = []; addEventListener('focusin', it => reached.push(it.target.id))")

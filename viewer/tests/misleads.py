@@ -17,7 +17,7 @@ def try_named(tries: Tries, browser: Browser) -> None:
     browser.load(tries.trace("named", journal_of((0, PUT, {"fired": 1}), (1, NAMES, {"stale": ["x"]}), init=init)))
     browser.press(Keys.END)
     detail = browser.text("detail")
-    tries.has("what was named and not read isn't called read", detail, "Stale: x is named as it stood in the opening state; the run has no read of it by agent 1.")
+    tries.has("what was named and not read isn't called read", detail, "Stale: x is named as it was in the opening state; the run has no read of it by agent 1.")
     tries.has("nor is it in the table", detail, "x opening state not read 1 move 1 wrote it")
     read = {"read": [["x"]]}
     browser.load(tries.trace("read", journal_of((1, read, {"number": 0, "values": [1]}), (0, PUT, {"fired": 1}), (1, NAMES, {"stale": ["x"]}), init=init)))
@@ -34,7 +34,7 @@ def try_apart(tries: Tries, browser: Browser) -> None:
     sides = ["In the journal s has 9, lacks 2 x -16 b has \"e\" ×3", "Right answer s has 2, lacks 9 x 16 b has \"e\" ×2"]
     tries.same("of a wrong read both sides show what differs, of a set its items", browser.texts("#detail .side"), sides)
     browser.press(Keys.ARROW_RIGHT)
-    tries.same("a wrong number is told where the values are right", browser.texts("#detail .side"), ["In the journal read after 1 move", "Right answer read in the opening state"])
+    tries.same("a wrong number is shown where the values are right", browser.texts("#detail .side"), ["In the journal read after 1 move", "Right answer read in the opening state"])
 
 
 def try_signs(tries: Tries, browser: Browser) -> None:
@@ -131,7 +131,7 @@ def try_filter_keys(tries: Tries, browser: Browser) -> None:
     tries.has("End goes to the last that is listed", browser.title(), f"Event {clashes[-1]} ")
     tries.same("there is no next one", (browser.find("on").is_enabled(), browser.find("back").is_enabled()), (False, True))
     browser.press("g", "1", Keys.ENTER)
-    tries.has("what is asked for by its number may lie outside, and that is said", browser.text("events-pane"), "The chosen event isn't listed.")
+    tries.has("what is asked for by its number may be outside, and that is said", browser.text("events-pane"), "The chosen event isn't listed.")
     browser.press("x")
     tries.same("x lists all again", (browser.text("events-count"), browser.find("events-off").is_displayed()), ("", False))
 
@@ -156,7 +156,7 @@ def try_told(tries: Tries, browser: Browser) -> None:
     for _ in range(3):
         browser.press(Keys.ARROW_DOWN)
         rows.append(browser.run(current, "state"))
-    tries.claim("a reader of the screen is told each row of the state", all(it and it[:2] == ["row", "true"] for it in rows) and len({it[2] for it in rows}) == 3, rows)
+    tries.claim("a reader of the screen hears each row of the state", all(it and it[:2] == ["row", "true"] for it in rows) and len({it[2] for it in rows}) == 3, rows)
     browser.run("act.chooseLocation(shown.run.locations.get('[\"packed\"]')); document.getElementById('writes').focus()")
     browser.press(Keys.ARROW_UP)
     rows = [browser.run(current, "writes")]

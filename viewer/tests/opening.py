@@ -42,7 +42,7 @@ def try_opening(tries: Tries, browser: Browser) -> None:
     tries.has("an address leads to its event", browser.title(), "Event 46")
     tries.has("and to the writes of its location", browser.text("writes-title"), "packed")
     tries.same("nothing was loaded from elsewhere", browser.run("return performance.getEntriesByType('resource').length"), 0)
-    tries.same("the console tells of no problem", browser.problems(), [])
+    tries.same("the console has no problem", browser.problems(), [])
 
 
 def try_empty(tries: Tries, browser: Browser) -> None:
@@ -54,11 +54,11 @@ def try_empty(tries: Tries, browser: Browser) -> None:
     for key in "c artnmxll[]+-0m":  # (l twice, as the page keeps whether the lanes are folded)
         browser.press(key)
     browser.run("renewWatch('x > 1'); showWatch()")
-    tries.same("keys do nothing there, and no problem is told", browser.problems(), [])
+    tries.same("keys do nothing there, and no problem is reported", browser.problems(), [])
 
 
 def refused_texts(good: str) -> dict[str, tuple[str | bytes, str]]:
-    """Texts that are no trace, each with what is to be told of it; most are a good one with one change."""
+    """Texts that are no trace, each with what must be said of it; most are a good one with one change."""
     lines = good.splitlines()
     journal, script = write_journal(wrong()).decode(), (ROOT / "examples" / "bank_transfers.json").read_text()
 
@@ -80,7 +80,7 @@ def refused_texts(good: str) -> dict[str, tuple[str | bytes, str]]:
         "half a line in the midst": ("\n".join([*lines[:3], lines[3][:40], *lines[4:]]) + "\n", "Line 4 can't be read: the line ends at column 41"),
         "an empty line": (altered("\n", "\n\n"), "Line 2 can't be read"),
         "a line that is missing": ("\n".join([*lines[:3], *lines[4:]]) + "\n", "Line 4 doesn't fit a trace: its `event` isn't 2"),
-        "a line too many": (good + lines[-1].replace('"event":9', '"event":10') + "\n", "the header tells of 10 events, and this is one more"),
+        "a line too many": (good + lines[-1].replace('"event":9', '"event":10') + "\n", "the header counts 10 events, and this is one more"),
         "an agent that isn't there": (altered('"agent":1', '"agent":2'), "its `agent` isn't one of the 2 of the header"),
         "a further member": (altered('"agent":1', '"also":0,"agent":1'), "it has a further member \"also\""),
         "a fired move without updates": (altered('"reply":{"fired":1},"updates"', '"reply":"full","updates"'), "it isn't fired and has `updates`"),
@@ -90,8 +90,8 @@ def refused_texts(good: str) -> dict[str, tuple[str | bytes, str]]:
         "a set out of order": (altered('{"set":[1,2]}', '{"set":[2,1]}'), "the elements of a set aren't in ascending order"),
         "a name of another form": (altered('["put",["x"]', '["put",["1"]'), "a location has no name of 1 to 64 letters"),
         "another word": (altered('["put"', '["get"'), "begins with none of put, add"),
-        "a change of what isn't there": (altered('[["x"],1,2]', '[["x"],7,2]'), "its change at x isn't one of the value that stands there"),
-        "an element removed that isn't there": (altered('"removed":[1]', '"removed":[3]'), "its change at s isn't one of the value that stands there"),
+        "a change of what isn't there": (altered('[["x"],1,2]', '[["x"],7,2]'), "its change at x doesn't fit the value there"),
+        "an element removed that isn't there": (altered('"removed":[1]', '"removed":[3]'), "its change at s doesn't fit the value there"),
         "lists that are nested too deeply": (altered('["put",["x"],2]', '["put",["x"],' + 9 * '{"list":[' + 9 * "]}" + "]"), "a list is nested deeper than 8"),
         "brackets without an end": ("[" * 100000 + "\n", "its first line isn't JSON"),
     }
@@ -113,7 +113,7 @@ def try_refusals(tries: Tries, browser: Browser) -> None:
 
 
 class View:
-    """Runs ./view in a folder where the model stands for the program."""
+    """Runs ./view in a folder where the model is in the program's place."""
 
     def __init__(self, room: Path) -> None:
         self.room = room
@@ -191,7 +191,7 @@ def try_follow(tries: Tries, browser: Browser) -> None:
         browser.frame()
         tries.same("what the run gains is added, and the place stays", (browser.title()[:8], browser.text("writes-title"), browser.texts("#facts .fact")[2]), ("Event 1 ", "x 2 writes", "2 moves"))
         tries.same("moves and events go on from those before", browser.run("return [shown.run.events[4].named[0].number, shown.run.events[3].move, shown.run.doubted.length]"), [1, 2, 0])
-        tries.same("the console tells of no problem", [it for it in browser.problems() if "favicon" not in it], [])
+        tries.same("the console has no problem", [it for it in browser.problems() if "favicon" not in it], [])
     finally:
         server.terminate()
         server.wait(20)
@@ -215,7 +215,7 @@ def try_beside(tries: Tries, browser: Browser) -> None:
     choose(tries.trace("short", other))
     moves = sum(isinstance(it.reply, Fired) for it in history.events[:60])
     told = browser.text("beside")
-    tries.claim(f"where two runs part is told: {told}", f"short.trace parts from this run at event 60, after {moves} moves." in told and "There: no more event." in told and f"The states differ first after move {moves + 1}, at" in told)
+    tries.claim(f"where two runs part is said: {told}", f"short.trace differs from this run from event 60 on, after {moves} moves." in told and "There: no more event." in told and f"The states differ first after move {moves + 1}, at" in told)
     tries.claim("the states' difference has each side", len(browser.all("#beside td")) >= 3)
     tries.shot(browser, "beside")
     browser.run("document.querySelector('#beside .link').click()")

@@ -74,6 +74,7 @@ def try_playing(tries: Tries, browser: Browser) -> None:
     browser.leave()
     browser.press(" ")
     browser.until("return !document.querySelector('#play.playing')", 5)
+    browser.frame()
     tries.has("Space plays, and it ends with the last event", browser.title(), f"Event {len(HISTORY.events) - 1} ")
 
 
@@ -86,7 +87,7 @@ def try_lanes(tries: Tries, browser: Browser) -> None:
     pointer = ActionChains(browser.driver).move_to_element_with_offset(lanes, round(at[0] - size["width"] / 2), round(at[1] - size["height"] / 2))
     pointer.perform()
     browser.frame()
-    tries.has("an event in the lanes tells what it is", browser.text("tip"), f"Event 8, agent {event.agent}: ")
+    tries.has("an event in the lanes says what it is", browser.text("tip"), f"Event 8, agent {event.agent}: ")
     pointer.click().perform()
     browser.frame()
     tries.has("a click in the lanes chooses it", browser.title(), "Event 8 ")
@@ -175,7 +176,7 @@ def try_search(tries: Tries, browser: Browser) -> None:
     browser.press("e")
     browser.press("clash short packed")
     wanted = [it for it in clashes if HISTORY.events[it].reply.cause == "Short"]
-    tries.same("a search finds events by what they tell", [int(it.split(" ")[0]) for it in browser.texts("#events .number")], wanted)
+    tries.same("a search finds events by what they show", [int(it.split(" ")[0]) for it in browser.texts("#events .number")], wanted)
     browser.write("events-find", 'put "rice"')
     tries.claim("and by values", 0 < int(browser.text("events-count").split(" ")[0]) < len(HISTORY.events), browser.text("events-count"))
     browser.write("events-find", "no such")
@@ -185,6 +186,6 @@ def try_search(tries: Tries, browser: Browser) -> None:
     browser.press(Keys.ARROW_DOWN, Keys.ARROW_DOWN)
     tries.has("down goes along the list", browser.title(), "Event 1 ")
     row = browser.find("events").get_attribute("aria-activedescendant")
-    tries.same("the row is told to a reader of the screen", row, "event-1")
+    tries.same("a reader of the screen hears the row", row, "event-1")
     time.sleep(REST)
     tries.has("and the choice is spoken", browser.find("spoken").get_attribute("textContent"), "Event 1, agent")

@@ -145,7 +145,7 @@ def try_forged(tries: Tries, browser: Browser) -> None:
     browser.click("first")
     browser.run("document.querySelector('#facts .illegal').click()")
     browser.frame()
-    tries.same("what it has and what agrees stand beside each other", browser.texts("#detail .side"), ["In the trace x 5", "By its own state x 1"])
+    tries.same("what it has and what agrees are beside each other", browser.texts("#detail .side"), ["In the trace x 5", "By its own state x 1"])
     tries.has("so it is in the list", browser.texts("#events .event")[0], "doesn't agree")
     view, page = View(tries.room / "by"), tries.room / "by.html"
     for text, told in ((write_journal(warehouse(3, 4, 1)), "legal, checked by asm_driver"), (write_trace(warehouse(3, 4, 1)), "legal, checked by this page")):
@@ -210,6 +210,7 @@ def other(random: Random, value: Any) -> Any:
 def try_directions(tries: Tries, browser: Browser) -> None:
     at = ["pay", "אב", 1000, 77, "ג"]
     fires = [{"fire": [["put", at, it]], "reads": []} for it in ("אחת", "שתיים")]
+    browser.resize(1920, 900)  # at which a location has room on one line
     browser.load(tries.trace("hebrew", journal_of((0, fires[0], {"fired": 1}), (0, fires[1], {"fired": 2}))))
     browser.press(Keys.END)
     where = """
@@ -231,6 +232,7 @@ def try_directions(tries: Tries, browser: Browser) -> None:
     tries.same("titles isolate each text", title, 'pay(\u2068"אב"\u2069, 1000, 77, \u2068"ג"\u2069)')
     browser.write("state-find", 'pay("אב"')
     tries.same("a search finds them as they are written", len(browser.all("#state .row")), 1)
+    browser.restore()
 
 
 def try_unseen(tries: Tries, browser: Browser) -> None:
@@ -296,7 +298,7 @@ def try_policy(tries: Tries, browser: Browser) -> None:
     browser.load(tries.trace("strange", strange()))
     policy = browser.run("return document.querySelector('meta[http-equiv]').content")
     tries.claim("the page's policy allows its own script and style by hash alone", policy.count("'sha256-") == 2 and "unsafe" not in policy and "base-uri 'none'; form-action 'none'" in policy, policy)
-    tries.same("no problem is told by itself", browser.problems(), [])
+    tries.same("no problem is reported by itself", browser.problems(), [])
     tries.same("a script that gets into the page doesn't run, nor does another base", browser.run(INTRUDERS), [0, True])
     browser.problems()
 

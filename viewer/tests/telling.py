@@ -1,4 +1,4 @@
-"""Tries what the page tells of calls: of moves, reads, stale fires, clashes, wrong answers, and of strange values."""
+"""Tries what the page says of calls: of moves, reads, stale fires, clashes, wrong answers, and of strange values."""
 
 from browser import Browser
 from journal import CAUSES, Fired, Read, Stale
@@ -9,16 +9,16 @@ from tries import Tries
 
 
 def try_moves(tries: Tries, browser: Browser) -> None:
-    """What is told of a fired move and of a read."""
+    """What is said of a fired move and of a read."""
     browser.load(tries.trace("warehouse", HISTORY))
     changed = browser.run("return shown.run.events.filter(it => it.writes?.some(it => it.items?.length)).map(it => it.number)")
     browser.slide(changed[-1] + 1)
     detail = browser.text("detail")
-    tries.claim("a fired move tells what it changed", all(it in detail for it in ("What it changed", "Old → new", "What it rests on", "Instructions")), detail)
+    tries.claim("a fired move says what it changed", all(it in detail for it in ("What it changed", "Old → new", "What it depends on", "Instructions")), detail)
     tries.claim("added and removed elements are marked", browser.all("#detail .item.added, #detail .item.removed, #detail .count.up, #detail .count.down"))
     reading = [it for it, event in enumerate(HISTORY.events) if isinstance(event.call, Read)][-1]
     browser.slide(reading + 1)
-    tries.has("a read tells the values and who wrote them", browser.text("detail"), "Last written by")
+    tries.has("a read shows the values and who wrote them", browser.text("detail"), "Last written by")
     browser.run("document.querySelector('#detail .location').click()")
     browser.frame()
     tries.claim("a location in it leads to its writes", browser.find("writes-pane").is_displayed())
@@ -28,7 +28,7 @@ def try_moves(tries: Tries, browser: Browser) -> None:
     put = [["put", ["x"], 1]]
     browser.load(tries.trace("full", journal_of((0, {"fire": put, "reads": []}, {"fired": 1}), (1, {"fire": put, "reads": []}, "full"), capacity=1)))
     browser.press(Keys.END)
-    tries.has("a full storage tells its capacity", browser.text("detail"), "as many moves were fired as the capacity, 1.")
+    tries.has("a full storage says its capacity", browser.text("detail"), "as many moves were fired as the capacity, 1.")
 
 
 def try_stale(tries: Tries, browser: Browser) -> None:
@@ -39,9 +39,9 @@ def try_stale(tries: Tries, browser: Browser) -> None:
     seen = min(it for at, it in call.reads if at == reply.at)
     later = [HISTORY.events[it].reply.number for it in numbers(Fired) if it < stale and any(at == reply.at for at, _ in HISTORY.events[it].call.move)]
     writer = min(it for it in later if it > seen)
-    tries.has("a stale fire tells which move wrote the location since", browser.text("detail"), f"Since then move {writer} by agent")
+    tries.has("a stale fire says which move wrote the location since", browser.text("detail"), f"Since then move {writer} by agent")
     tries.has("and what that move did", browser.text("detail"), f"What move {writer} did: ")
-    tries.has("and which of its reads still stand", browser.text("detail"), f"move {writer} wrote it")
+    tries.has("and which of its reads are unchanged", browser.text("detail"), f"move {writer} wrote it")
     tries.shot(browser, "stale")
 
 
@@ -69,7 +69,7 @@ def try_clashes(tries: Tries, browser: Browser) -> None:
         browser.load(tries.trace("clash", journal_of((1, fire, {"clash": [["x"], cause]}), init=init)))
         browser.press(Keys.END)
         detail = browser.text("detail")
-        tries.claim(f"a clash {cause} tells: {told}", browser.texts("#facts .legal") and f"Clash, {cause}: at x " in detail and told in detail, detail)
+        tries.claim(f"a clash {cause} says: {told}", browser.texts("#facts .legal") and f"Clash, {cause}: at x " in detail and told in detail, detail)
         tries.same("its instructions at that location are marked", len(browser.all("#detail .here")), len(move))
     tries.shot(browser, "clash")
     tries.same("each cause is tried", {it[0] for it in CLASHES}, set(CAUSES))
@@ -81,7 +81,7 @@ def try_wrong(tries: Tries, browser: Browser) -> None:
     browser.run("document.querySelector('#facts .illegal').click()")
     browser.frame()
     tries.has("that leads to the first wrong answer", browser.title(), "Event 2 read")
-    tries.same("both values stand side by side", browser.texts("#detail td")[:4], ["x", "1", "2", "move 1 by agent 0"])
+    tries.same("both values are side by side", browser.texts("#detail td")[:4], ["x", "1", "2", "move 1 by agent 0"])
     sides = []
     for _ in range(6):
         browser.press("w")
@@ -96,10 +96,10 @@ def try_wrong(tries: Tries, browser: Browser) -> None:
     ]
     wanted = [(f"In the journal {told}", f"Right answer {right}") for told, right in wanted]
     tries.same("w goes along the wrong answers, each beside the right one", sides, wanted)
-    tries.has("a clash that is told fired changes nothing", browser.text("detail"), "Nothing: the move clashes.")
+    tries.has("a clash that is reported as fired changes nothing", browser.text("detail"), "Nothing: the move clashes.")
     browser.press("w", shift=True)
     browser.slide(4)
-    tries.has("a stale move that is told fired says why it is stale", browser.text("detail"), "x is named as it stood in the opening state; the run has no read of it by agent 1. Since then move 1 by agent 0 has written it.")
+    tries.has("a stale move that is reported as fired says why it is stale", browser.text("detail"), "x is named as it was in the opening state; the run has no read of it by agent 1. Since then move 1 by agent 0 has written it.")
     tries.shot(browser, "wrong")
 
 
@@ -114,11 +114,11 @@ def try_strange(tries: Tries, browser: Browser) -> None:
     tries.same("what can't be seen is spelled out", state["v(1)"], '"\\u2028\\u2029\\u0000\\t\\\\\\"\'`${1}"')
     tries.same("numbers of 64 bits keep each digit", [state[f"v({it})"] for it in (3, 4, 5, 6)], [str(2**63 - 1), str(-(2**63)), str(2**53 + 1), f"[[], undef, true, {2**62 + 1}]"])
     tries.same("in sets, bags and locations too", (state[f"n({tag}, {2**63 - 1})"], state["bag"]), (f"{{{2**53}, {2**53 + 1}, {tag}}}", f"{{{2**63 - 1} ×{2**32 - 1}}}"))
-    tries.same("and in sums that a double can't tell", state["big"], str(2**53 + 1))
+    tries.same("and in sums that a double can't hold", state["big"], str(2**53 + 1))
     tries.has("a change of such a number is exact", " ".join(browser.texts("#detail td")), f"{2**53} → {2**53 + 1} (+1)")
     browser.press(Keys.ARROW_RIGHT)
     tries.has("and so is a clash", browser.text("detail"), f"Before the move it held {2**53 + 1}")
-    tries.same("nothing is told on the console", browser.problems(), [])
+    tries.same("nothing is reported on the console", browser.problems(), [])
     tries.shot(browser, "strange")
 
 

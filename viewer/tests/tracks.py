@@ -64,7 +64,7 @@ def try_tries(tries: Tries, browser: Browser) -> None:
     browser.run("[...document.querySelectorAll('#detail .link')].find(it => it.textContent === '58 tries of agent 1').click()")
     browser.frame()
     tries.has("it begins with its first try", browser.title(), f"Event {fires[0]} stale")
-    tries.has("each try tells which it is", browser.text("detail"), f"Try 1 of 58: first event {fires[0]}, fired in event {fires[-1]}.")
+    tries.has("each try says which it is", browser.text("detail"), f"Try 1 of 58: first event {fires[0]}, fired in event {fires[-1]}.")
     browser.slide(fires[56] + 1)
     tries.has("and the last but one", browser.text("detail"), f"Try 57 of 58: first event {fires[0]}, fired in event {fires[-1]}.")
     browser.run("fit()")

@@ -1,4 +1,4 @@
-"""What is tried, counted and told line by line."""
+"""What is tried, counted and printed line by line."""
 
 from collections.abc import Callable
 from pathlib import Path
@@ -18,7 +18,7 @@ class Tries:
         self.part = ""
 
     def claim(self, what: str, holds: Any, told: Any = "") -> None:
-        """Tells whether something holds, and what was found where it doesn't."""
+        """Prints whether something holds, and what was found where it doesn't."""
         if holds:
             self.passed += 1
             print(f"ok    {self.part}: {what}", flush=True)

@@ -1,4 +1,4 @@
-"""Tries the trace of a window of a part: its events and moves have the numbers of the part, and nothing is made up of what stands before."""
+"""Tries the trace of a window of a part: its events and moves have the numbers of the part, and nothing is made up of what was before."""
 
 from browser import Browser
 from journal import Fired, History, write_journal
@@ -23,10 +23,10 @@ def try_window(tries: Tries, browser: Browser) -> None:
     path = tries.file("window.trace", window_of(WHOLE, START, END))
     browser.load(path)
     facts = browser.texts("#facts .fact")
-    tries.claim("the facts tell how many events the window has", f"{END - START} events" in facts, facts)
+    tries.claim("the facts say how many events the window has", f"{END - START} events" in facts, facts)
     tries.has("and of its place in the part", " ".join(facts), f"part 0 from event {START} on")
     browser.slide(0)
-    tries.same("what stands before its first event is told so", browser.title(), f"Before event {START}")
+    tries.same("what was before its first event is named so", browser.title(), f"Before event {START}")
     browser.slide(1)
     tries.claim("its first event has the number that it has in the part", browser.title().startswith(f"Event {START} "), browser.title())
     fired = next(it for it in range(START, END) if isinstance(WHOLE.events[it].reply, Fired))
@@ -34,7 +34,7 @@ def try_window(tries: Tries, browser: Browser) -> None:
     tries.has("a move has its number in the part", browser.title(), f"move {WHOLE.events[fired].reply.number}")
     browser.load(path, f"#event={END - 1}")
     tries.claim("an address leads to an event by its number in the part", browser.title().startswith(f"Event {END - 1} "), browser.title())
-    tries.same("the console tells of no problem", browser.problems(), [])
+    tries.same("the console has no problem", browser.problems(), [])
 
 
 def try_moments(tries: Tries, browser: Browser) -> None:
@@ -58,7 +58,7 @@ def try_edges(tries: Tries, browser: Browser) -> None:
     late = next(it for it in range(START, END) if isinstance(WHOLE.events[it].reply, Fired) and WHOLE.events[it].call.reads)
     browser.load(tries.file("late.trace", window_of(WHOLE, late, late + 1)), f"#event={late}")
     tries.has("of a read before the window it says that the window has none", browser.text("detail"), "not read")
-    tries.same("the console tells of no problem", browser.problems(), [])
+    tries.same("the console has no problem", browser.problems(), [])
 
 
 PARTS = {"window": try_window, "window moments": try_moments, "window edges": try_edges}
