@@ -2,10 +2,8 @@
 use Rattle.std.proofs.Common.{◌≡◌, List, [], ◌∷◌, ◌++◌, refl, sym, ◌∙◌}
 use Rattle.std.specs.List.{cons_option}
 use Rattle.asm_update.specs.Move.{Move}
-use Rattle.asm_storage.specs.declared.call.Answer.{Answer}
-use Rattle.asm_storage.specs.declared.call.Call.{Call}
 use Rattle.asm_storage.specs.declared.history.Event.{Event}
-use Rattle.asm_storage.specs.History.{fired_move, fired_moves, IsLegal}
+use Rattle.asm_storage.specs.History.{fired_move, fired_moves}
 use Rattle.asm_storage.specs.Laws.{answers_in, calls_in, CallsDecideAnswers, CallsDecideMoves}
 use Rattle.asm_storage.specs.Machine.{Machine, reply_to}
 use Rattle.asm_storage.proofs.Legal.{IsLegalFrom, legal_behind}

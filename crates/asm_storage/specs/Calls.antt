@@ -25,7 +25,7 @@ use Rattle.asm_storage.specs.declared.receipt.Receipt.{Receipt}
 use Rattle.asm_storage.specs.Limits.{offers_limit, reads_limit}
 use Rattle.asm_storage.specs.Machine.{reply_to}
 use Rattle.asm_storage.specs.History.{IsCoherentAt}
-use Rattle.asm_storage.specs.Agents.{moves_seen}
+use Rattle.asm_storage.specs.Agents.{moves_seen, next_stood}
 use Rattle.asm_storage.specs.Plain.{is_plain, is_plain_over}
 use Rattle.asm_storage.specs.Scans.{with_found, RestsOn}
 use Rattle.asm_storage.specs.Storage.{AgentAt, FollowsOn, IsLevel, IsSameAgent, machine_of, has_looked, with_receipt, with_fired, last_look, Missed}
@@ -92,6 +92,17 @@ pub record IsPeek {A : Type 0} (meaning : A → Meaning) (a : AgentAt A) (places
     pub reply : read_answer r ≡
         reply_to (machine_of meaning a.storage) (take r.number (moves_seen a.account.seen)) (call.Read places)
     pub locations : r.places ≡ places
+
+-- its own state hasn't followed all moves on which its receipts rest, so the next receipt can't stand where the state does
+abbrev pub IsBehind : {A : Type 0} → AgentAt A → Type 0
+IsBehind a = a.number < next_stood 0 a.account.receipts
+
+-- a read was answered by the agent's own state, as a peek is: the agent has a receipt of it at the state's number, and
+-- nothing else of it has changed
+pub record IsRecall {A : Type 0} (meaning : A → Meaning) (old new : AgentAt A) (places : List Place) (r : ReadingView)
+    : Type 0 where
+  pub peek : IsPeek meaning old places r
+  pub agent : new ≡ with_receipt old (receipt_at r.number (call.Read places) (read_answer r))
 
 -- the least of the named locations that is stale after what the agent has then seen, or None
 abbrev pub IsStaleRead : {A : Type 0} → (A → Meaning) → AgentAt A → List Named → Option Place → Type 0

@@ -1,8 +1,10 @@
-ghost use Rattle.std.specs.Prelude.{filter, ◌≡◌, ◌↔◌, ◌<◌, ℕ, length, max, IfOk, IfErr, OnOk, OnErr, IsOk, IsErrOf};
+ghost use Rattle.std.specs.Prelude.{filter, ◌≡◌, ◌↔◌, ◌<◌, ◌≤◌, ℕ, length, max, IfOk, IfErr, OnOk, OnErr, IsOk, IsErrOf};
 ghost use mathlib.Core.List.{IsPrefix};
 ghost use Rattle.asm_storage.specs.declared.error.ReadError.TheVariants.{ManyLocations};
+ghost use Rattle.asm_storage.specs.declared.error.RecallError.TheVariants as recall_error;
 ghost use Rattle.asm_storage.specs.Agents.{IsAgent, is_fired};
-ghost use Rattle.asm_storage.specs.Calls.{HasLookedFor, IsFire, IsFireOver, IsPeek, IsRead, IsStaleRead, MadeOffers, Ran};
+ghost use Rattle.asm_storage.specs.Calls.{HasLookedFor, IsBehind, IsFire, IsFireOver, IsPeek, IsRead, IsRecall, IsStaleRead};
+ghost use Rattle.asm_storage.specs.Calls.{MadeOffers, Ran};
 ghost use Rattle.asm_storage.specs.Limits.{agents_limit, reads_limit};
 ghost use Rattle.asm_storage.specs.Part.{agent_of, IsFollowing, IsPartOf};
 ghost use Rattle.asm_storage.specs.Storage.{machine_of, has_seen, has_looked, last_look};
@@ -11,7 +13,7 @@ ghost use Rattle.asm_storage.specs.Taken.{HasTaken};
 
 use crate::call::Reply;
 use crate::entry::Entry;
-use crate::error::{FireError, ReadError};
+use crate::error::{FireError, ReadError, RecallError};
 use crate::limits::READS_LIMIT;
 use crate::part::AgentPart;
 use crate::reading::Reading;
@@ -249,9 +251,27 @@ impl<'s, A: Aggregator + Sync + Drop> Agent<'s, A> {
             return Err(ReadError::ManyLocations);
         }
         self.part.follow_row(alloc, storage)?;
-        let reading = self.part.take_reading(alloc, storage, places)?;
-        self.part.keep_reading(alloc, storage, &reading)?;
+        let reading = self.part.read_own(alloc, storage, places)?;
         Ok(reading)
+    }
+
+    /// Adds a receipt of a read of at most 256 locations from its own state: their values after the moves that the state
+    /// has followed, with their number.
+    ///
+    /// It makes no look and follows nothing, so the history also has what was looked up in the state. After a `follow`, a
+    /// `read` or a `stands` it succeeds until the agent fires a move.
+    ///
+    /// `RecallError::ManyLocations` comes exactly for more locations, before anything else; `Behind` exactly where the
+    /// state hasn't followed all moves on which the agent's receipts rest, such as one that it fired itself; `Memory`
+    /// only where memory was refused. On error, nothing changes.
+    pub fn recall(&mut self, alloc: Global, places: &[Location]) -> Result<Reading, RecallError>
+        ensures recalled { IfOk result (IsRecall A.meaning self.old self.new places.now) }
+        ensures refused { OnErr result (self.new ≡ self.old) }
+        ensures many { IsErrOf result recall_error.ManyLocations ↔ (reads_limit < length places.now) }
+        ensures behind { IsErrOf result recall_error.Behind ↔ ((length places.now ≤ reads_limit) × IsBehind self.old) }
+    {
+        let storage = self.storage;
+        self.part.recall(alloc, storage, places)
     }
 
     /// Fires a move, if none of the named locations was written since it was read, and no location of a scanned name

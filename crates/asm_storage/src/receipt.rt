@@ -1,5 +1,5 @@
-ghost use Rattle.std.specs.Prelude.{◌≡◌, IfOk};
-ghost use Rattle.asm_storage.specs.Agents.{is_fired, event_of};
+ghost use Rattle.std.specs.Prelude.{◌≡◌, ◌↔◌, ◌<◌, IfOk, IsTrue};
+ghost use Rattle.asm_storage.specs.Agents.{event_of, is_fired, next_after};
 
 use crate::call::{Answer, Call, Reply};
 use crate::history::Event;
@@ -26,6 +26,16 @@ impl Receipt {
             (Call::Fire { .. }, Answer::Fire(Reply::Fired(_))) => true,
             _ => false,
         }
+    }
+
+    /// Whether no receipt after this one may stand at the number.
+    pub(crate) fn is_beyond(&self, number: u32) -> bool
+        ensures { IsTrue result ↔ number < next_after self.now }
+    {
+        if self.is_fired() {
+            return number <= self.stood;
+        }
+        number < self.stood
     }
 
     /// The locations and the values of a read, so that a later one may share them.

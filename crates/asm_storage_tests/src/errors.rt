@@ -1,5 +1,5 @@
 //! What errors say, and how they are told apart.
-use asm_storage::{AgentsError, CloseError, FireError, ReadError, StorageError};
+use asm_storage::{AgentsError, CloseError, FireError, ReadError, RecallError, StorageError};
 use asm_test_support::are_told_apart;
 use std::alloc::{AllocError, Global};
 use std::fmt::Display;
@@ -28,6 +28,10 @@ fn errors_have_their_texts(rt: HostRuntime) -> Result<(), Fail> {
     assert!(rt; says(alloc, CloseError::Memory, memory)?);
     assert!(rt; says(alloc, ReadError::ManyLocations, "more than 256 locations")?);
     assert!(rt; says(alloc, ReadError::Memory, memory)?);
+    assert!(rt; says(alloc, RecallError::ManyLocations, "more than 256 locations")?);
+    let behind = "the agent's own state is behind its receipts";
+    assert!(rt; says(alloc, RecallError::Behind, behind)?);
+    assert!(rt; says(alloc, RecallError::Memory, memory)?);
     assert!(rt; says(alloc, AgentsError::BadAgents, "not 1 to 256 agents")?);
     assert!(rt; says(alloc, AgentsError::Memory, memory)?);
     let capacity = "the capacity is not in 1 to 1,048,576";
@@ -52,6 +56,12 @@ fn kinds_and_numbers_of_errors_are_told_apart(rt: HostRuntime) {
     ];
     assert!(rt; are_told_apart(&fires) && are_told_apart(&closings));
     assert!(rt; are_told_apart(&[ReadError::ManyLocations, ReadError::Memory]));
+    let recalls = [
+        RecallError::ManyLocations,
+        RecallError::Behind,
+        RecallError::Memory,
+    ];
+    assert!(rt; are_told_apart(&recalls));
     assert!(rt; are_told_apart(&[AgentsError::BadAgents, AgentsError::Memory]));
     assert!(rt; are_told_apart(&[StorageError::BadCapacity, StorageError::Memory]));
 }

@@ -8,7 +8,7 @@ use asm_aggregate::{Standard, standard};
 use asm_element::Location;
 use asm_state::{Named, Scanned};
 use asm_storage::{
-    Agent, AgentsError, FireError, ReadError, Reading, Reply, Storage, StorageError,
+    Agent, AgentsError, FireError, ReadError, Reading, RecallError, Reply, Storage, StorageError,
 };
 use asm_test_support::location;
 use asm_update::{Instructions, PlainState};
@@ -79,6 +79,24 @@ pub(crate) fn reads_many(
         Ok(reading) => Ok(is_good && reading.len() == n),
         Err(ReadError::ManyLocations) => Ok(!is_good),
         Err(ReadError::Memory) => Err(AllocError),
+    }
+}
+
+/// Whether so many locations are recalled, or refused for their number where that isn't good.
+pub(crate) fn recalls_many(
+    alloc: Global,
+    agent: &mut Agent<'_, Standard>,
+    n: usize,
+    is_good: bool,
+) -> Result<bool, AllocError>
+    ensures { IsSameAgent agent.old agent.new }
+{
+    let places = places_many(alloc, n)?;
+    match agent.recall(alloc, &places) {
+        Ok(reading) => Ok(is_good && reading.len() == n),
+        Err(RecallError::ManyLocations) => Ok(!is_good),
+        Err(RecallError::Behind) => Ok(false),
+        Err(RecallError::Memory) => Err(AllocError),
     }
 }
 

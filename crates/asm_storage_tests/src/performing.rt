@@ -2,11 +2,13 @@
 ghost use Rattle.std.specs.Prelude.{◌≡◌};
 ghost use Rattle.asm_storage.specs.Storage.{IsSameAgent};
 
-use crate::asked::{Act, Want, receipt_of};
+use crate::asked::{Act, Want, places_of, receipt_of};
 use asm_aggregate::Standard;
 use asm_element::{Location, Value};
 use asm_state::Named;
-use asm_storage::{Agent, Answer, Call, FireError, ReadError, Reading, Receipt, Reply};
+use asm_storage::{
+    Agent, Answer, Call, FireError, ReadError, Reading, RecallError, Receipt, Reply,
+};
 use asm_update::Instructions;
 use std::alloc::{AllocError, Global};
 
@@ -115,6 +117,73 @@ pub(crate) fn retries(
         Err(_) => Ok(false),
         is_right => is_right,
     }
+}
+
+/// What a recall gives.
+#[derive(Clone, Copy)]
+pub(crate) enum Recalled {
+    /// These values, at this number.
+    Values(u32, &'static [Option<i64>]),
+    /// The agent's own state is behind its receipts.
+    Behind,
+}
+
+/// Whether the recall gave the values of the receipt, which is then the agent's last one.
+fn is_recalled(agent: &Agent<'_, Standard>, reading: &Reading, wanted: &Receipt) -> bool {
+    match &wanted.answer {
+        Answer::Read { number, values } => {
+            reading.number() == *number
+                && are_read(reading, values.as_slice())
+                && is_last(agent, wanted)
+        }
+        Answer::Fire(_) => false,
+    }
+}
+
+/// The agent recalls the locations; whether that gives the receipt, or, where there is none, its state is behind.
+fn recalls_once(
+    alloc: Global,
+    agent: &mut Agent<'_, Standard>,
+    places: &[Location],
+    wanted: Option<&Receipt>,
+) -> Result<bool, AllocError>
+    ensures { IsSameAgent agent.old agent.new }
+{
+    match (agent.recall(alloc, places), wanted) {
+        (Ok(reading), Some(wanted)) => Ok(is_recalled(agent, &reading, wanted)),
+        (Err(RecallError::Behind), None) => Ok(true),
+        (Err(RecallError::Memory), _) => Err(AllocError),
+        _ => Ok(false),
+    }
+}
+
+/// The agent recalls the locations, and once more where memory was refused. Whether that gives what is wanted, and nothing
+/// of the agent has changed, neither then nor where it was refused, but that it has the receipt.
+pub(crate) fn recalls(
+    alloc: Global,
+    agent: &mut Agent<'_, Standard>,
+    names: &'static [&'static str],
+    want: Recalled,
+) -> Result<bool, AllocError>
+    ensures { IsSameAgent agent.old agent.new }
+{
+    let wanted = match want {
+        Recalled::Values(number, values) => {
+            Some(receipt_of(alloc, Act::Read(names), Want::Read(number, values))?)
+        }
+        Recalled::Behind => None,
+    };
+    let places = places_of(alloc, names)?;
+    let (seen, won, misses) = (agent.seen(), agent.won(), agent.misses());
+    let (number, receipts) = (agent.state().number(), agent.receipts().len());
+    let is_right = match recalls_once(alloc, agent, &places, wanted.as_ref()) {
+        Err(_) if !counts(agent, (seen, won, misses, receipts)) => return Ok(false),
+        Err(_) => recalls_once(alloc, agent, &places, wanted.as_ref())?,
+        Ok(is_right) => is_right,
+    };
+    let receipts = receipts.saturating_add(usize::from(wanted.is_some()));
+    let is_same = agent.state().number() == number && counts(agent, (seen, won, misses, receipts));
+    Ok(is_right && is_same)
 }
 
 /// Learns the other's mark; whether it has then seen so many moves.

@@ -2,10 +2,15 @@
 use crate::asked::{Act, At, Put, Want};
 use crate::closings::Closing;
 use crate::contests::{Contest, Outcome};
+use crate::performing::Recalled;
 use crate::two_agents::{Case, Step, Who, check_all};
 use Act::{Fire, Read};
 use Outcome::{Answered, Busy};
-use Step::{Alone, Ask, Contend, Count, Fill, Learn, Look, NameMany, ReadMany, Rest, Retry, Row};
+use Recalled::{Behind, Values};
+use Step::{
+    Alone, Ask, Contend, Count, Fill, Learn, Look, NameMany, ReadMany, Recall, RecallMany, Rest,
+    Retry, Row,
+};
 use Who::{A, B};
 use std::test::Fail;
 
@@ -311,4 +316,67 @@ static RETRIES: [Case; 4] = [
 #[test]
 fn a_call_that_was_refused_memory_can_be_made_again(rt: HostRuntime) -> Result<(), Fail> {
     check_all(&rt, rt.alloc(), &RETRIES)
+}
+
+static RECALLS: [Case; 4] = [
+    // What is recalled is what the state has followed, which may be less than was seen, and comes at its number.
+    Case {
+        x: Some(7),
+        capacity: 8,
+        steps: &[
+            Ask(B, Fire(&[Put("x", 5)], &[]), Want::Fired(1)),
+            Learn(A, 1),
+            Recall(&["x", "y"], Values(0, &[Some(7), None])),
+            Count(1, 0, 0, 1),
+        ],
+        both: Closing::Events(1, &[0, 1]),
+    },
+    // After a move that it fired the state is behind.
+    Case {
+        x: Some(7),
+        capacity: 8,
+        steps: &[
+            Recall(&[], Values(0, &[])),
+            Ask(A, Read(&["x"]), Want::Read(0, &[Some(7)])),
+            Recall(&["x"], Values(0, &[Some(7)])),
+            Ask(A, Fire(&[Put("x", 1)], &[At("x", 0)]), Want::Fired(1)),
+            Recall(&["x"], Behind),
+            RecallMany(257, false),
+            Ask(A, Read(&["x"]), Want::Read(1, &[Some(1)])),
+            Recall(&["x"], Values(1, &[Some(1)])),
+            Ask(B, Fire(&[Put("x", 2)], &[]), Want::Fired(2)),
+            Recall(&["x", "x"], Values(1, &[Some(1), Some(1)])),
+            Row(2),
+        ],
+        both: Closing::Events(2, &[0, 0, 0, 0, 0, 0, 0, 1]),
+    },
+    // It is behind after an answer that was judged without it, too.
+    Case {
+        x: Some(7),
+        capacity: 1,
+        steps: &[
+            Ask(B, Fire(&[Put("x", 5)], &[]), Want::Fired(1)),
+            Ask(A, PUT, Want::Full(1)),
+            Recall(&["x"], Behind),
+            Ask(A, Read(&[]), Want::Read(1, &[])),
+            Recall(&["x"], Values(1, &[Some(5)])),
+        ],
+        both: Closing::Events(1, &[1, 0, 0, 0]),
+    },
+    Case {
+        x: Some(7),
+        capacity: 8,
+        steps: &[
+            RecallMany(256, true),
+            RecallMany(257, false),
+            Count(0, 0, 0, 1),
+            Row(0),
+        ],
+        both: Closing::Events(0, &[0]),
+    },
+];
+
+#[test]
+fn own_states_are_recalled_at_their_numbers(rt: HostRuntime) -> Result<(), Fail> {
+    check_all(&rt, rt.alloc(), &RECALLS)
 }

@@ -3,7 +3,7 @@ ghost use Rattle.std.specs.Prelude.{◌≡◌};
 ghost use Rattle.asm_storage.specs.Storage.{IsSameAgent};
 
 use crate::asked::{Act, At, Put, Want};
-use crate::performing::{asks, counts};
+use crate::performing::{Recalled, asks, counts, recalls};
 use crate::two_agents::storage_of;
 use asm_aggregate::Standard;
 use asm_storage::Agent;
@@ -40,6 +40,8 @@ fn takes_over(
             && asks(alloc, a, Act::Read(&["x"]), Want::Read(1, &[Some(1)]))?
             && takes(b, a, 1, 0)
             && counts(b, (1, 0, 0, 0))
+            && recalls(alloc, a, &["x"], Recalled::Behind)?
+            && recalls(alloc, b, &["x"], Recalled::Values(1, &[Some(1)]))?
             && asks(
                 alloc,
                 b,
@@ -80,6 +82,6 @@ fn agents_that_take_states_by_turns_are_answered_as_before(rt: HostRuntime) -> R
     let mut b = storage.agent_at(alloc, 1)?;
     assert!(rt; takes_over(alloc, &mut a, &mut b)?);
     assert!(rt; catches_up(alloc, &mut a, &mut b)?);
-    assert!(rt; counts(&a, (2, 1, 4, 4)) && counts(&b, (2, 1, 2, 2)));
+    assert!(rt; counts(&a, (2, 1, 4, 4)) && counts(&b, (2, 1, 2, 3)));
     Ok(())
 }

@@ -5,8 +5,8 @@ ghost use Rattle.asm_storage.specs.Storage.{IsSameAgent};
 use crate::asked::{Act, Want};
 use crate::closings::{Closing, closes};
 use crate::contests::{Contest, contends};
-use crate::limits::{looks, names_many, reads_many, rests};
-use crate::performing::{asks, counts, learns, retries};
+use crate::limits::{looks, names_many, reads_many, recalls_many, rests};
+use crate::performing::{Recalled, asks, counts, learns, recalls, retries};
 use asm_aggregate::{Standard, standard};
 use asm_storage::{Agent, Storage};
 use asm_test_support::{location, value};
@@ -47,6 +47,10 @@ pub(crate) enum Step {
     ReadMany(usize, bool),
     /// The first fires by so many named reads; whether that isn't refused for their number.
     NameMany(usize, bool),
+    /// The first recalls these locations, which gives that.
+    Recall(&'static [&'static str], Recalled),
+    /// The first recalls so many locations; whether that isn't refused for their number.
+    RecallMany(usize, bool),
     /// The first asks, and once more where memory was refused: it has then seen at most so many moves, and has no
     /// receipt more.
     Retry(Act, Want, u32),
@@ -107,6 +111,8 @@ impl Two<'_> {
             Step::Look => looks(alloc, &mut self.a),
             Step::ReadMany(n, is_good) => reads_many(alloc, &mut self.a, n, is_good),
             Step::NameMany(n, is_good) => names_many(alloc, &mut self.a, n, is_good),
+            Step::Recall(names, want) => recalls(alloc, &mut self.a, names, want),
+            Step::RecallMany(n, is_good) => recalls_many(alloc, &mut self.a, n, is_good),
             Step::Retry(act, want, seen) => retries(alloc, &mut self.a, act, want, seen),
             _ => Ok(self.tells(alloc, step)),
         }

@@ -1,12 +1,14 @@
-ghost use Rattle.std.specs.Prelude.{◌≡◌, ◌+◌, ◌<◌, ◌≤◌, ℕ, length, IfOk, OnOk, OnErr, Some, None, Ok, IsSome, true, false};
+ghost use Rattle.std.specs.Prelude.{◌≡◌, ◌+◌, ◌<◌, ◌≤◌, ℕ, length, take, IfOk, OnOk, OnErr, Some, None, Ok, IsSome, true, false};
 ghost use Rattle.std.specs.Prelude.{IfSome, IfNone};
 ghost use mathlib.Core.List.{IsPrefix};
 ghost use Rattle.asm_storage.specs.declared.call.Answer.TheVariants as answer;
 ghost use Rattle.asm_storage.specs.declared.call.Call.TheVariants as call;
 ghost use Rattle.asm_storage.specs.declared.call.Reply.TheVariants as reply;
+ghost use Rattle.asm_storage.specs.Agents.{moves_seen, next_stood};
 ghost use Rattle.asm_storage.specs.History.{fired_move};
 ghost use Rattle.asm_storage.specs.Storage.{machine_of, with_fired, with_receipt, last_look, IsReplyOf, Missed};
 ghost use Rattle.asm_storage.specs.Limits.{reads_limit};
+ghost use Rattle.asm_storage.specs.Machine.{reply_to};
 ghost use Rattle.asm_storage.specs.Offering.{IsOffering, IsSameOffering};
 ghost use Rattle.asm_storage.specs.Calls.{receipt_at, HasOffered, IsFireOver, MadeOffers, Ran, StandsAfter};
 ghost use Rattle.asm_storage.specs.Plain.{is_plain, is_plain_over};
@@ -74,24 +76,27 @@ impl AgentPart {
         judged(alloc, aggregator, &self.state, is_full, reads, instrs)
     }
 
-    /// Keeps the receipt of a call that fired nothing.
+    /// Keeps the receipt of a call that fired nothing, and was judged on the first `stood` of the moves that were seen.
     pub(crate) fn keep<A: Aggregator + Sync + Drop>(
         &mut self,
         storage: &Storage<A>,
         call: Call,
         answer: Answer,
+        stood: u32,
     ) -> Result<(), AllocError>
         requires part { IsPartOf A.meaning storage.now self.old }
-        requires reply { IsReplyOf A.meaning (agent_of storage.now self.old) call answer }
+        requires seen { stood ≤ length self.old.progress.seen }
+        requires later { next_stood 0 self.old.receipts.items ≤ stood }
+        requires reply { answer ≡
+            reply_to (machine_of A.meaning storage.now) (take stood (moves_seen self.old.progress.seen)) call }
         requires quiet { fired_move call answer ≡ None }
         ensures part { IsPartOf A.meaning storage.now self.new }
         ensures id { self.new.id ≡ self.old.id }
-        ensures ok { OnOk result (agent_of storage.now self.new ≡ with_receipt (agent_of storage.now self.old)
-            (receipt_at (length self.old.progress.seen) call answer)) }
+        ensures ok { OnOk result (
+            agent_of storage.now self.new ≡ with_receipt (agent_of storage.now self.old) (receipt_at stood call answer)) }
         ensures err { OnErr result (agent_of storage.now self.new ≡ agent_of storage.now self.old) }
     {
         let _ = storage; // The contract alone speaks of it.
-        let stood = self.progress.seen_len();
         self.receipts.push(Receipt {
             call,
             answer,
@@ -121,7 +126,8 @@ impl AgentPart {
     {
         let call = fire_call(alloc, reads, instrs)?;
         let answer = Answer::Fire(reply.copy(alloc)?);
-        self.keep(storage, call, answer)
+        let stood = self.progress.seen_len();
+        self.keep(storage, call, answer, stood)
     }
 
     // Offers a move that was judged to fire, and keeps the receipt where it won: the room for that is made

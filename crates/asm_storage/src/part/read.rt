@@ -1,14 +1,18 @@
-ghost use Rattle.std.specs.Prelude.{◌≡◌, ◌≤◌, map, length, take, IfOk, OnOk, OnErr};
+ghost use Rattle.std.specs.Prelude.{◌≡◌, ◌↔◌, ◌<◌, ◌≤◌, map, length, take, IfOk, OnOk, OnErr, IsErrOf, IsTrue};
 ghost use Rattle.asm_update.specs.State.{val};
 ghost use Rattle.asm_storage.specs.declared.call.Call.TheVariants as call;
+ghost use Rattle.asm_storage.specs.declared.error.RecallError.TheVariants.{Behind, ManyLocations};
 ghost use Rattle.asm_storage.specs.Machine.{machine_state};
-ghost use Rattle.asm_storage.specs.Agents.{moves_seen};
-ghost use Rattle.asm_storage.specs.Storage.{machine_of, with_receipt, IsReplyOf};
-ghost use Rattle.asm_storage.specs.Calls.{receipt_at, read_answer, IsPeek, IsStaleRead};
+ghost use Rattle.asm_storage.specs.Agents.{moves_seen, next_stood};
+ghost use Rattle.asm_storage.specs.Limits.{reads_limit};
+ghost use Rattle.asm_storage.specs.Storage.{machine_of, with_receipt};
+ghost use Rattle.asm_storage.specs.Calls.{receipt_at, read_answer, IsBehind, IsPeek, IsRecall, IsStaleRead};
 ghost use Rattle.asm_storage.specs.Part.{agent_of, IsPartOf};
 
 use crate::call::{Answer, Call};
+use crate::error::RecallError;
 use crate::held_values::have_values;
+use crate::limits::READS_LIMIT;
 use crate::part::AgentPart;
 use crate::reading::Reading;
 use crate::receipt::Receipt;
@@ -100,36 +104,19 @@ impl AgentPart {
         })
     }
 
-    /// The locations with their values after all moves that were seen.
-    pub(crate) fn take_reading<A: Aggregator + Sync + Drop>(
-        &self,
-        alloc: Global,
-        storage: &Storage<A>,
-        places: &[Location],
-    ) -> Result<Reading, AllocError>
-        requires part { IsPartOf A.meaning storage.now self.now }
-        requires level { self.now.state.number ≡ length self.now.progress.seen }
-        ensures places { IfOk result (λ r. r.places ≡ places.now) }
-        ensures reply { IfOk result (λ r.
-            IsReplyOf A.meaning (agent_of storage.now self.now) (call.Read places.now) (read_answer r)) }
-    {
-        self.peek(alloc, storage, places)
-    }
-
-    /// Keeps the receipt of a read.
-    pub(crate) fn keep_reading<A: Aggregator + Sync + Drop>(
+    // Keeps the receipt of a read from the agent's own state.
+    fn keep_reading<A: Aggregator + Sync + Drop>(
         &mut self,
         alloc: Global,
         storage: &Storage<A>,
         reading: &Reading,
     ) -> Result<(), AllocError>
         requires part { IsPartOf A.meaning storage.now self.old }
-        requires reply { IsReplyOf A.meaning (agent_of storage.now self.old) (call.Read reading.now.places)
-            (read_answer reading.now) }
+        requires later { next_stood 0 self.old.receipts.items ≤ self.old.state.number }
+        requires peek { IsPeek A.meaning (agent_of storage.now self.old) reading.now.places reading.now }
         ensures part { IsPartOf A.meaning storage.now self.new }
-        ensures id { self.new.id ≡ self.old.id }
         ensures ok { OnOk result (agent_of storage.now self.new ≡ with_receipt (agent_of storage.now self.old)
-            (receipt_at (length self.old.progress.seen) (call.Read reading.now.places) (read_answer reading.now))) }
+            (receipt_at reading.now.number (call.Read reading.now.places) (read_answer reading.now))) }
         ensures err { OnErr result (agent_of storage.now self.new ≡ agent_of storage.now self.old) }
     {
         let places = same_list(&reading.places)?;
@@ -138,7 +125,63 @@ impl AgentPart {
             number: reading.number,
             values,
         };
-        self.keep(storage, Call::Read(places), answer)
+        self.keep(storage, Call::Read(places), answer, reading.number)
+    }
+
+    /// Reads the locations from the agent's own state, which isn't behind its receipts, and keeps a receipt of that.
+    pub(crate) fn read_own<A: Aggregator + Sync + Drop>(
+        &mut self,
+        alloc: Global,
+        storage: &Storage<A>,
+        places: &[Location],
+    ) -> Result<Reading, AllocError>
+        requires part { IsPartOf A.meaning storage.now self.old }
+        requires later { next_stood 0 self.old.receipts.items ≤ self.old.state.number }
+        ensures part { IsPartOf A.meaning storage.now self.new }
+        ensures recalled { IfOk result (
+            IsRecall A.meaning (agent_of storage.now self.old) (agent_of storage.now self.new) places.now) }
+        ensures refused { OnErr result (agent_of storage.now self.new ≡ agent_of storage.now self.old) }
+    {
+        let reading = self.peek(alloc, storage, places)?;
+        self.keep_reading(alloc, storage, &reading)?;
+        Ok(reading)
+    }
+
+    // Whether no further receipt may stand where the state does.
+    fn is_behind(&self) -> bool
+        ensures { IsTrue result ↔ self.now.state.number < next_stood 0 self.now.receipts.items }
+    {
+        match self.receipts.last() {
+            Some(last) => last.is_beyond(self.state.number()),
+            None => false,
+        }
+    }
+
+    /// Adds a receipt of a read of at most 256 locations from the agent's own state, as `Agent::recall` does. The part
+    /// came from this storage.
+    pub fn recall<A: Aggregator + Sync + Drop>(
+        &mut self,
+        alloc: Global,
+        storage: &Storage<A>,
+        places: &[Location],
+    ) -> Result<Reading, RecallError>
+        requires { IsPartOf A.meaning storage.now self.old }
+        ensures part { IsPartOf A.meaning storage.now self.new }
+        ensures recalled { IfOk result (
+            IsRecall A.meaning (agent_of storage.now self.old) (agent_of storage.now self.new) places.now) }
+        ensures refused { OnErr result (agent_of storage.now self.new ≡ agent_of storage.now self.old) }
+        ensures many { IsErrOf result ManyLocations ↔ (reads_limit < length places.now) }
+        ensures behind { IsErrOf result Behind ↔
+            ((length places.now ≤ reads_limit) × IsBehind (agent_of storage.now self.old)) }
+    {
+        if places.len() > READS_LIMIT {
+            return Err(RecallError::ManyLocations);
+        }
+        if self.is_behind() {
+            return Err(RecallError::Behind);
+        }
+        let reading = self.read_own(alloc, storage, places)?;
+        Ok(reading)
     }
 
     /// The least of the named locations that is stale after all moves that were seen.

@@ -10,9 +10,9 @@ pub returns-clause-part : goal.returns-clause-part
 returns-clause-part g c =
     let m = machine_of g.A.Aggregator.meaning c.args.storage.now in
     let account : AgentView = account_of c.args.self.now in
-    let r : Receipt = record { call = c.args.call; answer = c.args.answer; stood = c.seen_len-stood.result } in
+    let r : Receipt = record { call = c.args.call; answer = c.args.answer; stood = c.args.stood } in
     let part = c.requires.part in
-    let kept = quiet_kept m account r part.agent c.seen_len-stood.ensures.value c.requires.reply c.requires.quiet in
+    let kept = quiet_kept m account r part.agent c.requires.seen c.requires.later c.requires.reply c.requires.quiet in
     record {
       row = part.row;
       few = part.few;
