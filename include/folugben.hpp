@@ -10,6 +10,11 @@
 // `conflict` alone means that a step is to be begun again. A step goes on with its agent wherever that moves, and is refused
 // with code::empty once that is given back.
 //
+// Each agent follows all moves in a state of its own. Where one thread plays several agents of a storage by turns, the one that
+// is about to poll takes the state of the one that polled last there, if that has ended its step or fired since and is in no
+// other step. So each move is followed about once, and not once for each agent. Whoever was taken the state polls before it is
+// shown again by `peek`, `state`, `scan` and `go_on`, which else don't poll; so it never goes back.
+//
 //    folugben::storage storage(R"([[["count"],0]])", 1000);
 //    folugben::agent agent = storage.make_agent(0);
 //    folugben::location count("count");
@@ -25,12 +30,16 @@
 
 #include <folugben.h>
 
+#include <algorithm>
 #include <array>
+#include <atomic>
 #include <charconv>
 #include <chrono>
 #include <compare>
 #include <concepts>
+#include <cstddef>
 #include <cstdint>
+#include <iterator>
 #include <map>
 #include <memory>
 #include <mutex>
@@ -613,6 +622,20 @@ class instructions {
     instructions &bag_add(const location &at, const operand &what, std::uint32_t n) { return with(ASM_BAGADD, at, what, n); }
     instructions &bag_remove(const location &at, const operand &what, std::uint32_t n) { return with(ASM_BAGREMOVE, at, what, n); }
     instructions &inc(const location &at, std::int64_t by) { return with(ASM_INC, at, by); }
+    // Appends the other's instructions: it is then the move that does what both do at once. What is more than 4,096 instructions is
+    // code::many, and itself, or what was moved from, code::empty; then nothing changes.
+    [[nodiscard]] code try_unite(const instructions &other) noexcept {
+        if (!slot_ || !other.slot_ || &other == this) return code::empty;
+        if (other.size_ == 0) return code::done;
+        const code it{asm_unite(slot_.get(), other.slot_.get())};
+        if (it == code::done) size_ += other.size_;
+        return it;
+    }
+    instructions &unite(const instructions &other) {
+        detail::done(try_unite(other));
+        return *this;
+    }
+    instructions &operator|=(const instructions &other) { return unite(other); }
     instructions &clear() noexcept {
         asm_free_move(slot_.get());
         size_ = 0;
@@ -657,20 +680,132 @@ struct shared {
     }
 };
 
-// An agent's slot and its storage, which its steps share wherever the agent moves.
-struct seat {
-    explicit seat(std::shared_ptr<shared> storage) : of(std::move(storage)) {}
+// An agent's slot and its storage, which its steps share wherever the agent moves. A thread makes a call on the slot only while
+// the seat names that thread, and takes the state only of an agent whose seat names it too, between two calls. The first call in
+// another thread has the seat name that one; it waits while the state is being taken.
+class seat {
+  public:
+    explicit seat(std::shared_ptr<shared> storage) : of_(std::move(storage)), storage_(of_.get()) {}
     ~seat() { give(); }
     seat(const seat &) = delete;
     seat &operator=(const seat &) = delete;
 
-    void give() noexcept {
-        held<struct asm_agent> last = std::move(slot); // what its steps find from now on is empty
-        if (of && last.get()->slot.full) of->give(std::move(last));
-        of.reset();
+    // The agent, for one call.
+    struct asm_agent *get() const noexcept {
+        claim(here());
+        return slot_.get();
     }
-    held<struct asm_agent> slot;
-    std::shared_ptr<shared> of;
+    // Which storage it is of, for comparisons.
+    const shared *storage() const noexcept { return storage_; }
+    void give() noexcept {
+        claim(nowhere);
+        held<struct asm_agent> last = std::move(slot_); // what its steps find from now on is empty
+        if (of_ && last.get()->slot.full) of_->give(std::move(last));
+        of_.reset();
+    }
+    void begin_step() noexcept { steps_.fetch_add(1, std::memory_order_relaxed); }
+    void end_step() noexcept {
+        act();
+        steps_.fetch_sub(1, std::memory_order_relaxed);
+    }
+    // Nothing more is done with its state until it polls again.
+    void act() noexcept { has_acted_.store(true, std::memory_order_relaxed); }
+    // Before its state is shown without a poll: polls where another agent took it.
+    code catch_up(const std::shared_ptr<seat> &own) noexcept {
+        if (!is_behind_.load(std::memory_order_relaxed)) return code::done;
+        begin_turn(own);
+        std::uint32_t number = 0;
+        return code{asm_follow(get(), &number)};
+    }
+    // Before a poll of `own`, which is this: takes the state of the agent that polled last in this thread, if that has acted.
+    void begin_turn(const std::shared_ptr<seat> &own) noexcept {
+        claim(here());
+        if (const auto other = replace_last(own)) take_state(*other);
+        has_acted_.store(false, std::memory_order_relaxed);
+        is_behind_.store(false, std::memory_order_relaxed);
+    }
+
+  private:
+    static constexpr std::uintptr_t nowhere = 0, taking = 1;
+    struct last {
+        const shared *storage = nullptr;
+        std::weak_ptr<seat> agent;
+    };
+    // The agents that polled last in a thread, of some storages; the latest first.
+    struct last_ones {
+        std::array<last, 8> all{};
+        ~last_ones() { is_over() = true; }
+    };
+    // Whether this thread remembers no agents any more, as its objects are being destroyed.
+    static bool &is_over() noexcept {
+        thread_local bool it = false;
+        return it;
+    }
+    // An even number that stands for this thread, as long as that lives.
+    static std::uintptr_t here() noexcept {
+        thread_local std::uint64_t it = 0;
+        return reinterpret_cast<std::uintptr_t>(&it);
+    }
+    void claim(std::uintptr_t thread) const noexcept {
+        if (thread_.load(std::memory_order_relaxed) == thread) return;
+        for (;;) {
+            std::uintptr_t was = thread_.load(std::memory_order_relaxed) & ~taking;
+            if (thread_.compare_exchange_strong(was, thread, std::memory_order_acquire, std::memory_order_relaxed)) return;
+            std::this_thread::yield();
+        }
+    }
+    // Has this be the last agent of its storage in this thread: the one before, if that is another and still there.
+    static std::shared_ptr<seat> replace_last(const std::shared_ptr<seat> &own) noexcept {
+        if (is_over()) return nullptr;
+        thread_local last_ones ones;
+        auto &all = ones.all;
+        std::ptrdiff_t at = 0;
+        while (at < std::ssize(all) - 1 && all[static_cast<std::size_t>(at)].storage != own->storage_) ++at;
+        std::rotate(all.begin(), all.begin() + at, all.begin() + at + 1);
+        if (all.front().storage != own->storage_) all.front() = last{own->storage_, {}};
+        auto &front = all.front().agent;
+        if (!front.owner_before(own) && !own.owner_before(front)) return nullptr;
+        return std::exchange(front, own).lock();
+    }
+    void take_state(seat &other) const noexcept {
+        std::uintptr_t thread = here();
+        if (!other.thread_.compare_exchange_strong(thread, thread | taking, std::memory_order_acquire, std::memory_order_relaxed)) return;
+        if (other.has_acted_.load(std::memory_order_relaxed) && other.steps_.load(std::memory_order_relaxed) == 0) {
+            // An agent that was given back or abandoned is refused, and nothing is done.
+            (void)asm_take_state(slot_.get(), other.slot_.get());
+            other.is_behind_.store(true, std::memory_order_relaxed);
+        }
+        other.thread_.store(here(), std::memory_order_release);
+    }
+
+    held<struct asm_agent> slot_;
+    std::shared_ptr<shared> of_;
+    const shared *storage_;
+    mutable std::atomic<std::uintptr_t> thread_{nowhere}; // of the last call
+    std::atomic<std::uint32_t> steps_{0};                 // that haven't ended
+    std::atomic<bool> has_acted_{false}, is_behind_{false};
+};
+
+// A step of an agent that hasn't ended.
+class open_step {
+  public:
+    open_step() noexcept = default;
+    explicit open_step(std::shared_ptr<seat> of) noexcept : seat_(std::move(of)) {
+        if (seat_) seat_->begin_step();
+    }
+    ~open_step() {
+        if (seat_) seat_->end_step();
+    }
+    open_step(open_step &&) noexcept = default;
+    open_step &operator=(open_step &&other) noexcept {
+        open_step ended = std::move(*this);
+        seat_ = std::move(other.seat_);
+        return *this;
+    }
+    struct asm_agent *get_agent() const noexcept { return seat_ ? seat_->get() : nothing<struct asm_agent>(); }
+
+  private:
+    std::shared_ptr<seat> seat_;
 };
 
 // What the last answered call of an agent was answered.
@@ -743,12 +878,12 @@ class step {
 
   private:
     friend class agent;
-    explicit step(std::shared_ptr<detail::seat> seat) : seat_(std::move(seat)) {}
-    struct asm_agent *get_agent() const noexcept { return seat_ ? seat_->slot.get() : detail::nothing<struct asm_agent>(); }
+    step() = default;
+    struct asm_agent *get_agent() const noexcept { return open_.get_agent(); }
     template <class Call, class ByText> code grow(Call call, ByText by_text, const instructions &move, std::string &text) noexcept;
     template <class Call> void grow_json(Call call, std::string_view move);
     template <class Call> std::string tell_json(Call call, std::string_view locations);
-    std::shared_ptr<detail::seat> seat_;
+    detail::open_step open_;
     detail::held<struct asm_step> slot_;
     std::uint32_t number_ = 0;
 };
@@ -783,12 +918,13 @@ class agent {
 
     [[nodiscard]] code try_begin(step &it) noexcept {
         if (!it.slot_) return code::empty;
+        begin_turn();
         const code begun{asm_begin(get(), it.slot_.get(), &it.number_)};
-        if (begun == code::done) it.seat_ = seat_;
+        if (begun == code::done) it.open_ = detail::open_step(seat_);
         return begun;
     }
     step begin() {
-        step it(seat_);
+        step it;
         detail::done(try_begin(it));
         return it;
     }
@@ -811,11 +947,13 @@ class agent {
 
     // Looks on; how many moves it has then seen.
     std::uint32_t follow() {
+        begin_turn();
         std::uint32_t number = 0;
         detail::done(asm_follow(get(), &number));
         return number;
     }
     [[nodiscard]] code try_peek(const location &at, std::uint32_t &number, value &what) noexcept {
+        if (const code it = catch_up(); it != code::done) return it;
         return told_value(
             [&](asm_value *head, auto *out, auto room, auto *written) {
                 return asm_peek_at(get(), at.get(), &number, head, out, room, written);
@@ -831,6 +969,7 @@ class agent {
     // Its own state, ascending by locations; and the same as [PAIR, ..].
     std::vector<entry> state() { return detail::entries(state_json()); }
     std::string state_json() {
+        detail::done(catch_up());
         std::string text;
         std::uint32_t number = 0;
         detail::done(detail::told([&](auto *out, auto room, auto *written) { return asm_state(get(), &number, out, room, written); },
@@ -840,6 +979,7 @@ class agent {
     // The same of one function alone, with the number of moves at which its state stands, under which a fire rests on the scan.
     std::vector<entry> scan(std::string_view name, std::uint32_t &number) { return detail::entries(scan_json(name, number)); }
     std::string scan_json(std::string_view name, std::uint32_t &number) {
+        detail::done(catch_up());
         std::string text;
         detail::done(detail::told(
             [&](auto *out, auto room, auto *written) {
@@ -852,16 +992,19 @@ class agent {
     // The answer to a read of [LOC, ..], and to a fire of {"fire":[INSTR, ..],"reads":[NAMED, ..]}, which may rest on the whole
     // functions of [[NAME,NUMBER], ..] too.
     std::string read_json(std::string_view locations) {
+        begin_turn();
         const code it{asm_read(get(), detail::bytes(locations), locations.size())};
         if (detail::is_refused(it)) detail::fail(it, detail::explained(ASM_FORM_LOCATIONS, locations));
         detail::done(it);
         return answer();
     }
     [[nodiscard]] code try_fire_json(std::string_view call, asm_numbers &numbers) noexcept {
-        return code{asm_try_fire(get(), detail::bytes(call), call.size(), &numbers)};
+        return try_fire_json(call, "[]", numbers);
     }
     [[nodiscard]] code try_fire_json(std::string_view call, std::string_view scans, asm_numbers &numbers) noexcept {
-        return code{asm_try_fire_over(get(), detail::bytes(call), call.size(), detail::bytes(scans), scans.size(), &numbers)};
+        const code it{asm_try_fire_over(get(), detail::bytes(call), call.size(), detail::bytes(scans), scans.size(), &numbers)};
+        if (seat_) seat_->act();
+        return it;
     }
     std::uint32_t fire_json(std::string_view call, std::string_view scans = "[]") {
         asm_numbers numbers{};
@@ -887,14 +1030,18 @@ class agent {
 
     // Lets the agent go without giving it back: what it fired is missing in each journal.
     void abandon() noexcept { asm_free_agent(get()); }
-    struct asm_agent *get() const noexcept { return seat_ ? seat_->slot.get() : detail::nothing<struct asm_agent>(); }
+    struct asm_agent *get() const noexcept { return seat_ ? seat_->get() : detail::nothing<struct asm_agent>(); }
 
   private:
     friend class storage;
     friend class step;
     explicit agent(std::shared_ptr<detail::seat> seat) : seat_(std::move(seat)) {}
 
-    const detail::shared *get_of() const noexcept { return seat_ ? seat_->of.get() : nullptr; }
+    const detail::shared *get_of() const noexcept { return seat_ ? seat_->storage() : nullptr; }
+    void begin_turn() noexcept {
+        if (seat_) seat_->begin_turn(seat_);
+    }
+    code catch_up() noexcept { return seat_ ? seat_->catch_up(seat_) : code::done; }
     void give() noexcept {
         if (seat_) seat_->give();
         seat_.reset();
@@ -1010,7 +1157,11 @@ template <class Call> void step::grow_json(Call call, std::string_view move) {
 inline void step::push_json(std::string_view move) { grow_json(asm_push, move); }
 inline void step::extend_json(std::string_view move) { grow_json(asm_extend, move); }
 
-inline code step::try_fire(asm_numbers &numbers) noexcept { return code{asm_commit(get_agent(), slot_.get(), &numbers)}; }
+inline code step::try_fire(asm_numbers &numbers) noexcept {
+    const code it{asm_commit(get_agent(), slot_.get(), &numbers)};
+    if (it == code::done) open_ = {};
+    return it;
+}
 
 inline std::uint32_t step::fire() {
     asm_numbers numbers{};
@@ -1050,7 +1201,7 @@ class storage {
     agent make_agent(std::uint32_t number) {
         auto seat = std::make_shared<detail::seat>(shared_);
         std::lock_guard<std::mutex> guard(own().lock);
-        detail::done(asm_agent(own().storage.get(), number, seat->slot.get()));
+        detail::done(asm_agent(own().storage.get(), number, seat->get()));
         return agent(std::move(seat));
     }
 
@@ -1060,7 +1211,7 @@ class storage {
         auto seat = std::make_shared<detail::seat>(shared_);
         std::lock_guard<std::mutex> guard(own().lock);
         detail::done(own().give_waiting());
-        detail::done(asm_take(own().storage.get(), number, seat->slot.get()));
+        detail::done(asm_take(own().storage.get(), number, seat->get()));
         return agent(std::move(seat));
     }
 
@@ -1104,6 +1255,7 @@ class storage {
 };
 
 inline storage agent::go_on(std::uint32_t capacity) {
+    detail::done(catch_up());
     storage it;
     detail::done(asm_go_on(get(), capacity, it.shared_->storage.get()));
     return it;

@@ -1,9 +1,8 @@
 // What the classes of folugben.hpp add to the calls of folugben.h.
-#include <folugben.hpp>
+#include "wanted.hpp"
 
 #include <cstdint>
 #include <cstdio>
-#include <cstdlib>
 #include <memory>
 #include <new>
 #include <span>
@@ -14,27 +13,6 @@
 #include <vector>
 
 namespace {
-
-using folugben::code;
-
-void wanted(bool holds, const char *what, int line) {
-    if (holds) return;
-    std::printf("line %d: %s doesn't hold\n", line, what);
-    std::exit(1);
-}
-#define WANTED(...) wanted((__VA_ARGS__), #__VA_ARGS__, __LINE__)
-
-// The error that the call throws; it has to throw one of this kind.
-template <class Error, class Call> Error refused(Call call, int line) {
-    try {
-        call();
-    } catch (const Error &error) {
-        return error;
-    }
-    wanted(false, "an error of the kind", line);
-    std::abort();
-}
-#define REFUSED(Error, ...) refused<Error>([&] { __VA_ARGS__; }, __LINE__)
 
 const char *const COUNT = R"([[["count"],7]])";
 
@@ -240,6 +218,27 @@ void moves_are_popped_seen_and_offered() {
     WANTED(other.fire_json(R"({"fire":[["put",["count"],100]],"reads":[]})") == 1 && again.fire() == 2);
     WANTED(other.play([&](folugben::step &it) { it.push(move); }).number == 3);
     WANTED(other.follow() == 3 && other.peek(count).number() == 126);
+}
+
+void moves_are_united() {
+    folugben::storage storage(R"([[["n"],1],[["set"],{"set":[]}]])", 10);
+    folugben::agent agent = storage.make_agent(0);
+    folugben::location n("n"), set("set");
+    folugben::instructions one, other, none;
+    one.inc(n, 2).put(folugben::location("x"), "a");
+    other.inc(n, 2).add(set, 1);
+    WANTED(none.unite(folugben::instructions()).size() == 0 && (none |= one).size() == 2 && one.size() == 2);
+    folugben::step step = agent.begin();
+    step.push(none);
+    folugben::instructions popped = step.pop_move();
+    step.push(other.unite(popped));
+    WANTED(other.size() == 3 && step.get(n).number() == 5 && step.get(set).as_set() == folugben::set{1});
+    WANTED(one.try_unite(one) == code::empty && one.size() == 2);
+    folugben::instructions many, gone = std::move(none);
+    for (int i = 0; i < 4095; ++i) many.inc(n, 1);
+    WANTED(REFUSED(folugben::error, many |= one).code() == code::many && many.size() == 4095);
+    WANTED(many.inc(n, 1).size() == 4096 && many.try_unite(none) == code::empty && none.try_unite(one) == code::empty);
+    WANTED(gone.try_unite(folugben::instructions()) == code::done && step.fire() == 1);
 }
 
 void fires_rest_on_whole_functions() {
@@ -538,6 +537,7 @@ int main() {
     conflicts_mean_again();
     plays_return_what_their_rules_do();
     moves_are_popped_seen_and_offered();
+    moves_are_united();
     fires_rest_on_whole_functions();
     stale_and_short_steps_are_played_again();
     refusals_say_what_is_wrong();

@@ -9,9 +9,11 @@ use crate::prepared::{Prepared, value_of};
 use crate::step::{Holder, Step};
 use crate::storage::{Shared, Storage};
 use crate::sys;
+use crate::turns::AgentSlots;
 use crate::value::{Location, Value};
+use std::cell::Cell;
 use std::fmt;
-use std::mem::ManuallyDrop;
+use std::marker::PhantomData;
 use std::sync::Arc;
 
 /// What was read: the values of the locations, in their order, after the first `number` moves.
@@ -39,13 +41,23 @@ impl Reading {
 /// It is given back to its storage when it is let go; its answered calls are then in the journal of the next
 /// [`Storage::close`](crate::Storage::close).
 pub struct Agent {
-    pub(crate) slot: ManuallyDrop<Held>,
-    pub(crate) step: Held,
-    pub(crate) shared: Arc<Shared>,
-    pub(crate) number: u8,
+    pub(crate) slots: Arc<AgentSlots>,
+    shared: Arc<Shared>,
+    number: u8,
+    /// It isn't Sync.
+    in_one_thread: PhantomData<Cell<()>>,
 }
 
 impl Agent {
+    pub(crate) fn new(agent: Held, shared: &Arc<Shared>, number: u8) -> Agent {
+        let slots = Arc::new(AgentSlots::new(agent, Arc::as_ptr(shared).addr()));
+        Agent { slots, shared: Arc::clone(shared), number, in_one_thread: PhantomData }
+    }
+
+    pub(crate) fn is_of(&self, shared: &Arc<Shared>) -> bool {
+        Arc::ptr_eq(&self.shared, shared)
+    }
+
     /// Its number among the agents of its storage.
     #[must_use]
     pub fn number(&self) -> u8 {
@@ -56,21 +68,21 @@ impl Agent {
     #[must_use]
     pub fn seen(&self) -> MoveNumber {
         // SAFETY: the slots are held by this agent, no call is at work on them, and the texts and numbers outlive the call.
-        unsafe { sys::asm_seen(self.slot.at()) }.into()
+        unsafe { sys::asm_seen(self.slots.agent()) }.into()
     }
 
     /// How many moves it fired.
     #[must_use]
     pub fn won(&self) -> u32 {
         // SAFETY: the slots are held by this agent, no call is at work on them, and the texts and numbers outlive the call.
-        unsafe { sys::asm_won(self.slot.at()) }
+        unsafe { sys::asm_won(self.slots.agent()) }
     }
 
     /// How many of its looks found no further move.
     #[must_use]
     pub fn misses(&self) -> u64 {
         // SAFETY: the slots are held by this agent, no call is at work on them, and the texts and numbers outlive the call.
-        unsafe { sys::asm_misses(self.slot.at()) }
+        unsafe { sys::asm_misses(self.slots.agent()) }
     }
 
     /// Looks on, and begins a step on the state that it then sees.
@@ -85,9 +97,10 @@ impl Agent {
 
     /// Looks on, and has its step's slot hold a step at the number that is answered.
     pub(crate) fn begin(&mut self) -> Result<u32, Error> {
+        self.slots.begin_turn();
         let mut number = 0;
         // SAFETY: the slots are held by this agent, no call is at work on them, and the texts and numbers outlive the call.
-        done(unsafe { sys::asm_begin(self.slot.at(), self.step.at(), &raw mut number) })?;
+        done(unsafe { sys::asm_begin(self.slots.agent(), self.slots.step(), &raw mut number) })?;
         Ok(number)
     }
 
@@ -127,9 +140,10 @@ impl Agent {
     ///
     /// [`Error::Many`], [`Error::Refused`], [`Error::Memory`].
     pub fn read(&mut self, places: &[Location]) -> Result<Reading, Error> {
+        self.slots.begin_turn();
         let text = places.json();
         // SAFETY: the slots are held by this agent, no call is at work on them, and the texts and numbers outlive the call.
-        let code = unsafe { sys::asm_read(self.slot.at(), text.as_ptr(), text.len()) };
+        let code = unsafe { sys::asm_read(self.slots.agent(), text.as_ptr(), text.len()) };
         done_with(code, sys::FORM_LOCATIONS, &text)?;
         answer(&self.last_answer()?, Reading::of)
     }
@@ -167,12 +181,18 @@ impl Agent {
         reads.write(&mut text);
         text.push('}');
         let over = scans.json();
+        // What it hasn't seen is refused, also if another agent has.
+        let seen = self.seen();
+        if reads.iter().map(|it| it.1).chain(scans.iter().map(|it| it.1)).all(|number| number <= seen) {
+            self.slots.begin_turn();
+        }
         let mut numbers = sys::Numbers::default();
         // SAFETY: the slots are held by this agent, no call is at work on them, and the texts and numbers outlive the call.
         let code = unsafe {
-            let (slot, scans) = (self.slot.at(), over.as_ptr());
+            let (slot, scans) = (self.slots.agent(), over.as_ptr());
             sys::asm_try_fire_over(slot, text.as_ptr(), text.len(), scans, over.len(), &raw mut numbers)
         };
+        self.slots.has_acted();
         match code {
             sys::STALE | sys::CLASH => Err(of_text(code, &self.last_answer()?)),
             code => {
@@ -184,7 +204,8 @@ impl Agent {
 
     pub(crate) fn last_answer(&self) -> Result<Vec<u8>, Error> {
         // SAFETY: the slots are held by this agent, no call is at work on them, and the texts and numbers outlive the call.
-        let (code, text) = told(|out, room, written| unsafe { sys::asm_answer(self.slot.at(), out, room, written) });
+        let (code, text) =
+            told(|out, room, written| unsafe { sys::asm_answer(self.slots.agent(), out, room, written) });
         done(code)?;
         Ok(text)
     }
@@ -195,11 +216,11 @@ impl Agent {
     ///
     /// [`Error::OtherStorage`]: it is an agent of another storage.
     pub fn learn(&mut self, other: &mut Agent) -> Result<(), Error> {
-        if !Arc::ptr_eq(&self.shared, &other.shared) {
+        if !self.is_of(&other.shared) {
             return Err(Error::OtherStorage);
         }
         // SAFETY: the slots are held by this agent, no call is at work on them, and the texts and numbers outlive the call.
-        done(unsafe { sys::asm_learn(self.slot.at(), other.slot.at()) })
+        done(unsafe { sys::asm_learn(self.slots.agent(), other.slots.agent()) })
     }
 
     /// Looks on, and answers how many moves it has then seen. It leaves no receipt.
@@ -212,22 +233,36 @@ impl Agent {
     }
 
     pub(crate) fn looked(&mut self) -> Result<u32, Error> {
+        self.poll()
+    }
+
+    fn poll(&self) -> Result<u32, Error> {
+        self.slots.begin_turn();
         let mut number = 0;
         // SAFETY: the slots are held by this agent, no call is at work on them, and the texts and numbers outlive the call.
-        done(unsafe { sys::asm_follow(self.slot.at(), &raw mut number) })?;
+        done(unsafe { sys::asm_follow(self.slots.agent(), &raw mut number) })?;
         Ok(number)
     }
 
+    /// Before its own state is shown: polls if another agent took that since the last commit.
+    fn catch_up(&self) -> Result<(), Error> {
+        if self.slots.is_behind() { self.poll().map(drop) } else { Ok(()) }
+    }
+
     /// The values of the locations in its own state, without a look and without a receipt.
+    ///
+    /// Only where the last call was a commit or a fire, and another agent has acted in this thread since, it polls first; so for
+    /// all that shows its own state.
     ///
     /// # Errors
     ///
     /// [`Error::Refused`], [`Error::Memory`].
     pub fn peek(&self, places: &[Location]) -> Result<Reading, Error> {
+        self.catch_up()?;
         let text = places.json();
         // SAFETY: the slots are held by this agent, no call is at work on them, and the texts and numbers outlive the call.
         let (code, told) = told(|out, room, written| unsafe {
-            sys::asm_peek(self.slot.at(), text.as_ptr(), text.len(), out, room, written)
+            sys::asm_peek(self.slots.agent(), text.as_ptr(), text.len(), out, room, written)
         });
         done_with(code, sys::FORM_LOCATIONS, &text)?;
         answer(&told, Reading::of)
@@ -239,10 +274,11 @@ impl Agent {
     ///
     /// [`Error::Memory`].
     pub fn peek_at(&self, place: &Prepared) -> Result<(MoveNumber, Value), Error> {
+        self.catch_up()?;
         let (mut number, mut head) = (0, sys::Value::default());
         // SAFETY: the slots are held by this agent, no call is at work on them, and the texts and numbers outlive the call.
         let (code, bytes) = told(|out, room, written| unsafe {
-            sys::asm_peek_at(self.slot.at(), place.slot.at(), &raw mut number, &raw mut head, out, room, written)
+            sys::asm_peek_at(self.slots.agent(), place.slot.at(), &raw mut number, &raw mut head, out, room, written)
         });
         done(code)?;
         Ok((number.into(), value_of(&head, &bytes)?))
@@ -254,10 +290,12 @@ impl Agent {
     ///
     /// [`Error::Memory`].
     pub fn state(&self) -> Result<(MoveNumber, Vec<(Location, Value)>), Error> {
+        self.catch_up()?;
         let mut number = 0;
         // SAFETY: the slots are held by this agent, no call is at work on them, and the texts and numbers outlive the call.
-        let (code, text) =
-            told(|out, room, written| unsafe { sys::asm_state(self.slot.at(), &raw mut number, out, room, written) });
+        let (code, text) = told(|out, room, written| unsafe {
+            sys::asm_state(self.slots.agent(), &raw mut number, out, room, written)
+        });
         done(code)?;
         Ok((number.into(), answer(&text, Json::pairs)?))
     }
@@ -268,10 +306,11 @@ impl Agent {
     ///
     /// [`Error::Memory`].
     pub fn scan(&self, name: &str) -> Result<(MoveNumber, Vec<(Location, Value)>), Error> {
+        self.catch_up()?;
         let mut number = 0;
         // SAFETY: the slots are held by this agent, no call is at work on them, and the texts and numbers outlive the call.
         let (code, text) = told(|out, room, written| unsafe {
-            sys::asm_scan(self.slot.at(), name.as_ptr(), name.len(), &raw mut number, out, room, written)
+            sys::asm_scan(self.slots.agent(), name.as_ptr(), name.len(), &raw mut number, out, room, written)
         });
         done(code)?;
         Ok((number.into(), answer(&text, Json::pairs)?))
@@ -287,10 +326,13 @@ impl Agent {
     /// - [`Error::Many`], [`Error::Refused`], [`Error::Memory`].
     pub fn stands(&mut self, reads: &[(Location, MoveNumber)]) -> Result<(), Error> {
         expect_short(reads)?;
+        if reads.iter().all(|it| it.1 <= self.seen()) {
+            self.slots.begin_turn();
+        }
         let text = reads.json();
         // SAFETY: the slots are held by this agent, no call is at work on them, and the texts and numbers outlive the call.
         let (code, told) = told(|out, room, written| unsafe {
-            sys::asm_stands(self.slot.at(), text.as_ptr(), text.len(), out, room, written)
+            sys::asm_stands(self.slots.agent(), text.as_ptr(), text.len(), out, room, written)
         });
         match code {
             sys::NOT_JSON | sys::SHAPE => {
@@ -311,9 +353,10 @@ impl Agent {
     /// - [`Error::Range`]: the capacity is outside 1 to 1,048,576.
     /// - [`Error::Memory`].
     pub fn go_on(&self, capacity: u32) -> Result<Storage, Error> {
+        self.catch_up()?;
         let next = Held::empty();
         // SAFETY: the slots are held by this agent, no call is at work on them, and the texts and numbers outlive the call.
-        match unsafe { sys::asm_go_on(self.slot.at(), capacity, next.at()) } {
+        match unsafe { sys::asm_go_on(self.slots.agent(), capacity, next.at()) } {
             sys::NONE => Err(Error::NotFull),
             code => {
                 done(code)?;
@@ -324,17 +367,14 @@ impl Agent {
 
     /// Lets the agent go without giving it back: its moves stand, but its storage can't be closed if it fired any.
     pub fn abandon(self) {
-        self.slot.free();
+        self.slots.leave().free();
     }
 }
 
 impl Drop for Agent {
     fn drop(&mut self) {
-        self.step.free();
-        // SAFETY: It isn't used again: nothing comes after the drop.
-        let slot = unsafe { ManuallyDrop::take(&mut self.slot) };
-        if slot.is_full() {
-            self.shared.give(slot);
+        if self.slots.leave().is_full() {
+            self.shared.give(Arc::clone(&self.slots));
         }
     }
 }

@@ -1,5 +1,7 @@
 //! Update instructions and moves.
 use crate::value::{Element, Location, Value};
+use std::ops::{BitOr, BitOrAssign};
+use std::vec;
 
 /// One update of a move.
 #[derive(Clone, Debug, PartialEq, Eq)]
@@ -99,6 +101,20 @@ impl Move {
         self.with(Instruction::Inc(at.into(), by))
     }
 
+    /// The same with the instructions of the other move besides, as `|` and `|=` have it: both are carried out at once.
+    ///
+    /// ```
+    /// use folugben::Move;
+    /// let mut both = Move::new().put("open", true) | Move::new().inc("visits", 1);
+    /// both |= Move::new().inc("visits", 1);
+    /// assert_eq!(both, Move::new().put("open", true).inc("visits", 1).inc("visits", 1));
+    /// ```
+    #[must_use]
+    pub fn unite(mut self, other: Move) -> Move {
+        self |= other;
+        self
+    }
+
     /// How many instructions there are.
     #[must_use]
     pub fn len(&self) -> usize {
@@ -133,6 +149,29 @@ impl From<Instruction> for Move {
 impl FromIterator<Instruction> for Move {
     fn from_iter<I: IntoIterator<Item = Instruction>>(instructions: I) -> Move {
         Move { instructions: instructions.into_iter().collect() }
+    }
+}
+
+impl BitOrAssign for Move {
+    fn bitor_assign(&mut self, other: Move) {
+        self.extend(other);
+    }
+}
+
+impl BitOr for Move {
+    type Output = Move;
+
+    fn bitor(self, other: Move) -> Move {
+        self.unite(other)
+    }
+}
+
+impl IntoIterator for Move {
+    type Item = Instruction;
+    type IntoIter = vec::IntoIter<Instruction>;
+
+    fn into_iter(self) -> vec::IntoIter<Instruction> {
+        self.instructions.into_iter()
     }
 }
 

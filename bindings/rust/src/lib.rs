@@ -67,6 +67,7 @@ mod run;
 mod step;
 mod storage;
 mod sys;
+mod turns;
 mod value;
 
 pub use agent::{Agent, Reading};

@@ -187,6 +187,37 @@ impl PreparedMove {
         self.instruct(4, at, Value::Plain(element.into()), amount)
     }
 
+    /// The same with the instructions of the other move, which are carried out at once with its own.
+    ///
+    /// ```
+    /// use folugben::{Agent, Error, Prepared, PreparedMove, Storage};
+    /// # fn main() -> Result<(), Error> {
+    /// let (x, set) = (Prepared::new(&"x".into())?, Prepared::new(&"set".into())?);
+    /// let (mut one, mut other) = (PreparedMove::new(), PreparedMove::new());
+    /// one.put(&x, 1)?;
+    /// other.inc(&x, 2)?.inc(&x, 2)?;
+    /// assert_eq!(one.unite(&other)?.len(), 3);
+    /// # Ok(())
+    /// # }
+    /// ```
+    ///
+    /// # Errors
+    ///
+    /// On error, nothing changes.
+    ///
+    /// - [`Error::Many`]: both have more than 4,096 instructions together.
+    /// - [`Error::Memory`].
+    pub fn unite(&mut self, other: &PreparedMove) -> Result<&mut PreparedMove, Error> {
+        if other.is_empty() {
+            return Ok(self);
+        }
+        // SAFETY: the slots are held by this thread, and are two.
+        done(unsafe { sys::asm_unite(self.slot.at(), other.slot.at()) })?;
+        self.len += other.len;
+        self.size += other.size;
+        Ok(self)
+    }
+
     /// The number there grows by so much.
     ///
     /// # Errors

@@ -117,8 +117,9 @@ impl Step<'_> {
         &self,
         mut call: impl FnMut(*mut sys::Slot, *mut sys::Slot, *mut u8, usize, *mut usize) -> i32,
     ) -> Result<(i32, Vec<u8>), Error> {
-        self.agent
-            .with(|agent| Ok(told(|out, room, written| call(agent.slot.at(), agent.step.at(), out, room, written))))
+        self.agent.with(|agent| {
+            Ok(told(|out, room, written| call(agent.slots.agent(), agent.slots.step(), out, room, written)))
+        })
     }
 
     /// As [`Step::get`], of a prepared location, and quicker.
@@ -290,7 +291,7 @@ impl Step<'_> {
     /// - [`Error::Many`], [`Error::Memory`].
     pub fn pop(&mut self) -> Result<(), Error> {
         // SAFETY: the slots are of one agent and its step, which this thread alone has, and the texts and numbers outlive the call.
-        self.agent.with(|agent| match unsafe { sys::asm_pop(agent.step.at()) } {
+        self.agent.with(|agent| match unsafe { sys::asm_pop(agent.slots.step()) } {
             sys::NONE => Err(Error::NoMove),
             code => done(code),
         })
@@ -309,7 +310,7 @@ impl Step<'_> {
     pub fn pop_move(&mut self) -> Result<PreparedMove, Error> {
         PreparedMove::put_by(|slot| {
             // SAFETY: the slots are of one agent and its step, which this thread alone has, and the texts and numbers outlive the call.
-            self.agent.with(|agent| match unsafe { sys::asm_pop_move(agent.step.at(), slot) } {
+            self.agent.with(|agent| match unsafe { sys::asm_pop_move(agent.slots.step(), slot) } {
                 sys::NONE => Err(Error::NoMove),
                 code => done(code),
             })
@@ -331,7 +332,7 @@ impl Step<'_> {
     /// How many moves are pushed.
     pub fn depth(&self) -> u32 {
         // SAFETY: the slots are of one agent and its step, which this thread alone has, and the texts and numbers outlive the call.
-        self.agent.with(|agent| Ok(unsafe { sys::asm_depth(agent.step.at()) })).unwrap_or(0)
+        self.agent.with(|agent| Ok(unsafe { sys::asm_depth(agent.slots.step()) })).unwrap_or(0)
     }
 
     /// Fires one move that does what the pushed ones do in turn, unless something was written since that the step rests on,
@@ -357,12 +358,12 @@ impl Step<'_> {
 /// Fires what the agent's step has pushed.
 pub(crate) fn commit(agent: &Agent) -> Result<u32, Error> {
     // SAFETY: the slots are of one agent and its step, which this thread alone has, and the texts and numbers outlive the call.
-    if unsafe { sys::asm_depth(agent.step.at()) } == 0 {
+    if unsafe { sys::asm_depth(agent.slots.step()) } == 0 {
         return Err(Error::NoMove);
     }
     let mut numbers = sys::Numbers::default();
     // SAFETY: the slots are of one agent and its step, which this thread alone has, and the texts and numbers outlive the call.
-    let code = unsafe { sys::asm_commit(agent.slot.at(), agent.step.at(), &raw mut numbers) };
+    let code = unsafe { sys::asm_commit(agent.slots.agent(), agent.slots.step(), &raw mut numbers) };
     match code {
         sys::STALE | sys::CLASH => Err(of_text(code, &agent.last_answer()?).of_fire()),
         code => {
@@ -375,7 +376,7 @@ pub(crate) fn commit(agent: &Agent) -> Result<u32, Error> {
 /// The text of what the agent's step would fire by now.
 pub(crate) fn offer_text(agent: &Agent) -> Result<Vec<u8>, Error> {
     // SAFETY: the slots are of one agent and its step, which this thread alone has, and the texts and numbers outlive the call.
-    let (code, text) = told(|out, room, written| unsafe { sys::asm_offer(agent.step.at(), out, room, written) });
+    let (code, text) = told(|out, room, written| unsafe { sys::asm_offer(agent.slots.step(), out, room, written) });
     done(code)?;
     Ok(text)
 }
@@ -386,7 +387,7 @@ type ByMove = unsafe extern "C" fn(*mut sys::Slot, *mut sys::Slot, *mut sys::Slo
 impl Drop for Step<'_> {
     fn drop(&mut self) {
         if let Holder::Own(agent) = &self.agent {
-            agent.step.free();
+            agent.slots.end_step();
         }
     }
 }

@@ -5,9 +5,9 @@ use crate::held::{Held, told};
 use crate::journal::Journal;
 use crate::json::ToJson;
 use crate::sys;
+use crate::turns::AgentSlots;
 use crate::value::{Location, Value};
 use std::fmt;
-use std::mem::ManuallyDrop;
 use std::sync::{Arc, Mutex, MutexGuard, PoisonError};
 
 /// How many agents a storage makes at most.
@@ -23,7 +23,7 @@ struct Slots {
     /// The numbers of which an agent was made.
     made: [bool; AGENTS],
     /// Agents that were let go when there was no memory to give them back.
-    waiting: Vec<Held>,
+    waiting: Vec<Arc<AgentSlots>>,
 }
 
 impl Shared {
@@ -33,10 +33,10 @@ impl Shared {
     }
 
     /// Gives the agent back, or keeps it until there is memory.
-    pub(crate) fn give(&self, agent: Held) {
+    pub(crate) fn give(&self, agent: Arc<AgentSlots>) {
         let mut slots = self.slots();
         // SAFETY: the storage is held under its lock, the agent by this thread, and the texts and numbers outlive the call.
-        if unsafe { sys::asm_give(slots.storage.at(), agent.at()) } != sys::DONE {
+        if unsafe { sys::asm_give(slots.storage.at(), agent.leave().at()) } != sys::DONE {
             slots.waiting.push(agent);
         }
     }
@@ -59,7 +59,7 @@ impl Slots {
     fn give_waiting(&mut self) -> Result<(), Error> {
         while let Some(agent) = self.waiting.last() {
             // SAFETY: the storage is held under its lock, the agent by this thread, and the texts and numbers outlive the call.
-            done(unsafe { sys::asm_give(self.storage.at(), agent.at()) })?;
+            done(unsafe { sys::asm_give(self.storage.at(), agent.leave().at()) })?;
             self.waiting.pop();
         }
         Ok(())
@@ -141,8 +141,7 @@ impl Storage {
     }
 
     fn holder(&self, agent: Held, number: u8) -> Agent {
-        let slot = ManuallyDrop::new(agent);
-        Agent { slot, step: Held::empty(), shared: Arc::clone(&self.shared), number }
+        Agent::new(agent, &self.shared, number)
     }
 
     /// Takes the agent with this number out again, which was given back: it goes on where it was, with what it was
@@ -241,7 +240,7 @@ impl Storage {
     }
 
     pub(crate) fn is_of(&self, agent: &Agent) -> bool {
-        Arc::ptr_eq(&self.shared, &agent.shared)
+        agent.is_of(&self.shared)
     }
 
     /// Gives the agent back, as letting it go does.

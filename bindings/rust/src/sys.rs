@@ -60,6 +60,7 @@ unsafe extern "C" {
     ) -> i32;
     pub(crate) fn asm_answer(agent: *mut Slot, out: *mut u8, room: usize, written: *mut usize) -> i32;
     pub(crate) fn asm_learn(agent: *mut Slot, other: *mut Slot) -> i32;
+    pub(crate) fn asm_take_state(agent: *mut Slot, other: *mut Slot) -> i32;
     pub(crate) fn asm_follow(agent: *mut Slot, number: *mut u32) -> i32;
     pub(crate) fn asm_peek(
         agent: *mut Slot,
@@ -167,6 +168,7 @@ unsafe extern "C" {
         len: usize,
         amount: u32,
     ) -> i32;
+    pub(crate) fn asm_unite(instrs: *mut Slot, other: *mut Slot) -> i32;
     pub(crate) fn asm_push_move(
         agent: *mut Slot,
         step: *mut Slot,

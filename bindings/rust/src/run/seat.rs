@@ -55,13 +55,13 @@ impl Seat {
         let number = player.agent.begin()?;
         let part = Arc::clone(&player.part);
         if number == core.moves() {
-            player.agent.step.free();
+            player.agent.slots.end_step();
             core.go_on(&player.agent, &part)?;
             return Ok(None);
         }
         core.end_heavy(&part);
         if part.has_ended() {
-            player.agent.step.free();
+            player.agent.slots.end_step();
             return Ok(None);
         }
         place.steps += 1;
@@ -138,7 +138,7 @@ impl Place {
             return;
         }
         if let Some(player) = &self.player {
-            player.agent.step.free();
+            player.agent.slots.end_step();
             if player.part.has_ended() {
                 self.give_back(core);
             }
