@@ -75,7 +75,7 @@ static void on_nothing(struct asm_agent *agent, struct asm_step *of_step) {
     ANSWERS(ASM_EMPTY, asm_get(agent, of_step, TEXT("[]"), OUT));
     ANSWERS(ASM_EMPTY, asm_get(agent, of_step, NULL, 0, OUT));
     ANSWERS(ASM_EMPTY, asm_see(agent, of_step, TEXT("[]"), OUT));
-    ANSWERS(ASM_EMPTY, asm_get_all(agent, of_step, TEXT("y"), OUT));
+    ANSWERS(ASM_EMPTY, asm_step_scan(agent, of_step, TEXT("y"), OUT));
     ANSWERS(ASM_EMPTY, asm_push(agent, of_step, TEXT("[]"), OUT));
     ANSWERS(ASM_EMPTY, asm_extend(agent, of_step, TEXT("[]"), OUT));
     REQUIRE(asm_commit(agent, of_step, &numbers) == ASM_EMPTY);
@@ -119,8 +119,8 @@ static void other_slots(void) {
         if (i != 2)
             on_no_agent(slots[i]);
         REQUIRE(asm_depth(slots[i]) == 0);
-        REQUIRE(asm_pop(slots[i]) == (i == 3 ? ASM_NONE : ASM_EMPTY));
-        REQUIRE(asm_pop_move(slots[i], AS(move, &empty)) == (i == 3 ? ASM_NONE : ASM_EMPTY));
+        REQUIRE(asm_pop(slots[i]) == (i == 3 ? ASM_NO_PUSH : ASM_EMPTY));
+        REQUIRE(asm_pop_move(slots[i], AS(move, &empty)) == (i == 3 ? ASM_NO_PUSH : ASM_EMPTY));
         REQUIRE(!empty.slot.full);
         if (i != 3)
             ANSWERS(ASM_EMPTY, asm_offer(slots[i], OUT));
@@ -192,7 +192,7 @@ static void gets(void) {
         ANSWERS(ASM_NOT_JSON, asm_get(&agents[0], &step, TEXT("[['x']"), OUT));
         ANSWERS(ASM_SHAPE, asm_get(&agents[0], &step, TEXT("['x']"), OUT));
         ANSWERS(ASM_SHAPE, asm_get(&agents[0], &step, TEXT("[['1']]"), OUT));
-        ANSWERS(ASM_SHAPE, asm_get_all(&agents[0], &step, TEXT("y\xc3"), OUT));
+        ANSWERS(ASM_SHAPE, asm_step_scan(&agents[0], &step, TEXT("y\xc3"), OUT));
     });
     /* Five are got by now. Neither what is refused nor what doesn't fit is. */
     REQUIRE(get_places(2, 250, 4 * LONGEST) == ASM_DONE);
@@ -201,7 +201,7 @@ static void gets(void) {
     REQUIRE(get_places(253, 1, 4 * LONGEST) == ASM_DONE);
     REQUIRE(get_places(252, 1, 4 * LONGEST) == ASM_MANY);
     REQUIRE(get_places(2, 250, 4 * LONGEST) == ASM_DONE);
-    KEEPS(ANSWERS(ASM_MANY, asm_get_all(&agents[0], &step, TEXT("y"), OUT)));
+    KEEPS(ANSWERS(ASM_MANY, asm_step_scan(&agents[0], &step, TEXT("y"), OUT)));
     begins(&agents[0], &step, ASM_DONE);
     REQUIRE(get_places(0, 257, 4 * LONGEST) == ASM_MANY);
     REQUIRE(get_places(0, 256, 4 * LONGEST) == ASM_DONE);
@@ -234,7 +234,7 @@ static void sees(void) {
     REQUIRE(get_places(2, 251, 4 * LONGEST) == ASM_DONE);
     REQUIRE(get_places(253, 1, 4 * LONGEST) == ASM_MANY);
     REQUIRE(see_places(0, 300) == ASM_DONE);
-    ANSWERS(ASM_NONE, asm_answer(&agents[0], OUT));
+    ANSWERS(ASM_NO_ANSWER, asm_answer(&agents[0], OUT));
     end_all();
 }
 
@@ -251,7 +251,7 @@ static const char *puts_to(int count) {
 static int32_t get_all_puts(void) {
     static uint8_t out[4 * LONGEST];
     size_t written;
-    return asm_get_all(&agents[0], &step, TEXT("w"), out, sizeof out, &written);
+    return asm_step_scan(&agents[0], &step, TEXT("w"), out, sizeof out, &written);
 }
 
 /* All locations with a name are seen through the pushed moves, however many they are; the function
@@ -262,14 +262,14 @@ static void gets_all(void) {
     uint32_t number;
     begin_all();
     TELLS(ASM_DONE, "[[['y',1],'one'],[['y',2],'two']]",
-          asm_get_all(&agents[0], &step, TEXT("y"), OUT));
-    TELLS(ASM_DONE, "[]", asm_get_all(&agents[0], &step, TEXT("nothing"), OUT));
-    TELLS(ASM_DONE, "[]", asm_get_all(&agents[0], &step, NULL, 0, OUT));
+          asm_step_scan(&agents[0], &step, TEXT("y"), OUT));
+    TELLS(ASM_DONE, "[]", asm_step_scan(&agents[0], &step, TEXT("nothing"), OUT));
+    TELLS(ASM_DONE, "[]", asm_step_scan(&agents[0], &step, NULL, 0, OUT));
     REQUIRE(push("[['put',['y',2],null],['put',['y',0],0],['put',['z'],1]]") == ASM_DONE);
     TELLS(ASM_DONE, "[[['y',0],0],[['y',1],'one']]",
-          asm_get_all(&agents[0], &step, TEXT("y"), OUT));
+          asm_step_scan(&agents[0], &step, TEXT("y"), OUT));
     REQUIRE(push("[['put',['y',2],2],['put',['y',1],null]]") == ASM_DONE);
-    TELLS(ASM_DONE, "[[['y',0],0],[['y',2],2]]", asm_get_all(&agents[0], &step, TEXT("y"), OUT));
+    TELLS(ASM_DONE, "[[['y',0],0],[['y',2],2]]", asm_step_scan(&agents[0], &step, TEXT("y"), OUT));
     REQUIRE(asm_pop(&step) == ASM_DONE && asm_pop(&step) == ASM_DONE);
     begins(&agents[0], &step, ASM_DONE);
     look();
@@ -280,7 +280,7 @@ static void gets_all(void) {
     KEEPS(REQUIRE(get_places(2, 251, 4 * LONGEST) == ASM_MANY));
     REQUIRE(get_places(2, 250, 4 * LONGEST) == ASM_DONE);
     REQUIRE(get_places(252, 1, 4 * LONGEST) == ASM_MANY);
-    KEEPS(ANSWERS(ASM_MANY, asm_get_all(&agents[0], &step, TEXT("y"), OUT)));
+    KEEPS(ANSWERS(ASM_MANY, asm_step_scan(&agents[0], &step, TEXT("y"), OUT)));
     REQUIRE(get_all_puts() == ASM_DONE);
     REQUIRE(asm_commit(&agents[0], &step, &numbers) == ASM_DONE && numbers.fired == 1);
     /* So it is where the state has them all, and the step fires. */
@@ -288,7 +288,7 @@ static void gets_all(void) {
     REQUIRE(get_all_puts() == ASM_DONE);
     REQUIRE(get_places(0, 256, 4 * LONGEST) == ASM_MANY);
     REQUIRE(get_places(0, 255, 4 * LONGEST) == ASM_DONE);
-    ANSWERS(ASM_MANY, asm_get_all(&agents[0], &step, TEXT("y"), OUT));
+    ANSWERS(ASM_MANY, asm_step_scan(&agents[0], &step, TEXT("y"), OUT));
     REQUIRE(asm_commit(&agents[0], &step, &numbers) == ASM_DONE && numbers.fired == 2);
     end_all();
 }
@@ -297,7 +297,7 @@ static void gets_all(void) {
 static void pushes(void) {
     const char *x = "[['x']]";
     begin_all();
-    REQUIRE(asm_pop(&step) == ASM_NONE);
+    REQUIRE(asm_pop(&step) == ASM_NO_PUSH);
     ANSWERS(ASM_DONE, asm_push(&agents[0], &step, TEXT("[['put',['x'],10]]"), OUT));
     ANSWERS(ASM_DONE, asm_extend(&agents[0], &step, TEXT("[['inc',['x'],5]]"), OUT));
     REQUIRE(asm_depth(&step) == 1);
@@ -309,12 +309,12 @@ static void pushes(void) {
     REQUIRE(asm_pop(&step) == ASM_DONE && asm_depth(&step) == 1);
     TELLS(ASM_DONE, "{'number':0,'values':[15,{'set':[1]}]}",
           asm_get(&agents[0], &step, TEXT("[['x'],['s']]"), OUT));
-    REQUIRE(asm_pop(&step) == ASM_DONE && asm_depth(&step) == 0 && asm_pop(&step) == ASM_NONE);
+    REQUIRE(asm_pop(&step) == ASM_DONE && asm_depth(&step) == 0 && asm_pop(&step) == ASM_NO_PUSH);
     TELLS(ASM_DONE, "{'number':0,'values':[7]}", asm_get(&agents[0], &step, TEXT(x), OUT));
     /* Without a pushed move an extension is one. */
     REQUIRE(extend("[]") == ASM_DONE && asm_depth(&step) == 1);
     REQUIRE(asm_seen(&agents[0]) == 0 && asm_won(&agents[0]) == 0);
-    ANSWERS(ASM_NONE, asm_answer(&agents[0], OUT));
+    ANSWERS(ASM_NO_ANSWER, asm_answer(&agents[0], OUT));
     end_all();
 }
 
@@ -389,8 +389,8 @@ static void many_instructions(void) {
     const char *all = puts_to(4096);
     ANSWERS(ASM_DONE, asm_push(&agents[0], &step, bytes(all), strlen(all), OUT));
     KEEPS({
-        ANSWERS(ASM_MANY, asm_push(&agents[0], &step, TEXT("[['put',['z'],1]]"), OUT));
-        ANSWERS(ASM_MANY, asm_extend(&agents[0], &step, TEXT("[['put',['z'],1]]"), OUT));
+        ANSWERS(ASM_LONG_MOVE, asm_push(&agents[0], &step, TEXT("[['put',['z'],1]]"), OUT));
+        ANSWERS(ASM_LONG_MOVE, asm_extend(&agents[0], &step, TEXT("[['put',['z'],1]]"), OUT));
     });
     REQUIRE(push("[['put',['w',7],2]]") == ASM_DONE && asm_pop(&step) == ASM_DONE);
     REQUIRE(asm_pop(&step) == ASM_DONE && push("[['put',['z'],1]]") == ASM_DONE);
