@@ -55,15 +55,23 @@ public final class Agent implements Actor {
 
     /** Reads the locations [LOC, ..]; the answer is {"number":N,"values":[VALUE, ..]}. */
     public String read(String locations) {
-        Interleave.turn();
+        Player player = Player.look(this);
         byte[] call = Texts.utf8(locations, "locations");
         synchronized (slot) {
             int code = room.make(call,
                     (text, out, length, written) -> Calls.asm_read(slot.at, text, call.length));
             FolugbenException.expectRead(held(code), Storage.Form.LOCATIONS, call);
             vain++;
-            return lastAnswer();
+            String told = lastAnswer();
+            player.reads(locations);
+            player.hears(values(told));
+            return told;
         }
+    }
+
+    /** The values of a reading, without the number. */
+    private static String values(String reading) {
+        return reading.substring(reading.indexOf(','));
     }
 
     /**
@@ -147,7 +155,7 @@ public final class Agent implements Actor {
      * @throws FolugbenException as of two arguments
      */
     public Reply tryFire(String instructions, String reads, String scans) {
-        Interleave.turn();
+        Player player = Player.look(this);
         String move = "{\"fire\":" + Texts.oneValue(instructions, "instructions") + ",\"reads\":"
                 + Texts.oneValue(reads, "reads") + "}";
         byte[] call = Texts.utf8(move, "the move");
@@ -158,7 +166,9 @@ public final class Agent implements Actor {
                 FolugbenException.expectFire(code, call);
             if (code == FolugbenException.RANGE)
                 throw FolugbenException.ahead(reads, scans, Calls.asm_seen(slot.at));
-            return reply(code, false);
+            Reply reply = reply(code, false);
+            player.fires(instructions, reads, scans, reply);
+            return reply;
         }
     }
 
@@ -245,8 +255,10 @@ public final class Agent implements Actor {
      */
     @Override
     public Step step() {
-        Interleave.turn();
-        return begin();
+        Player player = Player.look(this);
+        Step step = begin();
+        player.begun(step);
+        return step;
     }
 
     /** The same, which is no turn. */
@@ -263,7 +275,7 @@ public final class Agent implements Actor {
      */
     @Override
     public long follow() {
-        Interleave.turn();
+        Player.look(this);
         synchronized (slot) {
             expect(Calls.asm_follow(slot.at, room.numbers()));
             return room.number(0);
@@ -276,7 +288,7 @@ public final class Agent implements Actor {
      * each location with this number.
      */
     public String peek(String locations) {
-        Interleave.turn();
+        Player player = Player.call(this);
         byte[] call = Texts.utf8(locations, "locations");
         synchronized (slot) {
             Calls.Told told = room.told(call,
@@ -284,6 +296,8 @@ public final class Agent implements Actor {
                             -> Calls.asm_peek(
                                     slot.at, text, call.length, out, length, written));
             FolugbenException.expectRead(held(told.code()), Storage.Form.LOCATIONS, call);
+            player.reads(locations);
+            player.hears(values(told.text()));
             return told.text();
         }
     }
@@ -297,9 +311,11 @@ public final class Agent implements Actor {
 
     /** The same of a prepared location. */
     public Peeked peek(PreparedLocation location) {
-        Interleave.turn();
+        Player player = Player.call(this);
         synchronized (slot) {
             look(location);
+            player.reads(location);
+            player.hears(room);
             return new Peeked(room.number(0), room.told());
         }
     }
@@ -310,9 +326,11 @@ public final class Agent implements Actor {
      * @throws IllegalStateException if the value is no number
      */
     public long peekNumber(PreparedLocation location) {
-        Interleave.turn();
+        Player player = Player.call(this);
         synchronized (slot) {
             look(location);
+            player.reads(location);
+            player.hears(room);
             return room.kind() == Room.NUM ? room.number() : room.told().asLong();
         }
     }
@@ -330,12 +348,14 @@ public final class Agent implements Actor {
     /** The agent's own state, in ascending order of locations, without a look or a receipt. */
     @Override
     public State state() {
-        Interleave.turn();
+        Player player = Player.call(this);
         synchronized (slot) {
             Calls.Told told = room.told(
                     (text, out, length, written)
                             -> Calls.asm_state(slot.at, room.numbers(), out, length, written));
             expect(told.code());
+            player.readsAll();
+            player.hears(told.text());
             return new State(room.number(0), told.text());
         }
     }
@@ -347,7 +367,7 @@ public final class Agent implements Actor {
      */
     @Override
     public State scan(String name) {
-        Interleave.turn();
+        Player player = Player.call(this);
         byte[] bytes = Texts.utf8(name, "name");
         synchronized (slot) {
             Calls.Told told = room.told(bytes,
@@ -355,6 +375,8 @@ public final class Agent implements Actor {
                             -> Calls.asm_scan(slot.at, text, bytes.length, room.numbers(), out,
                                     length, written));
             expect(told.code());
+            player.scans(name);
+            player.hears(told.text());
             return new State(room.number(0), told.text());
         }
     }
@@ -368,13 +390,17 @@ public final class Agent implements Actor {
      *         the moves that the agent had seen
      */
     public Reply stands(String reads) {
-        Interleave.turn();
+        Player player = Player.look(this);
         byte[] call = Texts.utf8(reads, "reads");
         synchronized (slot) {
             Calls.Told told = room.told(call,
                     (text, out, length, written)
                             -> Calls.asm_stands(
                                     slot.at, text, call.length, out, length, written));
+            if (told.code() == FolugbenException.STALE || told.code() == FolugbenException.DONE) {
+                player.readsNamed(reads);
+                player.hears(told.text());
+            }
             if (told.code() == FolugbenException.STALE)
                 return new Reply(told.code(), 0, 0, 0, told.text());
             if (told.code() == FolugbenException.RANGE)
@@ -395,7 +421,7 @@ public final class Agent implements Actor {
 
     /** The answer to the last answered call, of whichever thread. */
     public String answer() {
-        Interleave.turn();
+        Player.call(this);
         return lastAnswer();
     }
 
@@ -423,7 +449,7 @@ public final class Agent implements Actor {
 
     /** Takes in what the other agent of the storage has seen. */
     public void learn(Agent other) {
-        Interleave.turn();
+        Player.look(this).depends();
         Objects.requireNonNull(other, "other");
         if (other.storage != storage)
             FolugbenException.expect(FolugbenException.OTHER);
@@ -443,6 +469,7 @@ public final class Agent implements Actor {
     /** How many moves it has seen. */
     @Override
     public long seen() {
+        Turns.here().readsAll();
         synchronized (slot) {
             return Calls.asm_seen(slot.at);
         }
@@ -458,6 +485,7 @@ public final class Agent implements Actor {
 
     /** How many of its looks found no further move. */
     public long misses() {
+        Turns.here().readsAll();
         synchronized (slot) {
             return Calls.asm_misses(slot.at);
         }
@@ -465,7 +493,7 @@ public final class Agent implements Actor {
 
     /** Gives it back to its storage. */
     public void give() {
-        Interleave.turn();
+        Player.call(this);
         storage.give(this);
     }
 

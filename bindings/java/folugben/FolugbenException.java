@@ -73,6 +73,7 @@ public sealed class FolugbenException extends RuntimeException
         this.code = code;
         this.number = number;
         this.answer = answer;
+        Turns.here().hears(this);
     }
 
     /** The exception of a code without an answer, of its own class where it has one. */

@@ -104,6 +104,11 @@ final class JsonReader {
         });
     }
 
+    /** The locations [LOC, ..]. */
+    static List<Location> locations(String locations) {
+        return parsed(locations, "locations", reader -> reader.list(JsonReader::location));
+    }
+
     static List<Instruction> move(String move) {
         return parsed(move, "move", reader -> reader.list(JsonReader::instruction));
     }
@@ -184,9 +189,12 @@ final class JsonReader {
     }
 
     Value value() throws IOException {
-        if (in.currentToken() != JsonToken.START_OBJECT)
-            return plain();
-        return switch (key()) {
+        return in.currentToken() == JsonToken.START_OBJECT ? valueOf(key()) : plain();
+    }
+
+    /** The value of an object whose first key was read. */
+    Value valueOf(String key) throws IOException {
+        return switch (key) {
             case "list" -> ended(items(1), JsonToken.END_OBJECT);
             case "set" -> ended(set(), JsonToken.END_OBJECT);
             case "bag" -> ended(bag(), JsonToken.END_OBJECT);
@@ -194,7 +202,7 @@ final class JsonReader {
         };
     }
 
-    private Element element() throws IOException {
+    Element element() throws IOException {
         return element(1);
     }
 
@@ -234,7 +242,7 @@ final class JsonReader {
     }
 
     /** A whole number of 64 bits. */
-    private long number() throws IOException {
+    long number() throws IOException {
         expect(in.currentToken() == JsonToken.VALUE_NUMBER_INT, "no whole number");
         String digits = in.getText();
         expect(!digits.equals("-0"), "-0 is no whole number");
@@ -273,7 +281,7 @@ final class JsonReader {
         return new Location(name, arguments);
     }
 
-    private Pair pair() throws IOException {
+    Pair pair() throws IOException {
         begin(JsonToken.START_ARRAY, "no pair");
         Location location = location();
         in.nextToken();
@@ -307,8 +315,33 @@ final class JsonReader {
         return in.getText();
     }
 
+    /** What is done with a member of an object, on whose value the reader stands. */
+    interface Member {
+        void read(String name, JsonReader reader) throws IOException;
+    }
+
+    /** Reads the members of an object; those that the work doesn't read are left out. */
+    static void members(String text, String kind, Member member) {
+        parsed(text, kind, reader -> {
+            reader.begin(JsonToken.START_OBJECT, "no object");
+            while (reader.in.currentToken() == JsonToken.FIELD_NAME) {
+                String name = reader.in.currentName();
+                reader.next();
+                member.read(name, reader);
+                reader.in.skipChildren(); // nothing, where a value was read to its end
+                reader.next();
+            }
+            return reader;
+        });
+    }
+
+    /** Goes on to the next token; what it is. */
+    JsonToken next() throws IOException {
+        return in.nextToken();
+    }
+
     /** The items of an array. */
-    private <T> List<T> list(Form<? extends T> form) throws IOException {
+    <T> List<T> list(Form<? extends T> form) throws IOException {
         expect(in.currentToken() == JsonToken.START_ARRAY, "no array");
         List<T> items = new ArrayList<>();
         while (in.nextToken() != JsonToken.END_ARRAY) items.add(form.read(this));
@@ -316,7 +349,7 @@ final class JsonReader {
     }
 
     /** The first key of an object; the parser then stands on its value. */
-    private String key() throws IOException {
+    String key() throws IOException {
         begin(JsonToken.START_OBJECT, "no object");
         expect(in.currentToken() == JsonToken.FIELD_NAME, "an empty object");
         String key = in.currentName();
@@ -328,20 +361,20 @@ final class JsonReader {
         expect(key().equals(wanted), "no " + wanted);
     }
 
-    private void nextKey(String wanted) throws IOException {
+    void nextKey(String wanted) throws IOException {
         expect(in.nextToken() == JsonToken.FIELD_NAME && in.currentName().equals(wanted),
                 "no " + wanted);
         in.nextToken();
     }
 
     /** Goes on from the token that is expected. */
-    private void begin(JsonToken token, String what) throws IOException {
+    void begin(JsonToken token, String what) throws IOException {
         expect(in.currentToken() == token, what);
         in.nextToken();
     }
 
     /** Goes on to the token that is expected. */
-    private void end(JsonToken token) throws IOException {
+    void end(JsonToken token) throws IOException {
         expect(in.nextToken() == token, "more than is expected");
     }
 

@@ -59,6 +59,10 @@ final class JsonWriter {
         return list(JsonWriter::location, locations, "locations");
     }
 
+    static String elements(Collection<Element> elements) {
+        return list(JsonWriter::value, elements, "elements");
+    }
+
     static String move(Collection<? extends Instruction> move, String name) {
         return list(JsonWriter::instruction, move, name);
     }

@@ -298,9 +298,9 @@ public final class Run implements AutoCloseable {
      * step end it first, and none waits for a part to be written, so that a seed tells the order.
      */
     void awaitPart() {
-        while (Interleave.isPlayed() && isGoing() && newest.isOver() && isAnyInStep())
-            Interleave.turn();
-        writer.awaitPart(!Interleave.isPlayed());
+        while (Turns.isPlayed() && isGoing() && newest.isOver() && isAnyInStep())
+            Player.call(this);
+        writer.awaitPart(!Turns.isPlayed());
         expectGoing();
     }
 

@@ -46,9 +46,9 @@ public final class RunAgent implements Actor {
      */
     @Override
     public Step step() {
-        Interleave.turn();
+        Player.call(this);
         return whereOpen(agent -> {
-            isByTurns = Interleave.isPlayed();
+            isByTurns = Turns.isPlayed();
             Step step = agent.begin();
             if (step.own() < part.capacity && !part.isOverWith(step.own()))
                 return step;
@@ -65,7 +65,7 @@ public final class RunAgent implements Actor {
      */
     @Override
     public Reading peek(List<Location> locations) {
-        Interleave.turn();
+        Player.call(this);
         List<Location> copy = Copies.of(locations, "locations");
         return whereOpen(agent -> {
             agent.follow();
@@ -76,7 +76,7 @@ public final class RunAgent implements Actor {
     /** All locations that aren't empty with their values, as peek tells some. */
     @Override
     public State state() {
-        Interleave.turn();
+        Player.call(this);
         return whereOpen(agent -> {
             agent.follow();
             return ofRun(agent.state());
@@ -86,7 +86,7 @@ public final class RunAgent implements Actor {
     /** The same of the locations of one function name alone. */
     @Override
     public State scan(String name) {
-        Interleave.turn();
+        Player.call(this);
         return whereOpen(agent -> {
             agent.follow();
             return ofRun(agent.scan(name));
@@ -108,7 +108,7 @@ public final class RunAgent implements Actor {
      * @throws RunException if a part of the run couldn't be written
      */
     public long fire(List<? extends Instruction> instructions, List<Named> reads) {
-        Interleave.turn();
+        Player.call(this);
         List<Named> rests = Copies.of(reads, "reads");
         List<Instruction> move = Copies.of(instructions, "instructions");
         return whereOpen(agent -> {
@@ -144,7 +144,7 @@ public final class RunAgent implements Actor {
         while (true) {
             synchronized (lock) {
                 if (isOut()) {
-                    T told = Interleave.still(() -> work.apply(own));
+                    T told = Turns.still(() -> work.apply(own));
                     if (told != null)
                         return told;
                     putBack();
@@ -236,7 +236,7 @@ public final class RunAgent implements Actor {
     /** Looks on; how many moves of all parts it has then seen, of this run and those it resumes. */
     @Override
     public long follow() {
-        Interleave.turn();
+        Player.call(this);
         return whereOpen(agent -> part.before() + agent.follow());
     }
 

@@ -55,6 +55,7 @@ public sealed class Step implements AutoCloseable permits SharedStep {
     }
 
     void end() {
+        Turns.here().over(this);
         agent.slot.giveStep(slot, this);
         agent.endStep();
     }
@@ -73,6 +74,7 @@ public sealed class Step implements AutoCloseable permits SharedStep {
 
     /** The number of moves that its state is after: of a run all of its moves. */
     public long number() {
+        Turns.here().readsAll();
         return before() + number;
     }
 
@@ -98,11 +100,6 @@ public sealed class Step implements AutoCloseable permits SharedStep {
     }
 
     private Calls.Told told(Call call, byte[] text) {
-        Interleave.turn();
-        return toldAtTurn(call, text);
-    }
-
-    private Calls.Told toldAtTurn(Call call, byte[] text) {
         synchronized (agent.slot) {
             long step = slot().at;
             Calls.Told told = room.told(text,
@@ -123,10 +120,7 @@ public sealed class Step implements AutoCloseable permits SharedStep {
      * @throws FolugbenException MOVED; MANY if more than 256 would be got
      */
     public String get(String locations) {
-        byte[] text = Texts.utf8(locations, "locations");
-        Calls.Told told = told(Calls::asm_get, text);
-        FolugbenException.expectRead(told.code(), Storage.Form.LOCATIONS, text);
-        return told.text();
+        return looked(Calls::asm_get, locations);
     }
 
     /**
@@ -154,9 +148,16 @@ public sealed class Step implements AutoCloseable permits SharedStep {
      * @throws FolugbenException MOVED
      */
     public String see(String locations) {
+        return looked(Calls::asm_see, locations);
+    }
+
+    private String looked(Call call, String locations) {
         byte[] text = Texts.utf8(locations, "locations");
-        Calls.Told told = told(Calls::asm_see, text);
+        Player player = Player.call(this);
+        Calls.Told told = told(call, text);
         FolugbenException.expectRead(told.code(), Storage.Form.LOCATIONS, text);
+        player.reads(locations);
+        player.hears(told.text());
         return told.text();
     }
 
@@ -182,9 +183,9 @@ public sealed class Step implements AutoCloseable permits SharedStep {
      *         others
      */
     public Value get(PreparedLocation location) {
-        Interleave.turn();
+        Player player = Player.call(this);
         synchronized (agent.slot) {
-            take(location);
+            take(location, player);
             return room.told();
         }
     }
@@ -196,9 +197,9 @@ public sealed class Step implements AutoCloseable permits SharedStep {
      * @throws IllegalStateException if the value is no number
      */
     public long getNumber(PreparedLocation location) {
-        Interleave.turn();
+        Player player = Player.call(this);
         synchronized (agent.slot) {
-            take(location);
+            take(location, player);
             return room.kind() == Room.NUM ? room.number() : room.told().asLong();
         }
     }
@@ -209,9 +210,9 @@ public sealed class Step implements AutoCloseable permits SharedStep {
      * @throws IllegalStateException if the value is no boolean
      */
     public boolean getBoolean(PreparedLocation location) {
-        Interleave.turn();
+        Player player = Player.call(this);
         synchronized (agent.slot) {
-            take(location);
+            take(location, player);
             return room.kind() == Room.BOOL ? room.number() != 0 : room.told().asBoolean();
         }
     }
@@ -222,15 +223,15 @@ public sealed class Step implements AutoCloseable permits SharedStep {
      * @throws IllegalStateException if the value is no text
      */
     public String getText(PreparedLocation location) {
-        Interleave.turn();
+        Player player = Player.call(this);
         synchronized (agent.slot) {
-            take(location);
+            take(location, player);
             return room.kind() == Room.STRING ? room.text() : room.told().asText();
         }
     }
 
     /** Gets the value into the agent's room, whose lock is held. */
-    private void take(PreparedLocation location) {
+    private void take(PreparedLocation location, Player player) {
         Objects.requireNonNull(location, "location");
         long step = slot().at;
         synchronized (location.slot) {
@@ -239,6 +240,8 @@ public sealed class Step implements AutoCloseable permits SharedStep {
                             -> Calls.asm_get_at(agent.slot.at, step, location.slot.at,
                                     room.value(), out, length, written))));
         }
+        player.reads(location);
+        player.hears(room);
     }
 
     /**
@@ -250,9 +253,13 @@ public sealed class Step implements AutoCloseable permits SharedStep {
      * @throws FolugbenException MOVED; MANY if more than 256 would be got and scanned
      */
     public Agent.State scan(String name) {
-        Calls.Told told = told(Calls::asm_get_all, Texts.utf8(name, "name"));
+        byte[] text = Texts.utf8(name, "name");
+        Player player = Player.call(this);
+        Calls.Told told = told(Calls::asm_get_all, text);
         FolugbenException.expect(told.code());
-        return new Agent.State(number(), told.text());
+        player.stepScans(name);
+        player.hears(told.text());
+        return new Agent.State(before() + number, told.text());
     }
 
     /** The values of such a scan: the locations with their values, in ascending order. */
@@ -331,9 +338,12 @@ public sealed class Step implements AutoCloseable permits SharedStep {
     }
 
     private void grow(Call call, String move) {
-        Calls.Told told = told(call, Texts.utf8(move, "move"));
+        byte[] text = Texts.utf8(move, "move");
+        Player player = Player.call(this);
+        Calls.Told told = told(call, text);
         FolugbenException.expectNoObjection(told);
         FolugbenException.expectMove(told.code(), move, "");
+        player.pushes(this);
     }
 
     /** A call on an agent, a step and a move that tells a text. */
@@ -345,13 +355,13 @@ public sealed class Step implements AutoCloseable permits SharedStep {
     private void grow(MoveCall call, Call textCall, Move move) {
         Objects.requireNonNull(move, "move");
         Calls.Told told;
-        Interleave.turn();
+        Player player = Player.call(this);
         synchronized (agent.slot) {
             long step = slot().at;
             synchronized (move.slot) {
                 move.expectOpen();
                 told = move.size() == 0
-                        ? toldAtTurn(textCall, NO_INSTRUCTIONS)
+                        ? told(textCall, NO_INSTRUCTIONS)
                         : room.told((text, out, length, written)
                                             -> call.call(agent.slot.at, step, move.slot.at, out,
                                                     length, written));
@@ -360,6 +370,7 @@ public sealed class Step implements AutoCloseable permits SharedStep {
         }
         FolugbenException.expectNoObjection(told);
         FolugbenException.expect(told.code());
+        player.pushes(this);
     }
 
     /**
@@ -368,7 +379,7 @@ public sealed class Step implements AutoCloseable permits SharedStep {
      * @throws FolugbenException NONE if no move is pushed
      */
     public void pop() {
-        Interleave.turn();
+        Player.call(this);
         synchronized (agent.slot) {
             FolugbenException.expect(Calls.asm_pop(slot().at));
         }
@@ -391,7 +402,7 @@ public sealed class Step implements AutoCloseable permits SharedStep {
      * @throws FolugbenException as the other; EMPTY if the move is closed
      */
     public Move popMove(Move into) {
-        Interleave.turn();
+        Player.call(this);
         Objects.requireNonNull(into, "move");
         synchronized (agent.slot) {
             long step = slot().at;
@@ -425,9 +436,18 @@ public sealed class Step implements AutoCloseable permits SharedStep {
         return JsonReader.offer(offerText()).plus(before());
     }
 
+    /** The same, which is no turn. */
+    Offer offerNow() {
+        return JsonReader.offer(offered());
+    }
+
     /** The same as the text {"fire":[INSTR, ..],"reads":[NAMED, ..]}, with numbers of its storage. */
     public String offerText() {
-        Interleave.turn();
+        Player.call(this);
+        return offered();
+    }
+
+    private String offered() {
         synchronized (agent.slot) {
             long step = slot().at;
             Calls.Told told = room.told(
@@ -457,9 +477,12 @@ public sealed class Step implements AutoCloseable permits SharedStep {
      *         were scanned
      */
     public Agent.Reply tryFire() {
-        Interleave.turn();
+        Player player = Player.look(this);
+        player.fires(this);
         synchronized (agent.slot) {
-            return agent.reply(commit(), true);
+            Agent.Reply reply = agent.reply(commit(), true);
+            player.fired(reply);
+            return reply;
         }
     }
 

@@ -226,6 +226,8 @@ public final class Test {
         OddTests.all();
         AuditTests.all();
         TurnTests.all();
+        JournalTests.all();
+        ExploreTests.all();
         RunTests.all();
         RunEndTests.all();
         ResumeTests.all();

@@ -119,7 +119,7 @@ final class TurnTests {
                     () -> Interleave.play(agents, List.of(tells), 3));
             thrown(NullPointerException.class, "works[1] is null",
                     () -> Interleave.play(agents, Arrays.asList(tells, null), 3));
-            equal(Interleave.isPlayed(), false);
+            equal(Turns.isPlayed(), false);
         }
     }
 

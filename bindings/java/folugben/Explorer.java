@@ -1,0 +1,206 @@
+package folugben;
+
+import java.time.Duration;
+import java.util.ArrayList;
+import java.util.Comparator;
+import java.util.List;
+import java.util.Locale;
+import java.util.Map;
+import java.util.Objects;
+import java.util.Optional;
+import java.util.PriorityQueue;
+import java.util.function.Predicate;
+import java.util.function.Supplier;
+
+/**
+ * A search for the schedule in which the works of agents break what is to hold, the shortest first.
+ *
+ * <pre>{@code
+ * Explorer.Explored explored = Explorer.of(() -> Storage.open(INIT, 100), Collections.nCopies(3, work))
+ *         .invariant(values -> sum(values) == 300)
+ *         .explore();
+ * assertTrue(explored.isExhaustive(), explored::toString);
+ * }</pre>
+ *
+ * <p>Each schedule plays on a new storage, and each work with the agent of its place. Of schedules
+ * that differ only in the order of calls that don't depend on each other one is played. The works
+ * may share nothing but the storage, and do the same in the same schedule: a number of a move may
+ * be named in a fire, and not be computed with. A work that throws is a finding too.
+ *
+ * <p>An explorer is immutable: each call that sets something returns another one.
+ */
+public final class Explorer {
+    private static final int SCHEDULES = 10_000;
+    private static final Duration TIME = Duration.ofSeconds(60);
+    private static final int TURNS = 10_000;
+
+    private final Supplier<Storage> make;
+    private final List<Interleave.Work<? super Agent, ?>> works;
+    private final Holds holds;
+    private final int schedules;
+    private final Duration time;
+    private final int turns;
+
+    private Explorer(Supplier<Storage> make, List<Interleave.Work<? super Agent, ?>> works,
+            Holds holds, int schedules, Duration time, int turns) {
+        this.make = make;
+        this.works = works;
+        this.holds = holds;
+        this.schedules = schedules;
+        this.time = time;
+        this.turns = turns;
+    }
+
+    /** A search through the schedules of works, each of which plays on a storage that is made. */
+    public static Explorer of(
+            Supplier<Storage> make, List<? extends Interleave.Work<? super Agent, ?>> works) {
+        return new Explorer(Objects.requireNonNull(make, "make"),
+                Copies.<Interleave.Work<? super Agent, ?>>of(works, "works"),
+                new Holds(values -> true, values -> true), SCHEDULES, TIME, TURNS);
+    }
+
+    /**
+     * The same with what has to hold in each state. A state for which it answers false, or throws an
+     * AssertionError, breaks it.
+     */
+    public Explorer invariant(Predicate<? super Map<Location, Value>> invariant) {
+        return with(new Holds(Objects.requireNonNull(invariant, "invariant"), holds.atEnd()));
+    }
+
+    /** The same with what has to hold in the last state. */
+    public Explorer atEnd(Predicate<? super Map<Location, Value>> invariant) {
+        return with(new Holds(holds.invariant(), Objects.requireNonNull(invariant, "invariant")));
+    }
+
+    private Explorer with(Holds other) {
+        return new Explorer(make, works, other, schedules, time, turns);
+    }
+
+    /** The same with so many schedules at most, 10,000 where it isn't said. */
+    public Explorer schedules(int most) {
+        return new Explorer(make, works, holds, most, time, turns);
+    }
+
+    /** The same with so much time at most, a minute where it isn't said. */
+    public Explorer time(Duration most) {
+        return new Explorer(make, works, holds, schedules, Objects.requireNonNull(most, "most"), turns);
+    }
+
+    /** The same with so many turns of a schedule at most, 10,000 where it isn't said. */
+    public Explorer turns(int most) {
+        return new Explorer(make, works, holds, schedules, time, most);
+    }
+
+    /**
+     * What breaks: the turns by which {@link Interleave#play} plays it again, the journal that they
+     * leave, what doesn't hold, in words, and what a work has thrown, or else null.
+     */
+    public record Finding(List<Integer> turns, String journal, String broken, Throwable thrown) {
+        /** A copy of the turns. */
+        public Finding {
+            turns = Copies.of(turns, "turns");
+        }
+    }
+
+    /**
+     * What a search has come to: how many schedules were played, and whether all hold, or else what
+     * breaks, if that was found within the bounds.
+     */
+    public record Explored(int schedules, boolean isExhaustive, Optional<Finding> finding) {
+        @Override
+        public String toString() {
+            return finding.map(it -> String.format(Locale.ROOT,
+                                        "%s, by the turns %s; %,d schedules were played", it.broken,
+                                        it.turns, schedules))
+                    .orElseGet(() -> String.format(Locale.ROOT, "%,d schedules hold, %s", schedules,
+                                        isExhaustive ? "which are all" : "and there are more"));
+        }
+    }
+
+    /** The works did something else in the same schedule: they draw, or share more than the storage. */
+    public static final class DiffersException extends RuntimeException {
+        private static final long serialVersionUID = 1;
+
+        DiffersException(String said) {
+            super(said);
+        }
+    }
+
+    private record Planned(int length, int place, List<Integer> plan) {}
+
+    /**
+     * Searches, up to the first finding, to a bound, or until all schedules were tried.
+     *
+     * @throws EndlessException if a schedule hasn't ended after so many turns, as where agents wait
+     *         for each other. One who looks again and again is made to wait for others, but then
+     *         there is no end of schedules.
+     * @throws DiffersException if the works did something else in the same schedule
+     */
+    public Explored explore() {
+        long end = System.nanoTime() + time.toNanos();
+        holds.forget();
+        Schedule.Tree tree = new Schedule.Tree(Map.of());
+        PriorityQueue<Planned> queue = new PriorityQueue<>(
+                Comparator.comparingInt(Planned::length).thenComparingInt(Planned::place));
+        queue.add(new Planned(0, 0, List.of()));
+        int played = 0;
+        int pushed = 0;
+        boolean isExact = true;
+        while (!queue.isEmpty() && played < schedules && System.nanoTime() - end < 0) {
+            Schedule schedule = new Schedule(make, works, tree, queue.remove().plan(), turns);
+            played++;
+            isExact &= schedule.isExact();
+            for (Schedule.Plan plan : schedule.plans())
+                queue.add(new Planned(plan.length(), ++pushed, plan.agents()));
+            Holds.Breach breach = schedule.isBlocked() ? null : holds.breach(schedule);
+            if (breach != null)
+                return new Explored(played, false, Optional.of(replayed(breach, schedule)));
+            if (queue.isEmpty() && tree.hasGrown()) {
+                tree = new Schedule.Tree(tree.footprints());
+                queue.add(new Planned(0, 0, List.of()));
+            }
+        }
+        return new Explored(played, isExact && queue.isEmpty(), Optional.empty());
+    }
+
+    /** The turns of a breach up to it, where all works end behind that; else all of its schedule. */
+    private Finding replayed(Holds.Breach breach, Schedule schedule) {
+        List<Schedule.Event> all = new ArrayList<>(breach.events());
+        for (Schedule.Event event : schedule.events())
+            if (breach.events().stream().noneMatch(it -> it == event))
+                all.add(event);
+        Finding found = null;
+        for (List<Schedule.Event> events : List.of(breach.events(), all)) {
+            List<Integer> listed = schedule.listed(events);
+            Optional<String> journal = Optional.empty();
+            boolean isLast = events == all;
+            try (Storage storage = make.get()) {
+                journal = played(storage, listed, isLast);
+            }
+            if (journal.isEmpty())
+                continue;
+            found = new Finding(listed, journal.get(), breach.broken(), breach.thrown());
+            break;
+        }
+        if (breach.thrown() == null && !holds.isBroken(found.journal()))
+            throw new DiffersException(breach.broken()
+                    + ", but not when it was played again by the turns " + found.turns());
+        return found;
+    }
+
+    /** The journal of the works by these turns; none where they don't end, unless it is wanted. */
+    private Optional<String> played(Storage storage, List<Integer> listed, boolean isWanted) {
+        List<Agent> agents = Schedule.agents(storage, works.size());
+        boolean isEnded = true;
+        try {
+            Interleave.play(agents, works, listed, turns);
+        } catch (EndlessException endless) {
+            isEnded = false;
+        } catch (RuntimeException | AssertionError thrown) {
+            // It may be the finding.
+        }
+        agents.forEach(Agent::close);
+        String journal = storage.closeJournal();
+        return isEnded || isWanted ? Optional.of(journal) : Optional.empty();
+    }
+}

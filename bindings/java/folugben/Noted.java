@@ -1,0 +1,252 @@
+package folugben;
+
+import java.nio.charset.StandardCharsets;
+import java.security.MessageDigest;
+import java.security.NoSuchAlgorithmException;
+import java.util.ArrayList;
+import java.util.Collection;
+import java.util.HashSet;
+import java.util.HexFormat;
+import java.util.List;
+import java.util.Objects;
+import java.util.Set;
+
+/**
+ * A player who takes a turn at each look and each fire alone, and notes what is done from there to
+ * the next one, an event: by that a search knows which events depend on each other.
+ */
+final class Noted extends Player {
+    /** Whether all events are said to depend on each other, by which a test sees what is saved. */
+    static volatile boolean areAllDependent;
+
+    /** What an event reads and writes; it may read everything. */
+    static final class Footprint {
+        private final Set<Location> reads = new HashSet<>();
+        private final Set<String> scans = new HashSet<>();
+        private final Set<Location> writes = new HashSet<>();
+        /** The functions of the locations that it writes. */
+        private final Set<String> written = new HashSet<>();
+        private boolean readsAll;
+
+        private void write(Location location) {
+            writes.add(location);
+            written.add(location.name());
+        }
+
+        /** The locations that it writes. */
+        Set<Location> writes() {
+            return writes;
+        }
+
+        /** Whether the order of the two matters: one writes what the other reads or writes. */
+        boolean meets(Footprint other) {
+            return areAllDependent || disturbs(other) || other.disturbs(this) || areCommon(writes, other.writes);
+        }
+
+        private boolean disturbs(Footprint other) {
+            return areCommon(writes, other.reads) || areCommon(written, other.scans)
+                    || other.readsAll && !writes.isEmpty();
+        }
+
+        private static boolean areCommon(Set<?> some, Set<?> others) {
+            return some.stream().anyMatch(others::contains);
+        }
+
+        /** What either of the two reads and writes. */
+        Footprint joined(Footprint other) {
+            Footprint both = new Footprint();
+            for (Footprint it : List.of(this, other)) {
+                both.reads.addAll(it.reads);
+                both.scans.addAll(it.scans);
+                both.writes.addAll(it.writes);
+                both.written.addAll(it.written);
+                both.readsAll |= it.readsAll;
+            }
+            return both;
+        }
+
+        @Override
+        public boolean equals(Object it) {
+            return it instanceof Footprint other && reads.equals(other.reads)
+                    && scans.equals(other.scans) && writes.equals(other.writes)
+                    && readsAll == other.readsAll;
+        }
+
+        @Override
+        public int hashCode() {
+            return Objects.hash(reads, scans, writes, readsAll);
+        }
+    }
+
+    /** The event at work; before the first one it is the beginning. */
+    private Footprint now = new Footprint();
+    /** Of how many calls it is, and whether it has fired. */
+    private int calls = 1;
+    private boolean isMove;
+    /** A digest of all that was told before this event, and by now: what is done next rests on it. */
+    private String key = "";
+    private String told = "";
+    /** Whether all that was noted of an event was noted within it. */
+    private boolean isExact = true;
+    /** The step that is open, and the functions that it has scanned. */
+    private Step step;
+    private final List<String> scanned = new ArrayList<>();
+
+    Noted(Turns turns, int number) {
+        super(turns, number);
+    }
+
+    Footprint now() {
+        return now;
+    }
+
+    int calls() {
+        return calls;
+    }
+
+    boolean isMove() {
+        return isMove;
+    }
+
+    String key() {
+        return key;
+    }
+
+    boolean isExact() {
+        return isExact;
+    }
+
+    @Override
+    void turn(Object it, boolean isLook) {
+        if (!isLook) {
+            turns.count();
+            calls++;
+            if (it instanceof Step && it != step)
+                depends();
+            return;
+        }
+        // Whether a step goes on behind another look of its agent depends on all that others do.
+        boolean isMixed = step != null && it != step;
+        now.readsAll |= isMixed;
+        turns.await(number());
+        now = new Footprint();
+        now.readsAll = isMixed;
+        calls = 1;
+        isMove = false;
+        key = told;
+    }
+
+    @Override
+    void begun(Step begun) {
+        step = begun;
+        scanned.clear();
+    }
+
+    @Override
+    void over(Step over) {
+        if (step == over)
+            step = null;
+    }
+
+    @Override
+    void reads(String locations) {
+        now.reads.addAll(JsonReader.locations(locations));
+    }
+
+    @Override
+    void reads(PreparedLocation location) {
+        now.reads.add(location.location());
+    }
+
+    @Override
+    void readsNamed(String reads) {
+        JsonReader.reads(reads).forEach(it -> now.reads.add(it.location()));
+    }
+
+    @Override
+    void readsAll() {
+        now.readsAll = true;
+    }
+
+    @Override
+    void depends() {
+        now.readsAll = true;
+        isExact = false;
+    }
+
+    @Override
+    void scans(String name) {
+        now.scans.add(name);
+    }
+
+    @Override
+    void stepScans(String name) {
+        scanned.add(name);
+        now.scans.addAll(scanned);
+    }
+
+    @Override
+    void pushes(Step pushed) {
+        // A partial update is taken or refused by the value that it changes.
+        for (Instruction it : pushed.offerNow().fire())
+            if (!(it instanceof Instruction.Put))
+                now.reads.add(it.location());
+    }
+
+    @Override
+    void fires(Step fired) {
+        step = null;
+        Step.Offer offer = fired.offerNow();
+        offer.reads().forEach(it -> now.reads.add(it.location()));
+        now.scans.addAll(scanned);
+        writes(offer.fire());
+    }
+
+    // It counts as written also where the fire is refused: an event does the same wherever it comes.
+    private void writes(Collection<Instruction> instructions) {
+        instructions.forEach(it -> now.write(it.location()));
+    }
+
+    @Override
+    void fires(String instructions, String reads, String scans, Actor.Reply reply) {
+        readsNamed(reads);
+        JsonReader.scans(scans).forEach(it -> now.scans.add(it.name()));
+        writes(JsonReader.move(instructions));
+        fired(reply);
+    }
+
+    @Override
+    void fired(Actor.Reply reply) {
+        isMove = reply.isFired();
+        if (reply.isClash())
+            now.reads.add(reply.at());
+        if (reply.code() == FolugbenException.FULL)
+            readsAll();
+        hears(reply.code() + " " + reply.answer());
+    }
+
+    @Override
+    void hears(String more) {
+        try {
+            MessageDigest digest = MessageDigest.getInstance("SHA-256");
+            digest.update((told + "\n" + more).getBytes(StandardCharsets.UTF_8));
+            told = HexFormat.of().formatHex(digest.digest());
+        } catch (NoSuchAlgorithmException error) {
+            throw new IllegalStateException(error);
+        }
+    }
+
+    @Override
+    void hears(Room room) {
+        hears(room.told().json());
+    }
+
+    @Override
+    void hears(FolugbenException thrown) {
+        if (thrown instanceof ClashException clash)
+            now.reads.add(clash.at());
+        if (thrown.code() == FolugbenException.FULL)
+            readsAll();
+        hears(thrown.code() + " " + thrown.answer());
+    }
+}

@@ -1,0 +1,246 @@
+package folugben;
+
+import java.util.ArrayList;
+import java.util.Collections;
+import java.util.List;
+import java.util.concurrent.CancellationException;
+import java.util.concurrent.atomic.AtomicInteger;
+import java.util.concurrent.locks.Condition;
+import java.util.concurrent.locks.Lock;
+import java.util.concurrent.locks.ReentrantLock;
+import java.util.function.Supplier;
+
+/** Threads of which one at a time goes on, up to its next turn; a choice tells which. */
+final class Turns {
+    /** How many plays are under way, so that calls of others cost no more than a look at this. */
+    private static final AtomicInteger PLAYS = new AtomicInteger();
+    private static final ThreadLocal<Player> HERE = new ThreadLocal<>();
+    /** How long works are waited for, in ms, when their play was interrupted. */
+    private static final long GRACE = 5_000;
+
+    private final Lock lock = new ReentrantLock();
+    private final Choice choice;
+    /** Of each number that hasn't ended: what it waits on for its turn. */
+    private final Condition[] turns;
+    private final boolean[] waits;
+    private final boolean[] isAlive;
+    /** Whose turn it is; -1 for nobody's. */
+    private int now = -1;
+    private final int most;
+    private int taken;
+    /** What ended all works, unless they have ended by themselves. */
+    private RuntimeException fault;
+
+    /** Turns of so many threads, at most so many. */
+    Turns(int count, Choice choice, int most) {
+        this.choice = choice;
+        this.most = most;
+        turns = new Condition[count];
+        waits = new boolean[count];
+        isAlive = new boolean[count];
+        for (int number = 0; number < count; number++) {
+            turns[number] = lock.newCondition();
+            isAlive[number] = true;
+        }
+    }
+
+    /** Chooses who goes on, of the numbers that haven't ended, in ascending order. */
+    interface Choice {
+        /** One of the numbers; what it throws ends all works. */
+        int of(List<Integer> numbers);
+    }
+
+    /** What the works answered or threw, each at its place. */
+    record Told<R>(List<R> values, List<Throwable> faults) {
+        private static <R> Told<R> none(int count) {
+            return new Told<>(new ArrayList<>(Collections.nCopies(count, null)),
+                    new ArrayList<>(Collections.nCopies(count, null)));
+        }
+
+        /** What the works answered; the first exception of one is thrown. */
+        List<R> orThrow() {
+            for (Throwable thrown : faults) {
+                if (thrown instanceof Error error)
+                    throw error;
+                if (thrown != null)
+                    throw (RuntimeException) thrown;
+            }
+            return Collections.unmodifiableList(values);
+        }
+    }
+
+    /** Plays each work with its agent on a thread of its own; what ended all of them is thrown. */
+    <A, R> Told<R> play(List<? extends A> agents,
+            List<? extends Interleave.Work<? super A, ? extends R>> works,
+            List<? extends Player> players) {
+        Told<R> told = Told.none(works.size());
+        List<Thread> threads = new ArrayList<>();
+        for (int i = 0; i < works.size(); i++) {
+            int number = i;
+            Thread thread = new Thread(() -> playOne(players.get(number), told,
+                    () -> works.get(number).play(agents.get(number))));
+            thread.setDaemon(true); // a work that waits for something else can't be ended
+            threads.add(thread);
+        }
+        PLAYS.incrementAndGet();
+        try {
+            threads.forEach(Thread::start);
+            join(threads);
+        } finally {
+            PLAYS.decrementAndGet();
+        }
+        if (fault != null)
+            throw fault;
+        return told;
+    }
+
+    private <R> void playOne(Player player, Told<R> told, Supplier<? extends R> work) {
+        HERE.set(player);
+        try {
+            await(player.number());
+            told.values.set(player.number(), work.get());
+        } catch (Stopped end) {
+            // What has stopped it is told.
+        } catch (RuntimeException | Error thrown) {
+            told.faults.set(player.number(), thrown);
+        } finally {
+            HERE.remove();
+            end(player.number());
+        }
+    }
+
+    /** Ends a work at its next turn. */
+    private static final class Stopped extends Error {
+        private static final long serialVersionUID = 1;
+
+        Stopped() {
+            super("the play was ended", null, false, false);
+        }
+    }
+
+    /** Waits for all of them; an interruption ends each at its next turn. */
+    private void join(List<Thread> threads) {
+        try {
+            for (Thread thread : threads) thread.join();
+        } catch (InterruptedException interruption) {
+            stop(new CancellationException("the play was interrupted"));
+            for (Thread thread : threads) Patience.join(thread, GRACE);
+            Thread.currentThread().interrupt();
+        }
+    }
+
+    private void stop(RuntimeException why) {
+        lock.lock();
+        try {
+            if (fault == null)
+                fault = why;
+            for (Condition turn : turns) turn.signalAll();
+        } finally {
+            lock.unlock();
+        }
+    }
+
+    /** Who plays on this thread; nobody where it isn't played by turns, or stands still. */
+    static Player here() {
+        if (PLAYS.get() == 0)
+            return Player.NOBODY;
+        Player player = HERE.get();
+        return player == null || player.isStill ? Player.NOBODY : player;
+    }
+
+    /** Does something in which no call takes a turn, as others may wait for locks that are held. */
+    static <T> T still(Supplier<T> work) {
+        Player player = here();
+        if (player == Player.NOBODY)
+            return work.get();
+        player.isStill = true;
+        try {
+            return work.get();
+        } finally {
+            player.isStill = false;
+        }
+    }
+
+    /** Whether this thread is played by turns. */
+    static boolean isPlayed() {
+        return PLAYS.get() != 0 && HERE.get() != null;
+    }
+
+    /** Has others go on, until this number is chosen again. */
+    void await(int number) {
+        lock.lock();
+        try {
+            leave(number);
+            waits[number] = true;
+            choose();
+            while (now != number && fault == null) turns[number].awaitUninterruptibly();
+            waits[number] = false;
+            expectGoing();
+        } finally {
+            lock.unlock();
+        }
+    }
+
+    /** Counts a turn that whoever is at work takes without waiting. */
+    void count() {
+        lock.lock();
+        try {
+            if (++taken > most)
+                stop(new EndlessException(alive(), most));
+            expectGoing();
+        } finally {
+            lock.unlock();
+        }
+    }
+
+    private void expectGoing() {
+        if (fault != null)
+            throw new Stopped();
+    }
+
+    private void end(int number) {
+        lock.lock();
+        try {
+            leave(number);
+            isAlive[number] = false;
+            choose();
+        } finally {
+            lock.unlock();
+        }
+    }
+
+    private void leave(int number) {
+        if (now == number)
+            now = -1;
+    }
+
+    private List<Integer> alive() {
+        List<Integer> alive = new ArrayList<>();
+        for (int number = 0; number < turns.length; number++)
+            if (isAlive[number])
+                alive.add(number);
+        return alive;
+    }
+
+    /**
+     * Chooses who goes on, once all wait that haven't ended: whoever was at work has come to wait or
+     * ended by then, so that the order depends on the choice alone.
+     */
+    private void choose() {
+        List<Integer> waiting = alive();
+        if (now >= 0 || waiting.isEmpty() || fault != null
+                || !waiting.stream().allMatch(number -> waits[number]))
+            return;
+        if (taken >= most) {
+            stop(new EndlessException(waiting, most));
+            return;
+        }
+        taken++;
+        try {
+            now = choice.of(waiting);
+            turns[now].signal();
+        } catch (RuntimeException thrown) {
+            stop(thrown);
+        }
+    }
+}
