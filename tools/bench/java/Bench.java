@@ -129,18 +129,3 @@ final class Bench {
         for (Crowd crowd : CROWDS) measure("step without text", new Plain(), crowd, steps, seconds);
     }
 }
-
-/** One that does the work that is measured: the library or the twin. */
-interface Side {
-    /** Opens a storage for so many moves, with 0 at each location, and agents for the threads. */
-    void open(int moves);
-
-    /**
-     * Begins a step of the thread's agent, gets the location with this number, pushes that 1 is
-     * added there, and fires; whether it fired: else it was stale, and is to be done again.
-     */
-    boolean step(int thread, int location);
-
-    /** The sum of all locations; the storage is released. */
-    long close();
-}
