@@ -96,7 +96,7 @@ def is_played(case: Case) -> bool:
 
 def journal_fault(program: str, case: Case) -> str | None:
     """What is wrong with the journal that the played script leaves, or None: it is legal, its own rewriting, and its trace
-    has a line for each of its own and tells no other answer."""
+    has a line for each of its own and has no other answer."""
     status, journal = ended(program, (*case.words, "--journal"), case.given)
     if status != 0:
         return f"no journal: status {status}"

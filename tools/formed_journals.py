@@ -1,4 +1,4 @@
-"""Cases of what a journal may have, for `tools/cases`: each row is a part that is read and written anew, or has a fault."""
+"""Cases of what a journal may have, for `tools/cases`: each row is a part that is read and written again, or has a fault."""
 
 import json
 from collections.abc import Iterable, Iterator
@@ -79,7 +79,7 @@ NO_VALUES = (
     *('{"list":[' * depth + "]}" * depth for depth in (9, 60)),
     *('{"list":[' + ",".join("0" * count) + "]}" for count in (4097, 4098)),
 )
-# Values whose elements stand in another order than the one in which they are written.
+# Values whose elements are in another order than the one in which they are written.
 TURNED_VALUES = (
     (' { "set" : [10,"a",true,null,"",-1,"B",false,0] } ', '{"set":[null,false,true,-1,0,10,"","B","a"]}'),
     ('{"bag":[["e",2],[1,3],[null,1]]}', '{"bag":[[null,1],[1,3],["e",2]]}'),
@@ -237,7 +237,7 @@ OPENINGS = {
         '[[["x"],null],[["y"],null],[["z"],1],[["y"],null]]',
     ),
 }
-# A journal of one event, which stands in the place of `@`.
+# A journal of one event, which is in the place of `@`.
 ONE_EVENT = '{"agents":2,"capacity":8,"events":1,"init":[],"version":2}\n@\n'
 EVENTS = {
     None: (
@@ -302,7 +302,7 @@ TURNED = """{"version":1,"init":[[["s"],{"set":[]}]],"events":2,"capacity":4096,
 {"reply":{"fired":1},"call":{"reads":[[["s"],0]],"fire":[["add",["s"],1],["put",["y"],{"set":[1]}]]},"agent":0}
 """
 SPACES = ((",", ","), (",", " ,\t"), (":", "\t\r: "), ("[", " [\r"), ("]", "\t] "), ("{", " { "), ("}", "\r}\t"))
-# The word of lists stands where a text may, and in a name.
+# The word of lists is where a text may be, and in a name.
 WORDS = """{"agents":1,"capacity":8,"events":1,"init":[[["list"],{"set":["list"]}]],"version":#}
 {"agent":0,"call":{"fire":[["put",["list","list"],"list"]],"reads":[]},"reply":{"fired":1}}
 """

@@ -71,7 +71,7 @@ STEPS = (
         '[["add",["s"],{"val":["u"]}]],[["put",["y"],{"val":["s"]}]],[["remove",["z"],1]]',
         [('{"read":[["s"],["u"]]}', '{"number":0,"values":[null,null]}')],
     ),
-    # Each location stands once, in ascending order, wherever the step names it.
+    # Each location is there once, in ascending order, wherever the step names it.
     (
         '[[["b"],3],[["a",1],2],[["a"],1]]',
         '[["put",["x"],{"sum":[{"val":["b"]},{"sum":[{"val":["a",1]},{"val":["a"]}]}]}]]',

@@ -39,7 +39,7 @@ WRONG = (
     (9, '"full"', '{"fired":2}'),
 )
 # Events of a journal that opens with 7 at x and has the capacity 2: reads; puts of agent 1 that name x at a number, or the
-# two puts that clash; and what the check tells.
+# two puts that clash; and what the check says.
 READS = {"read": (0, 7), "read_other": (0, 6), "read_early": (1, 7), "read_last": (2, 2)}
 FIRES = {"same": ("7", "0"), "put": ("1", "0"), "named_1": ("2", "1"), "named_2": ("3", "2")}
 REPLIES = {"fired": '{"fired":1}', "fired_2": '{"fired":2}', "stale": '{"stale":["x"]}', "full": '"full"'}

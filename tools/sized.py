@@ -193,7 +193,7 @@ def nested() -> Iterator[Case]:
             yield refused(f"a_list_of_depth_{depth}", script([], [[[["put", X, value]]]]), SHAPE)
     yield refused("a_list_of_4097_items", script([], [[[["put", X, {"list": [None] * 4097}]]]]), SHAPE)
     around = ('{"init":[],"agents":[[[[["put",["x"],', "]]]]]}")
-    # The instruction stands six arrays and objects deep, and each sum adds an object and an array.
+    # The instruction is six arrays and objects deep, and each sum adds an object and an array.
     for depth in (1, 2, 3, 32, 59, 60):
         given = around[0] + '{"sum":[1,' * depth + "0" + "]}" * depth + around[1]
         yield Case(f"a_sum_of_depth_{depth}", ("run",), given.encode(), report([[X, depth]], 1))

@@ -67,7 +67,7 @@ def long(pairs: int) -> Iterator[Case]:
 
 
 def growing(n: int) -> Iterator[Case]:
-    """A set or a bag that grows n times by one element: the trace tells no more of a move than what it adds."""
+    """A set or a bag that grows n times by one element: the trace has no more of a move than what it adds."""
     for name, at, init, call, changed in (
         ("set", S, {"set": []}, '["add",["s"],%d]', '{"added":[%d],"removed":[]}'),
         ("bag", B, {"bag": []}, '["bagadd",["b"],%d,3]', '{"counts":[[%d,0,3]]}'),
@@ -162,14 +162,14 @@ def cut() -> Iterator[Case]:
 
 EMPTY_SET, EMPTY_BAG = [[["a"], {"set": []}]], [[["a"], {"bag": []}]]
 FIRED, CLASH = '{"fired":1}', '{"clash":[["a"],"Short"]}'
-# Where an element stands in a header.
+# Where an element is in a header.
 OPENINGS = {
     "an_opening_argument": '[[["a",@],1]]',
     "an_opening_value": '[[["a"],@]]',
     "an_opening_set": '[[["a"],{"set":[@]}]]',
     "an_opening_bag": '[[["a"],{"bag":[[@,1]]}]]',
 }
-# Where an element stands in an event: the opening state, the call, the answer, and whether that is right.
+# Where an element is in an event: the opening state, the call, the answer, and whether that is right.
 PLACES = {
     "a_read_location": ([], '{"read":[["a",@]]}', '{"number":0,"values":[null]}', True),
     "a_read_value": ([], '{"read":[["a"]]}', '{"number":0,"values":[@]}', False),

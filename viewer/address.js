@@ -1,6 +1,6 @@
 // The address, which says what is shown; each jump is an entry of the browser's history.
 import { filter } from "./filter.js";
-import { shown } from "./shown.js";
+import { shown } from "./run.js";
 import { conditionText } from "./watch.js";
 
 const REST = 200, TOGETHER = 100; // milliseconds

@@ -1,9 +1,8 @@
 // Another run beside the one that is shown: whether it goes on with it, where they part, and what their states differ in there.
-import { Fault } from "./exact.js";
 import { eventLink, eventText } from "./event.js";
+import { Fault } from "./exact.js";
 import { $, button, make, span, valueNode } from "./nodes.js";
-import { readRun } from "./run.js";
-import { act, shown } from "./shown.js";
+import { act, readRun, shown } from "./run.js";
 import { grouped, isSame, plainText, plural, withoutIsolates } from "./terms.js";
 
 const MOST_APART_PLACES = 8;

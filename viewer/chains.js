@@ -1,5 +1,5 @@
 // How the calls of a run are related: the read that a fire depends on, its tries, and what a move made stale.
-import { shown } from "./shown.js";
+import { shown } from "./run.js";
 import { firstFrom, grouped } from "./terms.js";
 
 // The agent's own reads that the fire names, by location and number as a key: the last one before it for each.

@@ -1,6 +1,6 @@
 // Nodes and texts for what a write made of its location.
-import { itemsOf } from "./content.js";
 import { elementNode, itemNode, MORE, restNode, sizeNode, span, times, valueNode } from "./nodes.js";
+import { itemsOf } from "./shape.js";
 import { byElement, grouped, isBag, isList, isNumber, isSame, isSet, itemKey, plural, sharedLength, shortText } from "./terms.js";
 
 // What a write made of its location: the items of a set, a bag or a list that changed, else the old value and the new.

@@ -1,6 +1,6 @@
 // What is copied: a link to what is shown, a value, a state.
 import { $ } from "./nodes.js";
-import { act, shown } from "./shown.js";
+import { act, shown } from "./run.js";
 import { keyOf } from "./terms.js";
 
 async function copy(what, text) {

@@ -1,13 +1,11 @@
 // The chosen event: what was asked and answered, what changed, what it depended on, which others it is related to, and why a
 // move wasn't fired.
-import { changeNode } from "./change.js";
 import { chainOf, chainText, madeStale, nearFire, ownRead, ownReads, retryOf, staledBy, tryBefore } from "./chains.js";
-import { clashNodes } from "./clash.js";
-import { kindOf } from "./run.js";
+import { changeNode } from "./change.js";
 import { answerText, button, elementNode, glyph, locationNode, make, moveLink, runName, span, valueNode, writerNodes } from "./nodes.js";
-import { act, shown } from "./shown.js";
+import { act, kindOf, shown } from "./run.js";
 import { afterMoves, grouped, keyOf, plural } from "./terms.js";
-import { apartNode, doubtNote, isOther, wrongNote } from "./wrong.js";
+import { apartNode, clashNodes, doubtNote, isOther, wrongNote } from "./why.js";
 
 const MOST_ITEMS = 24, MOST_ROWS = 300, MOST_STALED = 12, MOST_PRINTED = 8;
 

@@ -4,8 +4,7 @@ import { faultText } from "./event.js";
 import { filter, forgetTexts, isFiltered, isListed, LABELS, listIndex, listItem, listLength, nextListed, ofKind, setFilter } from "./filter.js";
 import { List, ROW } from "./lists.js";
 import { $, glyph, make, span } from "./nodes.js";
-import { isBad } from "./run.js";
-import { act, shown } from "./shown.js";
+import { act, isBad, shown } from "./run.js";
 import { grouped, isSame, locationText, shortText } from "./terms.js";
 
 const MOST_TOLD = 4;

@@ -1,8 +1,7 @@
 // Which events are listed: by kind, agent, location, cause and words.
 import { unputIn } from "./chains.js";
 import { answerText } from "./nodes.js";
-import { isBad } from "./run.js";
-import { shown } from "./shown.js";
+import { isBad, shown } from "./run.js";
 import { elementText, firstFrom, keyOf, valueText, withoutIsolates } from "./terms.js";
 
 // `unput` are the fired moves that depend on what was not yet put.

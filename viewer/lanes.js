@@ -2,11 +2,9 @@
 import { chainOf, madeStale } from "./chains.js";
 import { isFiltered, isListed } from "./filter.js";
 import { $ } from "./nodes.js";
-import { isBad } from "./run.js";
-import { chosen, shown } from "./shown.js";
+import { chosen, isBad, shown } from "./run.js";
 import { AXIS, AXIS_ROW, clamp, colors, Columns, DIM, drawShares, GUTTER, lanesHigh, prepared, renewSight, seen, view, xOf, yOf, zoomAbout } from "./sight.js";
-import { drawStretches, drawStrip } from "./strip.js";
-import { drawTrack } from "./track.js";
+import { drawStretches, drawStrip, drawTrack } from "./strip.js";
 import { firstFrom, grouped } from "./terms.js";
 
 // From this width of an event on each is drawn; below it several share a column, this wide.

@@ -1,25 +1,23 @@
 // Puts the page together: what is shown, what is chosen, and the run that takes the place of another.
 import { addressed, beforeChange, changed, onAddress } from "./address.js";
+import { goesOn, tellGrowth, whereItWas } from "./beside.js";
 import { eventNode, eventText } from "./event.js";
 import { events, relist, renewEvents, showEvents, showHere } from "./events.js";
 import { filter } from "./filter.js";
 import { draw, renewLanes, resized } from "./lanes.js";
 import { $, beginningText, make, runName, span } from "./nodes.js";
-import "./complete.js";
-import "./picture.js";
 import { openTrace } from "./opening.js";
-import { goesOn, tellGrowth, whereItWas } from "./beside.js";
-import { fitLanes, refit } from "./room.js";
+import "./picture.js";
 import { showRange } from "./pointing.js";
-import { act, chosen, shown } from "./shown.js";
+import { fitLanes, refit } from "./room.js";
+import { act, chosen, shown } from "./run.js";
 import { reveal } from "./sight.js";
-import { renewState, revealPlace, showState, state } from "./state.js";
+import { renewState, renewWrites, revealPlace, showState, showWrites, state, writes } from "./state.js";
 import { showSteps } from "./steps.js";
 import { marksNode, openingNode } from "./summary.js";
 import { grouped, plural } from "./terms.js";
 import { paint } from "./theme.js";
 import { conditionText, followLocation, renewWatch, showWatch } from "./watch.js";
-import { renewWrites, showWrites, writes } from "./writes.js";
 
 // ---- choosing
 act.draw = draw;
@@ -194,3 +192,23 @@ new ResizeObserver(() => {
 paint();
 const embedded = $("trace").textContent;
 if (embedded.trim()) openTrace(embedded.replace(/^\n/, ""), $("trace").dataset.name || "a run", $("trace").dataset.by);
+
+// A run that grows: where ./view --follow serves the page, it asks again and again for what the run has gained.
+
+const EACH = 1000;
+let served = "";
+async function askAgain() {
+  const { follow, name, by } = $("trace").dataset;
+  try {
+    const answer = await fetch(follow, { headers: served ? { "If-None-Match": served } : {}, cache: "no-store" });
+    if (answer.status === 200) {
+      served = answer.headers.get("ETag") ?? "";
+      const ends = (answer.headers.get("Folugben-Ends") ?? "").split(" ").filter(Boolean).map(Number);
+      await openTrace(await answer.text(), name, by, ends);
+    } else if (answer.status !== 304) throw new Error(await answer.text());
+  } catch (fault) {
+    return act.speak(`The run is no longer followed: ${fault.message}`);
+  }
+  setTimeout(askAgain, EACH);
+}
+if ($("trace").dataset.follow) askAgain();

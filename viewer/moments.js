@@ -1,6 +1,6 @@
 // Where a condition holds along a run, at which locations it comes to hold, and the values of an expression.
 import { ANY, comparisonsOf, isAny, operandsOf } from "./condition.js";
-import { Content } from "./content.js";
+import { Content } from "./shape.js";
 import { isNumber, isSame, keyOf } from "./terms.js";
 
 const COMPARED = {

@@ -1,6 +1,6 @@
 // Nodes of the page for values, locations and changes. Whatever a trace holds is put in as text, never as markup.
-import { itemsOf } from "./content.js";
-import { act, shown } from "./shown.js";
+import { act, shown } from "./run.js";
+import { itemsOf } from "./shape.js";
 import { afterMoves, cut, elementText, grouped, isBag, isNumber, isSet, locationText, plural } from "./terms.js";
 
 export const $ = id => document.getElementById(id);

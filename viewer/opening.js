@@ -2,8 +2,7 @@
 import { Fault } from "./exact.js";
 import { $ } from "./nodes.js";
 import { play } from "./play.js";
-import { readRun } from "./run.js";
-import { act } from "./shown.js";
+import { act, readRun } from "./run.js";
 import { plainText } from "./terms.js";
 
 let opening = 0;

@@ -1,10 +1,9 @@
 // The pictures of time as they are shown, as a file: an image of dots, or one of lines.
 import { paintLanes } from "./lanes.js";
 import { $, make } from "./nodes.js";
-import { act, shown } from "./shown.js";
+import { act, shown } from "./run.js";
 import { colors, lanesHigh, view } from "./sight.js";
-import { paintStrip, STRIP } from "./strip.js";
-import { paintTrack, TRACK } from "./track.js";
+import { paintStrip, paintTrack, STRIP, TRACK } from "./strip.js";
 
 const GAP = 6, RATIO = 2;
 // What is in sight: for each picture where it begins, how high it is, and what draws it with a pen.

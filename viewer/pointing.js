@@ -2,8 +2,7 @@
 import { eventText } from "./event.js";
 import { draw, ENOUGH, hover, resized, zoom } from "./lanes.js";
 import { $, button, glyph, make, span } from "./nodes.js";
-import { KINDS } from "./run.js";
-import { act, shown } from "./shown.js";
+import { act, KINDS, shown } from "./run.js";
 import { AXIS, clamp, GUTTER, view, width } from "./sight.js";
 import { firstFrom, grouped, plural } from "./terms.js";
 

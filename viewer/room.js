@@ -1,9 +1,9 @@
 // The room of the lanes, which fold and are dragged.
 import { draw } from "./lanes.js";
 import { $ } from "./nodes.js";
-import { shown } from "./shown.js";
+import { shown } from "./run.js";
 import { AXIS, LANES_REST, reveal, setHeight, USUAL_LANE } from "./sight.js";
-import { showTrack } from "./track.js";
+import { showTrack } from "./strip.js";
 
 const LEAST_HIGH = AXIS + 24, MOST_HIGH = 640, STEP = 24, MOST_PART = 0.35, KEPT = "folugben-lanes";
 // What the person chose: a height, 0 where the lanes are folded; null is the usual height.

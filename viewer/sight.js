@@ -1,7 +1,6 @@
 // What of a run is in sight in the pictures of time, and how they are drawn: sizes, colors, shares.
 import { $ } from "./nodes.js";
-import { isBad, KINDS } from "./run.js";
-import { chosen, shown } from "./shown.js";
+import { chosen, isBad, KINDS, shown } from "./run.js";
 
 // The axis has a row of events and one of moves.
 export const GUTTER = 72, AXIS_ROW = 16, AXIS = 2 * AXIS_ROW + 6, USUAL_LANE = 18, LANES_REST = AXIS + 8;

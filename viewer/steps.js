@@ -6,7 +6,7 @@ import { $, runName } from "./nodes.js";
 import { isPlaying, play } from "./play.js";
 import { endRange } from "./pointing.js";
 import { foldLanes } from "./room.js";
-import { act, chosen, shown } from "./shown.js";
+import { act, chosen, shown } from "./run.js";
 import { firstFrom } from "./terms.js";
 import { goToHold } from "./watch.js";
 

@@ -3,7 +3,7 @@ import { chainsOf, unputIn } from "./chains.js";
 import { block } from "./event.js";
 import { ofKind } from "./filter.js";
 import { beginningText, button, glyph, make, span } from "./nodes.js";
-import { act, shown } from "./shown.js";
+import { act, shown } from "./run.js";
 import { grouped, keyOf, locationText, plural } from "./terms.js";
 
 const MOST_LINES = 6;

@@ -1,6 +1,6 @@
 // Light and dark, by the system until the person chooses.
 import { $ } from "./nodes.js";
-import { act } from "./shown.js";
+import { act } from "./run.js";
 import { readColors } from "./sight.js";
 
 const system = matchMedia("(prefers-color-scheme: dark)");

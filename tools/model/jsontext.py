@@ -47,7 +47,7 @@ def write(value: Json) -> str:
 
 
 def is_whole(value: Json, within: range) -> bool:
-    """Tells whether the value is a whole number of the range; `True` is no number, though Python counts with it."""
+    """Whether the value is a whole number of the range; `True` is no number, though Python counts with it."""
     return type(value) is int and value in within
 
 
@@ -101,7 +101,7 @@ class _Reader:
         self.at += 1
 
     def more(self, close: bytes) -> bool:
-        """Tells, behind an item, whether a comma stands there, and so another item has to follow."""
+        """Whether, behind an item, a comma is there, and so another item has to follow."""
         if self.take(b","):
             return True
         if self.take(close):

@@ -13,12 +13,11 @@ import re
 import sys
 from typing import NamedTuple
 
-from audit import audit
+from audit import Window, audit, trace_window
 from journal import CAPACITIES, BadJournal, first_illegal, read_journal, write_journal
 from play import SeveralAgents, play, report
 from script import BadScript, read_script
 from tracing import write_trace
-from window import Window, trace_window
 
 MAX_INPUT = 2**24
 EVERY = range(1, 2**32)

@@ -101,7 +101,7 @@ def _why(step: Step, reading: State) -> str:
 
 
 def _is_apart(playing: list[list[Step]], capacity: int) -> bool:
-    """Tells that no two agents touch one location, and that the storage has room for each step."""
+    """Checks that no two agents touch one location, and that the storage has room for each step."""
     touched = [{at for step in steps for at in _touched(step)} for steps in playing]
     is_disjoint = sum(map(len, touched)) == len(set().union(*touched))
     return is_disjoint and sum(map(len, playing)) <= capacity

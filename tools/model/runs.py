@@ -1,4 +1,4 @@
-"""Tells whether a history is one of a run of a script, whatever the order in which its agents moved."""
+"""Says whether a history is one of a run of a script, whatever the order in which its agents moved."""
 
 from journal import Event, Fire, History, Read, Stale, Values
 from play import step_fault

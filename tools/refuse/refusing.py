@@ -56,7 +56,7 @@ class Refuser:
         )
 
     def run(self, words: list[str], text: bytes, number: int = 0) -> tuple[Ended, bool]:
-        """Runs the program with the call of this number refused (of 0: none); tells also whether one was refused."""
+        """Runs the program with the call of this number refused (of 0: none); says also whether one was refused."""
         mark = Path(f"{self.folder.name}/mark_{number}")
         given = {"FAIL_AT": str(number), "REFUSED_MARK": str(mark)}
         ended, _ = self.ended(words, text, given, f"asked_{number}")
@@ -65,7 +65,7 @@ class Refuser:
         return ended, is_refused
 
     def asked(self, words: list[str], text: bytes = b"") -> tuple[Ended, Asked | None]:
-        """Runs the program with no call refused, and tells what it asked for; nothing where it was stopped."""
+        """Runs the program with no call refused, and returns what it asked for; nothing where it was stopped."""
         return self.ended(words, text, {}, "asked")
 
     def ended(

@@ -6,13 +6,13 @@ import subprocess
 from random import Random
 from typing import Any
 
+from audit import Window, shown
 from browser import Browser
 from inputs import Maker
 from opening import View
 from samples import journal_of, strange, warehouse, write_journal, write_trace, wrong
 from selenium.webdriver.common.keys import Keys
 from tries import Tries
-from window import Window, shown
 
 Line = dict[str, Any]
 SECONDS = 20

@@ -1,10 +1,10 @@
 """Tries the trace of a window of a part: its events and moves have the numbers of the part, and nothing is made up of what was before."""
 
+from audit import Window, shown
 from browser import Browser
 from journal import Fired, History, write_journal
 from samples import warehouse
 from tries import Tries
-from window import Window, shown
 
 WHOLE = warehouse(5, 16, 3)
 START, END = 40, 70
