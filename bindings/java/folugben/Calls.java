@@ -116,6 +116,10 @@ final class Calls {
     static native int asm_extend_move(
             long agent, long step, long move, long out, long room, long written);
 
+    static native int asm_unite(long move, long other);
+
+    static native int asm_take_state(long agent, long other);
+
     static native int asm_seen(long agent);
 
     static native int asm_won(long agent);

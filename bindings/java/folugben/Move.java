@@ -196,6 +196,50 @@ public final class Move implements AutoCloseable {
         return number(at, INC, by, 0);
     }
 
+    /** Gathers an instruction, whose location is prepared for it alone. */
+    public Move gather(Instruction instruction) {
+        try (PreparedLocation at = instruction.location().prepare()) {
+            if (instruction instanceof Instruction.Put it)
+                return put(at, it.value());
+            if (instruction instanceof Instruction.Add it)
+                return add(at, it.element());
+            if (instruction instanceof Instruction.Remove it)
+                return remove(at, it.element());
+            if (instruction instanceof Instruction.BagAdd it)
+                return bagAdd(at, it.element(), it.amount());
+            if (instruction instanceof Instruction.BagRemove it)
+                return bagRemove(at, it.element(), it.amount());
+            return inc(at, ((Instruction.Inc) instruction).by());
+        }
+    }
+
+    /**
+     * Gathers the instructions of another move too, which stays as it is: this one then does what
+     * both do at once. One that both have counts twice.
+     *
+     * @throws IllegalArgumentException if it is this move
+     * @throws FolugbenException as a {@link ManyException} if both have more than 4,096 instructions
+     *         together, and nothing is gathered then; EMPTY if one is closed
+     */
+    public Move unite(Move other) {
+        if (Objects.requireNonNull(other, "other") == this)
+            throw new IllegalArgumentException("a move is united with another one, not with itself");
+        boolean isFirst = slot.at < other.slot.at; // so that no two wait for each other
+        synchronized (isFirst ? slot : other.slot) {
+            synchronized (isFirst ? other.slot : slot) {
+                expectOpen();
+                other.expectOpen();
+                isCutOff = true;
+                int code = Calls.asm_unite(slot.at, other.slot.at);
+                if (code == FolugbenException.DONE)
+                    size += other.size;
+                isCutOff = false;
+                FolugbenException.expect(code);
+            }
+        }
+        return this;
+    }
+
     private Move number(PreparedLocation at, int verb, long number, long amount) {
         return plain(at, verb, Room.NUM, number, amount);
     }

@@ -44,7 +44,7 @@ public sealed class Step implements AutoCloseable permits SharedStep {
         slot = agent.slot.takeStep(this);
         boolean isBegun = false;
         try {
-            agent.expect(Calls.asm_begin(agent.slot.at, slot.at, room.numbers()));
+            agent.expect(agent.slot.begin(slot));
             number = room.number(0);
             before = agent.before();
             isBegun = true;
@@ -138,6 +138,15 @@ public sealed class Step implements AutoCloseable permits SharedStep {
     /** The same of one location. */
     public Value get(Location location) {
         return get(List.of(Objects.requireNonNull(location, "location"))).get(0);
+    }
+
+    /**
+     * The number there.
+     *
+     * @throws IllegalStateException if the value is no number
+     */
+    public long getNumber(Location location) {
+        return get(location).asLong();
     }
 
     /**

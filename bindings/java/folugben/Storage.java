@@ -2,6 +2,7 @@ package folugben;
 
 import java.io.IOException;
 import java.io.UncheckedIOException;
+import java.lang.ref.WeakReference;
 import java.nio.ByteBuffer;
 import java.nio.file.Files;
 import java.nio.file.Path;
@@ -30,6 +31,9 @@ public final class Storage implements AutoCloseable {
 
     /** Those that were made and not given back, by their numbers; with the lock of the slot. */
     private final Agent[] agents = new Agent[AGENTS];
+
+    /** The agent that each thread has played last. */
+    private final ThreadLocal<WeakReference<Agent>> last = new ThreadLocal<>();
 
     private Storage(Path path) {
         this.path = path;
@@ -125,6 +129,15 @@ public final class Storage implements AutoCloseable {
             agents[number] = agent;
         }
         return agent;
+    }
+
+    /** Notes that an agent is about to look on; the one that did so last on this thread. */
+    Agent plays(Agent agent) {
+        WeakReference<Agent> before = last.get();
+        if (before == agent.weak)
+            return null;
+        last.set(agent.weak);
+        return before == null ? null : before.get();
     }
 
     /** What is expected of the code of a call on it, with its lock. */
@@ -257,7 +270,7 @@ public final class Storage implements AutoCloseable {
         Storage next = new Storage((Path) null);
         synchronized (agent.slot) {
             synchronized (next.slot) {
-                int code = Calls.asm_go_on(agent.slot.at, capacity, next.slot.at);
+                int code = agent.slot.goOn(capacity, next.slot);
                 agent.expect(code);
             }
         }

@@ -226,6 +226,7 @@ public final class Test {
         OddTests.all();
         AuditTests.all();
         TurnTests.all();
+        TakeTests.all();
         JournalTests.all();
         ExploreTests.all();
         RunTests.all();
