@@ -63,6 +63,9 @@ public final class Agent implements Actor {
         takeState();
         synchronized (slot) {
             int code = slot.read(call);
+            if (code == FolugbenException.MANY)
+                throw ManyException.places(
+                        JsonReader.locations(locations).size(), "locations are read");
             FolugbenException.expectRead(held(code), Storage.Form.LOCATIONS, call);
             vain++;
             String told = lastAnswer();
@@ -167,6 +170,10 @@ public final class Agent implements Actor {
             int code = slot.fireOver(both, call.length);
             if (code == FolugbenException.NOT_JSON || code == FolugbenException.SHAPE)
                 FolugbenException.expectFire(code, call);
+            if (code == FolugbenException.MANY)
+                throw ManyException.places(
+                        JsonReader.reads(reads).size() + JsonReader.scans(scans).size(),
+                        "locations and scanned functions are named");
             if (code == FolugbenException.RANGE)
                 throw FolugbenException.ahead(reads, scans, Calls.asm_seen(slot.at));
             Reply reply = reply(code, false);
@@ -199,6 +206,11 @@ public final class Agent implements Actor {
             default -> expect(code);
         }
         return new Reply(code, move, from, to, answer, isOfStep, chain != null);
+    }
+
+    /** Whether it is one of a run. */
+    boolean isOfRun() {
+        return chain != null;
     }
 
     /** Has the agent be one of this part of a run. */
@@ -408,6 +420,8 @@ public final class Agent implements Actor {
             }
             if (told.code() == FolugbenException.STALE)
                 return new Reply(told.code(), 0, 0, 0, told.text());
+            if (told.code() == FolugbenException.MANY)
+                throw ManyException.places(JsonReader.reads(reads).size(), "locations are named");
             if (told.code() == FolugbenException.RANGE)
                 throw FolugbenException.ahead(reads, Calls.asm_seen(slot.at));
             FolugbenException.expectReads(held(told.code()), reads);

@@ -16,7 +16,7 @@ import java.util.Objects;
  * try (PreparedLocation count = Location.of("count").prepare(); Move move = new Move()) {
  *     try (Step step = agent.step()) {
  *         step.push(move.clear().put(count, step.getNumber(count) + 1));
- *         step.fire(); // throws a RetryException where another step is to be begun
+ *         step.commit(); // throws a ConflictException where another step is to be begun
  *     }
  * }
  * }</pre>
@@ -33,6 +33,8 @@ public final class Move implements AutoCloseable {
     final Slot slot = new Slot();
 
     private int size;
+    /** How many bytes its instructions have about, which a step that it is pushed to counts. */
+    long bytes;
     private boolean isClosed;
     /** Whether a thread was stopped, or out of stack, where it isn't known if it instructed. */
     boolean isCutOff;
@@ -69,6 +71,7 @@ public final class Move implements AutoCloseable {
     private void drop() {
         Calls.asm_free(slot.at);
         size = 0;
+        bytes = 0;
         isCutOff = false;
     }
 
@@ -233,7 +236,9 @@ public final class Move implements AutoCloseable {
                 int code = Calls.asm_unite(slot.at, other.slot.at);
                 if (code == FolugbenException.DONE)
                     size += other.size;
+                bytes += other.bytes;
                 isCutOff = false;
+                ManyException.expectMove(code, "both moves together");
                 FolugbenException.expect(code);
             }
         }
@@ -270,7 +275,7 @@ public final class Move implements AutoCloseable {
             expectOpen();
             synchronized (at.slot) {
                 isCutOff = true;
-                took(at, Calls.asm_instruct(
+                took(at, 0, Calls.asm_instruct(
                         slot.at, at.slot.at, verb, kind, number, 0, 0, (int) amount));
             }
         }
@@ -288,7 +293,7 @@ public final class Move implements AutoCloseable {
             expectOpen();
             synchronized (at.slot) {
                 isCutOff = true;
-                took(at, Calls.asm_instruct(slot.at, at.slot.at, verb, kind, 0, bytes,
+                took(at, bytes.length, Calls.asm_instruct(slot.at, at.slot.at, verb, kind, 0, bytes,
                         bytes.length, (int) amount));
             }
         }
@@ -307,10 +312,12 @@ public final class Move implements AutoCloseable {
     }
 
     /** Counts the instruction, if the code says that it was taken. */
-    private void took(PreparedLocation at, int code) {
+    private void took(PreparedLocation at, int operand, int code) {
         if (code == FolugbenException.DONE)
             size++;
+        this.bytes += at.length() + operand;
         isCutOff = false;
+        ManyException.expectMove(code, "the move");
         at.expect(code);
     }
 }

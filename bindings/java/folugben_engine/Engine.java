@@ -24,7 +24,7 @@ public final class Engine {
         try (Step step = actor.step()) {
             if (!program.rule().play(step))
                 return false;
-            Agent.Reply reply = step.tryFire();
+            Agent.Reply reply = step.tryCommit();
             if (!reply.shouldRetry()) // else others were quicker, and the next step sees what they did
                 reply.orThrow();
         } catch (PartException over) {

@@ -175,7 +175,7 @@ final class ObjectTests {
                 Map<Location, Value> left = new TreeMap<>(state);
                 left.putAll(Moves.aggregate(state, Moves.compose(first, second)));
                 equal(seen, places.stream().map(place -> at(left, place)).toList());
-                equal(step.tryFire().orThrow(), 1);
+                equal(step.tryCommit().orThrow(), 1);
                 agent.follow();
                 equal(agent.peek(places), new Reading(1, places, seen));
                 composed++;

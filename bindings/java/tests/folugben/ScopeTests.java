@@ -65,12 +65,12 @@ final class ScopeTests {
                 step.get(COUNT);
                 put(rival, 1);
                 step.push(put(2));
-                FolugbenException stale = refused(FolugbenException.STALE, step::fire);
-                equal(stale instanceof RetryException, true);
+                FolugbenException stale = refused(FolugbenException.STALE, step::commit);
+                equal(stale instanceof ConflictException, true);
             }
             try (Step step = agent.step()) {
                 step.push(put(2));
-                equal(step.fire(), 2);
+                equal(step.commit(), 2);
             }
             refused(FolugbenException.STALE,
                     () -> rival.fire(List.of(put(3)), List.of(new Named(COUNT, 1))));

@@ -4,6 +4,7 @@ import static folugben.Checks.equal;
 import static folugben.Checks.refused;
 import static folugben.Checks.thrown;
 
+import java.time.Duration;
 import java.util.ArrayList;
 import java.util.List;
 import java.util.Map;
@@ -71,7 +72,7 @@ final class TakeTests {
                     step.push(gathered);
                 else
                     step.push(move);
-                step.fire();
+                step.commit();
                 agent.follow();
                 told.add(agent.state().pairs());
             }
@@ -112,7 +113,7 @@ final class TakeTests {
                 equal(step.get(X), Value.of(8));
                 equal(step.get(Y), Value.of(null));
                 step.push(Instruction.put(Location.of("z"), 1));
-                step.fire();
+                step.commit();
             }
             agents.forEach(Agent::close);
             Storage.check(storage.closeJournal());
@@ -157,9 +158,96 @@ final class TakeTests {
                     });
                 }
                 return;
-            } catch (MovedException | RetryException again) {
+            } catch (MovedException | ConflictException again) {
                 // Another thread has played this agent, or another agent was quicker.
             }
+    }
+
+    /** A play may be bounded; one that pushes nothing fires nothing. */
+    private static void playsHaveBounds() {
+        try (Storage storage = Storage.open(Map.of(X, 0), 100); Agent one = storage.agent(0);
+                Agent rival = storage.agent(1)) {
+            Actor.Played<Value> idle = one.play(step -> step.get(X));
+            equal(idle.told(), Value.of(0));
+            equal(idle.isFired(), false);
+            equal(storage.moves(), 0);
+            int[] tries = new int[1];
+            Actor.Rule<Object, RuntimeException> spoiled = step -> {
+                tries[0]++;
+                long there = step.getNumber(X);
+                rival.fire(List.of(Instruction.put(X, there + 1)), List.of());
+                step.push(Instruction.put(X, -1));
+                return null;
+            };
+            refused(FolugbenException.STALE, () -> one.play(spoiled, 3, Duration.ofDays(1)));
+            equal(tries[0], 3);
+            refused(FolugbenException.STALE, () -> one.play(spoiled, 1000, Duration.ZERO));
+            equal(tries[0], 4);
+            Actor.Played<Object> played = one.play(step -> {
+                if (tries[0]++ < 6)
+                    rival.fire(List.of(Instruction.inc(X, 1)), List.of());
+                step.push(Instruction.put(Y, step.get(X)));
+                return null;
+            }, 5, Duration.ofDays(1));
+            equal(played.retries(), 2);
+            equal(played.isFired(), true);
+            thrown(IllegalArgumentException.class, "a number of tries is 1 or more, and not 0",
+                    () -> one.play(spoiled, 0, Duration.ZERO));
+        }
+    }
+
+    /** A clash at the commit is a conflict, and one of a push or of a fire is none. */
+    private static void conflictsAreOneException() {
+        Location bag = Location.of("b");
+        try (Storage storage = Storage.open(Map.of(bag, Map.of("e", 1)), 10);
+                Agent one = storage.agent(0); Agent rival = storage.agent(1);
+                Step step = one.step()) {
+            ClashException push = (ClashException) refused(FolugbenException.CLASH,
+                    () -> step.push(Instruction.put(X, 1), Instruction.put(X, 2)));
+            equal(push.at(), X);
+            step.push(Instruction.bagRemove(bag, "e", 1));
+            rival.fire(List.of(Instruction.bagRemove(bag, "e", 1)), List.of());
+            CommitClashException commit =
+                    (CommitClashException) refused(FolugbenException.CLASH, step::commit);
+            equal(commit.at(), bag);
+            equal(commit.cause(), Cause.SHORT);
+            equal(step.tryCommit().shouldRetry(), true);
+            refused(FolugbenException.CLASH,
+                    () -> rival.fire(List.of(Instruction.put(X, 1), Instruction.put(X, 2)), List.of()));
+        }
+    }
+
+    /** What is beyond a limit says which, and how many there are. */
+    private static void limitsAreNamed() {
+        List<Location> many = new ArrayList<>();
+        for (int i = 0; i < 257; i++) many.add(Location.of("x", i));
+        List<Named> reads = many.stream().map(it -> new Named(it, 0)).toList();
+        try (Storage storage = Storage.open(Map.of(X, 0), 10); Agent agent = storage.agent(0);
+                Step step = agent.step(); Move full = new Move()) {
+            saying("257 locations are read, at most 256", () -> agent.read(many));
+            saying("257 locations and scanned functions are named, at most 256",
+                    () -> agent.fire(List.of(), reads.subList(0, 256), List.of(new Scanned("f", 0))));
+            saying("257 locations are named, at most 256", () -> agent.stands(reads));
+            saying("the step would rest on more than 256 locations and functions", () -> step.get(many));
+            for (int i = 0; i < 4096; i++) full.gather(Instruction.put(Location.of("y", i), 1));
+            saying("the move would have more than 4,096 instructions",
+                    () -> full.gather(Instruction.inc(X, 1)));
+            step.push(full);
+            saying("the one move of all that are pushed would have more than 4,096 instructions",
+                    () -> step.push(Instruction.put(Y, 1)));
+            saying("lists nest at most 8 deep", () -> step.push(
+                    "[[\"put\",[\"x\"]," + "{\"list\":[".repeat(90) + "]}".repeat(90) + "]]"));
+        }
+    }
+
+    private static void saying(String said, Runnable call) {
+        try {
+            call.run();
+        } catch (FolugbenException told) {
+            equal(told.getMessage().contains(said) ? said : told.getMessage(), said);
+            return;
+        }
+        throw new IllegalStateException("not refused: " + said);
     }
 
     /** Prints the microseconds of a move of so many agents that one thread plays by turns. */
@@ -175,7 +263,7 @@ final class TakeTests {
                         for (Agent agent : agents)
                             try (Step step = agent.step()) {
                                 step.push(move.clear().put(at, step.getNumber(at) + 1));
-                                step.tryFire().orThrow();
+                                step.tryCommit().orThrow();
                             }
                     long took = System.nanoTime() - begin;
                     System.out.printf("%d agents: %.2f us%n", count, took / 1000.0 / (rounds * count));
@@ -189,6 +277,9 @@ final class TakeTests {
         instructionsAreGathered();
         agentsOfOneThreadGoOnFromEachOther();
         threadsMayPlayTheSameAgents();
+        playsHaveBounds();
+        conflictsAreOneException();
+        limitsAreNamed();
         System.out.println("turns of one thread");
     }
 }

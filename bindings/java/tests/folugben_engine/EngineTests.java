@@ -72,7 +72,7 @@ public final class EngineTests {
         try (Storage storage = Storage.open(INIT, 10); Agent agent = storage.agent(0)) {
             try (Step step = agent.step()) {
                 rule.play(step);
-                step.fire();
+                step.commit();
             }
             agent.follow();
             return new ArrayList<>(agent.peek(List.of(places)).values());
@@ -171,7 +171,7 @@ public final class EngineTests {
             rule.play(step);
             equal(step.depth(), 1);
             rival.fire(List.of(Instruction.put(COUNT, "no number")), List.of());
-            Agent.Reply reply = step.tryFire();
+            Agent.Reply reply = step.tryCommit();
             equal(reply.kind(), Code.STALE);
             equal(reply.at(), COUNT);
         }
