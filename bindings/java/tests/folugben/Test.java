@@ -157,7 +157,7 @@ public final class Test {
                 other.learn(agent);
                 try (Step step = agent.step()) {
                     step.push("[]");
-                    step.tryFire();
+                    step.tryCommit();
                 }
                 agent.give();
                 other.give();
@@ -227,6 +227,7 @@ public final class Test {
         AuditTests.all();
         TurnTests.all();
         TakeTests.all();
+        ConformanceTests.all();
         JournalTests.all();
         ExploreTests.all();
         RunTests.all();
