@@ -528,6 +528,15 @@ public final class Agent implements Actor {
             abandon();
     }
 
+    /** Such as agent 3, at 7 moves. */
+    @Override
+    public String toString() {
+        synchronized (slot) {
+            return "agent " + number
+                    + (slot.isFull() ? ", at " + (before() + Calls.asm_seen(slot.at)) + " moves" : ", given back");
+        }
+    }
+
     /** Its storage. */
     Storage storage() {
         return storage;

@@ -289,11 +289,6 @@ public sealed class FolugbenException extends RuntimeException
         expect(code, said, number);
     }
 
-    /** The exception for a number that is out of its range. */
-    static FolugbenException outOfRange(String said) {
-        return of(RANGE, 0, said, "");
-    }
-
     /** The exception for what is closed, as is said. */
     static FolugbenException closed(String said) {
         return of(EMPTY, 0, said, "");

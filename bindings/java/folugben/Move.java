@@ -59,6 +59,14 @@ public final class Move implements AutoCloseable {
         return this;
     }
 
+    /** Such as a move of 3 instructions. */
+    @Override
+    public String toString() {
+        synchronized (slot) {
+            return isClosed ? "a move, closed" : "a move of " + size + " instructions";
+        }
+    }
+
     /** Releases it. */
     @Override
     public void close() {

@@ -247,6 +247,12 @@ public final class RunAgent implements Actor {
         return whereOpen(agent -> part.before() + agent.seen());
     }
 
+    /** Such as agent 3 of the run in bank.run, 7 moves saved. */
+    @Override
+    public String toString() {
+        return "agent " + number + " of " + run + (isClosed() ? ", closed" : "");
+    }
+
     boolean isClosed() {
         synchronized (lock) {
             return isClosed;

@@ -558,6 +558,15 @@ public sealed class Step implements AutoCloseable permits SharedStep {
         return code;
     }
 
+    /** Such as a step of agent 3 at 7, 2 moves pushed. */
+    @Override
+    public String toString() {
+        synchronized (agent.slot) {
+            String what = "a step of agent " + agent.number() + " at " + (before() + number);
+            return isOver() ? what + ", over" : what + ", " + Calls.asm_depth(slot.at) + " moves pushed";
+        }
+    }
+
     /** Abandons the step, unless it is over. */
     @Override
     public void close() {

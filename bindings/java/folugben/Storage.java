@@ -48,7 +48,11 @@ public final class Storage implements AutoCloseable {
         begin(init, capacity);
     }
 
-    /** A storage with the opening state [PAIR, ..], for 1 to 1,048,576 moves. */
+    /**
+     * A storage with the opening state [PAIR, ..], for 1 to 1,048,576 moves.
+     *
+     * @throws IllegalArgumentException for another capacity
+     */
     public Storage(String init, int capacity) {
         this((Path) null);
         begin(init, capacity);
@@ -80,7 +84,7 @@ public final class Storage implements AutoCloseable {
 
     static void expectCapacity(int capacity) {
         if (capacity < 1 || capacity > CAPACITY)
-            throw FolugbenException.outOfRange("a capacity is 1 to 1,048,576, not " + capacity);
+            throw new IllegalArgumentException("a capacity is 1 to 1,048,576, not " + capacity);
     }
 
     /**
@@ -94,10 +98,15 @@ public final class Storage implements AutoCloseable {
 
     static void expectNumber(int number) {
         if (number < 0 || number >= AGENTS)
-            throw FolugbenException.outOfRange("agent " + number + ": numbers are 0 to 255");
+            throw new IllegalArgumentException("agent " + number + ": numbers are 0 to 255");
     }
 
-    /** An agent with this number, 0 to 255, of which none was made before. */
+    /**
+     * An agent with this number, 0 to 255, of which none was made before.
+     *
+     * @throws IllegalArgumentException for another number
+     * @throws FolugbenException NUMBER if one was made before
+     */
     public Agent agent(int number) {
         expectNumber(number);
         Agent agent = new Agent(this, number);
@@ -295,6 +304,14 @@ public final class Storage implements AutoCloseable {
             } finally {
                 Calls.asm_free(slot.at);
             }
+        }
+    }
+
+    /** Such as a storage, 3 moves. */
+    @Override
+    public String toString() {
+        synchronized (slot) {
+            return slot.isFull() ? "a storage, " + moves() + " moves" : "a storage, closed";
         }
     }
 

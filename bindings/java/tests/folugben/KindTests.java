@@ -102,7 +102,7 @@ final class KindTests {
         try (Storage storage = Storage.open(INIT, 8); Agent agent = storage.agent(0)) {
             equal(agent.tryFire("[]", "[]").kind(), Code.DONE);
             equal(agent.tryFire(List.of(Instruction.add(X, 2)), List.of()).kind(), Code.CLASH);
-            equal(refused(FolugbenException.RANGE, () -> storage.agent(-1)).kind(), Code.RANGE);
+            equal(refused(FolugbenException.RANGE, () -> agent.fire("[]", "[[[\"x\"],9]]")).kind(), Code.RANGE);
         }
     }
 

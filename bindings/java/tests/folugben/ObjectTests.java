@@ -1,6 +1,7 @@
 package folugben;
 
 import static folugben.Checks.equal;
+import static folugben.Checks.outOfRange;
 import static folugben.Checks.refused;
 import static folugben.Checks.refusedAt;
 import static folugben.Checks.refusedValue;
@@ -225,7 +226,7 @@ final class ObjectTests {
         int shape = FolugbenException.SHAPE;
         refusedAt(shape, 0, ": a location stands twice",
                 () -> Storage.open(List.of(Pair.of(X, 1), Pair.of(Y, 1), Pair.of(X, 1)), 8));
-        refused(FolugbenException.RANGE, () -> Storage.open(Map.of(), 0));
+        outOfRange(() -> Storage.open(Map.of(), 0));
         refusedValue("no element: 0.5 (java.lang.Double)", () -> Storage.open(Map.of(X, 0.5), 8));
         try (Storage storage = Storage.open(List.of(), 8); Agent agent = storage.agent(0);
                 Step step = agent.step()) {

@@ -1,6 +1,7 @@
 package folugben;
 
 import static folugben.Checks.equal;
+import static folugben.Checks.outOfRange;
 import static folugben.Checks.refused;
 import static folugben.Checks.refusedAt;
 import static folugben.Checks.thrown;
@@ -330,7 +331,7 @@ final class RunTests {
             RunAgent agent = run.agent(7);
             count(agent);
             refusedAt(FolugbenException.NUMBER, 0, ": agent 7", () -> run.agent(7));
-            refused(FolugbenException.RANGE, () -> run.agent(256));
+            outOfRange(() -> run.agent(256));
             agent.close();
             agent.close();
             equal(refused(FolugbenException.EMPTY, agent::step).getMessage(),
@@ -375,9 +376,9 @@ final class RunTests {
         thrown(kind, "path", () -> Run.open(Map.of(), null));
         thrown(kind, "init", () -> Run.open((Map<Location, ?>) null, path));
         thrown(kind, "path", () -> Run.resume(null));
-        refused(FolugbenException.RANGE, () -> open(path, 0));
+        outOfRange(() -> open(path, 0));
         thrown(kind, "check", () -> Run.resume(path, null));
-        refused(FolugbenException.RANGE, () -> Run.resume(path, 1_048_577));
+        outOfRange(() -> Run.resume(path, 1_048_577));
         refused(FolugbenException.NOT_JSON, () -> Run.open("[", path, 5, 9));
         equal(Files.exists(path), false);
         try (Run run = open(path, 5); RunAgent agent = run.agent(0)) {

@@ -3,6 +3,7 @@ package folugben;
 import static folugben.Checks.equal;
 import static folugben.Checks.refused;
 import static folugben.Checks.refusedAt;
+import static folugben.Checks.refusedValue;
 import static folugben.Checks.thrown;
 
 import java.io.IOException;
@@ -131,12 +132,11 @@ final class ScopeTests {
     }
 
     static void numbersAreToldByTheirRange() {
-        int range = FolugbenException.RANGE;
-        refusedAt(range, 0, ": a capacity is 1 to 1,048,576, not 0", () -> new Storage("[]", 0));
+        refusedValue("a capacity is 1 to 1,048,576, not 0", () -> new Storage("[]", 0));
         try (Storage storage = open()) {
-            refusedAt(range, 0, ": agent 256: numbers are 0 to 255", () -> storage.agent(256));
-            refusedAt(range, 0, ": agent -1: numbers are 0 to 255", () -> storage.agent(-1));
-            refusedAt(range, 0, ": a capacity is 1 to 1,048,576, not 1048577", () -> storage.next(1_048_577));
+            refusedValue("agent 256: numbers are 0 to 255", () -> storage.agent(256));
+            refusedValue("agent -1: numbers are 0 to 255", () -> storage.agent(-1));
+            refusedValue("a capacity is 1 to 1,048,576, not 1048577", () -> storage.next(1_048_577));
         }
     }
 

@@ -1,6 +1,7 @@
 package folugben;
 
 import static folugben.Checks.equal;
+import static folugben.Checks.outOfRange;
 import static folugben.Checks.refused;
 import static folugben.Checks.refusedAt;
 
@@ -371,7 +372,7 @@ final class StepTests {
             agent.give();
         }
         String left = Storage.replay(storage.closeJournal());
-        refused(FolugbenException.RANGE, () -> storage.next(0));
+        outOfRange(() -> storage.next(0));
         try (Storage next = storage.next(1); Agent agent = next.agent(0)) {
             storage.close();
             refused(FolugbenException.EMPTY, () -> storage.next(1));
