@@ -1,5 +1,6 @@
 package folugben;
 
+import java.time.Duration;
 import java.util.List;
 import java.util.SortedMap;
 
@@ -15,18 +16,43 @@ public sealed interface Actor extends AutoCloseable permits Agent, RunAgent, Sha
     Step step();
 
     /**
-     * Begins a step, plays the rule on it and fires it, and begins again where other agents were
+     * Begins a step, plays the rule on it and commits it, and begins again where other agents were
      * quicker. Between tries in vain other threads run, and after some it waits for up to a
      * millisecond.
      *
-     * <p>What the rule throws ends it, and nothing is fired.
+     * <p>A rule that pushes nothing fires nothing, and {@link Played#isFired} tells so. What the
+     * rule throws ends it, and nothing is fired.
      *
+     * @param <T> what the rule tells
+     * @param <X> what the rule throws
+     * @param rule what is played on each step
+     * @return the number of the move, what the rule told, and how often it was begun again
      * @throws X as the rule
-     * @throws FolugbenException as a {@link FullException} or {@link ManyException} of the fire
+     * @throws FolugbenException as a {@link FullException} or {@link ManyException} of the commit
      * @throws RunException if the run has ended
      */
     default <T, X extends Exception> Played<T> play(Rule<T, X> rule) throws X {
-        return Plays.play(this, rule);
+        return Plays.play(this, rule, Integer.MAX_VALUE, Plays.FOR_EVER);
+    }
+
+    /**
+     * The same with so many tries at most, of which none begins so long after the first one.
+     *
+     * @param <T> what the rule tells
+     * @param <X> what the rule throws
+     * @param rule what is played on each step
+     * @param tries how many steps are begun at most
+     * @param timeout how long further ones are begun
+     * @return the same
+     * @throws X as the rule
+     * @throws ConflictException of the last try
+     * @throws IllegalArgumentException if the number of tries isn't above 0
+     */
+    default <T, X extends Exception> Played<T> play(Rule<T, X> rule, int tries, Duration timeout)
+            throws X {
+        if (tries < 1)
+            throw new IllegalArgumentException("a number of tries is 1 or more, and not " + tries);
+        return Plays.play(this, rule, tries, timeout);
     }
 
     /** Has its own state follow all moves that are found; how many it has then seen. */
@@ -59,10 +85,15 @@ public sealed interface Actor extends AutoCloseable permits Agent, RunAgent, Sha
     }
 
     /**
-     * The number of the move that was fired, from 1 up, what the rule told, and how often it was
-     * begun again.
+     * The number of the move that was fired, from 1 up, or 0 where the rule pushed nothing; what the
+     * rule told; and how often it was begun again.
      */
-    record Played<T>(long move, T told, int retries) {}
+    record Played<T>(long move, T told, int retries) {
+        /** Whether a move was fired. */
+        public boolean isFired() {
+            return move != 0;
+        }
+    }
 
     /** The value of a prepared location after so many moves. */
     record Peeked(long number, Value value) {}
@@ -140,8 +171,9 @@ public sealed interface Actor extends AutoCloseable permits Agent, RunAgent, Sha
          * The number of the move that was fired, from 1 up; 0 of reads that stand.
          *
          * @throws FolugbenException as a {@link StaleException}, {@link ClashException}, {@link
-         *         FullException} or {@link BusyException} where it is another reply; of a run as a
-         *         {@link PartException} for a {@link FullException}
+         *         FullException} or {@link BusyException} where it is another reply; of a step as a
+         *         {@link CommitClashException} for a {@link ClashException}; of a run as a {@link
+         *         PartException} for a {@link FullException}
          */
         public long orThrow() {
             if (code != FolugbenException.DONE)

@@ -1,5 +1,6 @@
 package folugben;
 
+import java.lang.ref.WeakReference;
 import java.util.List;
 import java.util.Objects;
 
@@ -15,6 +16,8 @@ public final class Agent implements Actor {
     /** The agent's slot, and the lock of the calls on it and on its steps. */
     final AgentSlot slot = new AgentSlot();
 
+    /** By which its storage knows it without keeping it. */
+    final WeakReference<Agent> weak = new WeakReference<>(this);
     private final Room room = slot.room;
     private final Storage storage;
     private final int number;
@@ -57,9 +60,12 @@ public final class Agent implements Actor {
     public String read(String locations) {
         Player player = Player.look(this);
         byte[] call = Texts.utf8(locations, "locations");
+        takeState();
         synchronized (slot) {
-            int code = room.make(call,
-                    (text, out, length, written) -> Calls.asm_read(slot.at, text, call.length));
+            int code = slot.read(call);
+            if (code == FolugbenException.MANY)
+                throw ManyException.places(
+                        JsonReader.locations(locations).size(), "locations are read");
             FolugbenException.expectRead(held(code), Storage.Form.LOCATIONS, call);
             vain++;
             String told = lastAnswer();
@@ -161,23 +167,19 @@ public final class Agent implements Actor {
         byte[] call = Texts.utf8(move, "the move");
         byte[] both = Texts.utf8(move + Texts.oneValue(scans, "scans"), "the move");
         synchronized (slot) {
-            int code = fireOver(both, call.length);
+            int code = slot.fireOver(both, call.length);
             if (code == FolugbenException.NOT_JSON || code == FolugbenException.SHAPE)
                 FolugbenException.expectFire(code, call);
+            if (code == FolugbenException.MANY)
+                throw ManyException.places(
+                        JsonReader.reads(reads).size() + JsonReader.scans(scans).size(),
+                        "locations and scanned functions are named");
             if (code == FolugbenException.RANGE)
                 throw FolugbenException.ahead(reads, scans, Calls.asm_seen(slot.at));
             Reply reply = reply(code, false);
             player.fires(instructions, reads, scans, reply);
             return reply;
         }
-    }
-
-    /** The code of a fire of a move, whose text has so many bytes, over the scans behind it. */
-    int fireOver(byte[] both, int move) {
-        return room.make(both,
-                (text, out, length, written)
-                        -> Calls.asm_try_fire_over(slot.at, text, move, text + move,
-                                both.length - move, room.numbers()));
     }
 
     /** The code of a fire, FULL where it came too late for the part of a run. */
@@ -204,6 +206,11 @@ public final class Agent implements Actor {
             default -> expect(code);
         }
         return new Reply(code, move, from, to, answer, isOfStep, chain != null);
+    }
+
+    /** Whether it is one of a run. */
+    boolean isOfRun() {
+        return chain != null;
     }
 
     /** Has the agent be one of this part of a run. */
@@ -263,21 +270,45 @@ public final class Agent implements Actor {
 
     /** The same, which is no turn. */
     Step begin() {
+        takeState();
         synchronized (slot) {
             return new Step(this);
         }
     }
 
     /**
+     * Takes the state of the agent whose call on the storage was this thread's last one, if that
+     * waits for nothing in it: so that each move is followed about once, and not once for each of
+     * the agents that a thread plays by turns.
+     */
+    void takeState() {
+        Agent other = storage.plays(this);
+        if (other != null && other.number != number)
+            withBoth(other, () -> slot.takeState(other.slot));
+    }
+
+    /** Does something with the locks of both, which are taken in the order of their numbers. */
+    private void withBoth(Agent other, Runnable work) {
+        boolean isFirst = number < other.number;
+        synchronized (isFirst ? slot : other.slot) {
+            synchronized (isFirst ? other.slot : slot) {
+                work.run();
+            }
+        }
+    }
+
+    /**
      * Has the agent's own state follow all moves that are found; how many it has then seen. That
-     * state moves on only here and in read, fire, stands and step, and as a step is fired. No
-     * receipt is made: a look isn't in the journal.
+     * state moves on only here and in read, fire, stands and step, and as a step is fired; and where
+     * it is shown after another agent, that the same thread plays, went on from it: then it looks on
+     * first. No receipt is made: a look isn't in the journal.
      */
     @Override
     public long follow() {
         Player.look(this);
+        takeState();
         synchronized (slot) {
-            expect(Calls.asm_follow(slot.at, room.numbers()));
+            expect(slot.follow());
             return room.number(0);
         }
     }
@@ -291,10 +322,7 @@ public final class Agent implements Actor {
         Player player = Player.call(this);
         byte[] call = Texts.utf8(locations, "locations");
         synchronized (slot) {
-            Calls.Told told = room.told(call,
-                    (text, out, length, written)
-                            -> Calls.asm_peek(
-                                    slot.at, text, call.length, out, length, written));
+            Calls.Told told = slot.peek(call);
             FolugbenException.expectRead(held(told.code()), Storage.Form.LOCATIONS, call);
             player.reads(locations);
             player.hears(values(told.text()));
@@ -338,10 +366,7 @@ public final class Agent implements Actor {
     private void look(PreparedLocation location) {
         Objects.requireNonNull(location, "location");
         synchronized (location.slot) {
-            location.expect(held(room.make(
-                    (text, out, length, written)
-                            -> Calls.asm_peek_at(slot.at, location.slot.at, room.numbers(),
-                                    room.value(), out, length, written))));
+            location.expect(held(slot.peek(location)));
         }
     }
 
@@ -350,9 +375,7 @@ public final class Agent implements Actor {
     public State state() {
         Player player = Player.call(this);
         synchronized (slot) {
-            Calls.Told told = room.told(
-                    (text, out, length, written)
-                            -> Calls.asm_state(slot.at, room.numbers(), out, length, written));
+            Calls.Told told = slot.state();
             expect(told.code());
             player.readsAll();
             player.hears(told.text());
@@ -370,10 +393,7 @@ public final class Agent implements Actor {
         Player player = Player.call(this);
         byte[] bytes = Texts.utf8(name, "name");
         synchronized (slot) {
-            Calls.Told told = room.told(bytes,
-                    (text, out, length, written)
-                            -> Calls.asm_scan(slot.at, text, bytes.length, room.numbers(), out,
-                                    length, written));
+            Calls.Told told = slot.scan(bytes);
             expect(told.code());
             player.scans(name);
             player.hears(told.text());
@@ -393,16 +413,15 @@ public final class Agent implements Actor {
         Player player = Player.look(this);
         byte[] call = Texts.utf8(reads, "reads");
         synchronized (slot) {
-            Calls.Told told = room.told(call,
-                    (text, out, length, written)
-                            -> Calls.asm_stands(
-                                    slot.at, text, call.length, out, length, written));
+            Calls.Told told = slot.stands(call);
             if (told.code() == FolugbenException.STALE || told.code() == FolugbenException.DONE) {
                 player.readsNamed(reads);
                 player.hears(told.text());
             }
             if (told.code() == FolugbenException.STALE)
                 return new Reply(told.code(), 0, 0, 0, told.text());
+            if (told.code() == FolugbenException.MANY)
+                throw ManyException.places(JsonReader.reads(reads).size(), "locations are named");
             if (told.code() == FolugbenException.RANGE)
                 throw FolugbenException.ahead(reads, Calls.asm_seen(slot.at));
             FolugbenException.expectReads(held(told.code()), reads);
@@ -427,9 +446,7 @@ public final class Agent implements Actor {
 
     private String lastAnswer() {
         synchronized (slot) {
-            Calls.Told told = room.told(
-                    (text, out, length, written)
-                            -> Calls.asm_answer(slot.at, out, length, written));
+            Calls.Told told = slot.answer();
             expect(told.code());
             return told.text();
         }
@@ -453,16 +470,13 @@ public final class Agent implements Actor {
         Objects.requireNonNull(other, "other");
         if (other.storage != storage)
             FolugbenException.expect(FolugbenException.OTHER);
-        // Two agents that learn of each other at once would wait for each other without the first
-        // lock.
+        // Of two with one number, one of which was given back, the locks have no other order.
         synchronized (LEARNING) {
-            synchronized (slot) {
-                synchronized (other.slot) {
-                    int code = Calls.asm_learn(slot.at, other.slot.at);
-                    other.held(code);
-                    expect(code);
-                }
-            }
+            withBoth(other, () -> {
+                int code = Calls.asm_learn(slot.at, other.slot.at);
+                other.held(code);
+                expect(code);
+            });
         }
     }
 
@@ -512,6 +526,15 @@ public final class Agent implements Actor {
     public void close() {
         if (!storage.takesBack(this))
             abandon();
+    }
+
+    /** Such as agent 3, at 7 moves. */
+    @Override
+    public String toString() {
+        synchronized (slot) {
+            return "agent " + number
+                    + (slot.isFull() ? ", at " + (before() + Calls.asm_seen(slot.at)) + " moves" : ", given back");
+        }
     }
 
     /** Its storage. */

@@ -209,6 +209,12 @@ public final class Auditor implements AutoCloseable {
         return JsonReader.state(state());
     }
 
+    /** Such as an audit, Counts[parts=1, calls=3, moves=2]. */
+    @Override
+    public String toString() {
+        return "an audit, " + counts();
+    }
+
     /** Releases it. */
     @Override
     public void close() {

@@ -1,7 +1,7 @@
 package folugben;
 
 /** 64 offers were lost to other agents, though none wrote what is named; nothing was fired. */
-public final class BusyException extends RetryException {
+public final class BusyException extends ConflictException {
     private static final long serialVersionUID = 1;
 
     /** How many moves the agent had seen at the start of the call. */

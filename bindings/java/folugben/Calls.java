@@ -4,6 +4,7 @@ import com.sun.jna.Library;
 import com.sun.jna.Native;
 import com.sun.jna.NativeLibrary;
 
+import java.io.IOException;
 import java.nio.charset.StandardCharsets;
 import java.util.Map;
 
@@ -22,8 +23,8 @@ final class Calls {
 
     static {
         Class<?> own = Calls.class;
-        NativeLibrary library = NativeLibrary.getInstance(
-                libraryName(), Map.of(Library.OPTION_CLASSLOADER, own.getClassLoader()));
+        NativeLibrary library = library(libraryName(), "asm_version",
+                Map.of(Library.OPTION_CLASSLOADER, own.getClassLoader()));
         Native.register(own, library);
         Quick.forget(own, library.getOptions());
         Quick.forget(own, Native.getLibraryOptions(own));
@@ -32,6 +33,25 @@ final class Calls {
     }
 
     private Calls() {}
+
+    /**
+     * The library with a name. Where nothing says where it is, that of the jar goes before those of
+     * the system, if it is of the version that these classes were written for.
+     */
+    static NativeLibrary library(String name, String version, Map<String, Object> options) {
+        boolean isNamed = name.contains("/") || System.getProperty("jna.library.path") != null;
+        try {
+            if (!isNamed) {
+                String file = Native.extractFromResourcePath(name, Calls.class.getClassLoader()).getPath();
+                NativeLibrary found = NativeLibrary.getInstance(file, options);
+                if (found.getFunction(version).invokeInt(new Object[0]) == WRITTEN_FOR)
+                    return found;
+            }
+        } catch (IOException | UnsatisfiedLinkError error) {
+            // The jar has none.
+        }
+        return NativeLibrary.getInstance(name, options);
+    }
 
     /** The library's name or path: as folugben.library says, unless that is empty. */
     static String libraryName() {
@@ -115,6 +135,10 @@ final class Calls {
 
     static native int asm_extend_move(
             long agent, long step, long move, long out, long room, long written);
+
+    static native int asm_unite(long move, long other);
+
+    static native int asm_take_state(long agent, long other);
 
     static native int asm_seen(long agent);
 

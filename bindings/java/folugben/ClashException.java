@@ -1,8 +1,8 @@
 package folugben;
 
 /**
- * The updates of a move clash; nothing was fired or pushed. Those of a step that is fired do so
- * only with what another agent wrote since the step began: begin another step.
+ * The updates of a move clash, on what is seen where it is pushed; nothing was fired or pushed. What
+ * a step that is committed clashes with is a {@link CommitClashException}.
  */
 public final class ClashException extends FolugbenException {
     private static final long serialVersionUID = 1;

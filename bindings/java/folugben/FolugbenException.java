@@ -5,8 +5,8 @@ package folugben;
  * its numbers. Some codes have a class of their own, which tells more.
  */
 public sealed class FolugbenException extends RuntimeException
-        permits AuditException, ClashException, DeepException, FullException, LargeException,
-                ManyException, MovedException, RetryException {
+        permits AuditException, ClashException, ConflictException, DeepException, FullException,
+                LargeException, ManyException, MovedException {
     private static final long serialVersionUID = 1;
 
     /** The number of {@link Code#DONE}. */
@@ -61,6 +61,9 @@ public sealed class FolugbenException extends RuntimeException
     private static final String SCAN =
             "a scan is an array of a function's name and a number, from 0 to 4,294,967,295";
 
+    /** How deep brackets are nested in no text whose lists are within their limit. */
+    private static final int DEEPEST = 32;
+
     /** The number of its code. */
     private final int code;
     /** What the code counts; else 0. */
@@ -79,7 +82,7 @@ public sealed class FolugbenException extends RuntimeException
     /** The exception of a code without an answer, of its own class where it has one. */
     private static FolugbenException of(int code, long number, String said, String where) {
         return switch (code) {
-            case MANY -> new ManyException();
+            case MANY -> new ManyException(said);
             case DEEP -> new DeepException();
             case MOVED -> new MovedException();
             case LARGE -> new LargeException(said, null);
@@ -91,7 +94,8 @@ public sealed class FolugbenException extends RuntimeException
     static FolugbenException of(Agent.Reply reply) {
         return switch (reply.code()) {
             case STALE -> new StaleException(reply.answer());
-            case CLASH -> new ClashException(reply.answer());
+            case CLASH -> reply.isOfStep() ? new CommitClashException(reply.answer())
+                                           : new ClashException(reply.answer());
             case FULL -> reply.isOfRun() ? PartException.full() : new FullException();
             case BUSY -> new BusyException(reply.from(), reply.to());
             default -> of(reply.code(), 0, "", "");
@@ -251,7 +255,9 @@ public sealed class FolugbenException extends RuntimeException
     }
 
     private static String explain(Storage.Form form, String text) {
-        return Calls.explain(form, Texts.utf8(text, "text"));
+        String said = Calls.explain(form, Texts.utf8(text, "text"));
+        return Texts.depth(text) > DEEPEST
+                ? said + "; lists nest at most " + Element.MAX_DEPTH + " deep" : said;
     }
 
     /**
@@ -281,11 +287,6 @@ public sealed class FolugbenException extends RuntimeException
         boolean isLine = isMisread(code) && number > 1;
         String said = isLine ? Calls.explain(Storage.Form.EVENT, Texts.line(journal, number)) : "";
         expect(code, said, number);
-    }
-
-    /** The exception for a number that is out of its range. */
-    static FolugbenException outOfRange(String said) {
-        return of(RANGE, 0, said, "");
     }
 
     /** The exception for what is closed, as is said. */

@@ -1,6 +1,7 @@
 package folugben;
 
 import java.nio.charset.StandardCharsets;
+import java.util.List;
 import java.util.stream.Stream;
 
 /** How long the lines of a run's journals may be, so that an audit reads each of them. */
@@ -9,6 +10,9 @@ final class Lines {
     static final int LIMIT = Integer.getInteger("folugben.line", 16_777_216);
     /** What a line has at most besides its call and the location of its reply, or its state. */
     private static final int ROOM = 120;
+
+    /** Of a call of fewer bytes no line is too long, whatever its characters are escaped to. */
+    static final int SHORT = LIMIT / 16;
 
     private Lines() {}
 
@@ -25,6 +29,14 @@ final class Lines {
         long length = call.length + longest + ROOM;
         if (length > LIMIT)
             throw LargeException.line("the move", length);
+    }
+
+    /** The same of a move that rests on these reads. */
+    static void expectCall(List<Instruction> move, List<Named> reads) {
+        String call = "{\"fire\":" + JsonWriter.move(move, "instructions") + ",\"reads\":"
+                + JsonWriter.reads(reads) + "}";
+        if (call.length() > SHORT)
+            expectCall(Texts.utf8(call, "call"));
     }
 
     /** Expects that a journal may open with a state whose text has so many bytes. */

@@ -7,11 +7,24 @@ package folugben;
 public final class ManyException extends FolugbenException {
     private static final long serialVersionUID = 1;
 
-    ManyException() {
-        this("");
-    }
-
     ManyException(String said) {
         super(MANY, 0, said, "", null);
+    }
+
+    /** Of so many places, where at most 256 may be. */
+    static ManyException places(int count, String what) {
+        return new ManyException(count + " " + what + ", at most 256");
+    }
+
+    /** Of a step that would rest on too many. */
+    static void expectPlaces(int code) {
+        if (code == MANY)
+            throw new ManyException("the step would rest on more than 256 locations and functions");
+    }
+
+    /** Of a move that would have too many instructions. */
+    static void expectMove(int code, String what) {
+        if (code == MANY)
+            throw new ManyException(what + " would have more than 4,096 instructions");
     }
 }

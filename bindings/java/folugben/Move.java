@@ -16,7 +16,7 @@ import java.util.Objects;
  * try (PreparedLocation count = Location.of("count").prepare(); Move move = new Move()) {
  *     try (Step step = agent.step()) {
  *         step.push(move.clear().put(count, step.getNumber(count) + 1));
- *         step.fire(); // throws a RetryException where another step is to be begun
+ *         step.commit(); // throws a ConflictException where another step is to be begun
  *     }
  * }
  * }</pre>
@@ -33,6 +33,8 @@ public final class Move implements AutoCloseable {
     final Slot slot = new Slot();
 
     private int size;
+    /** How many bytes its instructions have about, which a step that it is pushed to counts. */
+    long bytes;
     private boolean isClosed;
     /** Whether a thread was stopped, or out of stack, where it isn't known if it instructed. */
     boolean isCutOff;
@@ -57,6 +59,14 @@ public final class Move implements AutoCloseable {
         return this;
     }
 
+    /** Such as a move of 3 instructions. */
+    @Override
+    public String toString() {
+        synchronized (slot) {
+            return isClosed ? "a move, closed" : "a move of " + size + " instructions";
+        }
+    }
+
     /** Releases it. */
     @Override
     public void close() {
@@ -69,6 +79,7 @@ public final class Move implements AutoCloseable {
     private void drop() {
         Calls.asm_free(slot.at);
         size = 0;
+        bytes = 0;
         isCutOff = false;
     }
 
@@ -196,6 +207,52 @@ public final class Move implements AutoCloseable {
         return number(at, INC, by, 0);
     }
 
+    /** Gathers an instruction, whose location is prepared for it alone. */
+    public Move gather(Instruction instruction) {
+        try (PreparedLocation at = instruction.location().prepare()) {
+            if (instruction instanceof Instruction.Put it)
+                return put(at, it.value());
+            if (instruction instanceof Instruction.Add it)
+                return add(at, it.element());
+            if (instruction instanceof Instruction.Remove it)
+                return remove(at, it.element());
+            if (instruction instanceof Instruction.BagAdd it)
+                return bagAdd(at, it.element(), it.amount());
+            if (instruction instanceof Instruction.BagRemove it)
+                return bagRemove(at, it.element(), it.amount());
+            return inc(at, ((Instruction.Inc) instruction).by());
+        }
+    }
+
+    /**
+     * Gathers the instructions of another move too, which stays as it is: this one then does what
+     * both do at once. One that both have counts twice.
+     *
+     * @throws IllegalArgumentException if it is this move
+     * @throws FolugbenException as a {@link ManyException} if both have more than 4,096 instructions
+     *         together, and nothing is gathered then; EMPTY if one is closed
+     */
+    public Move unite(Move other) {
+        if (Objects.requireNonNull(other, "other") == this)
+            throw new IllegalArgumentException("a move is united with another one, not with itself");
+        boolean isFirst = slot.at < other.slot.at; // so that no two wait for each other
+        synchronized (isFirst ? slot : other.slot) {
+            synchronized (isFirst ? other.slot : slot) {
+                expectOpen();
+                other.expectOpen();
+                isCutOff = true;
+                int code = Calls.asm_unite(slot.at, other.slot.at);
+                if (code == FolugbenException.DONE)
+                    size += other.size;
+                bytes += other.bytes;
+                isCutOff = false;
+                ManyException.expectMove(code, "both moves together");
+                FolugbenException.expect(code);
+            }
+        }
+        return this;
+    }
+
     private Move number(PreparedLocation at, int verb, long number, long amount) {
         return plain(at, verb, Room.NUM, number, amount);
     }
@@ -226,7 +283,7 @@ public final class Move implements AutoCloseable {
             expectOpen();
             synchronized (at.slot) {
                 isCutOff = true;
-                took(at, Calls.asm_instruct(
+                took(at, 0, Calls.asm_instruct(
                         slot.at, at.slot.at, verb, kind, number, 0, 0, (int) amount));
             }
         }
@@ -244,7 +301,7 @@ public final class Move implements AutoCloseable {
             expectOpen();
             synchronized (at.slot) {
                 isCutOff = true;
-                took(at, Calls.asm_instruct(slot.at, at.slot.at, verb, kind, 0, bytes,
+                took(at, bytes.length, Calls.asm_instruct(slot.at, at.slot.at, verb, kind, 0, bytes,
                         bytes.length, (int) amount));
             }
         }
@@ -263,10 +320,12 @@ public final class Move implements AutoCloseable {
     }
 
     /** Counts the instruction, if the code says that it was taken. */
-    private void took(PreparedLocation at, int code) {
+    private void took(PreparedLocation at, int operand, int code) {
         if (code == FolugbenException.DONE)
             size++;
+        this.bytes += at.length() + operand;
         isCutOff = false;
+        ManyException.expectMove(code, "the move");
         at.expect(code);
     }
 }

@@ -243,8 +243,8 @@ final class Noted extends Player {
 
     @Override
     void hears(FolugbenException thrown) {
-        if (thrown instanceof ClashException clash)
-            now.reads.add(clash.at());
+        if (thrown.code() == FolugbenException.CLASH)
+            now.reads.add(JsonReader.objection(thrown.answer()).at());
         if (thrown.code() == FolugbenException.FULL)
             readsAll();
         hears(thrown.code() + " " + thrown.answer());

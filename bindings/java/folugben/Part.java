@@ -54,10 +54,16 @@ final class Part implements Chained {
         endStep();
     }
 
-    /** Opens the next part with the state of the agent, which stands at all moves of this one. */
+    /**
+     * Opens the next part with the state of the agent, which stands at all moves of this one.
+     *
+     * @throws LargeException if that is too long for a line
+     */
     synchronized void passOn(Agent agent) {
-        if (!isOver)
-            open(agent.goOn(capacity), before + capacity);
+        if (isOver)
+            return;
+        Lines.expectState(Lines.bytes(agent.state().pairs()));
+        open(agent.goOn(capacity), before + capacity);
     }
 
     /** Opens the next part behind this one, which is at rest, and whose journal was closed. */

@@ -4,7 +4,7 @@ package folugben;
  * The part of a run is over in which a step was begun, or something was looked at; nothing was
  * fired. What was tried is to be begun anew, in the next part.
  */
-public final class PartException extends RetryException {
+public final class PartException extends ConflictException {
     private static final long serialVersionUID = 1;
 
     private PartException(int code, String said) {

@@ -1,5 +1,6 @@
 package folugben;
 
+import java.time.Duration;
 import java.util.Objects;
 import java.util.concurrent.locks.LockSupport;
 
@@ -9,20 +10,29 @@ final class Plays {
     private static final int TRIES_WITHOUT_WAIT = 8;
     private static final int LONGEST_WAIT = 10;
 
+    /** So long no play takes: 292 years. */
+    static final Duration FOR_EVER = Duration.ofNanos(Long.MAX_VALUE);
+
     private Plays() {}
 
-    static <T, X extends Exception> Actor.Played<T> play(Actor actor, Actor.Rule<T, X> rule)
-            throws X {
+    static <T, X extends Exception> Actor.Played<T> play(
+            Actor actor, Actor.Rule<T, X> rule, int most, Duration timeout) throws X {
         Objects.requireNonNull(rule, "rule");
+        boolean isTimed = timeout.compareTo(FOR_EVER) < 0;
+        long begin = isTimed ? System.nanoTime() : 0;
         for (int tries = 0;; tries++) {
+            boolean isLast = tries + 1 >= most;
             try (Step step = actor.step()) {
                 try {
                     T told = rule.play(step);
-                    Actor.Reply reply = step.tryFire();
-                    if (!reply.shouldRetry())
+                    if (step.isIdle())
+                        return new Actor.Played<>(0, told, tries);
+                    Actor.Reply reply = step.tryCommit();
+                    isLast |= isTimed && System.nanoTime() - begin >= timeout.toNanos();
+                    if (isLast || !reply.shouldRetry())
                         return new Actor.Played<>(reply.orThrow(), told, tries);
                 } catch (PartException over) {
-                    if (!step.isPast())
+                    if (isLast || !step.isPast())
                         throw over;
                 }
             }
@@ -32,6 +42,8 @@ final class Plays {
 
     /** Waits between tries in vain, of which there were so many before. */
     static void backOff(int tries) {
+        if (Turns.isPlayed())
+            return;
         if (tries < TRIES_WITHOUT_WAIT)
             Thread.yield();
         else

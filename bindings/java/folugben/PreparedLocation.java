@@ -27,6 +27,11 @@ public final class PreparedLocation implements AutoCloseable {
         text = location;
     }
 
+    /** How long its text is. */
+    int length() {
+        return text.length();
+    }
+
     /** What is expected of the code of a call on it and on other slots. */
     void expect(int code) {
         if (code == FolugbenException.EMPTY)

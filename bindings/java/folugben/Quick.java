@@ -26,7 +26,7 @@ final class Quick {
 
     private static NativeLibrary found() {
         try {
-            NativeLibrary found = NativeLibrary.getInstance(NAME,
+            NativeLibrary found = Calls.library(NAME, "folugben_quick_version",
                     Map.of(Library.OPTION_ALLOW_OBJECTS, true, Library.OPTION_CLASSLOADER,
                             Quick.class.getClassLoader()));
             forget(Quick.class, found.getOptions());

@@ -78,7 +78,7 @@ final class Replica {
         Agent applier = era.applier;
         synchronized (applier.slot) {
             int code;
-            do code = applier.fireOver(both, move.length);
+            do code = applier.slot.fireOver(both, move.length);
             while (code == FolugbenException.MEMORY);
             boolean isEvent = code == FolugbenException.DONE || code == FolugbenException.STALE
                     || code == FolugbenException.CLASH;

@@ -251,6 +251,12 @@ public final class Run implements AutoCloseable {
         return folder;
     }
 
+    /** Such as the run in bank.run, 7 moves saved. */
+    @Override
+    public String toString() {
+        return "the run in " + folder + ", " + saved() + " moves saved" + (isGoing() ? "" : ", ended");
+    }
+
     /** How many parts are on the disk. */
     public long parts() {
         return writer.parts();

@@ -105,12 +105,14 @@ public final class RunAgent implements Actor {
      *         is over: read again; as a {@link StaleException}, {@link BusyException} or {@link
      *         ClashException}; as a {@link ManyException}; RANGE if a number is above that of the
      *         moves that the agent has seen
+     * @throws LargeException if the move's line would be longer than an audit reads
      * @throws RunException if a part of the run couldn't be written
      */
     public long fire(List<? extends Instruction> instructions, List<Named> reads) {
         Player.call(this);
         List<Named> rests = Copies.of(reads, "reads");
         List<Instruction> move = Copies.of(instructions, "instructions");
+        Lines.expectCall(move, rests);
         return whereOpen(agent -> {
             if (part.isOverWith((int) agent.seen()))
                 return null;
@@ -243,6 +245,12 @@ public final class RunAgent implements Actor {
     @Override
     public long seen() {
         return whereOpen(agent -> part.before() + agent.seen());
+    }
+
+    /** Such as agent 3 of the run in bank.run, 7 moves saved. */
+    @Override
+    public String toString() {
+        return "agent " + number + " of " + run + (isClosed() ? ", closed" : "");
     }
 
     boolean isClosed() {

@@ -92,6 +92,7 @@ public final class SharedAgent implements Actor {
     @Override
     public Step step() {
         return now((agent, era) -> {
+            agent.takeState();
             synchronized (agent.slot) {
                 return new SharedStep(this, agent, era);
             }

@@ -46,7 +46,7 @@ final class SharedStep extends Step {
      * @throws UnknownException if whether the move was fired isn't known
      */
     @Override
-    public Agent.Reply tryFire() {
+    public Agent.Reply tryCommit() {
         String call = offerText();
         Lines.expectCall(Texts.utf8(call, "call"));
         Agent.Reply reply = shared.fire(era, call, scans());

@@ -1,7 +1,7 @@
 package folugben;
 
 /** A named location was written since it was read; nothing was fired. */
-public final class StaleException extends RetryException {
+public final class StaleException extends ConflictException {
     private static final long serialVersionUID = 1;
 
     StaleException(String answer) {

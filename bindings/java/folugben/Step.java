@@ -18,7 +18,7 @@ import java.util.SortedMap;
  *     long there = step.get(count).asLong();
  *     step.push(Instruction.put(count, there + 1));
  *     step.push(Instruction.put(twice, 2 * step.get(count).asLong())); // 2 * (there + 1)
- *     step.fire(); // throws a RetryException where another step is to be begun, as play does
+ *     step.commit(); // throws a ConflictException where another step is to be begun, as play does
  * }
  * }</pre>
  *
@@ -34,6 +34,9 @@ public sealed class Step implements AutoCloseable permits SharedStep {
     private final int number;
     private final long before;
 
+    /** How many bytes it was passed by now, of which a run's journal gets no more than some. */
+    private long size;
+
     /** The step's slot, until the step is over: the agent then has it for another. */
     private final AgentSlot.StepSlot slot;
 
@@ -44,7 +47,7 @@ public sealed class Step implements AutoCloseable permits SharedStep {
         slot = agent.slot.takeStep(this);
         boolean isBegun = false;
         try {
-            agent.expect(Calls.asm_begin(agent.slot.at, slot.at, room.numbers()));
+            agent.expect(agent.slot.begin(slot));
             number = room.number(0);
             before = agent.before();
             isBegun = true;
@@ -58,6 +61,13 @@ public sealed class Step implements AutoCloseable permits SharedStep {
         Turns.here().over(this);
         agent.slot.giveStep(slot, this);
         agent.endStep();
+    }
+
+    /** Whether it could be committed, and nothing was pushed. */
+    boolean isIdle() {
+        synchronized (agent.slot) {
+            return !isOver() && Calls.asm_depth(slot.at) == 0;
+        }
     }
 
     private boolean isOver() {
@@ -102,6 +112,7 @@ public sealed class Step implements AutoCloseable permits SharedStep {
     private Calls.Told told(Call call, byte[] text) {
         synchronized (agent.slot) {
             long step = slot().at;
+            size += text.length;
             Calls.Told told = room.told(text,
                     (at, out, length, written)
                             -> call.call(
@@ -141,6 +152,15 @@ public sealed class Step implements AutoCloseable permits SharedStep {
     }
 
     /**
+     * The number there.
+     *
+     * @throws IllegalStateException if the value is no number
+     */
+    public long getNumber(Location location) {
+        return get(location).asLong();
+    }
+
+    /**
      * What get tells, but nothing is got: the fire doesn't rest on it, and is done though another
      * agent has written there since. It is for what is told or shown, and for what the step doesn't
      * go by.
@@ -155,6 +175,7 @@ public sealed class Step implements AutoCloseable permits SharedStep {
         byte[] text = Texts.utf8(locations, "locations");
         Player player = Player.call(this);
         Calls.Told told = told(call, text);
+        ManyException.expectPlaces(told.code());
         FolugbenException.expectRead(told.code(), Storage.Form.LOCATIONS, text);
         player.reads(locations);
         player.hears(told.text());
@@ -235,10 +256,11 @@ public sealed class Step implements AutoCloseable permits SharedStep {
         Objects.requireNonNull(location, "location");
         long step = slot().at;
         synchronized (location.slot) {
-            location.expect(agent.held(room.make(
-                    (text, out, length, written)
-                            -> Calls.asm_get_at(agent.slot.at, step, location.slot.at,
-                                    room.value(), out, length, written))));
+            int code = room.make((text, out, length, written)
+                                         -> Calls.asm_get_at(agent.slot.at, step, location.slot.at,
+                                                 room.value(), out, length, written));
+            ManyException.expectPlaces(code);
+            location.expect(agent.held(code));
         }
         player.reads(location);
         player.hears(room);
@@ -256,6 +278,7 @@ public sealed class Step implements AutoCloseable permits SharedStep {
         byte[] text = Texts.utf8(name, "name");
         Player player = Player.call(this);
         Calls.Told told = told(Calls::asm_get_all, text);
+        ManyException.expectPlaces(told.code());
         FolugbenException.expect(told.code());
         player.stepScans(name);
         player.hears(told.text());
@@ -342,6 +365,7 @@ public sealed class Step implements AutoCloseable permits SharedStep {
         Player player = Player.call(this);
         Calls.Told told = told(call, text);
         FolugbenException.expectNoObjection(told);
+        ManyException.expectMove(told.code(), "the one move of all that are pushed");
         FolugbenException.expectMove(told.code(), move, "");
         player.pushes(this);
     }
@@ -360,6 +384,7 @@ public sealed class Step implements AutoCloseable permits SharedStep {
             long step = slot().at;
             synchronized (move.slot) {
                 move.expectOpen();
+                size += move.bytes;
                 told = move.size() == 0
                         ? told(textCall, NO_INSTRUCTIONS)
                         : room.told((text, out, length, written)
@@ -369,6 +394,7 @@ public sealed class Step implements AutoCloseable permits SharedStep {
             agent.held(told.code());
         }
         FolugbenException.expectNoObjection(told);
+        ManyException.expectMove(told.code(), "the one move of all that are pushed");
         FolugbenException.expect(told.code());
         player.pushes(this);
     }
@@ -407,7 +433,10 @@ public sealed class Step implements AutoCloseable permits SharedStep {
         synchronized (agent.slot) {
             long step = slot().at;
             synchronized (into.slot) {
-                FolugbenException.expect(agent.held(into.takePopped(step)));
+                into.bytes = size;
+                int code = agent.held(into.takePopped(step));
+                ManyException.expectMove(code, "the one move of those that are popped");
+                FolugbenException.expect(code);
             }
         }
         return into;
@@ -475,34 +504,67 @@ public sealed class Step implements AutoCloseable permits SharedStep {
      *
      * @throws FolugbenException MANY if more than 256 locations would be named and functions
      *         were scanned
+     * @throws LargeException on a run, if the move's line would be longer than an audit reads
      */
-    public Agent.Reply tryFire() {
+    public Agent.Reply tryCommit() {
         Player player = Player.look(this);
         player.fires(this);
         synchronized (agent.slot) {
-            Agent.Reply reply = agent.reply(commit(), true);
+            if (agent.isOfRun() && size > Lines.SHORT && !isOver())
+                Lines.expectCall(Texts.utf8(offered(), "call"));
+            Agent.Reply reply = agent.reply(committed(), true);
             player.fired(reply);
             return reply;
         }
     }
 
     /**
-     * As tryFire; the number of the move that was fired, from 1 up. A reply that is another one is
+     * As tryCommit; the number of the move that was fired, from 1 up. A reply that is another one is
      * thrown, so none is lost.
      *
-     * @throws FolugbenException as a {@link StaleException}, {@link BusyException} or {@link
-     *         ClashException} where another step is to be begun, as {@link Agent#play} does; as a
-     *         {@link FullException} or {@link ManyException}
+     * @throws ConflictException where another step is to be begun, as {@link Agent#play} does: as a
+     *         {@link StaleException}, {@link BusyException}, {@link CommitClashException} or {@link
+     *         PartException}
+     * @throws FolugbenException as a {@link FullException} or {@link ManyException}
      */
-    public long fire() {
-        return tryFire().orThrow();
+    public long commit() {
+        return tryCommit().orThrow();
     }
 
-    private int commit() {
+    /**
+     * The same as tryCommit.
+     *
+     * @deprecated A step commits: call {@link #tryCommit}.
+     */
+    @Deprecated
+    public final Agent.Reply tryFire() {
+        return tryCommit();
+    }
+
+    /**
+     * The same as commit.
+     *
+     * @deprecated A step commits: call {@link #commit}.
+     */
+    @Deprecated
+    public final long fire() {
+        return commit();
+    }
+
+    private int committed() {
         int code = Calls.asm_commit(agent.slot.at, slot().at, room.numbers());
         if (code == FolugbenException.DONE)
             end();
         return code;
+    }
+
+    /** Such as a step of agent 3 at 7, 2 moves pushed. */
+    @Override
+    public String toString() {
+        synchronized (agent.slot) {
+            String what = "a step of agent " + agent.number() + " at " + (before() + number);
+            return isOver() ? what + ", over" : what + ", " + Calls.asm_depth(slot.at) + " moves pushed";
+        }
     }
 
     /** Abandons the step, unless it is over. */

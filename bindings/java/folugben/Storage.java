@@ -2,6 +2,7 @@ package folugben;
 
 import java.io.IOException;
 import java.io.UncheckedIOException;
+import java.lang.ref.WeakReference;
 import java.nio.ByteBuffer;
 import java.nio.file.Files;
 import java.nio.file.Path;
@@ -31,6 +32,9 @@ public final class Storage implements AutoCloseable {
     /** Those that were made and not given back, by their numbers; with the lock of the slot. */
     private final Agent[] agents = new Agent[AGENTS];
 
+    /** The agent that each thread has played last. */
+    private final ThreadLocal<WeakReference<Agent>> last = new ThreadLocal<>();
+
     private Storage(Path path) {
         this.path = path;
     }
@@ -44,7 +48,11 @@ public final class Storage implements AutoCloseable {
         begin(init, capacity);
     }
 
-    /** A storage with the opening state [PAIR, ..], for 1 to 1,048,576 moves. */
+    /**
+     * A storage with the opening state [PAIR, ..], for 1 to 1,048,576 moves.
+     *
+     * @throws IllegalArgumentException for another capacity
+     */
     public Storage(String init, int capacity) {
         this((Path) null);
         begin(init, capacity);
@@ -76,7 +84,7 @@ public final class Storage implements AutoCloseable {
 
     static void expectCapacity(int capacity) {
         if (capacity < 1 || capacity > CAPACITY)
-            throw FolugbenException.outOfRange("a capacity is 1 to 1,048,576, not " + capacity);
+            throw new IllegalArgumentException("a capacity is 1 to 1,048,576, not " + capacity);
     }
 
     /**
@@ -90,10 +98,15 @@ public final class Storage implements AutoCloseable {
 
     static void expectNumber(int number) {
         if (number < 0 || number >= AGENTS)
-            throw FolugbenException.outOfRange("agent " + number + ": numbers are 0 to 255");
+            throw new IllegalArgumentException("agent " + number + ": numbers are 0 to 255");
     }
 
-    /** An agent with this number, 0 to 255, of which none was made before. */
+    /**
+     * An agent with this number, 0 to 255, of which none was made before.
+     *
+     * @throws IllegalArgumentException for another number
+     * @throws FolugbenException NUMBER if one was made before
+     */
     public Agent agent(int number) {
         expectNumber(number);
         Agent agent = new Agent(this, number);
@@ -125,6 +138,15 @@ public final class Storage implements AutoCloseable {
             agents[number] = agent;
         }
         return agent;
+    }
+
+    /** Notes that an agent is about to look on; the one that did so last on this thread. */
+    Agent plays(Agent agent) {
+        WeakReference<Agent> before = last.get();
+        if (before == agent.weak)
+            return null;
+        last.set(agent.weak);
+        return before == null ? null : before.get();
     }
 
     /** What is expected of the code of a call on it, with its lock. */
@@ -257,7 +279,7 @@ public final class Storage implements AutoCloseable {
         Storage next = new Storage((Path) null);
         synchronized (agent.slot) {
             synchronized (next.slot) {
-                int code = Calls.asm_go_on(agent.slot.at, capacity, next.slot.at);
+                int code = agent.slot.goOn(capacity, next.slot);
                 agent.expect(code);
             }
         }
@@ -282,6 +304,14 @@ public final class Storage implements AutoCloseable {
             } finally {
                 Calls.asm_free(slot.at);
             }
+        }
+    }
+
+    /** Such as a storage, 3 moves. */
+    @Override
+    public String toString() {
+        synchronized (slot) {
+            return slot.isFull() ? "a storage, " + moves() + " moves" : "a storage, closed";
         }
     }
 

@@ -55,6 +55,26 @@ final class Texts {
         return text;
     }
 
+    /** How deep brackets are nested in a text, outside of strings. */
+    static int depth(String text) {
+        int deepest = 0;
+        int depth = 0;
+        for (int at = 0; at >= 0 && at < text.length();)
+            switch (text.charAt(at)) {
+                case '"' -> at = behindString(text, at);
+                case '[', '{' -> {
+                    deepest = Math.max(deepest, ++depth);
+                    at++;
+                }
+                case ']', '}' -> {
+                    depth--;
+                    at++;
+                }
+                default -> at++;
+            }
+        return deepest;
+    }
+
     private static int behindSpace(String text, int at) {
         while (at < text.length() && " \t\n\r".indexOf(text.charAt(at)) >= 0) at++;
         return at;

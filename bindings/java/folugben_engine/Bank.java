@@ -29,9 +29,14 @@ public final class Bank implements Machine {
 
     /** A bank of so many customers, each of whom is in need so many times; the seed chooses. */
     public Bank(int customers, int times, long seed) {
+        this(customers, times, new Random(seed));
+    }
+
+    /** The same with what chooses. */
+    public Bank(int customers, int times, Random random) {
         this.customers = customers;
         this.times = times;
-        random = new Random(seed);
+        this.random = random;
     }
 
     @Override
@@ -51,11 +56,11 @@ public final class Bank implements Machine {
     private Program customer(int own) {
         Location account = Location.of("account", own);
         Location due = Location.of("due", own);
-        Rule collect = let(see -> see.at(due), rest -> collected(account, due, rest.asLong()));
+        Rule collect = let(see -> see.get(due), rest -> collected(account, due, rest.asLong()));
         Rule rule = seq(
                 update(due, Term.value(NEED)),
                 iterate(collect),
-                par(update(account, see -> see.number(account) + NEED - see.number(due)),
+                par(update(account, see -> see.getNumber(account) + NEED - see.getNumber(due)),
                         update(due, Term.value(null))));
         return new Program(rule, actor -> actor.won() == times);
     }

@@ -1,7 +1,7 @@
 package folugben_engine;
 
+import folugben.Actor;
 import folugben.Agent;
-import folugben.Instruction;
 import folugben.Interleave;
 import folugben.Location;
 import folugben.PartException;
@@ -20,12 +20,11 @@ public final class Engine {
     private Engine() {}
 
     /** Plays the rule of a program on a step, and fires it; whether it did anything. */
-    private static boolean playOnce(Actor actor, Program program) {
+    private static boolean playOnce(Actor actor, Machine.Program program) {
         try (Step step = actor.step()) {
-            List<List<Instruction>> moves = program.rule().play(step);
-            if (moves.stream().allMatch(List::isEmpty))
+            if (!program.rule().play(step))
                 return false;
-            Agent.Reply reply = step.tryFire();
+            Agent.Reply reply = step.tryCommit();
             if (!reply.shouldRetry()) // else others were quicker, and the next step sees what they did
                 reply.orThrow();
         } catch (PartException over) {
@@ -35,7 +34,7 @@ public final class Engine {
     }
 
     /** Plays the program until it is over, or something was thrown by another one. */
-    static void live(Actor actor, Program program, AtomicReference<Throwable> fault) {
+    static void live(Actor actor, Machine.Program program, AtomicReference<Throwable> fault) {
         while (fault.get() == null && !program.isOver().test(actor))
             if (!playOnce(actor, program))
                 LockSupport.parkNanos(1_000_000); // nothing to do until others have fired
@@ -45,7 +44,7 @@ public final class Engine {
      * Plays all programs, each with the agent of its number, which is closed then. What a rule
      * throws, such as a clash of its own updates, ends all and is thrown.
      */
-    public static void play(IntFunction<Actor> agents, List<Program> programs) {
+    public static void play(IntFunction<? extends Actor> agents, List<Machine.Program> programs) {
         AtomicReference<Throwable> fault = new AtomicReference<>();
         List<Thread> threads = new ArrayList<>();
         for (int i = 0; i < programs.size(); i++) {
@@ -73,23 +72,23 @@ public final class Engine {
     /** The journal of a machine on a storage for so many moves. */
     public static String onStorage(Machine machine, int capacity) {
         try (Storage storage = Storage.open(machine.init(), capacity)) {
-            play(number -> Actor.of(storage.agent(number)), machine.programs());
+            play(number -> storage.agent(number), machine.programs());
             return storage.closeJournal();
         }
     }
 
     /** Plays a machine on a run, which is left open. */
     public static void onRun(Run run, Machine machine) {
-        play(number -> Actor.of(run.agent(number)), machine.programs());
+        play(number -> run.agent(number), machine.programs());
     }
 
     /** The journal of a machine whose agents go on by turns: the same for the same seed. */
-    public static String byTurns(Map<Location, ?> init, List<Program> programs, long seed) {
+    public static String byTurns(Map<Location, ?> init, List<Machine.Program> programs, long seed) {
         try (Storage storage = Storage.open(init, 10_000)) {
             List<Actor> actors = new ArrayList<>();
             List<Interleave.Work<Actor, Object>> works = new ArrayList<>();
-            for (Program program : programs) {
-                actors.add(Actor.of(storage.agent(actors.size())));
+            for (Machine.Program program : programs) {
+                actors.add(storage.agent(actors.size()));
                 works.add(actor -> {
                     while (!program.isOver().test(actor)) playOnce(actor, program);
                     return null;

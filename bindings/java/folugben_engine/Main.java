@@ -1,8 +1,8 @@
 package folugben_engine;
 
 import folugben.Auditor;
+import folugben.Journals;
 import folugben.Run;
-import java.io.BufferedReader;
 import java.io.IOException;
 import java.nio.file.Files;
 import java.nio.file.Path;
@@ -39,12 +39,8 @@ public final class Main {
     }
 
     private static void expectEach(Machine machine, Path file) throws IOException {
-        try (BufferedReader journal = Files.newBufferedReader(file)) {
-            States.each(journal, state -> {
-                if (!machine.holds(state))
-                    throw new IllegalStateException("not so: " + machine.claim());
-            });
-        }
+        if (!Journals.states(Files.readString(file)).allMatch(it -> machine.holds(it.values())))
+            throw new IllegalStateException("not so: " + machine.claim());
     }
 
     /** A folder and all that is in it, in order. */

@@ -1,32 +1,43 @@
 package folugben_engine;
 
-import folugben.Instruction;
-import folugben.Moves;
+import folugben.Move;
 import folugben.Step;
-import java.util.List;
 
 /**
  * A rule of an abstract state machine, which is played on a step. Each kind defines one of the two
- * calls, and the other one follows.
+ * calls, and the other one follows. Both answer whether the rule has updates.
  */
 public interface Rule {
-    /**
-     * All its updates, gathered into one move; nothing stays pushed. A rule in sequence is played
-     * for that as a dry run.
-     */
-    default List<Instruction> updates(Step step) {
-        int depth = step.depth();
-        List<List<Instruction>> moves = play(step);
-        while (step.depth() > depth) step.pop();
-        List<Instruction> all = List.of();
-        for (List<Instruction> move : moves) all = Moves.compose(all, move);
-        return all;
+    /** Adds its updates to a move; nothing stays pushed. A sequence is played for that as a dry run. */
+    default boolean addTo(Move all, Step step) {
+        step.push();
+        boolean hasUpdates = play(step);
+        try (Move own = step.popMove()) {
+            all.unite(own);
+        }
+        return hasUpdates;
     }
 
-    /** Pushes what it does, so that what is played next sees it. The moves that it pushed. */
-    default List<List<Instruction>> play(Step step) {
-        List<Instruction> move = updates(step);
-        step.push(move);
-        return List.of(move);
+    /** Extends the pushed move by what it does, so that what is played next sees it. */
+    default boolean play(Step step) {
+        try (Move all = new Move()) {
+            boolean hasUpdates = addTo(all, step);
+            step.extend(all);
+            return hasUpdates;
+        }
+    }
+
+    /** A rule that is played. */
+    @FunctionalInterface
+    interface Played extends Rule {
+        @Override
+        boolean play(Step step);
+    }
+
+    /** A rule whose updates are gathered. */
+    @FunctionalInterface
+    interface Gathered extends Rule {
+        @Override
+        boolean addTo(Move all, Step step);
     }
 }

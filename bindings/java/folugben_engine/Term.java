@@ -1,10 +1,12 @@
 package folugben_engine;
 
-/** What comes to a value, as {@link folugben.Value#of} takes it, by what is seen. */
+import folugben.Step;
+
+/** What comes to a value, as {@link folugben.Value#of} takes it, by what a step sees. */
 @FunctionalInterface
 public interface Term {
     /** Its value. */
-    Object of(See see);
+    Object of(Step see);
 
     /** A term that is this value, whatever is seen. */
     static Term value(Object value) {

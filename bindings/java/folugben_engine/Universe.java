@@ -57,7 +57,7 @@ public final class Universe implements Machine {
         Location made = Location.of("made", own);
         Location last = Location.of("last", own);
         // A count for each agent: two that took numbers from one count would make each other stale.
-        Rule rule = let(see -> see.at(made), count -> {
+        Rule rule = let(see -> see.get(made), count -> {
             long node = 1 + own + agents * count.asLong();
             return choose(random, "last", (at, below) -> true,
                     (at, below) -> par(

@@ -27,7 +27,7 @@ final class Ours implements Side {
         try (Step step = agents[thread].step()) {
             long value = got(step, location);
             step.push("[[\"put\",[\"x\"," + location + "]," + (value + 1) + "]]");
-            Agent.Reply reply = step.tryFire();
+            Agent.Reply reply = step.tryCommit();
             if (!reply.isFired() && !reply.shouldRetry())
                 throw new IllegalStateException("the step was answered " + reply);
             return reply.isFired();

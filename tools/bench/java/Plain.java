@@ -34,7 +34,7 @@ final class Plain implements Side {
         PreparedLocation at = places[thread][location];
         try (Step step = agents[thread].step()) {
             step.push(moves[thread].clear().put(at, step.getNumber(at) + 1));
-            return step.tryFire().move() != 0;
+            return step.tryCommit().move() != 0;
         }
     }
 

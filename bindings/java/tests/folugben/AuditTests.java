@@ -1,6 +1,7 @@
 package folugben;
 
 import static folugben.Checks.equal;
+import static folugben.Checks.outOfRange;
 import static folugben.Checks.refused;
 import static folugben.Checks.thrown;
 
@@ -165,7 +166,7 @@ final class AuditTests {
             agent.give();
             refused(FolugbenException.NONE, () -> storage.take(7));
             refused(FolugbenException.NONE, () -> storage.take(1));
-            refused(FolugbenException.RANGE, () -> storage.take(256));
+            outOfRange(() -> storage.take(256));
             Agent taken = storage.take(0);
             equal(taken.number(), 0);
             equal(taken.won(), 1);
@@ -174,7 +175,7 @@ final class AuditTests {
             taken.fire(up, List.of());
             refused(FolugbenException.NONE, () -> other.goOn(5));
             other.follow();
-            refused(FolugbenException.RANGE, () -> other.goOn(0));
+            outOfRange(() -> other.goOn(0));
             taken.give();
             equal(refused(FolugbenException.EMPTY, () -> taken.goOn(3)).getMessage(),
                     FolugbenException.errorText(FolugbenException.EMPTY)

@@ -44,4 +44,15 @@ final class Checks {
     static void refusedValue(String told, Runnable call) {
         thrown(IllegalArgumentException.class, told, call);
     }
+
+    /** The call is refused as a capacity or the number of an agent is out of its range. */
+    static void outOfRange(Runnable call) {
+        try {
+            call.run();
+        } catch (IllegalArgumentException told) {
+            equal(told.getMessage().contains(" 1 to 1,048,576") || told.getMessage().contains(" 0 to 255"), true);
+            return;
+        }
+        throw new IllegalStateException("not refused");
+    }
 }

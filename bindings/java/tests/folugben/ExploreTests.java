@@ -260,14 +260,14 @@ final class ExploreTests {
         private static Object onStep(Step step, int kind, Location x, Location y, int by) {
             if (kind == 4) {
                 step.push(Instruction.inc(Location.of("n"), 1), Instruction.put(x, by));
-                return step.tryFire().isFired();
+                return step.tryCommit().isFired();
             }
             Object told = kind == 5 ? step.scan("x").pairs() : step.get(x);
             long next = kind == 5 ? told.toString().length() : number((Value) told) + 1;
             if (kind == 6 && number((Value) told) != by % 3)
                 told = List.of(told, step.get(y));
             step.push(Instruction.put(by % 2 == 1 ? x : y, next));
-            return List.of(told, step.tryFire().isFired());
+            return List.of(told, step.tryCommit().isFired());
         }
     }
 

@@ -69,7 +69,7 @@ final class KindTests {
             equal(step.get(S), Value.set(1));
             step.push(Instruction.put(Y, 1));
             rival.tryFire(List.of(Instruction.add(S, 2)), List.of()).orThrow();
-            List<Runnable> calls = List.of(() -> step.tryFire().orThrow(),
+            List<Runnable> calls = List.of(() -> step.tryCommit().orThrow(),
                     () -> agent.tryFire(List.of(), reads).orThrow(),
                     () -> agent.stands(reads).orThrow());
             for (Runnable call : calls) {
@@ -80,7 +80,7 @@ final class KindTests {
                 equal(error.getMessage(), FolugbenException.errorText(FolugbenException.STALE)
                                 + ": " + error.answer());
             }
-            equal(step.tryFire().cause() == null, true);
+            equal(step.tryCommit().cause() == null, true);
             kind(MovedException.class, FolugbenException.MOVED, () -> step.get(S));
             kind(MovedException.class, FolugbenException.MOVED, () -> step.getAll("s"));
             kind(MovedException.class, FolugbenException.MOVED, step::push);
@@ -102,7 +102,7 @@ final class KindTests {
         try (Storage storage = Storage.open(INIT, 8); Agent agent = storage.agent(0)) {
             equal(agent.tryFire("[]", "[]").kind(), Code.DONE);
             equal(agent.tryFire(List.of(Instruction.add(X, 2)), List.of()).kind(), Code.CLASH);
-            equal(refused(FolugbenException.RANGE, () -> storage.agent(-1)).kind(), Code.RANGE);
+            equal(refused(FolugbenException.RANGE, () -> agent.fire("[]", "[[[\"x\"],9]]")).kind(), Code.RANGE);
         }
     }
 

@@ -1,6 +1,7 @@
 package folugben;
 
 import static folugben.Checks.equal;
+import static folugben.Checks.outOfRange;
 import static folugben.Checks.refused;
 import static folugben.Checks.refusedAt;
 import static folugben.Checks.refusedValue;
@@ -175,7 +176,7 @@ final class ObjectTests {
                 Map<Location, Value> left = new TreeMap<>(state);
                 left.putAll(Moves.aggregate(state, Moves.compose(first, second)));
                 equal(seen, places.stream().map(place -> at(left, place)).toList());
-                equal(step.tryFire().orThrow(), 1);
+                equal(step.tryCommit().orThrow(), 1);
                 agent.follow();
                 equal(agent.peek(places), new Reading(1, places, seen));
                 composed++;
@@ -225,7 +226,7 @@ final class ObjectTests {
         int shape = FolugbenException.SHAPE;
         refusedAt(shape, 0, ": a location stands twice",
                 () -> Storage.open(List.of(Pair.of(X, 1), Pair.of(Y, 1), Pair.of(X, 1)), 8));
-        refused(FolugbenException.RANGE, () -> Storage.open(Map.of(), 0));
+        outOfRange(() -> Storage.open(Map.of(), 0));
         refusedValue("no element: 0.5 (java.lang.Double)", () -> Storage.open(Map.of(X, 0.5), 8));
         try (Storage storage = Storage.open(List.of(), 8); Agent agent = storage.agent(0);
                 Step step = agent.step()) {

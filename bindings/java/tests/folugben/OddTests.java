@@ -89,8 +89,8 @@ final class OddTests {
         try (Step step = agent.step(); PreparedLocation x = X.prepare(); Move move = new Move()) {
             step.push(Instruction.put(X, 1));
             refusedAt(FolugbenException.NUMBER, 0, ": agent 3", () -> storage.agent(3));
-            step.fire();
-            for (Runnable call : List.<Runnable>of(step::fire, step::pop, () -> step.get(X),
+            step.commit();
+            for (Runnable call : List.<Runnable>of(step::commit, step::pop, () -> step.get(X),
                          () -> step.get(x), () -> step.scan("x"), step::push, () -> step.push(move)))
                 equal(refused(FolugbenException.EMPTY, call).getMessage(),
                         over + "the step is over: it was fired or closed");
@@ -110,7 +110,7 @@ final class OddTests {
                          agent::answer, agent::give, () -> agent.read("[]"), () -> agent.peek("[]"),
                          () -> agent.fire("[]", "[]"), () -> agent.peek(x), () -> agent.scan("x"),
                          () -> agent.stands("[]"), () -> open.get(X), () -> open.get(x),
-                         () -> open.push(move), open::push, open::fire))
+                         () -> open.push(move), open::push, open::commit))
                 equal(refused(FolugbenException.EMPTY, call).getMessage(),
                         over + "the agent was given back");
             open.close();

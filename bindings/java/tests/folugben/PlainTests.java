@@ -127,7 +127,7 @@ final class PlainTests {
                     count[0] += all.size();
                     count[1] += sameMove(step, other, move, all, times == 0) ? 1 : 0;
                 }
-                equal(step.tryFire().move(), 1);
+                equal(step.tryCommit().move(), 1);
                 agent.give();
                 String journal = storage.closeJournal();
                 equal(Storage.check(journal), new Storage.Checked(1, 1));
@@ -193,7 +193,7 @@ final class PlainTests {
                 refused(FolugbenException.MANY, () -> step.getNumber(w));
                 equal(agent.peek(w).value().isUndef(), true);
             }
-            equal(step.tryFire().move(), 1);
+            equal(step.tryCommit().move(), 1);
         }
     }
 
@@ -248,7 +248,7 @@ final class PlainTests {
                     step.extend(last.clear().put(x, Value.bag(Map.of("e", 2))));
                     equal(step.get(x), Value.bag(Map.of("e", 2)));
                 }
-                equal(step.fire(), 1);
+                equal(step.commit(), 1);
                 refused(FolugbenException.EMPTY, step::popMove);
             }
             try (Step step = agent.step()) {
@@ -288,10 +288,10 @@ final class PlainTests {
             refused(FolugbenException.MOVED, () -> step.get(x));
             refused(FolugbenException.MOVED, () -> step.push(move));
             refused(FolugbenException.MOVED, () -> step.extend(move));
-            equal(step.tryFire().move(), 2);
+            equal(step.tryCommit().move(), 2);
             refused(FolugbenException.EMPTY, () -> step.get(x));
             refused(FolugbenException.EMPTY, () -> step.push(move));
-            refused(FolugbenException.EMPTY, step::fire);
+            refused(FolugbenException.EMPTY, step::commit);
             Step next = agent.step();
             x.close();
             x.close();
@@ -313,7 +313,7 @@ final class PlainTests {
                 agent.give();
                 refused(FolugbenException.EMPTY, () -> next.get(y));
                 refused(FolugbenException.EMPTY, () -> agent.peek(y));
-                refused(FolugbenException.EMPTY, next::fire);
+                refused(FolugbenException.EMPTY, next::commit);
                 next.close();
             }
         }
@@ -327,18 +327,18 @@ final class PlainTests {
             try (Step step = agent.step()) {
                 step.push(move.inc(x, 1));
                 rival.tryFire(List.of(Instruction.put(X, Value.set())), List.of());
-                equal(step.tryFire().move(), 0);
+                equal(step.tryCommit().move(), 0);
                 equal(agent.answer(), "{\"clash\":[[\"x\"],\"Kind\"]}");
-                equal(step.tryFire().move(), 0);
+                equal(step.tryCommit().move(), 0);
             }
             try (Step step = agent.step()) {
                 refused(FolugbenException.CLASH, () -> step.push(move));
                 step.push(move.clear().put(x, "all"));
-                equal(step.tryFire().move(), 2);
+                equal(step.tryCommit().move(), 2);
             }
             try (Step step = agent.step()) {
                 equal(step.getText(x), "all");
-                refused(FolugbenException.FULL, step::fire);
+                refused(FolugbenException.FULL, step::commit);
             }
         }
     }
@@ -360,7 +360,7 @@ final class PlainTests {
                                 if (move.size() < 500)
                                     move.inc(x, 1);
                                 agent.peekNumber(x);
-                                if (step.tryFire().move() != 0)
+                                if (step.tryCommit().move() != 0)
                                     fired[own]++;
                             }
                         agent.give();
@@ -375,7 +375,7 @@ final class PlainTests {
                 equal(size >= 500 && size <= 503, true);
                 step.push(move);
                 equal(step.getNumber(x), 2000L + size);
-                equal(step.tryFire().move(), 2001);
+                equal(step.tryCommit().move(), 2001);
                 agent.give();
             }
             equal(Storage.check(storage.closeJournal()).moves(), 2001);

@@ -9,6 +9,7 @@ import java.nio.file.Files;
 import java.nio.file.Path;
 import java.util.Arrays;
 import java.util.List;
+import java.util.Map;
 
 /** Tests of how runs end: as they are closed, and where a part can't be written. */
 final class RunEndTests {
@@ -27,7 +28,7 @@ final class RunEndTests {
         run.close();
         String told = FolugbenException.errorText(FolugbenException.EMPTY) + ": the run was closed";
         for (Runnable call : List.<Runnable>of(agent::step, agent::follow, agent::state,
-                     () -> run.agent(1), step::fire, () -> step.get(COUNT), () -> RunTests.count(agent)))
+                     () -> run.agent(1), step::commit, () -> step.get(COUNT), () -> RunTests.count(agent)))
             equal(refused(FolugbenException.EMPTY, call).getMessage(), told);
         step.close();
         agent.close();
@@ -159,7 +160,7 @@ final class RunEndTests {
             equal(told.part(), 2L);
             equal(told.getCause().getClass(), DamagedException.class);
             equal(fails(() -> step.get(COUNT)).part(), 2L);
-            equal(fails(step::fire).part(), 2L);
+            equal(fails(step::commit).part(), 2L);
             step.close();
             toldByAll(run, told, List.of(agent, other));
             for (Path left : List.of(path, path.resolveSibling("moved"))) {
@@ -177,13 +178,47 @@ final class RunEndTests {
         equal(Files.exists(path), false);
     }
 
+    /** A move, or a state, that would make too long a line is refused, and the run goes on. */
+    private static void longLinesEndNoRun(Path path) throws IOException {
+        Location text = Location.of("t");
+        String half = "x".repeat(9_000_000);
+        try (Run run = Run.open(Map.of(COUNT, 0), path, 3); RunAgent agent = run.agent(0);
+                PreparedLocation at = text.prepare(); Move move = new Move()) {
+            List<Instruction> both = List.of(Instruction.put(text, half),
+                    Instruction.put(Location.of("u"), half));
+            Class<LargeException> kind = LargeException.class;
+            equal(refused(FolugbenException.LARGE, () -> agent.fire(both, List.of())).getClass(), kind);
+            try (Step step = agent.step()) {
+                step.push(both);
+                equal(refused(FolugbenException.LARGE, step::commit).getClass(), kind);
+            }
+            try (Step step = agent.step()) {
+                step.push(move.put(at, half).put(at, half));
+                step.pop();
+                step.push(move.clear().put(at, half + half));
+                equal(refused(FolugbenException.LARGE, step::tryCommit).getClass(), kind);
+            }
+            RunTests.count(agent);
+            agent.play(step -> {
+                step.push(move.clear().put(at, half));
+                return null;
+            });
+            agent.fire(both.subList(1, 2), List.of());
+            // The state is too long for the part that comes next: the move that comes there is refused.
+            equal(refused(FolugbenException.LARGE, agent::step).getClass(), kind);
+            equal(agent.won(), 3L);
+            equal(Auditor.audit(path).moves(), 0L);
+        }
+        equal(Auditor.audit(path).moves(), 3L);
+    }
+
     static void all() {
         try {
             for (RunTests.OnFile test : List.<RunTests.OnFile>of(RunEndTests::closedRunsSaySo,
                          RunEndTests::lostAgentsEndTheRun,
                          RunEndTests::lostAgentsThatFiredNothingAreMissedByNone,
                          RunEndTests::fullDisksEndTheRun, RunEndTests::harmEndsTheRun,
-                         RunEndTests::linesAreShort))
+                         RunEndTests::linesAreShort, RunEndTests::longLinesEndNoRun))
                 RunTests.withFile(test);
         } catch (IOException fault) {
             throw new UncheckedIOException(fault);

@@ -1,6 +1,7 @@
 package folugben;
 
 import static folugben.Checks.equal;
+import static folugben.Checks.outOfRange;
 import static folugben.Checks.refused;
 import static folugben.Checks.refusedAt;
 import static folugben.Checks.thrown;
@@ -188,7 +189,7 @@ final class RunTests {
                 for (int i = 0; i < 3; i++) count(agent);
                 equal(run.parts(), 1L);
                 step.push(up());
-                isFull(step.tryFire());
+                isFull(step.tryCommit());
             }
             equal(count(slow), new RunAgent.Played<>(5, 4L, 0));
             try (Step step = slow.step()) {
@@ -196,9 +197,9 @@ final class RunTests {
                 for (int i = 0; i < 12; i++) count(agent);
                 while (run.parts() < 5) Thread.sleep(1);
                 for (Runnable call : List.<Runnable>of(() -> step.get(COUNT),
-                             () -> step.push(up()), () -> step.scan("count"), step::fire))
+                             () -> step.push(up()), () -> step.scan("count"), step::commit))
                     equal(refused(FolugbenException.FULL, call) instanceof PartException, true);
-                isFull(step.tryFire());
+                isFull(step.tryCommit());
             }
             int[] tries = new int[1];
             equal(slow.play(step -> {
@@ -232,13 +233,13 @@ final class RunTests {
                 step.push(up());
                 count(agent);
                 count(agent);
-                FolugbenException told = refused(FolugbenException.FULL, step::fire);
-                equal(told instanceof PartException && told instanceof RetryException, true);
+                FolugbenException told = refused(FolugbenException.FULL, step::commit);
+                equal(told instanceof PartException && told instanceof ConflictException, true);
                 try (Step next = slow.step()) {
                     equal(next.number(), 3L);
                     equal(next.get(COUNT), Element.of(3));
                     refused(FolugbenException.FULL, () -> step.get(COUNT));
-                    refused(FolugbenException.FULL, step::fire);
+                    refused(FolugbenException.FULL, step::commit);
                 }
             }
             FolugbenException told = refused(FolugbenException.RANGE,
@@ -265,7 +266,7 @@ final class RunTests {
                     step.get(COUNT);
                     count(rival);
                     step.push(Instruction.put(COUNT, 0));
-                    equal(step.tryFire().kind(), Code.STALE);
+                    equal(step.tryCommit().kind(), Code.STALE);
                 }
             Step open = rival.step();
             CountDownLatch isDone = new CountDownLatch(1);
@@ -288,7 +289,7 @@ final class RunTests {
             Thread.sleep(30);
             equal(open.get(COUNT), Element.of(4));
             open.push(Instruction.put(COUNT, 4));
-            return open.tryFire().code() == FolugbenException.DONE;
+            return open.tryCommit().code() == FolugbenException.DONE;
         } catch (PartException late) {
             return false;
         } finally {
@@ -307,7 +308,7 @@ final class RunTests {
             equal(count(agent), new RunAgent.Played<>(5, 4L, 0));
             equal(refused(FolugbenException.FULL, () -> step.get(COUNT)) instanceof PartException,
                     true);
-            isFull(step.tryFire());
+            isFull(step.tryCommit());
             step.close();
             equal(count(lasting).told(), 5L);
         }
@@ -330,7 +331,7 @@ final class RunTests {
             RunAgent agent = run.agent(7);
             count(agent);
             refusedAt(FolugbenException.NUMBER, 0, ": agent 7", () -> run.agent(7));
-            refused(FolugbenException.RANGE, () -> run.agent(256));
+            outOfRange(() -> run.agent(256));
             agent.close();
             agent.close();
             equal(refused(FolugbenException.EMPTY, agent::step).getMessage(),
@@ -375,9 +376,9 @@ final class RunTests {
         thrown(kind, "path", () -> Run.open(Map.of(), null));
         thrown(kind, "init", () -> Run.open((Map<Location, ?>) null, path));
         thrown(kind, "path", () -> Run.resume(null));
-        refused(FolugbenException.RANGE, () -> open(path, 0));
+        outOfRange(() -> open(path, 0));
         thrown(kind, "check", () -> Run.resume(path, null));
-        refused(FolugbenException.RANGE, () -> Run.resume(path, 1_048_577));
+        outOfRange(() -> Run.resume(path, 1_048_577));
         refused(FolugbenException.NOT_JSON, () -> Run.open("[", path, 5, 9));
         equal(Files.exists(path), false);
         try (Run run = open(path, 5); RunAgent agent = run.agent(0)) {

@@ -3,6 +3,7 @@ package folugben;
 import static folugben.Checks.equal;
 import static folugben.Checks.refused;
 import static folugben.Checks.refusedAt;
+import static folugben.Checks.refusedValue;
 import static folugben.Checks.thrown;
 
 import java.io.IOException;
@@ -65,12 +66,12 @@ final class ScopeTests {
                 step.get(COUNT);
                 put(rival, 1);
                 step.push(put(2));
-                FolugbenException stale = refused(FolugbenException.STALE, step::fire);
-                equal(stale instanceof RetryException, true);
+                FolugbenException stale = refused(FolugbenException.STALE, step::commit);
+                equal(stale instanceof ConflictException, true);
             }
             try (Step step = agent.step()) {
                 step.push(put(2));
-                equal(step.fire(), 2);
+                equal(step.commit(), 2);
             }
             refused(FolugbenException.STALE,
                     () -> rival.fire(List.of(put(3)), List.of(new Named(COUNT, 1))));
@@ -131,12 +132,11 @@ final class ScopeTests {
     }
 
     static void numbersAreToldByTheirRange() {
-        int range = FolugbenException.RANGE;
-        refusedAt(range, 0, ": a capacity is 1 to 1,048,576, not 0", () -> new Storage("[]", 0));
+        refusedValue("a capacity is 1 to 1,048,576, not 0", () -> new Storage("[]", 0));
         try (Storage storage = open()) {
-            refusedAt(range, 0, ": agent 256: numbers are 0 to 255", () -> storage.agent(256));
-            refusedAt(range, 0, ": agent -1: numbers are 0 to 255", () -> storage.agent(-1));
-            refusedAt(range, 0, ": a capacity is 1 to 1,048,576, not 1048577", () -> storage.next(1_048_577));
+            refusedValue("agent 256: numbers are 0 to 255", () -> storage.agent(256));
+            refusedValue("agent -1: numbers are 0 to 255", () -> storage.agent(-1));
+            refusedValue("a capacity is 1 to 1,048,576, not 1048577", () -> storage.next(1_048_577));
         }
     }
 

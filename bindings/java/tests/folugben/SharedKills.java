@@ -2,11 +2,7 @@ package folugben;
 
 import static folugben.Checks.equal;
 
-import folugben_engine.States;
-import java.io.BufferedReader;
-import java.io.ByteArrayInputStream;
 import java.io.IOException;
-import java.io.InputStreamReader;
 import java.nio.charset.StandardCharsets;
 import java.nio.file.Files;
 import java.nio.file.Path;
@@ -92,18 +88,17 @@ final class SharedKills {
     private String kept() {
         List<String> marks = new ArrayList<>();
         byte[] text = SharedTests.saved(target);
-        States.each(new BufferedReader(new InputStreamReader(
-                            new ByteArrayInputStream(text), StandardCharsets.UTF_8)),
-                state -> {
-                    long sum = 0;
-                    for (int own = 0; own < SharedBank.ACCOUNTS; own++)
-                        sum += state.get(SharedBank.account(own)).asLong();
-                    equal(sum, SharedBank.ACCOUNTS * SharedBank.MONEY);
-                    Value mark = state.get(SharedBank.MARK);
-                    String own = mark == null ? "" : mark.asText();
-                    if (marks.isEmpty() || !marks.get(marks.size() - 1).equals(own))
-                        marks.add(own); // a segment opens with the state before it
-                });
+        for (String journal : new String(text, StandardCharsets.UTF_8).split("(?m)(?=^\\{\"agents\":)"))
+            Journals.states(journal).map(Journals.Moment::values).forEach(state -> {
+                long sum = 0;
+                for (int own = 0; own < SharedBank.ACCOUNTS; own++)
+                    sum += state.get(SharedBank.account(own)).asLong();
+                equal(sum, SharedBank.ACCOUNTS * SharedBank.MONEY);
+                Value mark = state.get(SharedBank.MARK);
+                String own = mark == null ? "" : mark.asText();
+                if (marks.isEmpty() || !marks.get(marks.size() - 1).equals(own))
+                    marks.add(own); // a segment opens with the state before it
+            });
         equal(new HashSet<>(marks).size(), marks.size());
         Map<Long, String> answered = new HashMap<>();
         for (String line : told) {

@@ -147,10 +147,10 @@ final class SharedTests {
                 step.push(Instruction.put(COUNT, 9));
                 equal(step.offer().reads(), List.of(new Named(COUNT, 0)));
                 raise(rival);
-                Actor.Reply reply = step.tryFire();
+                Actor.Reply reply = step.tryCommit();
                 equal(reply.isStale() && reply.shouldRetry(), true);
                 equal(reply.at(), COUNT);
-                refused(FolugbenException.STALE, step::fire);
+                refused(FolugbenException.STALE, step::commit);
             }
             try (Step step = agent.step()) {
                 equal(step.getAll("task").size(), 0);
@@ -159,13 +159,13 @@ final class SharedTests {
                     own.push(Instruction.put(task, true));
                     return null;
                 });
-                refused(FolugbenException.STALE, step::fire);
+                refused(FolugbenException.STALE, step::commit);
             }
             try (Step one = agent.step(); Step two = rival.step()) {
                 one.push(Instruction.inc(COUNT, 2));
                 two.push(Instruction.inc(COUNT, 3));
-                equal(one.fire(), 3L);
-                equal(two.fire(), 4L);
+                equal(one.commit(), 3L);
+                equal(two.commit(), 4L);
                 refused(FolugbenException.EMPTY, () -> one.get(COUNT));
             }
             equal(run.state().values().get(COUNT), Element.of(6));
@@ -180,8 +180,8 @@ final class SharedTests {
                 for (int i = 0; i < 4; i++) raise(quick);
                 equal(step.get(COUNT), Element.of(1));
                 equal(step.number(), 0L);
-                equal(step.tryFire().kind(), Code.FULL);
-                equal(refused(FolugbenException.FULL, step::fire) instanceof PartException, true);
+                equal(step.tryCommit().kind(), Code.FULL);
+                equal(refused(FolugbenException.FULL, step::commit) instanceof PartException, true);
             }
             equal(raise(slow), new Actor.Played<>(5, 4L, 0));
             equal(slow.seen(), 5L);
@@ -190,7 +190,7 @@ final class SharedTests {
                     step.get(COUNT);
                     step.push(Instruction.put(COUNT, 0));
                     raise(quick);
-                    equal(step.tryFire().isFired(), false);
+                    equal(step.tryCommit().isFired(), false);
                 }
         }
         isRun(target, 19);

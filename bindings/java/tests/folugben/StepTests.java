@@ -1,6 +1,7 @@
 package folugben;
 
 import static folugben.Checks.equal;
+import static folugben.Checks.outOfRange;
 import static folugben.Checks.refused;
 import static folugben.Checks.refusedAt;
 
@@ -103,10 +104,10 @@ final class StepTests {
             step.push(put("x", "0"));
             step.pop();
             equal(step.depth(), 2);
-            equal(step.tryFire(), new Agent.Reply(0, 1, 0, 0, null, true));
+            equal(step.tryCommit(), new Agent.Reply(0, 1, 0, 0, null, true));
             equal(agent.answer(), "{\"fired\":1}");
             equal(step.depth(), 0);
-            refused(FolugbenException.EMPTY, step::fire);
+            refused(FolugbenException.EMPTY, step::commit);
             refused(FolugbenException.EMPTY, step::pop);
             refused(FolugbenException.EMPTY, () -> step.get("[]"));
             step.close();
@@ -168,13 +169,13 @@ final class StepTests {
                 another.get(many + "]");
                 another.push(inc("x", 1));
                 another.push(inc("x", 1));
-                refused(FolugbenException.MANY, another::fire);
+                refused(FolugbenException.MANY, another::commit);
                 refused(FolugbenException.MANY, () -> another.pop());
             }
             try (Step another = agent.step()) {
                 another.get(many + "]");
                 another.push(inc("x", 1));
-                equal(another.tryFire().move(), 1);
+                equal(another.tryCommit().move(), 1);
             }
         }
     }
@@ -199,7 +200,7 @@ final class StepTests {
                 refused(FolugbenException.SHAPE, () -> step.see("[7]"));
                 refused(FolugbenException.NOT_JSON, () -> step.see("[["));
                 rival.tryFire(put("x", "20"), "[]");
-                equal(step.fire(), 2);
+                equal(step.commit(), 2);
                 refused(FolugbenException.EMPTY, () -> step.see("[]"));
                 refused(FolugbenException.EMPTY, step::offer);
             }
@@ -208,7 +209,7 @@ final class StepTests {
                 step.get(x);
                 Step.Offer offer = step.offer();
                 rival.tryFire(put("x", "0"), "[]");
-                equal(step.tryFire().isStale(), true);
+                equal(step.tryCommit().isStale(), true);
                 refused(FolugbenException.MOVED, () -> step.see(x));
                 equal(agent.tryFire(offer.fire(), offer.reads()).isStale(), true);
             }
@@ -223,7 +224,7 @@ final class StepTests {
             step.push(inc("x", 1));
             rival.tryFire(put("x", "70"), "[]");
             equal(step.get("[[\"x\"]]"), seen(0, "8"));
-            equal(step.tryFire(), new Agent.Reply(FolugbenException.STALE, 0, 0, 0,
+            equal(step.tryCommit(), new Agent.Reply(FolugbenException.STALE, 0, 0, 0,
                                        "{\"stale\":[\"x\"]}", true));
             equal(step.depth(), 1);
             refused(FolugbenException.MOVED, () -> step.get("[]"));
@@ -236,12 +237,12 @@ final class StepTests {
                 other.push(inc("x", 1));
                 agent.follow();
                 refused(FolugbenException.MOVED, () -> other.extend("[]"));
-                equal(other.tryFire().move(), 3);
+                equal(other.tryCommit().move(), 3);
             }
             try (Step last = agent.step()) {
                 last.push(inc("x", 1));
                 rival.tryFire("[]", "[]");
-                equal(last.tryFire(), new Agent.Reply(FolugbenException.FULL, 0, 0, 0, null, true));
+                equal(last.tryCommit(), new Agent.Reply(FolugbenException.FULL, 0, 0, 0, null, true));
                 equal(last.depth(), 1);
             }
         }
@@ -257,8 +258,8 @@ final class StepTests {
                 step.push(one);
                 step.push(inc("x", 1));
             }
-            equal(first.tryFire().move(), 1);
-            equal(second.tryFire().move(), 2);
+            equal(first.tryCommit().move(), 1);
+            equal(second.tryCommit().move(), 2);
         }
         try (Storage storage = new Storage("[[[\"b\"],{\"bag\":[[1,1]]}]]", 8);
                 Agent agent = storage.agent(0); Agent rival = storage.agent(1);
@@ -266,12 +267,12 @@ final class StepTests {
             step.push(one);
             Agent.Reply taken = rival.tryFire(one, "[]");
             equal(taken.isFired() && !taken.shouldRetry() && !taken.isClash(), true);
-            Agent.Reply clash = step.tryFire();
+            Agent.Reply clash = step.tryCommit();
             equal(clash, new Agent.Reply(FolugbenException.CLASH, 0, 0, 0,
                                  "{\"clash\":[[\"b\"],\"Short\"]}", true));
             equal(clash.isClash() && clash.shouldRetry(), true);
             equal(refused(FolugbenException.CLASH, clash::orThrow).answer(), clash.answer());
-            equal(step.tryFire().move(), 0);
+            equal(step.tryCommit().move(), 0);
             equal(step.depth(), 1);
             refused(FolugbenException.MOVED, () -> step.get("[]"));
             // Of a move that is fired alone its caller decides.
@@ -371,7 +372,7 @@ final class StepTests {
             agent.give();
         }
         String left = Storage.replay(storage.closeJournal());
-        refused(FolugbenException.RANGE, () -> storage.next(0));
+        outOfRange(() -> storage.next(0));
         try (Storage next = storage.next(1); Agent agent = next.agent(0)) {
             storage.close();
             refused(FolugbenException.EMPTY, () -> storage.next(1));
@@ -402,7 +403,7 @@ final class StepTests {
             for (Thread thread : threads) thread.start();
             for (Thread thread : threads) thread.join();
             equal(step.get("[[\"x\"]]"), seen(0, "807"));
-            equal(step.tryFire().isFired(), true);
+            equal(step.tryCommit().isFired(), true);
         }
     }
 

@@ -1,6 +1,7 @@
 package folugben;
 
 import static folugben.Checks.equal;
+import static folugben.Checks.outOfRange;
 import static folugben.Checks.refused;
 import static folugben.Checks.refusedAt;
 import static folugben.Checks.thrown;
@@ -39,10 +40,10 @@ public final class Test {
         Storage other = new Storage("[]", 8);
         Agent agent = storage.agent(0);
         Agent stranger = other.agent(1);
-        refused(FolugbenException.RANGE, () -> new Storage("[]", 0));
+        outOfRange(() -> new Storage("[]", 0));
         refused(FolugbenException.NOT_JSON, () -> new Storage("[", 1));
         refused(FolugbenException.SHAPE, () -> new Storage("7", 1));
-        refused(FolugbenException.RANGE, () -> storage.agent(256));
+        outOfRange(() -> storage.agent(256));
         refused(FolugbenException.NONE, agent::answer);
         refused(FolugbenException.SHAPE, () -> agent.read("[7]"));
         refused(FolugbenException.OTHER, () -> storage.give(stranger));
@@ -157,7 +158,7 @@ public final class Test {
                 other.learn(agent);
                 try (Step step = agent.step()) {
                     step.push("[]");
-                    step.tryFire();
+                    step.tryCommit();
                 }
                 agent.give();
                 other.give();
@@ -226,6 +227,8 @@ public final class Test {
         OddTests.all();
         AuditTests.all();
         TurnTests.all();
+        TakeTests.all();
+        ConformanceTests.all();
         JournalTests.all();
         ExploreTests.all();
         RunTests.all();

@@ -51,7 +51,7 @@ final class TurnTests {
         Reading seen = agent.peek(List.of(from, to));
         try (Step step = agent.step()) {
             moveTen(step, seen.value(from).asLong(), seen.value(to).asLong(), from, to);
-            step.tryFire();
+            step.tryCommit();
         }
     }
 

@@ -18,17 +18,19 @@ import folugben.Auditor;
 import folugben.Cause;
 import folugben.ClashException;
 import folugben.Code;
+import folugben.Explorer;
 import folugben.Instruction;
+import folugben.Interleave;
+import folugben.Journals;
 import folugben.Location;
 import folugben.Run;
 import folugben.Step;
 import folugben.Storage;
 import folugben.Value;
-import java.io.BufferedReader;
 import java.io.IOException;
-import java.io.StringReader;
 import java.nio.file.Files;
 import java.nio.file.Path;
+import java.time.Duration;
 import java.util.ArrayList;
 import java.util.Collections;
 import java.util.Comparator;
@@ -57,8 +59,8 @@ public final class EngineTests {
             throw new IllegalStateException("told " + told + ", wanted " + wanted);
     }
 
-    private static long count(See see) {
-        return see.number(COUNT);
+    private static long count(Step see) {
+        return see.getNumber(COUNT);
     }
 
     private static Rule raised(long by) {
@@ -70,7 +72,7 @@ public final class EngineTests {
         try (Storage storage = Storage.open(INIT, 10); Agent agent = storage.agent(0)) {
             try (Step step = agent.step()) {
                 rule.play(step);
-                step.fire();
+                step.commit();
             }
             agent.follow();
             return new ArrayList<>(agent.peek(List.of(places)).values());
@@ -84,7 +86,7 @@ public final class EngineTests {
     }
 
     private static void partsSeeOneState() {
-        Rule swap = par(update(f(1), see -> see.at(f(2))), update(f(2), see -> see.at(f(1))));
+        Rule swap = par(update(f(1), see -> see.get(f(2))), update(f(2), see -> see.get(f(1))));
         equal(played(par(swap, add(SET, EngineTests::count), remove(SET, Term.value(1))), f(1),
                       f(2), SET),
                 values("b", "a", java.util.Set.of(3)));
@@ -110,7 +112,7 @@ public final class EngineTests {
         Rule rule = seq(update(sum, Term.value(0)),
                 iterate(let(EngineTests::count,
                         rest -> when(Term.value(rest.asLong() > 0),
-                                par(raised(-1), update(sum, see -> see.number(sum) + rest.asLong()))))));
+                                par(raised(-1), update(sum, see -> see.getNumber(sum) + rest.asLong()))))));
         equal(played(rule, COUNT, sum), values(0, 6));
         Rule long_ = iterate(when(see -> count(see) < 1000, raised(1)));
         equal(played(long_, COUNT), values(1000));
@@ -169,26 +171,22 @@ public final class EngineTests {
             rule.play(step);
             equal(step.depth(), 1);
             rival.fire(List.of(Instruction.put(COUNT, "no number")), List.of());
-            Agent.Reply reply = step.tryFire();
+            Agent.Reply reply = step.tryCommit();
             equal(reply.kind(), Code.STALE);
             equal(reply.at(), COUNT);
         }
     }
 
-    private static void holdsInEachState(Machine machine, BufferedReader journals, int states) {
-        int[] visited = new int[1];
-        States.each(journals, state -> {
-            visited[0]++;
-            equal(machine.holds(state), true);
-        });
-        equal(visited[0], states);
+    /** How many states of a journal there are, in each of which that holds. */
+    private static long states(Machine machine, String journal) {
+        return Journals.states(journal).peek(it -> equal(machine.holds(it.values()), true)).toList().size();
     }
 
     private static void machinesRunOnStorages() {
         for (Machine machine : List.of(new Bank(8, 10, 1), new Universe(5, 16, 2))) {
             String journal = Engine.onStorage(machine, 10_000);
             equal(Storage.check(journal).moves(), 80);
-            holdsInEachState(machine, new BufferedReader(new StringReader(journal)), 81);
+            equal(states(machine, journal), 81L);
         }
     }
 
@@ -202,15 +200,14 @@ public final class EngineTests {
             Auditor.Counts told = Auditor.audit(path);
             equal(told.moves(), 320L);
             equal(told.parts() >= 8, true);
-            StringBuilder journals = new StringBuilder();
+            long states = 0;
             try (Stream<Path> all = Files.list(path)) {
                 for (Path file : all.sorted().toList()) {
                     if (file.toString().endsWith(".journal"))
-                        journals.append(Files.readString(file));
+                        states += states(machine, Files.readString(file));
                 }
             }
-            holdsInEachState(machine, new BufferedReader(new StringReader(journals.toString())),
-                    320 + (int) told.parts());
+            equal(states, 320 + told.parts());
             try (Stream<Path> all = Files.walk(path)) {
                 for (Path left : all.sorted(Comparator.reverseOrder()).toList()) Files.delete(left);
             }
@@ -244,12 +241,49 @@ public final class EngineTests {
         equal(journals.get(0).equals(journals.get(2)), false);
     }
 
+    /** What a search finds of three of five customers of the bank, each of whom collects once. */
+    private static Explorer.Explored explored(boolean isGuarded) {
+        Bank bank = new Bank(5, 1, new Random() {
+            private static final long serialVersionUID = 1;
+
+            @Override
+            public int nextInt(int bound) {
+                return bound - 1;
+            }
+        });
+        List<Interleave.Work<Agent, Object>> works = new ArrayList<>();
+        for (Machine.Program program : bank.programs().subList(0, 3))
+            works.add(agent -> isGuarded ? agent.play(program.rule()::play) : blindly(agent, program.rule()));
+        return Explorer.of(() -> Storage.open(bank.init(), 100), works)
+                .time(Duration.ofMinutes(10))
+                .invariant(bank::holds)
+                .explore();
+    }
+
+    /** Fires what a rule comes to, which then rests on nothing that its step saw. */
+    private static Object blindly(Agent agent, Rule rule) {
+        List<Instruction> move;
+        try (Step step = agent.step()) {
+            rule.play(step);
+            move = step.offer().fire();
+        }
+        return agent.fire(move, List.of());
+    }
+
+    private static void theBankRestsOnItsGuard() {
+        Explorer.Explored found = explored(false);
+        equal(found.finding().orElseThrow().turns(), List.of(0, 0, 1));
+        Storage.check(found.finding().get().journal());
+        Explorer.Explored held = explored(true);
+        equal(held.toString(), "108 schedules hold, which are all");
+    }
+
     private static void anErrorOfOneProgramEndsAll() {
-        Program waits = new Program(when(Term.value(false), raised(1)), actor -> false);
-        Program clashes = new Program(
+        Machine.Program waits = new Machine.Program(when(Term.value(false), raised(1)), actor -> false);
+        Machine.Program clashes = new Machine.Program(
                 par(update(COUNT, Term.value(1)), update(COUNT, Term.value(2))), actor -> false);
         try (Storage storage = Storage.open(INIT, 10)) {
-            Engine.play(number -> Actor.of(storage.agent(number)), List.of(waits, clashes, waits));
+            Engine.play(number -> storage.agent(number), List.of(waits, clashes, waits));
         } catch (ClashException told) {
             equal(told.at(), COUNT);
             return;
@@ -260,11 +294,11 @@ public final class EngineTests {
     /** Each state is visited: the count goes up by one. */
     private static void statesAreVisited() {
         Machine counts = new Bank(4, 20, 1);
-        List<Program> programs =
-                Collections.nCopies(4, new Program(raised(1), actor -> actor.won() == 20));
+        List<Machine.Program> programs =
+                Collections.nCopies(4, new Machine.Program(raised(1), actor -> actor.won() == 20));
         List<Long> told = new ArrayList<>();
-        States.each(new BufferedReader(new StringReader(Engine.byTurns(INIT, programs, 5))),
-                state -> told.add(state.get(COUNT).asLong()));
+        Journals.states(Engine.byTurns(INIT, programs, 5))
+                .forEach(it -> told.add(it.values().get(COUNT).asLong()));
         equal(told.size(), 81);
         for (int i = 0; i <= 80; i++) equal(told.get(i), 3L + i);
         equal(counts.claim().isEmpty(), false);
@@ -283,6 +317,7 @@ public final class EngineTests {
         machinesRunOnRuns();
         conditionsCanFail();
         seedsAreRepeated();
+        theBankRestsOnItsGuard();
         anErrorOfOneProgramEndsAll();
         statesAreVisited();
         System.out.println("machines");

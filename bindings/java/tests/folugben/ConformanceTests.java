@@ -1,0 +1,253 @@
+package folugben;
+
+import java.io.IOException;
+import java.nio.charset.StandardCharsets;
+import java.nio.file.Files;
+import java.nio.file.Path;
+import java.util.ArrayList;
+import java.util.HashMap;
+import java.util.List;
+import java.util.Map;
+
+/** The table of calls and answers that every package gives: bindings/conformance says what its lines are. */
+final class ConformanceTests {
+    private Storage storage;
+    private final Map<String, Agent> agents = new HashMap<>();
+    private final Map<String, Step> steps = new HashMap<>();
+    private String journal;
+
+    private ConformanceTests() {}
+
+    /** The items of an array: its text is split at the commas outside of brackets and strings. */
+    private static List<String> items(String array) {
+        List<String> items = new ArrayList<>();
+        int depth = 0;
+        int begin = 1;
+        boolean isString = false;
+        for (int at = 1; at < array.length(); at++) {
+            char unit = array.charAt(at);
+            if (isString) {
+                at += unit == '\\' ? 1 : 0;
+                isString = unit != '"';
+                continue;
+            }
+            isString = unit == '"';
+            if (depth == 0 && (unit == ',' || unit == ']')) {
+                items.add(array.substring(begin, at));
+                begin = at + 1;
+            }
+            depth += "[{".indexOf(unit) >= 0 ? 1 : "]}".indexOf(unit) >= 0 ? -1 : 0;
+        }
+        return items;
+    }
+
+    private static String string(String json) {
+        return Value.parse(json).asText();
+    }
+
+    private static String quoted(String text) {
+        return Value.of(text).json();
+    }
+
+    private void begin() {
+        steps.values().forEach(Step::close);
+        agents.values().forEach(Agent::close);
+        steps.clear();
+        agents.clear();
+        if (storage != null)
+            storage.close();
+        storage = null;
+    }
+
+    /** The answer to a call, in the words of the table. */
+    private String answer(String name, List<String> words) {
+        try {
+            return called(name, words);
+        } catch (StaleException stale) {
+            return stale.answer();
+        } catch (ClashException | CommitClashException clash) {
+            return clash.answer();
+        } catch (LargeException large) {
+            return large.answer() != null ? large.answer() : refused(large);
+        } catch (FolugbenException error) {
+            return refused(error);
+        } catch (IllegalArgumentException error) {
+            return "{\"error\":" + quoted(CODES.getOrDefault(name, "SHAPE")) + "}";
+        }
+    }
+
+    /** The codes of the arguments that Java refuses by itself. */
+    private static final Map<String, String> CODES =
+            Map.of("open", "RANGE", "next", "RANGE", "agent", "RANGE");
+
+    private static String refused(FolugbenException error) {
+        List<String> numbers = new ArrayList<>();
+        if (FolugbenException.numberName(error.code()) != null)
+            numbers.add("" + error.number());
+        if (error instanceof AuditException audit)
+            numbers.add("" + audit.part());
+        return "{\"error\":" + quoted(error.kind().name()) + ",\"said\":" + quoted(error.getMessage())
+                + ",\"numbers\":[" + String.join(",", numbers) + "]}";
+    }
+
+    private String called(String name, List<String> words) {
+        String own = words.isEmpty() ? "" : words.get(0);
+        return switch (name) {
+            case "open" -> {
+                storage = new Storage(own, Integer.parseInt(words.get(1)));
+                yield "null";
+            }
+            case "next" -> {
+                storage = storage.next(Integer.parseInt(own));
+                yield "null";
+            }
+            case "agent", "take" -> {
+                int number = Integer.parseInt(own);
+                agents.put(own, name.equals("take") ? storage.take(number) : storage.agent(number));
+                yield "null";
+            }
+            case "moves" -> "" + storage.moves();
+            case "close" -> {
+                journal = storage.closeJournal();
+                yield "null";
+            }
+            case "journal" -> checked(journal);
+            case "check" -> checked(string(own));
+            case "replay" -> Storage.replay(string(own));
+            case "aggregate" -> Moves.aggregate(own, words.get(1));
+            case "compose" -> Moves.compose(own, words.get(1));
+            case "audit" -> audited(string(own));
+            case "explain" -> quoted(Storage.explain(Storage.Form.valueOf(string(own)), string(words.get(1))));
+            case "begin", "end", "get", "see", "get_all", "push", "extend", "pop", "depth", "offer", "commit" ->
+                    ofStep(name, own, words.subList(1, words.size()));
+            default -> ofAgent(name, agents.get(own), words.subList(1, words.size()));
+        };
+    }
+
+    private static String checked(String journal) {
+        Storage.Checked told = Storage.check(journal);
+        return "[" + told.calls() + "," + told.moves() + "]";
+    }
+
+    private static String audited(String text) {
+        try (Auditor auditor = new Auditor()) {
+            auditor.feed(text.getBytes(StandardCharsets.UTF_8));
+            Auditor.Counts told = auditor.end();
+            return "[" + told.calls() + "," + told.moves() + "," + told.parts() + "]";
+        }
+    }
+
+    private String ofStep(String name, String own, List<String> words) {
+        if (name.equals("begin")) {
+            Step begun = agents.get(own).step();
+            steps.put(own, begun);
+            return "" + begun.number();
+        }
+        Step step = steps.get(own);
+        return switch (name) {
+            case "get" -> values(step.get(words.get(0)));
+            case "see" -> values(step.see(words.get(0)));
+            case "get_all" -> step.scan(string(words.get(0))).pairs();
+            case "push" -> nothing(() -> step.push(words.get(0)));
+            case "extend" -> nothing(() -> step.extend(words.get(0)));
+            case "pop" -> nothing(step::pop);
+            case "depth" -> "" + step.depth();
+            case "offer" -> step.offerText();
+            case "commit" -> "{\"fired\":" + step.commit() + "}";
+            default -> nothing(step::close);
+        };
+    }
+
+    /** The values of a reading {"number":N,"values":[..]}. */
+    private static String values(String reading) {
+        String before = "\"values\":";
+        return reading.substring(reading.indexOf(before) + before.length(), reading.length() - 1);
+    }
+
+    private static String nothing(Runnable call) {
+        call.run();
+        return "null";
+    }
+
+    private String ofAgent(String name, Agent agent, List<String> words) {
+        return switch (name) {
+            case "give" -> nothing(agent::give);
+            case "learn" -> nothing(() -> agent.learn(agents.get(words.get(0))));
+            case "read" -> agent.read(words.get(0));
+            case "peek" -> agent.peek(words.get(0));
+            case "fire" -> "{\"fired\":" + agent.fire(words.get(0), words.get(1), words.get(2)) + "}";
+            case "follow" -> "" + agent.follow();
+            case "stands" -> {
+                String stale = agent.stands(words.get(0)).answer();
+                yield stale == null ? "null" : stale;
+            }
+            case "state" -> told(agent.state(), words.get(0));
+            case "scan" -> told(agent.scan(string(words.get(0))), words.get(1));
+            case "seen" -> "" + agent.seen();
+            case "won" -> "" + agent.won();
+            case "misses" -> "" + agent.misses();
+            default -> throw new IllegalStateException("no call: " + name);
+        };
+    }
+
+    private static String told(Agent.State state, String number) {
+        Checks.equal("" + state.number(), number);
+        return state.pairs();
+    }
+
+    /** Whether the answer is the one that is wanted; of an error only what is written is compared. */
+    private static boolean agree(String told, String wanted) {
+        if (!wanted.startsWith("{\"error\""))
+            return told.equals(wanted);
+        List<String> members = items("[" + wanted.substring(1, wanted.length() - 1) + "]");
+        List<String> own = items("[" + told.substring(1, told.length() - 1) + "]");
+        for (String member : members) {
+            String said = "\"said\":";
+            boolean isTold = member.startsWith(said)
+                    ? string(own.get(1).substring(said.length())).contains(string(member.substring(said.length())))
+                    : own.contains(member);
+            if (!isTold)
+                return false;
+        }
+        return true;
+    }
+
+    private static int replayed(Path table) throws IOException {
+        ConformanceTests replayer = new ConformanceTests();
+        int number = 0;
+        int count = 0;
+        for (String line : Files.readAllLines(table)) {
+            number++;
+            List<String> all = items(line);
+            String name = string(all.get(0));
+            if (name.equals("case")) {
+                replayer.begin();
+                continue;
+            }
+            boolean isEnd = name.equals("end");
+            String told = replayer.answer(name, all.subList(1, all.size() - (isEnd ? 0 : 1)));
+            String wanted = isEnd ? "null" : all.get(all.size() - 1);
+            if (!agree(told, wanted))
+                throw new IllegalStateException(table.getFileName() + ":" + number + ": told " + told
+                        + ", wanted " + wanted);
+            count++;
+        }
+        replayer.begin();
+        return count;
+    }
+
+    static void all() {
+        String root = System.getProperty("folugben.root");
+        if (root == null) {
+            System.out.println("left out: the table of calls (no -Dfolugben.root=FOLDER)");
+            return;
+        }
+        for (String name : List.of("moves", "calls", "steps", "journals"))
+            try {
+                Checks.equal(replayed(Path.of(root, "bindings/conformance", name + ".jsonl")) > 20, true);
+            } catch (IOException fault) {
+                throw new IllegalStateException(fault);
+            }
+        System.out.println("the table of calls");
+    }
+}

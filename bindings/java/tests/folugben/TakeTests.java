@@ -1,0 +1,285 @@
+package folugben;
+
+import static folugben.Checks.equal;
+import static folugben.Checks.refused;
+import static folugben.Checks.thrown;
+
+import java.time.Duration;
+import java.util.ArrayList;
+import java.util.List;
+import java.util.Map;
+
+/** Tests of moves that are united, and of agents that one thread plays by turns. */
+final class TakeTests {
+    private static final Location X = Location.of("x");
+    private static final Location Y = Location.of("y");
+
+    private TakeTests() {}
+
+    private static void movesAreUnited() {
+        try (Storage storage = Storage.open(Map.of(X, 1), 10); Agent agent = storage.agent(0);
+                Move one = new Move(); Move other = new Move(); Move none = new Move()) {
+            one.gather(Instruction.inc(X, 1));
+            other.gather(Instruction.inc(X, 2)).gather(Instruction.put(Y, "y"));
+            equal(one.unite(other).unite(none).size(), 3);
+            try (Step step = agent.step()) {
+                step.push(one);
+                equal(step.get(List.of(X, Y)), List.of(Value.of(4), Value.of("y")));
+                step.push(other);
+                equal(step.get(X), Value.of(6));
+                equal(none.unite(step.popMove()).unite(one).size(), 4);
+                step.pop();
+                step.push(none);
+                equal(step.get(X), Value.of(6));
+            }
+            thrown(IllegalArgumentException.class,
+                    "a move is united with another one, not with itself", () -> one.unite(one));
+            thrown(NullPointerException.class, "other", () -> one.unite(null));
+        }
+    }
+
+    private static void unitedMovesHaveALimit() {
+        Move other = new Move();
+        try (Move one = new Move(); Move third = new Move()) {
+            for (int i = 0; i < 2048; i++) {
+                one.gather(Instruction.inc(X, 1));
+                other.gather(Instruction.inc(X, 1));
+            }
+            third.gather(Instruction.inc(X, 1));
+            equal(one.unite(other).size(), 4096);
+            refused(FolugbenException.MANY, () -> one.unite(third));
+            equal(one.size(), 4096);
+            other.close();
+            refused(FolugbenException.EMPTY, () -> one.unite(other));
+            refused(FolugbenException.EMPTY, () -> other.unite(one));
+        }
+    }
+
+    /** Each kind of instruction does what it does as an object. */
+    private static void instructionsAreGathered() {
+        List<Instruction> move = List.of(Instruction.put(X, List.of(1, "a")), Instruction.put(Y, null),
+                Instruction.add(Location.of("s"), 2), Instruction.remove(Location.of("s"), 1),
+                Instruction.bagAdd(Location.of("b"), true, 3),
+                Instruction.bagRemove(Location.of("b"), "e", 1), Instruction.inc(Location.of("n"), -4));
+        Map<Location, Object> init = Map.of(Location.of("s"), java.util.Set.of(1), Location.of("b"),
+                Map.of("e", 2), Location.of("n"), 1, Y, 7);
+        List<String> told = new ArrayList<>();
+        for (boolean isGathered : new boolean[] {false, true})
+            try (Storage storage = Storage.open(init, 10); Agent agent = storage.agent(0);
+                    Step step = agent.step(); Move gathered = new Move()) {
+                move.forEach(gathered::gather);
+                if (isGathered)
+                    step.push(gathered);
+                else
+                    step.push(move);
+                step.commit();
+                agent.follow();
+                told.add(agent.state().pairs());
+            }
+        equal(told.get(0), told.get(1));
+    }
+
+    /** Agents that a thread plays by turns do as on threads of their own. */
+    private static void agentsOfOneThreadGoOnFromEachOther() {
+        try (Storage storage = Storage.open(Map.of(X, 0), 10_000)) {
+            List<Agent> agents = Schedule.agents(storage, 16);
+            for (int round = 0; round < 10; round++)
+                for (Agent agent : agents)
+                    agent.play(step -> {
+                        step.push(Instruction.put(X, step.get(X).asLong() + 1));
+                        return null;
+                    });
+            equal(storage.moves(), 160);
+            Agent last = agents.get(15);
+            // What an agent has looked at is what it shows, whoever acts after it.
+            equal(last.follow(), 160);
+            agents.get(3).fire(List.of(Instruction.put(X, 7)), List.of());
+            equal(last.peek(List.of(X)), new Reading(160, List.of(X), List.of(Value.of(160))));
+            // One that has fired shows what it finds, and no older state than it had.
+            last.play(step -> {
+                step.push(Instruction.inc(X, 1));
+                return null;
+            });
+            agents.get(4).step().close();
+            equal(last.peek(List.of(X)).number(), 162);
+            equal(last.state().number(), 162);
+            equal(last.scan("x").number(), 162);
+            // A step goes on while others begin theirs.
+            try (Step step = agents.get(5).step()) {
+                agents.get(6).play(other -> {
+                    other.push(Instruction.put(Location.of("w"), 1));
+                    return null;
+                });
+                equal(step.get(X), Value.of(8));
+                equal(step.get(Y), Value.of(null));
+                step.push(Instruction.put(Location.of("z"), 1));
+                step.commit();
+            }
+            agents.forEach(Agent::close);
+            Storage.check(storage.closeJournal());
+        }
+    }
+
+    /** Threads play the same agents by turns, each in calls of its own. */
+    private static void threadsMayPlayTheSameAgents() throws InterruptedException {
+        try (Storage storage = Storage.open(Map.of(X, 0), 100_000)) {
+            List<Agent> agents = Schedule.agents(storage, 6);
+            List<Thread> threads = new ArrayList<>();
+            List<Throwable> faults = java.util.Collections.synchronizedList(new ArrayList<>());
+            for (int i = 0; i < 4; i++) {
+                int own = i;
+                Thread thread = new Thread(() -> {
+                    for (int round = 0; round < 300; round++)
+                        add(agents.get((own * 5 + round) % agents.size()), round);
+                });
+                thread.setUncaughtExceptionHandler((it, fault) -> faults.add(fault));
+                threads.add(thread);
+            }
+            threads.forEach(Thread::start);
+            for (Thread thread : threads) thread.join();
+            equal(faults, List.of());
+            agents.get(0).follow();
+            equal(agents.get(0).peek(List.of(X)).value(X), Value.of(1200));
+            agents.forEach(Agent::close);
+            Storage.check(storage.closeJournal());
+        }
+    }
+
+    private static void add(Agent agent, int round) {
+        while (true)
+            try {
+                if (round % 2 == 0) {
+                    Reading read = agent.read(List.of(X));
+                    agent.fire(List.of(Instruction.put(X, read.value(X).asLong() + 1)), read.named());
+                } else {
+                    agent.play(step -> {
+                        step.push(Instruction.put(X, step.get(X).asLong() + 1));
+                        return null;
+                    });
+                }
+                return;
+            } catch (MovedException | ConflictException again) {
+                // Another thread has played this agent, or another agent was quicker.
+            }
+    }
+
+    /** A play may be bounded; one that pushes nothing fires nothing. */
+    private static void playsHaveBounds() {
+        try (Storage storage = Storage.open(Map.of(X, 0), 100); Agent one = storage.agent(0);
+                Agent rival = storage.agent(1)) {
+            Actor.Played<Value> idle = one.play(step -> step.get(X));
+            equal(idle.told(), Value.of(0));
+            equal(idle.isFired(), false);
+            equal(storage.moves(), 0);
+            int[] tries = new int[1];
+            Actor.Rule<Object, RuntimeException> spoiled = step -> {
+                tries[0]++;
+                long there = step.getNumber(X);
+                rival.fire(List.of(Instruction.put(X, there + 1)), List.of());
+                step.push(Instruction.put(X, -1));
+                return null;
+            };
+            refused(FolugbenException.STALE, () -> one.play(spoiled, 3, Duration.ofDays(1)));
+            equal(tries[0], 3);
+            refused(FolugbenException.STALE, () -> one.play(spoiled, 1000, Duration.ZERO));
+            equal(tries[0], 4);
+            Actor.Played<Object> played = one.play(step -> {
+                if (tries[0]++ < 6)
+                    rival.fire(List.of(Instruction.inc(X, 1)), List.of());
+                step.push(Instruction.put(Y, step.get(X)));
+                return null;
+            }, 5, Duration.ofDays(1));
+            equal(played.retries(), 2);
+            equal(played.isFired(), true);
+            thrown(IllegalArgumentException.class, "a number of tries is 1 or more, and not 0",
+                    () -> one.play(spoiled, 0, Duration.ZERO));
+        }
+    }
+
+    /** A clash at the commit is a conflict, and one of a push or of a fire is none. */
+    private static void conflictsAreOneException() {
+        Location bag = Location.of("b");
+        try (Storage storage = Storage.open(Map.of(bag, Map.of("e", 1)), 10);
+                Agent one = storage.agent(0); Agent rival = storage.agent(1);
+                Step step = one.step()) {
+            ClashException push = (ClashException) refused(FolugbenException.CLASH,
+                    () -> step.push(Instruction.put(X, 1), Instruction.put(X, 2)));
+            equal(push.at(), X);
+            step.push(Instruction.bagRemove(bag, "e", 1));
+            rival.fire(List.of(Instruction.bagRemove(bag, "e", 1)), List.of());
+            CommitClashException commit =
+                    (CommitClashException) refused(FolugbenException.CLASH, step::commit);
+            equal(commit.at(), bag);
+            equal(commit.cause(), Cause.SHORT);
+            equal(step.tryCommit().shouldRetry(), true);
+            refused(FolugbenException.CLASH,
+                    () -> rival.fire(List.of(Instruction.put(X, 1), Instruction.put(X, 2)), List.of()));
+        }
+    }
+
+    /** What is beyond a limit says which, and how many there are. */
+    private static void limitsAreNamed() {
+        List<Location> many = new ArrayList<>();
+        for (int i = 0; i < 257; i++) many.add(Location.of("x", i));
+        List<Named> reads = many.stream().map(it -> new Named(it, 0)).toList();
+        try (Storage storage = Storage.open(Map.of(X, 0), 10); Agent agent = storage.agent(0);
+                Step step = agent.step(); Move full = new Move()) {
+            saying("257 locations are read, at most 256", () -> agent.read(many));
+            saying("257 locations and scanned functions are named, at most 256",
+                    () -> agent.fire(List.of(), reads.subList(0, 256), List.of(new Scanned("f", 0))));
+            saying("257 locations are named, at most 256", () -> agent.stands(reads));
+            saying("the step would rest on more than 256 locations and functions", () -> step.get(many));
+            for (int i = 0; i < 4096; i++) full.gather(Instruction.put(Location.of("y", i), 1));
+            saying("the move would have more than 4,096 instructions",
+                    () -> full.gather(Instruction.inc(X, 1)));
+            step.push(full);
+            saying("the one move of all that are pushed would have more than 4,096 instructions",
+                    () -> step.push(Instruction.put(Y, 1)));
+            saying("lists nest at most 8 deep", () -> step.push(
+                    "[[\"put\",[\"x\"]," + "{\"list\":[".repeat(90) + "]}".repeat(90) + "]]"));
+        }
+    }
+
+    private static void saying(String said, Runnable call) {
+        try {
+            call.run();
+        } catch (FolugbenException told) {
+            equal(told.getMessage().contains(said) ? said : told.getMessage(), said);
+            return;
+        }
+        throw new IllegalStateException("not refused: " + said);
+    }
+
+    /** Prints the microseconds of a move of so many agents that one thread plays by turns. */
+    public static void main(String[] words) {
+        for (int times = 0; times < 2; times++)
+            for (int count : new int[] {1, 8, 64, 256})
+                try (Storage storage = Storage.open(Map.of(X, 0), 200_000);
+                        PreparedLocation at = X.prepare(); Move move = new Move()) {
+                    List<Agent> agents = Schedule.agents(storage, count);
+                    int rounds = 100_000 / count;
+                    long begin = System.nanoTime();
+                    for (int round = 0; round < rounds; round++)
+                        for (Agent agent : agents)
+                            try (Step step = agent.step()) {
+                                step.push(move.clear().put(at, step.getNumber(at) + 1));
+                                step.tryCommit().orThrow();
+                            }
+                    long took = System.nanoTime() - begin;
+                    System.out.printf("%d agents: %.2f us%n", count, took / 1000.0 / (rounds * count));
+                    agents.forEach(Agent::close);
+                }
+    }
+
+    static void all() throws InterruptedException {
+        movesAreUnited();
+        unitedMovesHaveALimit();
+        instructionsAreGathered();
+        agentsOfOneThreadGoOnFromEachOther();
+        threadsMayPlayTheSameAgents();
+        playsHaveBounds();
+        conflictsAreOneException();
+        limitsAreNamed();
+        System.out.println("turns of one thread");
+    }
+}
