@@ -97,13 +97,13 @@ void open_steps_keep_their_state() {
         folugben::step second = one.begin();
         folugben::step moved = std::move(second);
         moved.push_json(R"([["put",["x"],1]])");
-        WANTED(moved.fire() == 2);
+        WANTED(moved.commit() == 2);
     }
     WANTED(raise(other) == 2 && raise(third) == 3);
     WANTED(step.get(count).number() == 1);
     step.push_json(R"([["inc",["count"],1]])");
     folugben::step later = std::move(step);
-    WANTED(REFUSED(folugben::conflict, later.fire()).code() == code::stale);
+    WANTED(REFUSED(folugben::conflict, later.commit()).code() == code::stale);
     WANTED(raise(other) == 4 && raise(one) == 5);
 }
 
@@ -213,7 +213,7 @@ double time_of(std::uint32_t count) {
             folugben::step step = agents[i % count].begin();
             const auto &at = places[i % 32];
             step.push(move.clear().put(at, step.get(at).number() + 1));
-            step.fire();
+            step.commit();
         }
         const std::chrono::duration<double> time = std::chrono::steady_clock::now() - begun;
         shortest = time.count() < shortest ? time.count() : shortest;
