@@ -56,6 +56,8 @@
 mod agent;
 mod audit;
 mod cause;
+#[cfg(test)]
+mod conformance;
 mod error;
 mod held;
 mod holder;
