@@ -6,8 +6,8 @@
 // says of threads holds: an object is used in one thread at a time, but for a storage, which has a lock of its own. A storage
 // that is copied is one storage, which two objects share.
 //
-// The calls whose name begins with `try_` are noexcept, and answer a code; those beside them throw an error in its place. A
-// `conflict` alone means that a step is to be begun again. A step goes on with its agent wherever that moves, and is refused
+// The calls whose name begins with `try_` are noexcept, and answer a code, or an `outcome`; those beside them throw an error in its
+// place. A `conflict` alone means that a step is to be begun again. A step goes on with its agent wherever that moves, and is refused
 // with code::empty once that is given back.
 //
 // Each agent follows all moves in a state of its own. Where one thread plays several agents of a storage by turns, the one that
@@ -114,6 +114,16 @@ class conflict : public error {
   public:
     using error::error;
 };
+// What a commit came to: with code::done the number of the move. A conflict is code::stale, code::clash or code::busy: the step
+// is to be begun again.
+struct [[nodiscard]] outcome {
+    folugben::code code = folugben::code::done;
+    std::uint32_t number = 0;
+    explicit operator bool() const noexcept { return code == folugben::code::done; }
+    bool is_conflict() const noexcept {
+        return code == folugben::code::stale || code == folugben::code::clash || code == folugben::code::busy;
+    }
+};
 // A push whose updates clash on what the step sees; and a fire of a move without a step, which would clash again.
 class clash : public error {
   public:
@@ -165,8 +175,42 @@ inline const std::uint8_t *bytes(std::string_view text) noexcept { return reinte
     }
 }
 
-// Whether a fire of a step with this code is to be begun again.
-constexpr bool is_conflict(code it) noexcept { return it == code::stale || it == code::busy || it == code::clash; }
+// A number is out of its range.
+[[noreturn]] inline void fail_range(std::string_view what, std::uint64_t number, std::uint64_t least, std::uint64_t most) {
+    throw error(code::range, std::string(what) + " is " + std::to_string(number) + ", and has to be " + std::to_string(least) + " to " +
+                                 std::to_string(most));
+}
+inline void expect_capacity(code it, std::uint32_t capacity) {
+    if (it == code::range) fail_range("the capacity", capacity, 1, 1048576);
+}
+constexpr const char *too_many_places = "more than 256 locations and functions";
+constexpr const char *too_long_move = "more than 4,096 instructions in a move";
+constexpr const char *too_long_step = "more than 4,096 instructions in the one move of the step, or 256 places in its read set";
+
+inline std::string ahead_of(std::uint32_t seen) {
+    return "a number is above the " + std::to_string(seen) + " moves that the agent has seen";
+}
+
+// Throws where the code is of a limit.
+inline void expect_few(code it, const char *limit) {
+    if (it == code::many) throw error(it, limit);
+}
+
+// Whether a list in the text is nested too deep. A text nested deeper than any may be is else said to be no JSON.
+inline bool nests_too_deep(std::string_view text) noexcept {
+    int depth = 0;
+    bool is_in_text = false, is_escaped = false;
+    for (std::size_t i = 0; i < text.size(); ++i) {
+        const char it = text[i];
+        if (is_escaped) is_escaped = false;
+        else if (is_in_text && it == '\\') is_escaped = true;
+        else if (it == '"') is_in_text = !is_in_text;
+        else if (!is_in_text && text.substr(i).starts_with("{\"list\"")) ++depth;
+        else if (!is_in_text && it == '}' && depth > 0) --depth; // else of a set, a bag or an event, outside of all lists
+        if (depth > 8) return true;
+    }
+    return false;
+}
 
 // The slot of what was moved from, which is empty: calls that would fill it aren't made.
 template <class Handle> Handle *nothing() noexcept {
@@ -211,7 +255,7 @@ inline std::string explained(std::int32_t form, std::string_view refused) {
         return asm_explain(form, bytes(refused), refused.size(), out, room, written);
     };
     if (told(call, text) == code::memory) throw std::bad_alloc();
-    return text;
+    return nests_too_deep(refused) ? "lists nest at most 8 deep" : text;
 }
 
 // The text within what stands before and behind it.
@@ -219,6 +263,17 @@ inline std::string within(std::string_view before, std::string_view text, std::s
     std::string whole;
     whole.reserve(before.size() + text.size() + behind.size());
     return whole.append(before).append(text).append(behind);
+}
+
+inline std::string explained_move(std::string_view move) {
+    return explained(ASM_FORM_MOVE, within("{\"fire\":", move, ",\"reads\":[]}"));
+}
+
+// Throws for the line of a journal, counted from 1, with what is wrong with it.
+[[noreturn]] inline void fail_line(code it, std::string_view journal, std::uint64_t line) {
+    for (std::uint64_t i = 1; i < line; ++i) journal.remove_prefix(std::min(journal.find('\n'), journal.size() - 1) + 1);
+    std::string why = line == 1 ? "" : explained(ASM_FORM_EVENT, journal.substr(0, journal.find('\n')));
+    fail(it, "line " + std::to_string(line) + (why.empty() ? "" : ": ") + why);
 }
 
 inline void done(code it, std::string text = {}) {
@@ -632,7 +687,9 @@ class instructions {
         return it;
     }
     instructions &unite(const instructions &other) {
-        detail::done(try_unite(other));
+        const code it = try_unite(other);
+        detail::expect_few(it, detail::too_long_move);
+        detail::done(it);
         return *this;
     }
     instructions &operator|=(const instructions &other) { return unite(other); }
@@ -648,6 +705,9 @@ class instructions {
     friend class step;
     instructions &with(asm_verb verb, const location &at, const operand &what, std::uint32_t amount = 0) {
         const code it = try_instruct(verb, at, what, amount);
+        detail::expect_few(it, detail::too_long_move);
+        if (it == code::range && (verb == ASM_BAGADD || verb == ASM_BAGREMOVE) && amount == 0)
+            detail::fail_range("the amount", amount, 1, UINT32_MAX);
         detail::done(it, detail::is_refused(it) ? what.refusal() : std::string());
         return *this;
     }
@@ -827,24 +887,28 @@ class step {
     value get(const location &at);
     // {"number":N,"values":[VALUE, ..]} of locations [LOC, ..].
     std::string get_json(std::string_view locations);
-    // The same, but nothing is got: a fire is done though another agent has written there since.
+    // The same, but nothing is got: a commit fires though another agent has written there since.
     std::string see_json(std::string_view locations);
-    // All locations of a function with their values, ascending. It is scanned: the step rests on it whole.
-    std::vector<entry> get_all(std::string_view name) { return detail::entries(get_all_json(name)); }
+    // All locations of a function with their values, ascending. The step rests on the whole function.
+    std::vector<entry> scan(std::string_view name) { return detail::entries(scan_json(name)); }
     // The same as [PAIR, ..].
-    std::string get_all_json(std::string_view name);
+    std::string scan_json(std::string_view name);
+    [[deprecated("named scan")]] std::vector<entry> get_all(std::string_view name) { return scan(name); }
+    [[deprecated("named scan_json")]] std::string get_all_json(std::string_view name) { return scan_json(name); }
 
     // `text` is that of a refusal, such as {"clash":[LOC,CAUSE]}.
     [[nodiscard]] code try_push(const instructions &move, std::string &text) noexcept;
     void push(const instructions &move) {
         std::string text;
         const code it = try_push(move, text);
+        detail::expect_few(it, detail::too_long_step);
         detail::done(it, std::move(text));
     }
     [[nodiscard]] code try_extend(const instructions &move, std::string &text) noexcept;
     void extend(const instructions &move) {
         std::string text;
         const code it = try_extend(move, text);
+        detail::expect_few(it, detail::too_long_step);
         detail::done(it, std::move(text));
     }
     // The moves [INSTR, ..], with sets, bags and lists.
@@ -865,14 +929,16 @@ class step {
         return move;
     }
 
-    // {"fire":[INSTR, ..],"reads":[NAMED, ..]}: what a fire would offer and name by now, which agent::fire_json takes. The
+    // {"fire":[INSTR, ..],"reads":[NAMED, ..]}: what a commit would offer and name by now, which agent::fire_json takes. The
     // functions that were scanned aren't in it.
     std::string offer_json();
 
-    // Fires one move that does what the pushed ones do in turn. With code::done the step is over. `fire` throws `conflict` where
-    // the step is to be begun again.
-    [[nodiscard]] code try_fire(asm_numbers &numbers) noexcept;
-    std::uint32_t fire();
+    // Commits: fires one move that does what the pushed ones do in turn. Where it was done the step is over. `commit` answers the
+    // move's number, and throws `conflict` where the step is to be begun again.
+    outcome try_commit() noexcept;
+    std::uint32_t commit();
+    [[deprecated("named try_commit")]] [[nodiscard]] code try_fire(asm_numbers &numbers) noexcept;
+    [[deprecated("named commit")]] std::uint32_t fire() { return commit(); }
 
     struct asm_step *get_slot() const noexcept { return slot_.get(); }
 
@@ -883,20 +949,33 @@ class step {
     template <class Call, class ByText> code grow(Call call, ByText by_text, const instructions &move, std::string &text) noexcept;
     template <class Call> void grow_json(Call call, std::string_view move);
     template <class Call> std::string tell_json(Call call, std::string_view locations);
+    // Throws the conflict of the last commit.
+    [[noreturn]] void fail_conflict();
     detail::open_step open_;
     detail::held<struct asm_step> slot_;
+    outcome last_;
     std::uint32_t number_ = 0;
 };
 
-// What a play has done: the number of the fired move, how often it was begun again, and what the rule returned.
+// What a play has done: the number of the fired move, which is 0 where the rule pushed nothing, so that nothing was fired; how often
+// it was begun again; and what the rule returned.
 template <class Result> struct played {
     std::uint32_t number;
     unsigned retries;
     Result result;
+    bool has_fired() const noexcept { return number != 0; }
 };
 template <> struct played<void> {
     std::uint32_t number;
     unsigned retries;
+    bool has_fired() const noexcept { return number != 0; }
+};
+
+// How long a play begins again after conflicts: for ever, unless a number of tries (once is tried at least) or a time is given.
+// Then its last conflict is thrown.
+struct patience {
+    unsigned tries = 0; // 0: any number
+    std::chrono::nanoseconds timeout = std::chrono::nanoseconds::max();
 };
 
 // Reads the state and fires moves on it, in one thread at a time.
@@ -929,19 +1008,24 @@ class agent {
         return it;
     }
 
-    // Begins a step, hands it to the rule and fires it, and begins again where that is a conflict. What the rule throws ends it,
-    // and nothing is fired.
-    template <class Rule> auto play(Rule &&rule) -> played<std::invoke_result_t<Rule &, step &>> {
+    // Begins a step, hands it to the rule and commits it, and begins again where that is a conflict, as long as the patience lasts:
+    // agent.play(rule, {.tries = 3}). A rule that pushes nothing fires nothing. What the rule throws ends it, and nothing is fired.
+    template <class Rule> auto play(Rule &&rule, patience most = {}) -> played<std::invoke_result_t<Rule &, step &>> {
         using result = std::invoke_result_t<Rule &, step &>;
+        const auto begun = std::chrono::steady_clock::now();
         for (unsigned tries = 0;; ++tries) {
             step it = begin();
+            std::uint32_t number = 0;
             if constexpr (std::is_void_v<result>) {
                 rule(it);
-                if (const std::uint32_t number = fired(it, tries)) return {number, tries};
+                if (ends(it, number)) return {number, tries};
             } else {
                 result told = rule(it);
-                if (const std::uint32_t number = fired(it, tries)) return {number, tries, std::forward<result>(told)};
+                if (ends(it, number)) return {number, tries, std::forward<result>(told)};
             }
+            const bool is_late = std::chrono::steady_clock::now() - begun >= most.timeout;
+            if (is_late || (most.tries != 0 && tries + 1 >= most.tries)) it.fail_conflict();
+            back_off(tries);
         }
     }
 
@@ -995,6 +1079,7 @@ class agent {
         begin_turn();
         const code it{asm_read(get(), detail::bytes(locations), locations.size())};
         if (detail::is_refused(it)) detail::fail(it, detail::explained(ASM_FORM_LOCATIONS, locations));
+        detail::expect_few(it, detail::too_many_places);
         detail::done(it);
         return answer();
     }
@@ -1011,8 +1096,24 @@ class agent {
         const code it = try_fire_json(call, scans, numbers);
         if (detail::is_refused(it)) detail::fail(it, detail::explained(ASM_FORM_MOVE, call));
         if (it == code::stale || it == code::clash) detail::fail(it, answer());
+        if (it == code::range) throw error(it, detail::ahead_of(seen()));
+        detail::expect_few(it, detail::too_many_places);
         detail::done(it);
         return numbers.fired;
+    }
+    // Polls, and throws `conflict` with the smallest location of [NAMED, ..] that was written since. A fire may still be refused, by a
+    // move that comes in between.
+    void stands_json(std::string_view reads) {
+        std::string text;
+        const code it = detail::told(
+            [&](auto *out, auto room, auto *written) {
+                return asm_stands(get(), detail::bytes(reads), reads.size(), out, room, written);
+            },
+            text);
+        if (detail::is_refused(it)) text = detail::explained(ASM_FORM_MOVE, detail::within("{\"fire\":[],\"reads\":", reads, "}"));
+        if (it == code::range) text = detail::ahead_of(seen());
+        detail::expect_few(it, detail::too_many_places);
+        detail::done(it, std::move(text));
     }
     // What the last answered call was answered.
     std::string answer() { return detail::answer(get()); }
@@ -1055,16 +1156,14 @@ class agent {
     } catch (const std::bad_alloc &) {
         return code::memory;
     }
-    // The number of the move that a play's step fires; 0 where it is to be begun again.
-    static std::uint32_t fired(step &it, unsigned tries) {
-        asm_numbers numbers{};
-        const code told = it.try_fire(numbers);
-        if (!detail::is_conflict(told)) {
-            detail::done(told);
-            return numbers.fired;
-        }
-        back_off(tries);
-        return 0;
+    // Commits a play's step, with the number of its move; false where it is to be begun again.
+    static bool ends(step &it, std::uint32_t &number) {
+        if (it.depth() == 0) return true;
+        it.last_ = it.try_commit();
+        if (it.last_.is_conflict()) return false;
+        detail::done(it.last_.code);
+        number = it.last_.number;
+        return true;
     }
     static void back_off(unsigned tries) {
         if (tries < 8) return std::this_thread::yield();
@@ -1084,7 +1183,9 @@ inline code step::try_get(const location &at, value &what) noexcept {
 
 inline value step::get(const location &at) {
     value what;
-    detail::done(try_get(at, what));
+    const code it = try_get(at, what);
+    detail::expect_few(it, detail::too_many_places);
+    detail::done(it);
     return what;
 }
 
@@ -1096,6 +1197,7 @@ template <class Call> std::string step::tell_json(Call call, std::string_view lo
         },
         text);
     if (detail::is_refused(it)) detail::fail(it, detail::explained(ASM_FORM_LOCATIONS, locations));
+    detail::expect_few(it, detail::too_many_places);
     detail::done(it);
     return text;
 }
@@ -1110,13 +1212,15 @@ inline std::string step::offer_json() {
     return text;
 }
 
-inline std::string step::get_all_json(std::string_view name) {
+inline std::string step::scan_json(std::string_view name) {
     std::string text;
-    detail::done(detail::told(
+    const code it = detail::told(
         [&](auto *out, auto room, auto *written) {
             return asm_get_all(get_agent(), slot_.get(), detail::bytes(name), name.size(), out, room, written);
         },
-        text));
+        text);
+    detail::expect_few(it, detail::too_many_places);
+    detail::done(it);
     return text;
 }
 
@@ -1150,26 +1254,35 @@ template <class Call> void step::grow_json(Call call, std::string_view move) {
         },
         text);
     if (detail::is_refused(it))
-        text = detail::explained(ASM_FORM_MOVE, detail::within("{\"fire\":", move, ",\"reads\":[]}"));
+        text = detail::explained_move(move);
+    detail::expect_few(it, detail::too_long_step);
     detail::done(it, std::move(text));
 }
 
 inline void step::push_json(std::string_view move) { grow_json(asm_push, move); }
 inline void step::extend_json(std::string_view move) { grow_json(asm_extend, move); }
 
-inline code step::try_fire(asm_numbers &numbers) noexcept {
+inline outcome step::try_commit() noexcept {
+    asm_numbers numbers{};
     const code it{asm_commit(get_agent(), slot_.get(), &numbers)};
     if (it == code::done) open_ = {};
-    return it;
+    return {it, numbers.fired};
 }
 
-inline std::uint32_t step::fire() {
-    asm_numbers numbers{};
-    const code it = try_fire(numbers);
-    if (it == code::busy) throw conflict(it, {});
-    if (detail::is_conflict(it)) throw conflict(it, detail::answer(get_agent()));
-    detail::done(it);
-    return numbers.fired;
+inline code step::try_fire(asm_numbers &numbers) noexcept {
+    const outcome it = try_commit();
+    numbers = {it.number, 0, 0};
+    return it.code;
+}
+
+inline void step::fail_conflict() { throw conflict(last_.code, last_.code == code::busy ? "" : detail::answer(get_agent())); }
+
+inline std::uint32_t step::commit() {
+    last_ = try_commit();
+    if (last_.is_conflict()) fail_conflict();
+    detail::expect_few(last_.code, detail::too_many_places);
+    detail::done(last_.code);
+    return last_.number;
 }
 
 // How a journal was judged: legal with the numbers of its calls and moves, or the first wrong call.
@@ -1182,10 +1295,61 @@ struct legality {
 inline legality check(std::string_view journal) {
     legality told{};
     const code it{asm_check(detail::bytes(journal), journal.size(), &told.calls, &told.moves)};
-    if (it != code::done && it != code::illegal) detail::fail(it, detail::is_refused(it) ? "line " + std::to_string(told.calls) : "");
+    if (detail::is_refused(it)) detail::fail_line(it, journal, told.calls);
+    if (it != code::illegal) detail::done(it);
     told.is_legal = it == code::done;
     return told;
 }
+
+// The state [PAIR, ..] that the moves of a journal leave; it isn't checked.
+inline std::string replay_json(std::string_view journal) {
+    std::string text;
+    std::uint64_t line = 0;
+    const code it = detail::told(
+        [&](auto *out, auto room, auto *written) {
+            return asm_replay(detail::bytes(journal), journal.size(), out, room, written, &line);
+        },
+        text);
+    if (detail::is_refused(it)) detail::fail_line(it, journal, line);
+    detail::done(it);
+    return text;
+}
+
+// The updates [PAIR, ..] of the move [INSTR, ..] on the state [PAIR, ..]; throws `clash`.
+inline std::string aggregate_json(std::string_view state, std::string_view move) {
+    std::string text;
+    const code it = detail::told(
+        [&](auto *out, auto room, auto *written) {
+            return asm_aggregate(detail::bytes(state), state.size(), detail::bytes(move), move.size(), out, room, written);
+        },
+        text);
+    if (detail::is_refused(it)) {
+        text = detail::explained(ASM_FORM_STATE, state);
+        if (text.empty()) text = detail::explained_move(move);
+    }
+    detail::done(it, text);
+    return text;
+}
+
+// The one move [INSTR, ..] that does what the first and then the second do; throws `clash`, and code::large.
+inline std::string compose_json(std::string_view first, std::string_view second) {
+    std::string text;
+    const code it = detail::told(
+        [&](auto *out, auto room, auto *written) {
+            return asm_compose(detail::bytes(first), first.size(), detail::bytes(second), second.size(), out, room, written);
+        },
+        text);
+    if (detail::is_refused(it)) {
+        text = detail::explained_move(first);
+        if (text.empty()) text = detail::explained_move(second);
+    }
+    detail::expect_few(it, detail::too_long_move);
+    detail::done(it, text);
+    return text;
+}
+
+// Where and why a text of the form is refused; empty where it isn't.
+inline std::string explain(asm_form form, std::string_view text) { return detail::explained(form, text); }
 
 // The state of an abstract state machine, on which the agents of many threads fire moves without locks.
 class storage {
@@ -1194,6 +1358,7 @@ class storage {
     storage(std::string_view init, std::uint32_t capacity) : shared_(std::make_shared<detail::shared>()) {
         const code it{asm_open(detail::bytes(init), init.size(), capacity, shared_->storage.get())};
         if (detail::is_refused(it)) detail::fail(it, detail::explained(ASM_FORM_STATE, init));
+        detail::expect_capacity(it, capacity);
         detail::done(it);
     }
 
@@ -1201,7 +1366,9 @@ class storage {
     agent make_agent(std::uint32_t number) {
         auto seat = std::make_shared<detail::seat>(shared_);
         std::lock_guard<std::mutex> guard(own().lock);
-        detail::done(asm_agent(own().storage.get(), number, seat->get()));
+        const code it{asm_agent(own().storage.get(), number, seat->get())};
+        if (it == code::range) detail::fail_range("the agent's number", number, 0, 255);
+        detail::done(it);
         return agent(std::move(seat));
     }
 
@@ -1240,7 +1407,9 @@ class storage {
     storage next(std::uint32_t capacity) {
         storage it;
         std::lock_guard<std::mutex> guard(own().lock);
-        detail::done(asm_next(own().storage.get(), capacity, it.shared_->storage.get()));
+        const code opened{asm_next(own().storage.get(), capacity, it.shared_->storage.get())};
+        detail::expect_capacity(opened, capacity);
+        detail::done(opened);
         return it;
     }
 
@@ -1257,7 +1426,9 @@ class storage {
 inline storage agent::go_on(std::uint32_t capacity) {
     detail::done(catch_up());
     storage it;
-    detail::done(asm_go_on(get(), capacity, it.shared_->storage.get()));
+    const code opened{asm_go_on(get(), capacity, it.shared_->storage.get())};
+    detail::expect_capacity(opened, capacity);
+    detail::done(opened);
     return it;
 }
 

@@ -1,20 +1,17 @@
 // What the classes of folugben.hpp add to the calls of folugben.h.
 #include "wanted.hpp"
 
+#include <chrono>
 #include <cstdint>
 #include <cstdio>
 #include <memory>
 #include <new>
-#include <span>
 #include <string>
-#include <thread>
 #include <type_traits>
 #include <utility>
 #include <vector>
 
 namespace {
-
-const char *const COUNT = R"([[["count"],7]])";
 
 static_assert(!std::is_copy_constructible_v<folugben::agent> && std::is_nothrow_move_constructible_v<folugben::agent>);
 static_assert(!std::is_copy_constructible_v<folugben::step> && std::is_move_constructible_v<folugben::step>);
@@ -36,13 +33,13 @@ void steps_fire_as_one_move() {
     step.push_json(R"([["put",["set"],{"set":[1,2]}]])");
     WANTED(step.depth() == 2 && step.get(count).number() == 5 && step.get(name).text() == "a text");
     WANTED(step.get_json(R"([["set"]])") == R"({"number":0,"values":[{"set":[1,2]}]})");
-    WANTED(step.get_all_json("name") == R"([[["name","a",1],"a text"]])");
+    WANTED(step.scan_json("name") == R"([[["name","a",1],"a text"]])");
     step.pop();
     step.push(move.clear());
     step.extend(move);
     WANTED(step.depth() == 2);
     step.pop();
-    WANTED(step.fire() == 1 && step.depth() == 0);
+    WANTED(step.commit() == 1 && step.depth() == 0);
     WANTED(agent.follow() == 1 && agent.peek(count).number() == 5 && agent.won() == 1);
     WANTED(agent.read_json(R"([["count"]])") == R"({"number":1,"values":[5]})");
     WANTED(agent.fire_json(R"({"fire":[["inc",["count"],1]],"reads":[[["count"],1]]})") == 2);
@@ -129,14 +126,14 @@ void sets_bags_and_scans_are_read() {
     const std::vector<folugben::entry> all = agent.scan("it", number);
     WANTED(all.size() == 4 && number == 1 && all.size() == agent.state().size() && agent.scan("none", number).empty());
     folugben::step step = agent.begin();
-    for (const folugben::entry &it : step.get_all("it")) {
+    for (const folugben::entry &it : step.scan("it")) {
         // What was told of each leads there again, and is put as it is.
         const folugben::location at(it.name, it.args);
         WANTED(it.name == "it" && agent.peek(at) == it.value);
         step.extend(folugben::instructions().put(at, it.value));
     }
-    WANTED(step.fire() == 2 && agent.follow() == 2 && agent.state_json() == storage.make_agent(1).play([](folugben::step &it) {
-        return it.get_all_json("it");
+    WANTED(step.commit() == 2 && agent.follow() == 2 && agent.state_json() == storage.make_agent(1).play([](folugben::step &it) {
+        return it.scan_json("it");
     }).result);
 }
 
@@ -152,7 +149,7 @@ void conflicts_mean_again() {
         step.push(folugben::instructions().put(free, !is_there));
         if (conflicts == 0) other.play([&](folugben::step &it) { it.push(folugben::instructions().bag_remove(bag, "e", 1)); });
         try {
-            WANTED(step.fire() == 2);
+            WANTED(step.commit() == 2);
             is_done = true;
         } catch (const folugben::conflict &it) {
             WANTED(it.code() == code::stale && ++conflicts == 1);
@@ -162,7 +159,7 @@ void conflicts_mean_again() {
     folugben::step short_of = one.begin();
     short_of.push(folugben::instructions().bag_remove(bag, "e", 1));
     other.play([&](folugben::step &it) { it.push(folugben::instructions().bag_remove(bag, "e", 1)); });
-    WANTED(REFUSED(folugben::conflict, short_of.fire()).code() == code::clash);
+    WANTED(REFUSED(folugben::conflict, short_of.commit()).code() == code::clash);
     int tries = 0;
     REFUSED(folugben::clash, one.play([&](folugben::step &it) {
         ++tries;
@@ -188,7 +185,7 @@ void plays_return_what_their_rules_do() {
         return it;
     });
     WANTED(played.number == 2 && played.retries == 1 && *played.result == 8);
-    folugben::played<void> none = agent.play([](folugben::step &) {});
+    folugben::played<void> none = agent.play(empty_move);
     WANTED(none.number == 3 && none.retries == 0);
     int kept = 0;
     auto by_reference = agent.play([&](folugben::step &) -> int & { return kept; });
@@ -215,7 +212,7 @@ void moves_are_popped_seen_and_offered() {
     WANTED(move.size() == 2 && again.depth() == 1);
     WANTED(REFUSED(folugben::error, again.see_json("[")).code() == code::not_json);
     // What was seen isn't named, nor a move of one instruction that was popped.
-    WANTED(other.fire_json(R"({"fire":[["put",["count"],100]],"reads":[]})") == 1 && again.fire() == 2);
+    WANTED(other.fire_json(R"({"fire":[["put",["count"],100]],"reads":[]})") == 1 && again.commit() == 2);
     WANTED(other.play([&](folugben::step &it) { it.push(move); }).number == 3);
     WANTED(other.follow() == 3 && other.peek(count).number() == 126);
 }
@@ -238,25 +235,7 @@ void moves_are_united() {
     for (int i = 0; i < 4095; ++i) many.inc(n, 1);
     WANTED(REFUSED(folugben::error, many |= one).code() == code::many && many.size() == 4095);
     WANTED(many.inc(n, 1).size() == 4096 && many.try_unite(none) == code::empty && none.try_unite(one) == code::empty);
-    WANTED(gone.try_unite(folugben::instructions()) == code::done && step.fire() == 1);
-}
-
-void fires_rest_on_whole_functions() {
-    folugben::storage storage(R"([[["task",1],7]])", 10);
-    folugben::agent agent = storage.make_agent(0), other = storage.make_agent(1);
-    const char *const put = R"({"fire":[["put",["count"],1]],"reads":[]})";
-    std::uint32_t number = 9;
-    WANTED(agent.scan_json("task", number) == R"([[["task",1],7]])" && number == 0);
-    WANTED(agent.fire_json(put, R"([["task",0],["none",0]])") == 1);
-    // A location that had no value makes it stale.
-    WANTED(other.fire_json(R"({"fire":[["put",["task",2],8]],"reads":[]})") == 2);
-    folugben::error stale = REFUSED(folugben::error, agent.fire_json(put, R"([["task",0]])"));
-    WANTED(stale.code() == code::stale && stale.text() == R"({"stale":["task",2]})");
-    WANTED(REFUSED(folugben::error, agent.fire_json(put, R"([["task",3]])")).code() == code::range);
-    WANTED(REFUSED(folugben::error, agent.fire_json(put, R"([["task"]])")).code() == code::shape);
-    WANTED(agent.scan_json("task", number) == R"([[["task",1],7],[["task",2],8]])" && number == 2);
-    asm_numbers numbers{};
-    WANTED(agent.try_fire_json(put, R"([["task",2]])", numbers) == code::done && numbers.fired == 3);
+    WANTED(gone.try_unite(folugben::instructions()) == code::done && step.commit() == 1);
 }
 
 void stale_and_short_steps_are_played_again() {
@@ -278,11 +257,56 @@ void stale_and_short_steps_are_played_again() {
     folugben::step old = other.begin();
     old.get(bag);
     old.push(folugben::instructions().put(count, 0));
-    WANTED(step.fire() > 0);
-    WANTED(REFUSED(folugben::conflict, old.fire()).text() == R"({"stale":["bag"]})");
+    WANTED(step.commit() > 0);
+    WANTED(REFUSED(folugben::conflict, old.commit()).text() == R"({"stale":["bag"]})");
     WANTED(REFUSED(folugben::clash, other.play([&](folugben::step &it) {
                it.push(folugben::instructions().bag_remove(bag, "e", 1));
            })).text() == R"({"clash":[["bag"],"Short"]})");
+}
+
+void plays_end_with_their_patience() {
+    using namespace std::chrono_literals;
+    folugben::storage storage(COUNT, 100);
+    folugben::agent agent = storage.make_agent(0), other = storage.make_agent(1);
+    folugben::location count("count");
+    const auto loses = [&](folugben::step &step) {
+        step.push(folugben::instructions().put(count, step.get(count).number()));
+        other.play([&](folugben::step &it) { it.push(folugben::instructions().inc(count, 1)); });
+    };
+    WANTED(REFUSED(folugben::conflict, agent.play(loses, {.tries = 3})).text() == R"({"stale":["count"]})");
+    WANTED(storage.moves() == 3);
+    WANTED(REFUSED(folugben::conflict, agent.play(loses, {.timeout = 0ns})).code() == code::stale && storage.moves() == 4);
+    WANTED(agent.play([&](folugben::step &it) { it.push(folugben::instructions().inc(count, 1)); }, {.tries = 1}).retries == 0);
+    // A rule that pushes nothing fires nothing, and says so; a commit is done as it is asked for.
+    const auto looked = agent.play([&](folugben::step &it) { return it.get(count).number(); });
+    WANTED(!looked.has_fired() && looked.number == 0 && looked.result == 12 && storage.moves() == 5);
+    WANTED(agent.play([](folugben::step &) {}).retries == 0 && agent.play(empty_move).has_fired());
+    WANTED(agent.begin().try_commit().number == 7);
+    folugben::step stale = agent.begin();
+    stale.get(count);
+    stale.push_json(R"([["put",["x"],1]])");
+    other.play([&](folugben::step &it) { it.push(folugben::instructions().inc(count, 1)); });
+    const folugben::outcome outcome = stale.try_commit();
+    WANTED(!outcome && outcome.is_conflict() && outcome.code == code::stale && outcome.number == 0);
+}
+
+void refusals_say_which_limit_and_range() {
+    folugben::storage storage("[]", 10);
+    folugben::agent agent = storage.make_agent(0);
+    auto said = [](auto call) { return refused<folugben::error>(call, __LINE__).text(); };
+    WANTED(said([] { folugben::storage("[]", 0); }) == "the capacity is 0, and has to be 1 to 1048576");
+    WANTED(said([&] { storage.make_agent(256); }) == "the agent's number is 256, and has to be 0 to 255");
+    WANTED(said([&] { folugben::instructions().bag_add(folugben::location("b"), 1, 0); }) == "the amount is 0, and has to be 1 to 4294967295");
+    WANTED(said([&] { agent.fire_json(R"({"fire":[],"reads":[[["x"],3]]})"); }) == "a number is above the 0 moves that the agent has seen");
+    std::string many = "[[\"x\"]";
+    for (int i = 0; i < 256; ++i) many += ",[\"x\"," + std::to_string(i) + "]";
+    WANTED(said([&] { agent.read_json(many + "]"); }) == "more than 256 locations and functions");
+    WANTED(said([&] { agent.begin().get_json(many + "]"); }) == "more than 256 locations and functions");
+    folugben::list nested;
+    for (int i = 0; i < 8; ++i) nested = folugben::list{nested};
+    WANTED(said([&] { folugben::location("f", "{\"list\"", nested); }) == "lists nest at most 8 deep");
+    for (int i = 0; i < 100; ++i) nested = folugben::list{nested};
+    WANTED(said([&] { folugben::instructions().put(folugben::location("f"), nested); }) == "lists nest at most 8 deep");
 }
 
 void refusals_say_what_is_wrong() {
@@ -296,234 +320,10 @@ void refusals_say_what_is_wrong() {
     folugben::storage elsewhere(COUNT, 1);
     folugben::agent foreign = elsewhere.make_agent(0);
     WANTED(REFUSED(folugben::error, agent.learn(foreign)).code() == code::other);
-    agent.play([](folugben::step &) {});
-    REFUSED(folugben::full, agent.play([](folugben::step &) {}));
+    agent.play(empty_move);
+    REFUSED(folugben::full, agent.play(empty_move));
     WANTED(REFUSED(folugben::conflict, throw folugben::conflict(code::busy, "")).code() == code::busy);
     WANTED(std::string(folugben::error(code::full, "").what()) == folugben::meaning(code::full));
-}
-
-void agents_come_back_when_they_are_destroyed() {
-    folugben::storage storage(COUNT, 10);
-    {
-        folugben::agent agent = storage.make_agent(0);
-        agent.play([](folugben::step &) {});
-        WANTED(REFUSED(folugben::missing, storage.close()).number() == 1);
-        folugben::agent moved = std::move(agent);
-        moved.play([](folugben::step &) {});
-        moved = storage.make_agent(1);
-        moved.play([](folugben::step &) {});
-    }
-    auto told = folugben::check(storage.close());
-    WANTED(told.is_legal && told.calls == 3 && told.moves == 3);
-    folugben::storage next = storage.next(5);
-    WANTED(next.moves() == 0 && storage.moves() == 3);
-    folugben::agent lost = storage.make_agent(2);
-    lost.play([](folugben::step &) {});
-    lost.abandon();
-    WANTED(REFUSED(folugben::missing, storage.close()).number() == 4);
-}
-
-void storages_go_on_from_agents() {
-    folugben::storage storage(COUNT, 2);
-    folugben::agent agent = storage.make_agent(0);
-    folugben::location count("count");
-    auto raise = [&](folugben::agent &by) {
-        by.play([&](folugben::step &step) { step.push(folugben::instructions().inc(count, 1)); });
-    };
-    raise(agent);
-    WANTED(REFUSED(folugben::error, agent.go_on(5)).code() == code::none);
-    raise(agent);
-    WANTED(agent.follow() == 2 && REFUSED(folugben::error, agent.go_on(0)).code() == code::range);
-    folugben::storage next = agent.go_on(5);
-    folugben::agent later = next.make_agent(0);
-    WANTED(later.peek(count).number() == 9 && next.moves() == 0);
-    raise(later);
-    later.follow();
-    WANTED(later.peek(count).number() == 10 && storage.moves() == 2);
-}
-
-void agents_that_came_back_are_taken() {
-    folugben::storage storage(COUNT, 10);
-    WANTED(REFUSED(folugben::error, storage.take(4)).code() == code::none);
-    storage.make_agent(4).play([](folugben::step &) {});
-    WANTED(folugben::check(storage.close()).calls == 1);
-    {
-        folugben::agent agent = storage.take(4);
-        WANTED(agent.won() == 1 && REFUSED(folugben::error, storage.take(4)).code() == code::none);
-        WANTED(REFUSED(folugben::missing, storage.close()).number() == 1);
-        agent.play([](folugben::step &) {});
-    }
-    auto told = folugben::check(storage.close());
-    WANTED(told.is_legal && told.calls == 2 && told.moves == 2);
-}
-
-// Two parts: 2 calls and 2 moves, and 1 call without a move.
-std::string two_parts() {
-    folugben::storage storage(COUNT, 2);
-    auto fill = [&] {
-        folugben::agent agent = storage.make_agent(0);
-        for (int i = 0; i < 2; ++i) agent.play([](folugben::step &step) { step.push_json(R"([["inc",["count"],1]])"); });
-        agent.follow();
-        return agent.go_on(5);
-    };
-    folugben::storage next = fill();
-    next.make_agent(0).read_json(R"([["count"]])");
-    return storage.close() + next.close();
-}
-
-void runs_are_audited_as_their_bytes_come() {
-    const std::string run = two_parts();
-    folugben::auditor auditor;
-    WANTED(REFUSED(folugben::audit_error, auditor.end()).code() == code::cut);
-    WANTED(REFUSED(folugben::error, auditor.state_json()).code() == code::none && auditor.counts().calls == 0);
-    std::uint64_t lines = 0;
-    for (char byte : run) {
-        auditor.feed(std::string_view(&byte, 1));
-        lines += byte == '\n';
-        WANTED(auditor.counts().parts == (lines < 3 ? 0u : lines < 5 ? 1u : 2u));
-    }
-    asm_audit_numbers told = auditor.end();
-    WANTED(told.parts == 2 && told.calls == 3 && told.moves == 2 && auditor.state_json() == R"([[["count"],9]])");
-    auditor.feed("\"");
-    WANTED(REFUSED(folugben::audit_error, auditor.end()).code() == code::not_json);
-
-    std::vector<std::uint8_t> bytes(run.begin(), run.end());
-    folugben::auditor at_once;
-    at_once.feed(bytes);
-    WANTED(at_once.end().parts == 2);
-    folugben::auditor moved = std::move(at_once);
-    WANTED(moved.end().calls == 3);
-}
-
-void the_first_fault_of_a_run_is_told_with_its_place() {
-    const std::string run = two_parts();
-    auto with = [&](const std::string &from, const char *to) {
-        return std::string(run).replace(run.find(from), from.size(), to);
-    };
-    auto fault = [](const std::string &of) {
-        folugben::auditor auditor;
-        auto told = REFUSED(folugben::audit_error, { auditor.feed(of); auditor.end(); });
-        WANTED(REFUSED(folugben::audit_error, auditor.feed("\n")).code() == told.code());
-        WANTED(REFUSED(folugben::audit_error, auditor.end()).part() == told.part());
-        return told;
-    };
-    auto illegal = fault(with("\"fired\":2", "\"fired\":3"));
-    WANTED(illegal.code() == code::illegal && illegal.part() == 0 && illegal.call() == 1 && illegal.line() == 0);
-    WANTED(std::string(illegal.text()) == "part 0 call 1");
-    auto shape = fault(with("\"read\"", "\"reed\""));
-    WANTED(shape.code() == code::shape && shape.part() == 1 && shape.line() == 2 && shape.text() == "part 1 line 2");
-    auto apart = fault(run + run);
-    WANTED(apart.code() == code::apart && apart.part() == 2 && apart.text() == "part 2");
-    auto large = fault(run + std::string((1 << 24) + 1, ' '));
-    WANTED(large.code() == code::large && large.part() == 2 && large.text() == "part 2");
-    WANTED(!folugben::meaning(code::apart).empty() && folugben::meaning(code::apart) != folugben::meaning(code{99}));
-
-    folugben::auditor auditor;
-    std::vector<std::uint8_t> bytes(run.begin(), run.end());
-    bytes.insert(bytes.end(), {'[', ']', '\n', '\n'});
-    std::size_t taken = 0;
-    asm_audit_numbers told{};
-    WANTED(auditor.try_feed(bytes, taken, told) == code::shape && taken == run.size() + 2 && told.parts == 2 && told.calls == 1);
-    WANTED(auditor.try_feed({}, taken, told) == code::shape && taken == 0 && auditor.counts().calls == 3);
-}
-
-// A step goes on with its agent's slot, wherever the agent is.
-void steps_go_on_where_their_agents_move() {
-    folugben::storage storage(COUNT, 10), other(R"([[["count"],100]])", 10);
-    folugben::location count("count");
-    const std::string up = R"([["inc",["count"],1]])";
-    std::vector<folugben::agent> agents;
-    agents.push_back(storage.make_agent(0));
-    folugben::step grown = agents[0].begin();
-    for (std::uint32_t i = 1; i < 50; ++i) agents.push_back(storage.make_agent(i));
-    grown.push_json(up);
-    WANTED(grown.get(count).number() == 8 && grown.fire() == 1);
-
-    folugben::agent stranger = other.make_agent(0);
-    folugben::step swapped = agents[0].begin();
-    std::swap(agents[0], stranger);
-    swapped.push_json(up);
-    WANTED(swapped.get(count).number() == 9 && swapped.fire() == 2 && other.moves() == 0 && storage.moves() == 2);
-    WANTED(agents[0].try_begin(swapped) == code::done && swapped.get(count).number() == 100);
-
-    folugben::step late = stranger.begin();
-    late.push_json(up);
-    { folugben::agent ends = std::move(stranger); }
-    asm_numbers numbers{};
-    WANTED(late.try_fire(numbers) == code::empty && REFUSED(folugben::error, late.get(count)).code() == code::empty);
-    WANTED(REFUSED(folugben::error, late.fire()).code() == code::empty && storage.moves() == 2);
-    agents.clear();
-    WANTED(folugben::check(storage.close()).moves == 2);
-}
-
-// What was moved from refuses each call, and may be assigned to.
-void moved_objects_are_empty() {
-    auto is_empty = [](auto call) { WANTED(refused<folugben::error>(call, __LINE__).code() == code::empty); };
-    folugben::storage storage(COUNT, 10), next(COUNT, 5), gone = std::move(next);
-    is_empty([&] { next.make_agent(0); });
-    is_empty([&] { next.take(0); });
-    is_empty([&] { next.moves(); });
-    is_empty([&] { next.close(); });
-    is_empty([&] { next.next(5); });
-
-    folugben::agent agent = storage.make_agent(0), left = std::move(agent);
-    folugben::location count("count"), other = std::move(count);
-    is_empty([&] { agent.begin(); });
-    is_empty([&] { agent.play([](folugben::step &) {}); });
-    is_empty([&] { agent.follow(); });
-    is_empty([&] { agent.peek(other); });
-    is_empty([&] { agent.state_json(); });
-    is_empty([&] { agent.read_json(R"([["count"]])"); });
-    is_empty([&] { agent.fire_json(R"({"fire":[],"reads":[]})"); });
-    is_empty([&] { agent.answer(); });
-    is_empty([&] { agent.go_on(5); });
-    is_empty([&] { left.peek(count); });
-    agent.abandon();
-    WANTED(agent.seen() == 0 && agent.won() == 0 && agent.misses() == 0);
-    WANTED(REFUSED(folugben::error, left.learn(agent)).code() == code::other);
-
-    folugben::step step = left.begin(), moved = std::move(step);
-    folugben::instructions move, full;
-    full.put(other, 1);
-    folugben::instructions kept = std::move(full);
-    is_empty([&] { step.get(other); });
-    is_empty([&] { step.push(kept); });
-    is_empty([&] { step.pop(); });
-    is_empty([&] { step.offer_json(); });
-    is_empty([&] { step.fire(); });
-    WANTED(step.depth() == 0 && left.try_begin(step) == code::empty);
-    is_empty([&] { full.put(other, 2); });
-    is_empty([&] { move.put(count, 1); });
-    moved.push(kept);
-    WANTED(moved.try_pop_move(full) == code::empty && moved.depth() == 1);
-    step = left.begin();
-    full = moved.pop_move();
-    step.push(full);
-    WANTED(step.fire() == 1);
-
-    folugben::auditor auditor, last = std::move(auditor);
-    is_empty([&] { auditor.feed("{"); });
-    is_empty([&] { auditor.counts(); });
-    is_empty([&] { auditor.end(); });
-    is_empty([&] { auditor.state_json(); });
-}
-
-void threads_take_agents() {
-    folugben::storage storage(R"([[["count"],0]])", 10000);
-    std::vector<std::thread> threads;
-    for (std::uint32_t i = 0; i < 4; ++i)
-        threads.emplace_back(
-            [](folugben::agent agent) {
-                folugben::location count("count");
-                for (int k = 0; k < 200; ++k)
-                    agent.play([&](folugben::step &step) {
-                        step.push(folugben::instructions().put(count, step.get(count).number() + 1));
-                    });
-            },
-            storage.make_agent(i));
-    for (auto &it : threads) it.join();
-    folugben::agent reader = storage.make_agent(4);
-    WANTED(reader.follow() == 800 && reader.peek(folugben::location("count")).number() == 800);
 }
 
 } // namespace
@@ -538,16 +338,9 @@ int main() {
     plays_return_what_their_rules_do();
     moves_are_popped_seen_and_offered();
     moves_are_united();
-    fires_rest_on_whole_functions();
     stale_and_short_steps_are_played_again();
+    plays_end_with_their_patience();
+    refusals_say_which_limit_and_range();
     refusals_say_what_is_wrong();
-    agents_come_back_when_they_are_destroyed();
-    storages_go_on_from_agents();
-    agents_that_came_back_are_taken();
-    runs_are_audited_as_their_bytes_come();
-    the_first_fault_of_a_run_is_told_with_its_place();
-    steps_go_on_where_their_agents_move();
-    moved_objects_are_empty();
-    threads_take_agents();
     std::puts("passed");
 }

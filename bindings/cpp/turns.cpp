@@ -16,7 +16,7 @@ namespace {
 
 using draw = std::minstd_rand;
 
-const char *const COUNT = R"([[["count"],0]])";
+const char *const ZERO = R"([[["count"],0]])";
 
 std::vector<folugben::agent> agents_of(folugben::storage &storage, std::uint32_t from, std::uint32_t to) {
     std::vector<folugben::agent> all;
@@ -36,7 +36,7 @@ std::int64_t raise(folugben::agent &agent) {
 }
 
 void agents_by_turns_see_all_moves_and_lose_none() {
-    folugben::storage storage(COUNT, 2000);
+    folugben::storage storage(ZERO, 2000);
     {
         auto agents = agents_of(storage, 0, 20);
         draw random(3);
@@ -53,7 +53,7 @@ void agents_by_turns_see_all_moves_and_lose_none() {
 }
 
 void what_was_followed_to_stays() {
-    folugben::storage storage(COUNT, 100);
+    folugben::storage storage(ZERO, 100);
     folugben::agent one = storage.make_agent(0), other = storage.make_agent(1);
     folugben::location count("count");
     raise(one);
@@ -66,7 +66,7 @@ void what_was_followed_to_stays() {
 }
 
 void the_own_state_never_goes_back() {
-    folugben::storage storage(COUNT, 500);
+    folugben::storage storage(ZERO, 500);
     auto agents = agents_of(storage, 0, 5);
     folugben::location count("count");
     std::vector<std::uint32_t> shown(5);
@@ -87,7 +87,7 @@ void the_own_state_never_goes_back() {
 }
 
 void open_steps_keep_their_state() {
-    folugben::storage storage(COUNT, 100);
+    folugben::storage storage(ZERO, 100);
     folugben::agent one = storage.make_agent(0), other = storage.make_agent(1), third = storage.make_agent(2);
     folugben::location count("count");
     raise(third);
@@ -97,13 +97,13 @@ void open_steps_keep_their_state() {
         folugben::step second = one.begin();
         folugben::step moved = std::move(second);
         moved.push_json(R"([["put",["x"],1]])");
-        WANTED(moved.fire() == 2);
+        WANTED(moved.commit() == 2);
     }
     WANTED(raise(other) == 2 && raise(third) == 3);
     WANTED(step.get(count).number() == 1);
     step.push_json(R"([["inc",["count"],1]])");
     folugben::step later = std::move(step);
-    WANTED(REFUSED(folugben::conflict, later.fire()).code() == code::stale);
+    WANTED(REFUSED(folugben::conflict, later.commit()).code() == code::stale);
     WANTED(raise(other) == 4 && raise(one) == 5);
 }
 
@@ -145,7 +145,7 @@ std::int64_t hand_round(std::vector<folugben::agent> pool, int rounds, bool drop
 }
 
 void agents_go_between_threads_by_turns() {
-    folugben::storage storage(COUNT, 100000);
+    folugben::storage storage(ZERO, 100000);
     std::int64_t fired = hand_round(agents_of(storage, 0, 12), 4000, false);
     fired += hand_round(agents_of(storage, 12, 60), 4000, true);
     folugben::agent reader = storage.make_agent(60);
@@ -165,7 +165,7 @@ struct plays_last {
 };
 
 void agents_are_played_where_the_objects_of_a_thread_end() {
-    folugben::storage storage(COUNT, 20);
+    folugben::storage storage(ZERO, 20);
     auto agents = agents_of(storage, 0, 3);
     std::thread([&] {
         thread_local plays_last ends;
@@ -179,7 +179,7 @@ void agents_are_played_where_the_objects_of_a_thread_end() {
 void many_storages_take_turns_in_one_thread() {
     std::vector<folugben::storage> storages;
     std::vector<std::vector<folugben::agent>> agents;
-    for (int i = 0; i < 20; ++i) storages.emplace_back(COUNT, 50u);
+    for (int i = 0; i < 20; ++i) storages.emplace_back(ZERO, 50u);
     for (auto &it : storages) agents.push_back(agents_of(it, 0, 3));
     draw random(12);
     for (std::int64_t i = 1; i <= 30; ++i)
@@ -188,11 +188,11 @@ void many_storages_take_turns_in_one_thread() {
     storages.clear();
     // A storage may lie where another one was.
     for (int i = 0; i < 30; ++i) {
-        folugben::storage again(COUNT, 5);
+        folugben::storage again(ZERO, 5);
         for (auto &it : agents_of(again, 0, 3)) raise(it);
         WANTED(again.moves() == 3);
     }
-    folugben::storage storage(COUNT, 5);
+    folugben::storage storage(ZERO, 5);
     folugben::agent lost = storage.make_agent(0), other = storage.make_agent(1);
     raise(lost);
     lost.abandon();
@@ -213,7 +213,7 @@ double time_of(std::uint32_t count) {
             folugben::step step = agents[i % count].begin();
             const auto &at = places[i % 32];
             step.push(move.clear().put(at, step.get(at).number() + 1));
-            step.fire();
+            step.commit();
         }
         const std::chrono::duration<double> time = std::chrono::steady_clock::now() - begun;
         shortest = time.count() < shortest ? time.count() : shortest;

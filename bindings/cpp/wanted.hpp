@@ -9,6 +9,10 @@
 
 using folugben::code;
 
+inline const char *const COUNT = R"([[["count"],7]])";
+
+inline void empty_move(folugben::step &step) { step.push_json("[]"); }
+
 inline void wanted(bool holds, const char *what, int line) {
     if (holds) return;
     std::printf("line %d: %s doesn't hold\n", line, what);

@@ -21,7 +21,7 @@ constexpr std::size_t ROUNDS = 9;
 void add_one(folugben::agent &agent, const folugben::location &at, folugben::instructions &move) {
     folugben::step step = agent.begin();
     step.push(move.clear().put(at, step.get(at).number() + 1));
-    step.fire();
+    step.commit();
 }
 
 // The nanoseconds that one of so many moves takes, of so many agents by turns.

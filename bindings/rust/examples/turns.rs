@@ -13,7 +13,7 @@ fn add_one(agent: &mut Agent, at: &Prepared, put: &mut PreparedMove) -> Result<(
     let mut step = agent.step()?;
     let next = step.get_at(at)?.as_num().unwrap_or(0) + 1;
     step.push_prepared(put.clear().put(at, next)?)?;
-    step.fire().map(drop)
+    step.commit().map(drop)
 }
 
 /// The nanoseconds that one of so many moves takes, of so many agents by turns.

@@ -1,17 +1,20 @@
 //! Agents.
+use crate::cause::{Limit, OutOfRange};
 use crate::error::{Error, answer, done, done_or_told, done_with, of_text};
 use crate::held::{Held, told};
+use crate::holder::Holder;
 use crate::instruction::Move;
 use crate::json::{Json, ToJson};
-use crate::number::MoveNumber;
+use crate::number::{AgentNumber, MoveNumber};
 use crate::play::{Attempt, Patience, Played};
 use crate::prepared::{Prepared, value_of};
-use crate::step::{Holder, Step};
+use crate::step::Step;
 use crate::storage::{Shared, Storage};
 use crate::sys;
 use crate::turns::AgentSlots;
 use crate::value::{Location, Value};
 use std::cell::Cell;
+use std::collections::BTreeSet;
 use std::fmt;
 use std::marker::PhantomData;
 use std::sync::Arc;
@@ -43,13 +46,13 @@ impl Reading {
 pub struct Agent {
     pub(crate) slots: Arc<AgentSlots>,
     shared: Arc<Shared>,
-    number: u8,
+    number: AgentNumber,
     /// It isn't Sync.
     in_one_thread: PhantomData<Cell<()>>,
 }
 
 impl Agent {
-    pub(crate) fn new(agent: Held, shared: &Arc<Shared>, number: u8) -> Agent {
+    pub(crate) fn new(agent: Held, shared: &Arc<Shared>, number: AgentNumber) -> Agent {
         let slots = Arc::new(AgentSlots::new(agent, Arc::as_ptr(shared).addr()));
         Agent { slots, shared: Arc::clone(shared), number, in_one_thread: PhantomData }
     }
@@ -60,7 +63,7 @@ impl Agent {
 
     /// Its number among the agents of its storage.
     #[must_use]
-    pub fn number(&self) -> u8 {
+    pub fn number(&self) -> AgentNumber {
         self.number
     }
 
@@ -130,7 +133,7 @@ impl Agent {
         patience.play(|| {
             let mut step = self.step()?;
             let result = rule(&mut step)?;
-            Ok(Attempt::of(result, step.fire())?)
+            Ok(Attempt::of(result, step)?)
         })
     }
 
@@ -144,6 +147,10 @@ impl Agent {
         let text = places.json();
         // SAFETY: the slots are held by this agent, no call is at work on them, and the texts and numbers outlive the call.
         let code = unsafe { sys::asm_read(self.slots.agent(), text.as_ptr(), text.len()) };
+        if code == sys::MANY {
+            let different = places.iter().collect::<BTreeSet<_>>();
+            return Err(Error::Many(Limit::Places(Some(different.len()))));
+        }
         done_with(code, sys::FORM_LOCATIONS, &text)?;
         answer(&self.last_answer()?, Reading::of)
     }
@@ -157,35 +164,31 @@ impl Agent {
     /// - [`Error::Clash`]: the updates clash.
     /// - [`Error::Range`]: a number is above [`Agent::seen`].
     /// - [`Error::Full`], [`Error::Many`], [`Error::Refused`], [`Error::Memory`].
-    pub fn try_fire(&mut self, instructions: &Move, reads: &[(Location, MoveNumber)]) -> Result<MoveNumber, Error> {
-        self.try_fire_over(instructions, reads, &[])
+    pub fn fire(&mut self, instructions: &Move, reads: &[(Location, MoveNumber)]) -> Result<MoveNumber, Error> {
+        self.fire_over(instructions, reads, &[])
     }
 
-    /// Fires the move as [`Agent::try_fire`] does, unless a location of one of these functions was written since the number
+    /// Fires the move as [`Agent::fire`] does, unless a location of one of these functions was written since the number
     /// that [`Agent::scan`] told, including one that had no value. Both together are at most 256.
     ///
     /// # Errors
     ///
-    /// Those of [`Agent::try_fire`].
-    pub fn try_fire_over(
+    /// Those of [`Agent::fire`].
+    pub fn fire_over(
         &mut self,
         instructions: &Move,
         reads: &[(Location, MoveNumber)],
         scans: &[(&str, MoveNumber)],
     ) -> Result<MoveNumber, Error> {
-        expect_short(reads)?;
-        expect_short(scans)?;
+        self.expect_seen(reads)?;
+        self.expect_seen(scans)?;
+        self.slots.begin_turn();
         let mut text = String::from("{\"fire\":");
         instructions.instructions().write(&mut text);
         text.push_str(",\"reads\":");
         reads.write(&mut text);
         text.push('}');
         let over = scans.json();
-        // What it hasn't seen is refused, also if another agent has.
-        let seen = self.seen();
-        if reads.iter().map(|it| it.1).chain(scans.iter().map(|it| it.1)).all(|number| number <= seen) {
-            self.slots.begin_turn();
-        }
         let mut numbers = sys::Numbers::default();
         // SAFETY: the slots are held by this agent, no call is at work on them, and the texts and numbers outlive the call.
         let code = unsafe {
@@ -195,10 +198,20 @@ impl Agent {
         self.slots.has_acted();
         match code {
             sys::STALE | sys::CLASH => Err(of_text(code, &self.last_answer()?)),
+            sys::MANY => Err(Error::Many(Limit::Places(Some(reads.len() + scans.len())))),
             code => {
                 done_with(code, sys::FORM_MOVE, &text)?;
                 Ok(numbers.fired.into())
             }
+        }
+    }
+
+    /// Expects numbers of moves that it has seen itself; any other one would guard nothing.
+    fn expect_seen<T>(&self, named: &[(T, MoveNumber)]) -> Result<(), Error> {
+        let seen = self.seen();
+        match named.iter().find(|(_, number)| *number > seen) {
+            Some((_, number)) => Err(OutOfRange::ahead(*number, seen)),
+            None => Ok(()),
         }
     }
 
@@ -325,10 +338,8 @@ impl Agent {
     /// - [`Error::Range`]: a number is above [`Agent::seen`].
     /// - [`Error::Many`], [`Error::Refused`], [`Error::Memory`].
     pub fn stands(&mut self, reads: &[(Location, MoveNumber)]) -> Result<(), Error> {
-        expect_short(reads)?;
-        if reads.iter().all(|it| it.1 <= self.seen()) {
-            self.slots.begin_turn();
-        }
+        self.expect_seen(reads)?;
+        self.slots.begin_turn();
         let text = reads.json();
         // SAFETY: the slots are held by this agent, no call is at work on them, and the texts and numbers outlive the call.
         let (code, told) = told(|out, room, written| unsafe {
@@ -339,6 +350,7 @@ impl Agent {
                 let call = format!("{{\"fire\":[],\"reads\":{text}}}");
                 done_with(code, sys::FORM_MOVE, &call)
             }
+            sys::MANY => Err(Error::Many(Limit::Places(Some(reads.len())))),
             code => done_or_told(code, &told),
         }
     }
@@ -358,6 +370,7 @@ impl Agent {
         // SAFETY: the slots are held by this agent, no call is at work on them, and the texts and numbers outlive the call.
         match unsafe { sys::asm_go_on(self.slots.agent(), capacity, next.at()) } {
             sys::NONE => Err(Error::NotFull),
+            sys::RANGE => Err(OutOfRange::capacity(capacity)),
             code => {
                 done(code)?;
                 Storage::of(next)
@@ -383,9 +396,4 @@ impl fmt::Debug for Agent {
     fn fmt(&self, f: &mut fmt::Formatter<'_>) -> fmt::Result {
         f.debug_struct("Agent").field("number", &self.number).field("seen", &self.seen()).finish_non_exhaustive()
     }
-}
-
-/// Expects numbers that the library takes.
-fn expect_short<T>(named: &[(T, MoveNumber)]) -> Result<(), Error> {
-    named.iter().try_for_each(|(_, number)| number.short().map(drop))
 }

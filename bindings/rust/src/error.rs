@@ -1,148 +1,15 @@
 //! What calls are refused for.
 use crate::audit::AuditError;
+use crate::cause::{Cause, Conflict, Limit, OutOfRange};
 use crate::held::told;
 use crate::json::{Json, read};
-use crate::number::MoveNumber;
+use crate::number::{AgentNumber, MoveNumber};
+use crate::run::Ended;
 use crate::sys;
 use crate::value::Location;
 use std::{fmt, io};
 
-const TOO_LONG: &str = "a line would be longer than the 16,777,216 bytes that an audit reads";
-
-/// Why the updates of a location clash.
-#[derive(Clone, Copy, Debug, PartialEq, Eq, Hash)]
-#[non_exhaustive]
-pub enum Cause {
-    /// Two different values are put.
-    Two,
-    /// Instructions of two of these: sets, bags, numbers.
-    Mixed,
-    /// The value that is there is no set, no bag or no number.
-    Kind,
-    /// An element is added to a set and removed from it.
-    Both,
-    /// A value is put that the other instructions don't agree with.
-    Against,
-    /// More of an element is removed than the bag has.
-    Short,
-    /// A count above 4,294,967,295, or a number outside the range of `i64`.
-    Large,
-}
-
-impl Cause {
-    fn named(word: &str) -> Option<Cause> {
-        Some(match word {
-            "Two" => Cause::Two,
-            "Mixed" => Cause::Mixed,
-            "Kind" => Cause::Kind,
-            "Both" => Cause::Both,
-            "Against" => Cause::Against,
-            "Short" => Cause::Short,
-            "Large" => Cause::Large,
-            _ => return None,
-        })
-    }
-}
-
-impl fmt::Display for Cause {
-    fn fmt(&self, f: &mut fmt::Formatter<'_>) -> fmt::Result {
-        f.write_str(match self {
-            Cause::Two => "two different values are put",
-            Cause::Mixed => "updates of two kinds: sets, bags, numbers",
-            Cause::Kind => "no set, no bag or no number is there",
-            Cause::Both => "an element is added and removed",
-            Cause::Against => "a value is put that the other updates don't agree with",
-            Cause::Short => "more is removed than the bag has",
-            Cause::Large => "too large a count or number",
-        })
-    }
-}
-
-/// Where and why a [`Run`](crate::Run) ended before it was closed. What was saved before is complete.
-#[derive(Clone, Debug, PartialEq, Eq)]
-#[non_exhaustive]
-pub struct Ended {
-    /// The number of the part that couldn't be saved, which would be that of its segment.
-    pub part: u64,
-    /// Why it couldn't.
-    pub cause: EndCause,
-}
-
-/// Why a part of a [`Run`](crate::Run) couldn't be saved.
-#[derive(Clone, Debug, PartialEq, Eq)]
-#[non_exhaustive]
-pub enum EndCause {
-    /// The part's move with this number was fired by an agent that is lost.
-    Missing(MoveNumber),
-    /// A file couldn't be written or flushed to the disk.
-    Write {
-        /// What kind of failure it was.
-        kind: io::ErrorKind,
-        /// What the system said.
-        why: String,
-    },
-    /// The folder, its lock or its last segment was removed, replaced or truncated meanwhile.
-    Damaged {
-        /// The number of the segment.
-        segment: u64,
-        /// What was found.
-        why: String,
-    },
-    /// No memory for the part's journal.
-    Memory,
-    /// A line of the part's journal is longer than an audit reads.
-    TooLong,
-}
-
-impl fmt::Display for Ended {
-    fn fmt(&self, f: &mut fmt::Formatter<'_>) -> fmt::Result {
-        write!(f, "the run ended at part {}: {}", self.part, self.cause)
-    }
-}
-
-impl fmt::Display for EndCause {
-    fn fmt(&self, f: &mut fmt::Formatter<'_>) -> fmt::Result {
-        match self {
-            EndCause::Missing(number) => write!(f, "the agent that fired its move {number} is lost"),
-            EndCause::Write { why, .. } => f.write_str(why),
-            EndCause::Damaged { segment, why } => write!(f, "segment {segment}: {why}"),
-            EndCause::Memory => f.write_str("out of memory"),
-            EndCause::TooLong => f.write_str(TOO_LONG),
-        }
-    }
-}
-
-/// How a step met another agent's moves: begin it again, as [`Agent::play`](crate::Agent::play) does.
-#[derive(Clone, Debug, PartialEq, Eq)]
-#[non_exhaustive]
-pub enum Conflict {
-    /// The location was written since the step began, or since the number at which it is named.
-    Stale(Location),
-    /// Something was written since that the step's moves don't fit.
-    Clash {
-        /// The least location whose updates clash.
-        at: Location,
-        /// Why they do.
-        cause: Cause,
-    },
-    /// 64 offers in a row were lost to other agents.
-    Busy,
-    /// The part of a run in which the step began has ended.
-    Past,
-}
-
-impl fmt::Display for Conflict {
-    fn fmt(&self, f: &mut fmt::Formatter<'_>) -> fmt::Result {
-        match self {
-            Conflict::Stale(at) => write!(f, "{at} was written since"),
-            Conflict::Clash { at, cause } => write!(f, "the updates clash at {at} by now: {cause}"),
-            Conflict::Busy => f.write_str("64 offers in a row were lost to other agents"),
-            Conflict::Past => f.write_str("the part of the run has ended, so begin another step"),
-        }
-    }
-}
-
-impl std::error::Error for Conflict {}
+pub(crate) const TOO_LONG: &str = "a line would be longer than the 16,777,216 bytes that an audit reads";
 
 /// Why a call wasn't done. Nothing was fired or lost, but for [`Error::Ended`].
 #[derive(Clone, Debug, PartialEq, Eq)]
@@ -165,23 +32,22 @@ pub enum Error {
     NotFull,
     /// Out of memory; the call may be made again.
     Memory,
-    /// More than 256 different locations, or more than 4,096 instructions in one move.
-    Many,
+    /// Too many locations or instructions; which limit it is, and how many there were.
+    Many(Limit),
     /// 64 moves are pushed already.
     Deep,
     /// An amount or a sum is too large, at this location.
     Large(Location),
-    /// No move is pushed: there is none to pop, and nothing was fired.
+    /// No move is pushed, so there is none to pop.
     NoMove,
     /// No journal was made since an agent was given back.
     NoJournal,
-    /// A capacity outside 1 to 1,048,576, more than 256 agents, a verb's amount, or a location that is named at a number
-    /// above what the agent has seen.
-    Range,
+    /// A number is out of its range: a capacity, a count of agents, an amount, or the number of a read that the agent hasn't seen.
+    Range(OutOfRange),
     /// An agent with this number was made before.
-    NumberTaken(u8),
+    NumberTaken(AgentNumber),
     /// No agent with this number was given back, or another one has it.
-    NotGiven(u8),
+    NotGiven(AgentNumber),
     /// The move with this number has no receipt among the agents that were given back; the agent that fired it was
     /// abandoned, or isn't given back yet.
     Missing(MoveNumber),
@@ -240,14 +106,12 @@ impl fmt::Display for Error {
             Error::TooLong => f.write_str(TOO_LONG),
             Error::NotFull => f.write_str("the agent hasn't looked on to the end of a full storage"),
             Error::Memory => f.write_str("out of memory"),
-            Error::Many => {
-                f.write_str("more than 256 locations and scanned functions, or more than 4,096 instructions")
-            }
+            Error::Many(limit) => limit.fmt(f),
             Error::Deep => f.write_str("64 moves are pushed already"),
             Error::Large(at) => write!(f, "too large an amount or sum at {at}"),
             Error::NoMove => f.write_str("no move is pushed"),
             Error::NoJournal => f.write_str("no journal was made since an agent was given back"),
-            Error::Range => f.write_str("a number is out of its range"),
+            Error::Range(range) => range.fmt(f),
             Error::NumberTaken(number) => write!(f, "an agent {number} was made before"),
             Error::NotGiven(number) => write!(f, "agent {number} wasn't given back, or is in use"),
             Error::Missing(number) => write!(f, "move {number} was fired by an agent that wasn't given back"),
@@ -273,14 +137,6 @@ impl std::error::Error for Error {
         }
     }
 }
-
-impl std::error::Error for Ended {
-    fn source(&self) -> Option<&(dyn std::error::Error + 'static)> {
-        Some(&self.cause)
-    }
-}
-
-impl std::error::Error for EndCause {}
 
 impl From<Conflict> for Error {
     fn from(conflict: Conflict) -> Error {
@@ -319,9 +175,27 @@ fn explained(form: i32, text: &[u8]) -> Error {
     let (code, why) =
         told(|out, room, written| unsafe { sys::asm_explain(form, text.as_ptr(), text.len(), out, room, written) });
     match code {
+        sys::DONE if nests_too_deep(text) => Error::Refused("lists nest at most 8 deep".to_owned()),
         sys::DONE => Error::Refused(String::from_utf8_lossy(&why).into_owned()),
         _ => Error::Memory,
     }
+}
+
+/// Whether a list in a text of this crate is nested too deep. A text nested deeper than any may be is else said to be no JSON.
+fn nests_too_deep(text: &[u8]) -> bool {
+    let (mut depth, mut is_in_text, mut is_escaped) = (0_i32, false, false);
+    text.iter().enumerate().any(|(i, byte)| {
+        match byte {
+            _ if is_escaped => is_escaped = false,
+            b'\\' if is_in_text => is_escaped = true,
+            b'"' => is_in_text = !is_in_text,
+            b'{' if !is_in_text && text[i..].starts_with(b"{\"list\"") => depth += 1,
+            // Of a set, a bag or an event, which lie outside of all lists.
+            b'}' if !is_in_text => depth = (depth - 1).max(0),
+            _ => {}
+        }
+        depth > 8
+    })
 }
 
 /// The error of a code that comes without more.
@@ -330,9 +204,8 @@ pub(crate) fn plain(code: i32) -> Error {
         sys::MEMORY => Error::Memory,
         sys::FULL => Error::Full,
         sys::BUSY => Conflict::Busy.into(),
-        sys::MANY => Error::Many,
+        sys::MANY => Error::Many(Limit::Places(None)),
         sys::DEEP => Error::Deep,
-        sys::RANGE => Error::Range,
         sys::OTHER => Error::OtherStorage,
         code => Error::Unknown(code),
     }

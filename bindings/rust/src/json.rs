@@ -159,7 +159,7 @@ impl ToJson for Instruction {
 }
 
 /// A JSON value as the library writes one: its numbers are whole.
-#[derive(Debug)]
+#[derive(Debug, PartialEq)]
 pub(crate) enum Json {
     Null,
     Bool(bool),

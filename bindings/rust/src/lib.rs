@@ -45,7 +45,7 @@
 //! let mut agent = storage.agent(0)?;
 //! let step = agent.step()?;
 //! agent.follow()?; // the step still borrows the agent
-//! step.fire()?;
+//! step.commit()?;
 //! # Ok(())
 //! # }
 //! ```
@@ -55,12 +55,17 @@
 
 mod agent;
 mod audit;
+mod cause;
+#[cfg(test)]
+mod conformance;
 mod error;
 mod held;
+mod holder;
 mod instruction;
 mod journal;
 mod json;
 mod number;
+mod old_names;
 mod play;
 mod prepared;
 mod run;
@@ -72,13 +77,14 @@ mod value;
 
 pub use agent::{Agent, Reading};
 pub use audit::{AuditError, Auditor, Counts, audit};
-pub use error::{Cause, Conflict, EndCause, Ended, Error};
+pub use cause::{Cause, Conflict, Limit, OutOfRange};
+pub use error::Error;
 pub use instruction::{Instruction, Move};
 pub use journal::{Journal, JournalError, Legality, aggregate, compose, version};
-pub use number::MoveNumber;
-pub use play::{Patience, Played};
+pub use number::{AgentNumber, MoveNumber};
+pub use play::{Outcome, Patience, Played};
 pub use prepared::{Prepared, PreparedMove};
-pub use run::{Check, Run, RunAgent, RunOptions, RunStep, audit_run, import_run};
+pub use run::{Check, EndCause, Ended, Run, RunAgent, RunOptions, RunStep, audit_run, import_run};
 pub use step::Step;
 pub use storage::Storage;
 pub use value::{Element, Location, Value};

@@ -1,5 +1,4 @@
-//! The numbers of moves.
-use crate::error::Error;
+//! The numbers of moves and of agents.
 use std::fmt;
 
 /// The number of a move among all of its storage or run, from 1 up; also how many moves were fired up to some moment.
@@ -29,10 +28,59 @@ impl MoveNumber {
     pub(crate) fn behind(self, before: u64) -> MoveNumber {
         MoveNumber(before + self.0)
     }
+}
 
-    /// The number as the library takes it.
-    pub(crate) fn short(self) -> Result<u32, Error> {
-        self.0.try_into().map_err(|_| Error::Range)
+/// The number of an agent among those of its storage or run, 0 to 255.
+///
+/// ```
+/// use folugben::AgentNumber;
+/// assert_eq!(AgentNumber::new(7), 7);
+/// assert_eq!(usize::from(AgentNumber::from(7)), 7);
+/// ```
+#[derive(Clone, Copy, Debug, Default, PartialEq, Eq, PartialOrd, Ord, Hash)]
+pub struct AgentNumber(u8);
+
+impl AgentNumber {
+    /// The number.
+    #[must_use]
+    pub const fn new(number: u8) -> AgentNumber {
+        AgentNumber(number)
+    }
+
+    /// The number.
+    #[must_use]
+    pub const fn get(self) -> u8 {
+        self.0
+    }
+}
+
+impl From<u8> for AgentNumber {
+    fn from(number: u8) -> AgentNumber {
+        AgentNumber(number)
+    }
+}
+
+macro_rules! from_agent_number {
+    ($($to:ty)*) => {$(
+        impl From<AgentNumber> for $to {
+            fn from(number: AgentNumber) -> $to {
+                number.0.into()
+            }
+        }
+    )*};
+}
+
+from_agent_number! { u8 u32 u64 i64 usize }
+
+impl PartialEq<u8> for AgentNumber {
+    fn eq(&self, other: &u8) -> bool {
+        self.0 == *other
+    }
+}
+
+impl fmt::Display for AgentNumber {
+    fn fmt(&self, f: &mut fmt::Formatter<'_>) -> fmt::Result {
+        self.0.fmt(f)
     }
 }
 

@@ -1,6 +1,8 @@
 //! Rules that are played until they fire.
+use crate::cause::Conflict;
 use crate::error::Error;
 use crate::number::MoveNumber;
+use crate::step::Step;
 use std::thread;
 use std::time::{Duration, Instant};
 
@@ -19,6 +21,16 @@ pub struct Played<T> {
     pub result: T,
     /// How often the rule was played in vain before.
     pub retries: u32,
+}
+
+/// What a commit came to, of [`Step::try_commit`](crate::Step::try_commit).
+#[derive(Clone, Debug, PartialEq, Eq)]
+#[must_use = "a step in conflict has fired nothing"]
+pub enum Outcome {
+    /// The move was fired, and has this number.
+    Fired(MoveNumber),
+    /// Another agent was quicker: begin again.
+    Conflict(Conflict),
 }
 
 /// How long a play begins again after conflicts: for ever, unless something else is said.
@@ -98,13 +110,16 @@ pub(crate) enum Attempt<T> {
 }
 
 impl<T> Attempt<T> {
-    /// What the rule returned, and what its step's fire answered.
-    pub(crate) fn of(result: T, fired: Result<MoveNumber, Error>) -> Result<Attempt<T>, Error> {
-        match fired {
-            Ok(number) => Ok(Attempt::Fired(number, result)),
-            Err(Error::NoMove) => Ok(Attempt::Unfired(result)),
-            Err(error) if error.is_retry() => Ok(Attempt::Vain(error)),
-            Err(error) => Err(error),
+    /// Commits the step, of which the rule returned the result; nothing where it pushed nothing.
+    pub(crate) fn of(result: T, step: Step<'_>) -> Result<Attempt<T>, Error> {
+        match step.pushed() {
+            Ok(0) => return Ok(Attempt::Unfired(result)),
+            Err(error) if error.is_retry() => return Ok(Attempt::Vain(error)),
+            pushed => pushed?,
+        };
+        match step.try_commit()? {
+            Outcome::Fired(number) => Ok(Attempt::Fired(number, result)),
+            Outcome::Conflict(conflict) => Ok(Attempt::Vain(conflict.into())),
         }
     }
 }

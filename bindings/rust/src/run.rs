@@ -20,9 +20,11 @@
 //! The locks are taken in this order: that of one seat, that of `State`, that of a storage.
 
 mod agent;
+mod ended;
 mod folder;
 mod import;
 mod lines;
+mod part;
 mod parts;
 mod seat;
 mod segment;
@@ -30,15 +32,19 @@ mod sha256;
 mod writer;
 
 pub use agent::{RunAgent, RunStep};
+pub use ended::{EndCause, Ended};
 pub use import::import_run;
 pub(crate) use lines::SHORT;
 pub(crate) use seat::Lent;
 pub use segment::audit_run;
 
 use crate::audit::{Auditor, Counts};
+use crate::cause::OutOfRange;
 use crate::error::Error;
+use crate::number::AgentNumber;
 use crate::run::folder::RunFolder;
-use crate::run::parts::{Core, Limits};
+use crate::run::part::Limits;
+use crate::run::parts::Core;
 use crate::storage::Storage;
 use crate::value::{Location, Value};
 use std::fmt;
@@ -246,8 +252,8 @@ impl Run {
     ///
     /// - [`Error::NumberTaken`]: an agent with this number is in use; once that is let go, another may be made.
     /// - [`Error::Ended`], [`Error::Closed`].
-    pub fn agent(&self, number: u8) -> Result<RunAgent, Error> {
-        let seat = self.core.seat(number)?;
+    pub fn agent(&self, number: impl Into<AgentNumber>) -> Result<RunAgent, Error> {
+        let seat = self.core.seat(number.into())?;
         Ok(RunAgent { core: Arc::clone(&self.core), seat })
     }
 
@@ -258,7 +264,7 @@ impl Run {
     /// Those of [`Run::agent`], and [`Error::Range`] of more than 256.
     pub fn agents(&self, count: usize) -> Result<Vec<RunAgent>, Error> {
         if count > AGENTS {
-            return Err(Error::Range);
+            return Err(OutOfRange::agents(count));
         }
         let seats = self.core.seats(count)?;
         Ok(seats.into_iter().map(|seat| RunAgent { core: Arc::clone(&self.core), seat }).collect())

@@ -1,60 +1,24 @@
 //! Steps.
-use crate::agent::{Agent, Reading};
-use crate::error::{Error, answer, done, done_or_told, done_with, of_text};
+use crate::agent::Reading;
+use crate::cause::Limit;
+use crate::error::{Error, answer, done, done_or_told, done_with};
 use crate::held::told;
+use crate::holder::{Holder, commit, offer_text};
 use crate::instruction::{Instruction, Move};
 use crate::json::{Json, ToJson};
 use crate::number::MoveNumber;
+use crate::play::Outcome;
 use crate::prepared::{Prepared, PreparedMove, value_of};
-use crate::run::Lent;
 use crate::sys;
 use crate::value::{Element, Location, Value};
 use std::fmt;
 use std::slice;
 
-/// The agent that a step works with: one that it borrows, or one that a run has lent it.
-pub(crate) enum Holder<'a> {
-    Own(&'a mut Agent),
-    Lent(Lent<'a>),
-}
-
-impl Holder<'_> {
-    fn number(&self) -> u8 {
-        match self {
-            Holder::Own(agent) => agent.number(),
-            Holder::Lent(lent) => lent.number(),
-        }
-    }
-
-    /// How many moves the parts of a run before that of the step have.
-    fn before(&self) -> u64 {
-        match self {
-            Holder::Own(_) => 0,
-            Holder::Lent(lent) => lent.part().before,
-        }
-    }
-
-    /// Calls the agent, which a run may have taken back.
-    fn with<T>(&self, call: impl FnOnce(&Agent) -> Result<T, Error>) -> Result<T, Error> {
-        match self {
-            Holder::Own(agent) => call(agent),
-            Holder::Lent(lent) => lent.with(call),
-        }
-    }
-
-    /// Counts bytes of what the step has pushed and got, which a line of a run's journal may have.
-    fn count(&self, size: usize) {
-        if let Holder::Lent(lent) = self {
-            lent.count(size);
-        }
-    }
-}
-
 /// What an engine does between a look and a fire: it gets values and pushes moves in any order, all of which see one state
 /// and the moves pushed before; and it fires one move that does what these do in turn.
 ///
-/// It borrows its agent. A step that is let go without [`Step::fire`] has done nothing.
-#[must_use = "a step does nothing until it is fired"]
+/// It borrows its agent. A step that is let go without [`Step::commit`] has done nothing.
+#[must_use = "a step does nothing until it is committed"]
 pub struct Step<'a> {
     pub(crate) agent: Holder<'a>,
     pub(crate) number: u32,
@@ -139,13 +103,13 @@ impl Step<'_> {
     }
 
     /// What is seen at all locations of a function, in ascending order. The step then rests on the whole function: a write to
-    /// any location of it, including one that had no value, makes the fire stale. It counts as one of 256, however many
+    /// any location of it, including one that had no value, makes the commit stale. It counts as one of 256, however many
     /// locations it has.
     ///
     /// # Errors
     ///
     /// [`Error::Many`], [`Error::Memory`].
-    pub fn get_all(&self, name: &str) -> Result<Vec<(Location, Value)>, Error> {
+    pub fn scan(&self, name: &str) -> Result<Vec<(Location, Value)>, Error> {
         // SAFETY: the slots are of one agent and its step, which this thread alone has, and the texts and numbers outlive the call.
         let (code, text) = self.told(|slot, step, out, room, written| unsafe {
             sys::asm_get_all(slot, step, name.as_ptr(), name.len(), out, room, written)
@@ -189,7 +153,7 @@ impl Step<'_> {
                 let call = format!("{{\"fire\":{text},\"reads\":[]}}");
                 done_with(code, sys::FORM_MOVE, &call)
             }
-            code => done_or_told(code, &told),
+            code => grown(code, &told),
         }
     }
 
@@ -221,7 +185,7 @@ impl Step<'_> {
             call(slot, step, instructions.slot.at(), out, room, written)
         })?;
         self.agent.count(instructions.size);
-        done_or_told(code, &told)
+        grown(code, &told)
     }
 
     /// Puts the value, in a move that joins what was pushed last.
@@ -312,13 +276,14 @@ impl Step<'_> {
             // SAFETY: the slots are of one agent and its step, which this thread alone has, and the texts and numbers outlive the call.
             self.agent.with(|agent| match unsafe { sys::asm_pop_move(agent.slots.step(), slot) } {
                 sys::NONE => Err(Error::NoMove),
+                sys::MANY => Err(Error::Many(Limit::Step)),
                 code => done(code),
             })
         })
     }
 
-    /// What [`Step::fire`] would offer by now: the one move, and each location that it would name with its number, which
-    /// [`Agent::try_fire`] takes. A fire of the step rests besides on the functions of [`Step::get_all`], which aren't told.
+    /// What [`Step::commit`] would offer by now: the one move, and each location that it would name with its number, which
+    /// [`Agent::fire`](crate::Agent::fire) takes. A commit rests besides on the functions of [`Step::scan`], which aren't told.
     ///
     /// # Errors
     ///
@@ -331,54 +296,69 @@ impl Step<'_> {
 
     /// How many moves are pushed.
     pub fn depth(&self) -> u32 {
-        // SAFETY: the slots are of one agent and its step, which this thread alone has, and the texts and numbers outlive the call.
-        self.agent.with(|agent| Ok(unsafe { sys::asm_depth(agent.slots.step()) })).unwrap_or(0)
+        self.pushed().unwrap_or(0)
     }
 
-    /// Fires one move that does what the pushed ones do in turn, unless something was written since that the step rests on,
-    /// and answers the move's number.
+    pub(crate) fn pushed(&self) -> Result<u32, Error> {
+        // SAFETY: the slots are of one agent and its step, which this thread alone has, and the texts and numbers outlive the call.
+        self.agent.with(|agent| Ok(unsafe { sys::asm_depth(agent.slots.step()) }))
+    }
+
+    /// Commits: fires one move that does what the pushed ones do in turn, unless something was written since that the step rests
+    /// on, and answers the move's number.
     ///
     /// # Errors
     ///
     /// - [`Error::Conflict`]: another agent was quicker, so begin again, as [`Agent::play`](crate::Agent::play) does.
-    /// - [`Error::NoMove`]: nothing is pushed, so nothing was fired.
     /// - [`Error::Full`]: the storage has no room for a further move. Of a step of a run that is a conflict too.
     /// - [`Error::Many`], [`Error::Memory`].
     /// - Of a step of a run [`Error::TooLong`]: the line of the move would be longer than an audit reads.
     #[must_use = "a stale step has fired nothing"]
-    pub fn fire(self) -> Result<MoveNumber, Error> {
+    pub fn commit(self) -> Result<MoveNumber, Error> {
         let fired = match &self.agent {
             Holder::Own(agent) => commit(agent),
-            Holder::Lent(lent) => lent.fire(),
+            Holder::Lent(lent) => lent.commit(),
         };
         fired.map(|number| MoveNumber::from(number).behind(self.agent.before()))
     }
-}
 
-/// Fires what the agent's step has pushed.
-pub(crate) fn commit(agent: &Agent) -> Result<u32, Error> {
-    // SAFETY: the slots are of one agent and its step, which this thread alone has, and the texts and numbers outlive the call.
-    if unsafe { sys::asm_depth(agent.slots.step()) } == 0 {
-        return Err(Error::NoMove);
-    }
-    let mut numbers = sys::Numbers::default();
-    // SAFETY: the slots are of one agent and its step, which this thread alone has, and the texts and numbers outlive the call.
-    let code = unsafe { sys::asm_commit(agent.slots.agent(), agent.slots.step(), &raw mut numbers) };
-    match code {
-        sys::STALE | sys::CLASH => Err(of_text(code, &agent.last_answer()?).of_fire()),
-        code => {
-            done(code)?;
-            Ok(numbers.fired)
+    /// As [`Step::commit`], for loops by hand: a conflict is an outcome, and no error.
+    ///
+    /// ```
+    /// use folugben::{Agent, Error, MoveNumber, Outcome};
+    ///
+    /// fn raise(agent: &mut Agent) -> Result<MoveNumber, Error> {
+    ///     loop {
+    ///         let mut step = agent.step()?;
+    ///         let n = step.get("n")?.as_num().unwrap_or(0);
+    ///         step.put("n", n + 1)?;
+    ///         if let Outcome::Fired(number) = step.try_commit()? {
+    ///             return Ok(number);
+    ///         }
+    ///     }
+    /// }
+    /// # let storage = folugben::Storage::open([], 5).unwrap();
+    /// # assert_eq!(raise(&mut storage.agent(0).unwrap()), Ok(MoveNumber::new(1)));
+    /// ```
+    ///
+    /// # Errors
+    ///
+    /// Those of [`Step::commit`] but [`Error::Conflict`].
+    pub fn try_commit(self) -> Result<Outcome, Error> {
+        match self.commit() {
+            Ok(number) => Ok(Outcome::Fired(number)),
+            Err(Error::Conflict(conflict)) => Ok(Outcome::Conflict(conflict)),
+            Err(error) => Err(error),
         }
     }
 }
 
-/// The text of what the agent's step would fire by now.
-pub(crate) fn offer_text(agent: &Agent) -> Result<Vec<u8>, Error> {
-    // SAFETY: the slots are of one agent and its step, which this thread alone has, and the texts and numbers outlive the call.
-    let (code, text) = told(|out, room, written| unsafe { sys::asm_offer(agent.slots.step(), out, room, written) });
-    done(code)?;
-    Ok(text)
+/// The answer to a push or an extension.
+fn grown(code: i32, told: &[u8]) -> Result<(), Error> {
+    match code {
+        sys::MANY => Err(Error::Many(Limit::Step)),
+        code => done_or_told(code, told),
+    }
 }
 
 type ByText = unsafe extern "C" fn(*mut sys::Slot, *mut sys::Slot, *const u8, usize, *mut u8, usize, *mut usize) -> i32;

@@ -1,9 +1,11 @@
 //! Storages.
 use crate::agent::Agent;
+use crate::cause::OutOfRange;
 use crate::error::{Error, done, done_with, plain};
 use crate::held::{Held, told};
 use crate::journal::Journal;
 use crate::json::ToJson;
+use crate::number::AgentNumber;
 use crate::sys;
 use crate::turns::AgentSlots;
 use crate::value::{Location, Value};
@@ -43,7 +45,7 @@ impl Shared {
 }
 
 impl Slots {
-    fn make(&mut self, number: u8) -> Result<Held, Error> {
+    fn make(&mut self, number: AgentNumber) -> Result<Held, Error> {
         let agent = Held::empty();
         // SAFETY: the storage is held under its lock, the agent by this thread, and the texts and numbers outlive the call.
         match unsafe { sys::asm_agent(self.storage.at(), number.into(), agent.at()) } {
@@ -109,6 +111,9 @@ impl Storage {
         let storage = Held::empty();
         // SAFETY: the storage is held under its lock, the agent by this thread, and the texts and numbers outlive the call.
         let code = unsafe { sys::asm_open(text.as_ptr(), text.len(), capacity, storage.at()) };
+        if code == sys::RANGE {
+            return Err(OutOfRange::capacity(capacity));
+        }
         done_with(code, sys::FORM_STATE, &text)?;
         Storage::of(storage)
     }
@@ -117,7 +122,10 @@ impl Storage {
     pub(crate) fn open_text(state: &[u8], capacity: u32) -> Result<Storage, Error> {
         let storage = Held::empty();
         // SAFETY: the storage is held under its lock, the agent by this thread, and the texts and numbers outlive the call.
-        done(unsafe { sys::asm_open(state.as_ptr(), state.len(), capacity, storage.at()) })?;
+        match unsafe { sys::asm_open(state.as_ptr(), state.len(), capacity, storage.at()) } {
+            sys::RANGE => return Err(OutOfRange::capacity(capacity)),
+            code => done(code)?,
+        }
         Storage::of(storage)
     }
 
@@ -135,12 +143,13 @@ impl Storage {
     /// # Errors
     ///
     /// [`Error::NumberTaken`], [`Error::Memory`].
-    pub fn agent(&self, number: u8) -> Result<Agent, Error> {
+    pub fn agent(&self, number: impl Into<AgentNumber>) -> Result<Agent, Error> {
+        let number = number.into();
         let agent = self.shared.slots().make(number)?;
         Ok(self.holder(agent, number))
     }
 
-    fn holder(&self, agent: Held, number: u8) -> Agent {
+    fn holder(&self, agent: Held, number: AgentNumber) -> Agent {
         Agent::new(agent, &self.shared, number)
     }
 
@@ -153,7 +162,8 @@ impl Storage {
     ///
     /// - [`Error::NotGiven`]: no agent with this number was given back, or it was taken since.
     /// - [`Error::Memory`].
-    pub fn take(&self, number: u8) -> Result<Agent, Error> {
+    pub fn take(&self, number: impl Into<AgentNumber>) -> Result<Agent, Error> {
+        let number = number.into();
         let agent = Held::empty();
         let mut slots = self.shared.slots();
         slots.give_waiting()?;
@@ -174,11 +184,11 @@ impl Storage {
     /// - [`Error::Memory`]: some of them were made.
     pub fn agents(&self, count: usize) -> Result<Vec<Agent>, Error> {
         let mut slots = self.shared.slots();
-        let wanted = slots.made.get(..count).ok_or(Error::Range)?;
-        if let Some((taken, _)) = (0..=u8::MAX).zip(wanted).find(|(_, is_made)| **is_made) {
+        let wanted = slots.made.get(..count).ok_or_else(|| OutOfRange::agents(count))?;
+        if let Some((taken, _)) = (0..=u8::MAX).map(AgentNumber::new).zip(wanted).find(|(_, is_made)| **is_made) {
             return Err(Error::NumberTaken(taken));
         }
-        let numbers = (0..=u8::MAX).take(count);
+        let numbers = (0..=u8::MAX).map(AgentNumber::new).take(count);
         let made = numbers.clone().map(|number| slots.make(number)).collect::<Result<Vec<_>, _>>()?;
         drop(slots);
         Ok(numbers.zip(made).map(|(number, agent)| self.holder(agent, number)).collect())
@@ -232,6 +242,7 @@ impl Storage {
         let code = unsafe { sys::asm_next(self.shared.slots().storage.at(), capacity, next.at()) };
         match code {
             sys::NONE => Err(Error::NoJournal),
+            sys::RANGE => Err(OutOfRange::capacity(capacity)),
             code => {
                 done(code)?;
                 Storage::of(next)

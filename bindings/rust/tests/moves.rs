@@ -1,5 +1,5 @@
 //! Moves that are made of others.
-use folugben::{Error, Location, Move, Prepared, PreparedMove, Storage, Value};
+use folugben::{Error, Limit, Location, Move, Prepared, PreparedMove, Storage, Value};
 
 #[test]
 fn moves_are_united() {
@@ -19,15 +19,15 @@ fn moves_are_united() {
     assert_eq!((other.len(), one.len(), empty.len()), (3, 2, 2));
     assert_eq!(step.get("n").unwrap(), 5.into());
     assert_eq!(step.get("set").unwrap(), Value::Set([1.into()].into()));
-    step.fire().unwrap();
+    step.commit().unwrap();
 
     let mut many = PreparedMove::new();
     for _ in 0..4_095 {
         many.inc(&at[0], 1).unwrap();
     }
-    assert_eq!(many.unite(&one).map(drop), Err(Error::Many));
+    assert_eq!(many.unite(&one).map(drop), Err(Error::Many(Limit::Instructions)));
     assert_eq!(many.inc(&at[0], 1).unwrap().len(), 4_096);
-    assert_eq!(many.unite(&one).map(drop), Err(Error::Many));
+    assert_eq!(many.unite(&one).map(drop), Err(Error::Many(Limit::Instructions)));
 
     let both = Move::new().put("a", 1).unite(Move::new().inc("n", 1));
     let mut grown = Move::new();

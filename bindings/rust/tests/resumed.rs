@@ -108,10 +108,10 @@ fn what_is_no_run_is_refused_and_stays() {
     assert_eq!(kind(Run::resume(room.path(), Check::All).err()).0, ErrorKind::NotFound);
     open(&room, 5).close().unwrap();
 
-    assert_eq!(Run::open([], "/no/such/folder/run", 0).err(), Some(Error::Range));
+    assert!(matches!(Run::open([], "/no/such/folder/run", 0), Err(Error::Range(_))));
     assert_eq!(kind(Run::open([], "/no/such/folder/run", 1).err()).0, ErrorKind::NotFound);
     assert!(matches!(Run::open([(" ".into(), 1.into())], "/no/such/folder/run", 1), Err(Error::Refused(_))));
-    assert_eq!(RunOptions::new().moves(0).resume(room.path(), Check::All).err(), Some(Error::Range));
+    assert!(matches!(RunOptions::new().moves(0).resume(room.path(), Check::All), Err(Error::Range(_))));
 }
 
 /// Has a text of these numbers, with a right digest, in the place of the last segment, as only a program can do it.

@@ -2,8 +2,8 @@
 #![allow(clippy::cast_possible_truncation, reason = "no test has so many")]
 mod common;
 
-use common::{Draw, PAST, Room, add_one, count, fired, numbers, open};
-use folugben::{Check, EndCause, Ended, Error, Location, Move, MoveNumber, Run, RunAgent, RunOptions, Value};
+use common::{PAST, Room, add_one, count, fired, numbers, open};
+use folugben::{Check, Error, Location, Move, Run, RunAgent, RunOptions, Value};
 use std::thread;
 use std::time::{Duration, Instant};
 
@@ -143,7 +143,7 @@ fn an_open_step_holds_no_agent_up_and_is_begun_again() {
     assert_eq!(quick.step().unwrap().part(), 2);
     // It goes on in its part for a while, and fires nothing there.
     assert_eq!(step.put("other", 1), Ok(()));
-    assert_eq!(step.fire(), Err(PAST));
+    assert_eq!(step.commit(), Err(PAST));
     assert_eq!(slow.play(|step| step.put("other", 1)).map(fired), Ok(4));
 
     let step = slow.step().unwrap();
@@ -153,7 +153,7 @@ fn an_open_step_holds_no_agent_up_and_is_begun_again() {
     has_parts(&run, 10);
     let told = step.get(count()).unwrap_err();
     assert!(told == PAST && told.is_retry());
-    assert_eq!((step.depth(), step.fire()), (0, Err(PAST)));
+    assert_eq!((step.depth(), step.commit()), (0, Err(PAST)));
     drop((slow, quick));
     assert_eq!(run.close().unwrap().moves, 34);
     assert_eq!(room.audited().1, [(count(), 33.into()), (Location::new("other"), 1.into())]);
@@ -204,7 +204,7 @@ fn stale_tries(agents: &mut [RunAgent], last: &mut RunAgent) -> Result<u64, Erro
     }
     let number = add_one(last)?;
     for step in steps {
-        assert!(step.fire().unwrap_err().is_retry());
+        assert!(step.commit().unwrap_err().is_retry());
     }
     Ok(number)
 }
@@ -250,7 +250,7 @@ fn parts_end_by_time_and_by_flushes() {
     let step = agent.step().unwrap();
     add_one(&mut other).unwrap();
     assert_eq!(run.flush().unwrap().moves, 6);
-    assert_eq!(step.fire(), Err(PAST));
+    assert_eq!(step.commit(), Err(PAST));
     assert_eq!(add_one(&mut agent), Ok(7));
     assert_eq!(run.close().unwrap().moves, 7);
     assert_eq!(run.flush().err(), Some(Error::Closed));
@@ -274,318 +274,4 @@ fn a_flush_of_many_threads_saves_all_that_was_answered() {
     assert_eq!(run.saved().moves, 100);
     run.close().unwrap();
     assert_eq!(room.audited().1, [(count(), 100.into())]);
-}
-
-#[test]
-fn a_lost_agent_is_told_where_a_part_ends_at_rest_too() {
-    let room = Room::new("lost-at-rest");
-    let run = open(&room, 20);
-    let mut lost = run.agent(9).unwrap();
-    for _ in 0..21 {
-        add_one(&mut lost).unwrap();
-    }
-    lost.abandon();
-    let ended = run.flush().unwrap_err();
-    let Error::Ended(Ended { part, cause, .. }) = &ended else { panic!("{ended}") };
-    assert_eq!((*part, cause), (2, &EndCause::Missing(MoveNumber::new(1))));
-    assert_eq!(run.close(), Err(ended));
-    assert_eq!(numbers(room.audited().0), (2, 20, 20));
-}
-
-#[test]
-fn a_lost_agent_ends_the_run_and_what_was_saved_stays() {
-    let room = Room::new("lost");
-    let run = open(&room, 5);
-    let agent = |number| run.agent(number).unwrap();
-    let (mut lost, mut left, mut slow) = (agent(0), agent(1), agent(2));
-    for _ in 0..6 {
-        add_one(&mut left).unwrap();
-    }
-    assert_eq!(add_one(&mut lost), Ok(7));
-    lost.abandon();
-    let mut step = slow.step().unwrap();
-    step.put(count(), 0).unwrap();
-    for _ in 0..3 {
-        add_one(&mut left).unwrap();
-    }
-    let ended = loop {
-        match add_one(&mut left) {
-            Ok(_) => thread::sleep(Duration::from_millis(1)),
-            Err(error) => break error,
-        }
-    };
-    let Error::Ended(why) = &ended else { panic!("{ended}") };
-    assert_eq!((why.part, &why.cause), (2, &EndCause::Missing(MoveNumber::new(2))));
-    assert_eq!(ended.to_string(), "the run ended at part 2: the agent that fired its move 2 is lost");
-    assert_eq!(step.fire(), Err(ended.clone()));
-    for agent in [&mut left, &mut slow] {
-        assert_eq!(agent.step().err(), Some(ended.clone()));
-        assert_eq!(add_one(agent), Err(ended.clone()));
-    }
-    assert_eq!(run.agent(9).err(), Some(ended.clone()));
-    assert_eq!((run.close(), run.flush()), (Err(ended.clone()), Err(ended)));
-    assert_eq!(numbers(run.saved()), (2, 5, 5));
-    drop(run);
-    assert_eq!(numbers(room.audited().0), (2, 5, 5));
-}
-
-#[test]
-fn an_abandoned_agent_that_fired_nothing_in_its_part_is_not_missed() {
-    let room = Room::new("unused");
-    let run = open(&room, 2);
-    let mut agent = run.agent(0).unwrap();
-    add_one(&mut agent).unwrap();
-    add_one(&mut agent).unwrap();
-    assert_eq!(agent.step().unwrap().part(), 2);
-    agent.abandon();
-    let mut agent = run.agent(1).unwrap();
-    add_one(&mut agent).unwrap();
-    assert_eq!(run.close().map(numbers), Ok((3, 3, 3)));
-}
-
-#[test]
-fn steps_that_are_forgotten_lose_nothing() {
-    let room = Room::new("forgotten");
-    let run = open(&room, 3);
-    let (mut one, mut other) = (run.agent(0).unwrap(), run.agent(1).unwrap());
-    add_one(&mut one).unwrap();
-    std::mem::forget(one.step().unwrap());
-    assert_eq!(add_one(&mut one), Ok(2));
-    std::mem::forget(one.step().unwrap());
-    for number in 3..=20 {
-        assert_eq!(add_one(&mut other), Ok(number));
-    }
-    std::mem::forget(other.step().unwrap());
-    assert_eq!(run.close().unwrap().moves, 20);
-    assert_eq!(one.step().err(), Some(Error::Closed));
-}
-
-#[test]
-fn a_thread_that_panics_in_a_step_gives_its_agent_back() {
-    let room = Room::new("panic");
-    let run = open(&room, 10);
-    let mut agent = run.agent(0).unwrap();
-    add_one(&mut agent).unwrap();
-    let ended = thread::spawn(move || {
-        let told = agent.play(|step| {
-            step.put(count(), 7)?;
-            assert_ne!(step.depth(), 1, "on purpose");
-            Ok::<(), Error>(())
-        });
-        drop((told, agent));
-    });
-    assert!(ended.join().is_err());
-    assert_eq!(run.close().map(numbers), Ok((2, 1, 1)));
-}
-
-#[test]
-fn a_number_has_one_agent_at_a_time() {
-    let room = Room::new("numbers");
-    let run = open(&room, 10);
-    let mut agent = run.agent(7).unwrap();
-    assert_eq!(run.agent(7).err(), Some(Error::NumberTaken(7)));
-    assert_eq!(run.agents(257).err(), Some(Error::Range));
-    assert_eq!(add_one(&mut agent), Ok(1));
-    drop(agent);
-    let mut agent = run.agent(7).unwrap();
-    assert_eq!(add_one(&mut agent), Ok(2));
-    assert_eq!(agent.step().unwrap().part(), 1);
-    // No number is taken where one is in use.
-    assert_eq!((agent.number(), run.agents(8).err()), (7, Some(Error::NumberTaken(7))));
-    assert_eq!(run.agents(7).unwrap().len(), 7);
-    assert_eq!(run.close().map(numbers), Ok((2, 2, 2)));
-}
-
-#[test]
-fn a_closed_run_begins_no_step() {
-    let room = Room::new("closed");
-    let run = open(&room, 10);
-    let mut agent = run.agent(0).unwrap();
-    add_one(&mut agent).unwrap();
-    let mut step = agent.step().unwrap();
-    step.put(count(), 5).unwrap();
-    // It waits for no step, of its own thread either.
-    assert_eq!(run.close().map(numbers), Ok((2, 1, 1)));
-    assert_eq!((step.get(count()), step.fire()), (Err(Error::Closed), Err(Error::Closed)));
-    assert_eq!(agent.step().err(), Some(Error::Closed));
-    assert_eq!(add_one(&mut agent), Err(Error::Closed));
-    assert_eq!((agent.follow(), agent.scan("count").err()), (Err(Error::Closed), Some(Error::Closed)));
-    assert_eq!(run.agent(1).err(), Some(Error::Closed));
-    drop(run);
-    assert_eq!(agent.step().err(), Some(Error::Closed));
-    assert_eq!(room.audited().1, [(count(), 1.into())]);
-}
-
-#[test]
-fn closing_waits_for_no_step_of_another_thread() {
-    let room = Room::new("waits");
-    let run = open(&room, 10);
-    let mut agent = run.agent(0).unwrap();
-    let (begun, told) = std::sync::mpsc::channel();
-    let (closed, ended) = std::sync::mpsc::channel::<()>();
-    let other = thread::spawn(move || {
-        let mut step = agent.step().unwrap();
-        step.put(count(), 9).unwrap();
-        begun.send(()).unwrap();
-        ended.recv().unwrap();
-        (step.fire(), agent.step().err())
-    });
-    told.recv().unwrap();
-    assert_eq!(run.close().map(numbers), Ok((1, 0, 0)));
-    closed.send(()).unwrap();
-    assert_eq!(other.join().unwrap(), (Err(Error::Closed), Some(Error::Closed)));
-}
-
-#[test]
-fn steps_that_went_to_other_threads_hang_no_close() {
-    let room = Room::new("moved");
-    let run = open(&room, 10);
-    let mut agents = run.agents(2).unwrap();
-    thread::scope(|threads| {
-        let mut steps = agents.iter_mut().map(|it| it.step().unwrap());
-        let (mut step, kept) = (steps.next().unwrap(), steps.next().unwrap());
-        let fired = threads.spawn(move || {
-            step.put(count(), 3).unwrap();
-            step.fire()
-        });
-        assert_eq!(fired.join().unwrap().unwrap(), 1);
-        let forgotten = threads.spawn(move || std::mem::forget(kept));
-        forgotten.join().unwrap();
-        assert_eq!(run.close().map(numbers), Ok((2, 1, 1)));
-    });
-}
-
-#[test]
-fn a_run_that_is_let_go_is_closed() {
-    let room = Room::new("drop");
-    let run = open(&room, 10);
-    let mut agent = run.agent(0).unwrap();
-    add_one(&mut agent).unwrap();
-    let step = agent.step().unwrap();
-    drop(run);
-    assert_eq!(numbers(room.audited().0), (2, 1, 1));
-    assert_eq!(step.fire(), Err(Error::Closed));
-    assert_eq!(add_one(&mut agent), Err(Error::Closed));
-}
-
-#[test]
-fn agents_tell_their_own_state() {
-    let room = Room::new("own");
-    let run = open(&room, 3);
-    let (mut one, mut other) = (run.agent(0).unwrap(), run.agent(1).unwrap());
-    let n = MoveNumber::new;
-    let peek = |one: &mut RunAgent| one.peek(&[count(), "none".into()]).map(|it| (it.number, it.values)).unwrap();
-    assert_eq!(peek(&mut one), (n(0), vec![0.into(), Value::UNDEF]));
-    add_one(&mut other).unwrap();
-    assert_eq!(peek(&mut one), (n(0), vec![0.into(), Value::UNDEF]));
-    assert_eq!((one.follow(), peek(&mut one)), (Ok(n(1)), (n(1), vec![1.into(), Value::UNDEF])));
-    for _ in 0..7 {
-        add_one(&mut other).unwrap();
-    }
-    // Its part has ended, so it is at the beginning of the newest one.
-    assert_eq!(one.scan("count"), Ok((n(6), vec![(count(), 6.into())])));
-    assert_eq!((one.follow(), one.state()), (Ok(n(8)), Ok((n(8), vec![(count(), 8.into())]))));
-    add_one(&mut other).unwrap();
-    assert_eq!((one.follow(), one.state()), (Ok(n(9)), Ok((n(9), vec![(count(), 9.into())]))));
-    assert!(matches!(one.peek(&["no name".into()]), Err(Error::Refused(_))));
-    assert_eq!(run.close().unwrap().moves, 9);
-}
-
-/// Calls of all kinds, as a thread's locals end.
-struct Late(std::sync::mpsc::Sender<(Result<u64, Error>, Result<u64, Error>)>, RunAgent, Run);
-
-impl Drop for Late {
-    fn drop(&mut self) {
-        let Late(told, agent, run) = self;
-        let _ = told.send((add_one(agent), run.close().map(|it| it.moves)));
-    }
-}
-
-thread_local! {
-    static LATE: std::cell::RefCell<Option<Late>> = const { std::cell::RefCell::new(None) };
-}
-
-#[test]
-fn runs_are_played_and_closed_where_the_locals_of_a_thread_end() {
-    let room = Room::new("locals");
-    let run = open(&room, 3);
-    let agent = run.agent(0).unwrap();
-    let (told, ended) = std::sync::mpsc::channel();
-    thread::spawn(move || LATE.set(Some(Late(told, agent, run)))).join().unwrap();
-    assert_eq!(ended.recv().unwrap(), (Ok(1), Ok(1)));
-    assert_eq!(room.audited().1, [(count(), 1.into())]);
-}
-
-#[test]
-fn rules_take_steps_of_runs_and_of_storages() {
-    fn rule(step: &mut folugben::Step<'_>) -> Result<i64, Error> {
-        let seen = step.get(count())?.as_num().unwrap_or(0);
-        step.put(count(), seen + 2)?;
-        Ok(seen)
-    }
-    let room = Room::new("rules");
-    let run = open(&room, 10);
-    let storage = folugben::Storage::open([], 10).unwrap();
-    assert_eq!(run.agent(0).unwrap().play(rule).map(fired), Ok(1));
-    assert_eq!(storage.agent(0).unwrap().play(rule).map(fired), Ok(1));
-    let clash = run.agent(1).unwrap().play(|step| step.push(&Move::new().put("x", 1).put("x", 2)));
-    assert!(matches!(clash, Err(Error::Clash { .. })));
-    assert_eq!(run.close().map(numbers), Ok((2, 1, 1)));
-}
-
-/// Plays, abandons steps, holds them open, is let go and made again, until the run is closed: the numbers of its moves.
-fn come_and_go(run: &Run, mut agent: RunAgent, mut draw: Draw) -> Vec<u64> {
-    let (number, mut fired) = (agent.number(), Vec::new());
-    loop {
-        let told = match draw.below(20) {
-            0 => agent.step().map(|step| drop(step.get(count()))),
-            1 => agent.step().and_then(|mut step| {
-                step.put(account(number.into()), 1)?;
-                thread::sleep(Duration::from_micros(draw.below(2_000)));
-                step.fire().map(|number| fired.push(number.get()))
-            }),
-            3 => run.flush().map(drop),
-            4 => agent.step().map(std::mem::forget),
-            2 => {
-                drop(agent);
-                match run.agent(number) {
-                    Ok(again) => agent = again,
-                    Err(error) => {
-                        assert_eq!(error, Error::Closed);
-                        return fired;
-                    }
-                }
-                Ok(())
-            }
-            _ => add_one(&mut agent).map(|number| fired.push(number)),
-        };
-        match told {
-            Err(Error::Closed) => return fired,
-            Err(error) => assert!(error.is_retry(), "{error}"),
-            Ok(()) => {}
-        }
-    }
-}
-
-#[test]
-fn agents_come_and_go_and_each_move_that_was_told_is_saved() {
-    for round in 1..=6 {
-        let room = Room::new(&format!("come-and-go-{round}"));
-        let run = open(&room, [1, 3, 20, 150][round as usize % 4]);
-        let mut all: Vec<u64> = thread::scope(|threads| {
-            let run = &run;
-            let work = |agent: RunAgent| {
-                let draw = Draw(u64::from(agent.number()) * 7 + round);
-                threads.spawn(move || come_and_go(run, agent, draw))
-            };
-            let works: Vec<_> = run.agents(6).unwrap().into_iter().map(work).collect();
-            thread::sleep(Duration::from_millis(60 + 17 * round));
-            run.close().unwrap();
-            works.into_iter().flat_map(|it| it.join().unwrap()).collect()
-        });
-        all.sort_unstable();
-        let told = room.audited().0;
-        assert_eq!(told, run.saved());
-        assert!(all.iter().copied().eq(1..=told.moves), "{told}: {} were told", all.len());
-    }
 }

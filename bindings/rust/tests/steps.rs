@@ -1,6 +1,7 @@
 //! Steps, plays and fires of one thread and of several.
 use folugben::{
-    Cause, Conflict, Element, Error, Location, Move, MoveNumber, Patience, Prepared, PreparedMove, Storage, Value,
+    Cause, Conflict, Element, Error, Limit, Location, Move, MoveNumber, Patience, Prepared, PreparedMove, Storage,
+    Value,
 };
 use std::collections::{BTreeMap, BTreeSet};
 
@@ -48,7 +49,7 @@ fn a_step_sees_what_it_pushed_and_fires_as_one_move() {
     assert_eq!(step.get(count()).unwrap(), Value::from(10));
     step.pop().unwrap();
     assert_eq!(step.get(count()).unwrap(), Value::from(8));
-    assert_eq!(step.fire().unwrap(), 1);
+    assert_eq!(step.commit().unwrap(), 1);
     assert_eq!(agent.follow().unwrap(), 1);
     assert_eq!(agent.state().unwrap(), (n(1), vec![(count(), Value::from(8))]));
     assert_eq!((agent.seen(), agent.won()), (n(1), 1));
@@ -62,7 +63,7 @@ fn a_stale_step_is_told_with_its_location_and_played_again() {
     let seen = step.get(count()).unwrap().as_num().unwrap();
     other.play(|step| step.put(count(), 5)).unwrap();
     step.put(count(), seen + 1).unwrap();
-    assert_eq!(step.fire(), Err(stale(count())));
+    assert_eq!(step.commit(), Err(stale(count())));
 
     let mut tries = 0;
     let told = one
@@ -115,7 +116,7 @@ fn a_removal_that_is_short_by_now_is_played_again() {
     step.push(&take).unwrap();
     other.play(|step| step.push(&take)).unwrap();
     // A clash of the fire is a conflict, and one of a push is none.
-    assert_eq!(step.fire(), Err(Conflict::Clash { at: shelf.clone(), cause: Cause::Short }.into()));
+    assert_eq!(step.commit(), Err(Conflict::Clash { at: shelf.clone(), cause: Cause::Short }.into()));
     let again = one.play(|step| step.push(&take));
     assert_eq!(again.unwrap_err(), Error::Clash { at: shelf, cause: Cause::Short });
 }
@@ -127,16 +128,16 @@ fn a_fire_rests_on_the_functions_that_were_scanned() {
     let (mut one, mut other) = (storage.agent(0).unwrap(), storage.agent(1).unwrap());
     let count_all = |tasks: usize| Move::new().put(count(), i64::try_from(tasks).unwrap());
     let (number, tasks) = one.scan("task").unwrap();
-    assert_eq!(one.try_fire_over(&count_all(tasks.len()), &[], &[("task", number), ("none", n(0))]), Ok(n(1)));
+    assert_eq!(one.fire_over(&count_all(tasks.len()), &[], &[("task", number), ("none", n(0))]), Ok(n(1)));
     other.play(|step| step.put(task(2), 8)).unwrap();
-    assert_eq!(one.try_fire(&count_all(1), &[(task(1), n(0))]), Ok(n(3)));
-    assert_eq!(one.try_fire_over(&count_all(1), &[], &[("task", number)]), Err(stale(task(2))));
-    assert_eq!(one.try_fire_over(&count_all(1), &[], &[("task", n(4))]), Err(Error::Range));
-    assert_eq!(one.try_fire_over(&count_all(1), &[], &[("task", n(1 << 32))]), Err(Error::Range));
+    assert_eq!(one.fire(&count_all(1), &[(task(1), n(0))]), Ok(n(3)));
+    assert_eq!(one.fire_over(&count_all(1), &[], &[("task", number)]), Err(stale(task(2))));
+    assert!(matches!(one.fire_over(&count_all(1), &[], &[("task", n(4))]), Err(Error::Range(_))));
+    assert!(matches!(one.fire_over(&count_all(1), &[], &[("task", n(1 << 32))]), Err(Error::Range(_))));
     let (number, tasks) = one.scan("task").unwrap();
     assert_eq!((number, tasks.len()), (n(3), 2));
-    assert_eq!(one.try_fire_over(&count_all(2), &[(count(), number)], &[("task", number)]), Ok(n(4)));
-    assert_eq!(one.try_fire_over(&count_all(2), &[], &[("task", n(0)); 257]), Err(Error::Many));
+    assert_eq!(one.fire_over(&count_all(2), &[(count(), number)], &[("task", number)]), Ok(n(4)));
+    assert_eq!(one.fire_over(&count_all(2), &[], &[("task", n(0)); 257]), Err(Error::Many(Limit::Places(Some(257)))));
 }
 
 #[test]
@@ -169,7 +170,7 @@ fn values_of_each_kind_come_back() {
         assert_eq!(agent.peek_at(&prepared).unwrap().1, *value);
         assert_eq!(agent.step().unwrap().get_at(&prepared).unwrap(), *value);
     }
-    let found = agent.step().unwrap().get_all("f").unwrap();
+    let found = agent.step().unwrap().scan("f").unwrap();
     assert_eq!(found.len(), values.len() - 1);
     assert_eq!(agent.scan("f").unwrap().1, found);
     assert!(found.is_sorted_by_key(|(at, _)| at));
@@ -184,7 +185,8 @@ fn prepared_moves_do_what_moves_do() {
     let [n, s, b, t] = places.each_ref().map(|it| Prepared::new(it).unwrap());
     let mut gathered = PreparedMove::new();
     gathered.put(&t, "text").unwrap().inc(&n, -4).unwrap().add(&s, 1).unwrap().bag_add(&b, true, 3).unwrap();
-    assert_eq!(gathered.bag_add(&b, 1, 0).err(), Some(Error::Range));
+    let told = gathered.bag_add(&b, 1, 0).err().unwrap();
+    assert_eq!(told.to_string(), "the amount is 0, and has to be 1 to 4294967295");
     assert_eq!(gathered.len(), 4);
     agent.play(|step| step.push_prepared(&gathered)).unwrap();
     gathered.clear().remove(&s, 1).unwrap().bag_remove(&b, true, 1).unwrap();
@@ -251,7 +253,7 @@ fn a_popped_move_is_pushed_elsewhere() {
     assert_eq!((popped.len(), step.depth(), step.get(count()).unwrap()), (1, 1, Value::from(5)));
     step.push_prepared(popped.inc(&at, 10).unwrap()).unwrap();
     assert_eq!((popped.len(), step.get(count()).unwrap()), (2, Value::from(18)));
-    step.fire().unwrap();
+    step.commit().unwrap();
     other.play(|step| step.extend_prepared(&popped)).unwrap();
     other.follow().unwrap();
     assert_eq!(other.peek_at(&at).unwrap(), (n(2), Value::from(31)));
@@ -260,7 +262,7 @@ fn a_popped_move_is_pushed_elsewhere() {
     let adds = |from: i64| (from..from + 3000).fold(Move::new(), |adds, i| adds.add(count(), i));
     step.push(&adds(0)).unwrap();
     step.extend(&adds(3000)).unwrap();
-    assert_eq!((step.pop_move().err(), step.depth()), (Some(Error::Many), 2));
+    assert_eq!((step.pop_move().err(), step.depth()), (Some(Error::Many(Limit::Step)), 2));
 }
 
 #[test]
@@ -277,10 +279,10 @@ fn what_is_seen_is_not_named_and_an_offer_tells_what_is() {
     let (instructions, reads) = step.offer().unwrap();
     assert_eq!((&instructions, &reads), (&Move::new().inc(count(), 2), &vec![(other_place.clone(), n(0))]));
     other.play(|step| step.put(count(), 10)).unwrap();
-    assert_eq!(step.fire(), Ok(n(2)));
-    assert_eq!(one.try_fire(&instructions, &reads), Ok(n(3)));
+    assert_eq!(step.commit(), Ok(n(2)));
+    assert_eq!(one.fire(&instructions, &reads), Ok(n(3)));
     other.play(|step| step.put(&other_place, 1)).unwrap();
-    assert_eq!(one.try_fire(&instructions, &reads), Err(stale(other_place)));
+    assert_eq!(one.fire(&instructions, &reads), Err(stale(other_place)));
 }
 
 #[test]
@@ -289,12 +291,12 @@ fn reads_and_fires_by_name_work_without_steps() {
     let (mut one, mut other) = (storage.agent(0).unwrap(), storage.agent(1).unwrap());
     let reading = one.read(&[count()]).unwrap();
     assert_eq!((reading.number, &reading.values[..]), (n(0), &[Value::from(1)][..]));
-    assert_eq!(other.try_fire(&Move::new().put(count(), 2), &[]), Ok(n(1)));
+    assert_eq!(other.fire(&Move::new().put(count(), 2), &[]), Ok(n(1)));
     assert_eq!(one.stands(&[(count(), n(0))]), Err(stale(count())));
-    assert_eq!(one.stands(&[(count(), n(1 << 32))]), Err(Error::Range));
-    assert_eq!(one.try_fire(&Move::new().inc(count(), 1), &[(count(), n(0))]), Err(stale(count())));
-    assert_eq!(one.try_fire(&Move::new().inc(count(), 1), &[(count(), n(9))]), Err(Error::Range));
-    assert_eq!(one.try_fire(&Move::new().inc(count(), 1), &[(count(), n(1))]), Ok(n(2)));
+    assert!(matches!(one.stands(&[(count(), n(1 << 32))]), Err(Error::Range(_))));
+    assert_eq!(one.fire(&Move::new().inc(count(), 1), &[(count(), n(0))]), Err(stale(count())));
+    assert!(matches!(one.fire(&Move::new().inc(count(), 1), &[(count(), n(9))]), Err(Error::Range(_))));
+    assert_eq!(one.fire(&Move::new().inc(count(), 1), &[(count(), n(1))]), Ok(n(2)));
     other.learn(&mut one).unwrap();
     assert_eq!(other.seen(), 2);
     let elsewhere = open(&[]);
@@ -307,15 +309,16 @@ fn a_rule_that_pushes_nothing_fires_nothing_and_says_so() {
     let mut agent = storage.agent(0).unwrap();
     let told = agent.play(|step| step.get(count())).unwrap();
     assert_eq!((told.number, told.result, told.retries), (None, 1.into(), 0));
-    assert_eq!(agent.step().unwrap().fire(), Err(Error::NoMove));
     let told = agent.play(|step| {
         step.put(count(), 2)?;
         step.pop()
     });
     assert_eq!((told.unwrap().number, storage.moves()), (None, 0));
     assert_eq!(agent.play(|step| step.push(&Move::new())).unwrap().number, Some(n(1)));
+    // A commit is done as it is asked for, as that of C.
+    assert_eq!(agent.step().unwrap().commit(), Ok(n(2)));
     drop(agent);
-    assert_eq!(storage.close().unwrap().check().unwrap(), folugben::Legality::Legal { calls: 1, moves: 1 });
+    assert_eq!(storage.close().unwrap().check().unwrap(), folugben::Legality::Legal { calls: 2, moves: 2 });
 }
 
 #[test]
@@ -351,7 +354,7 @@ fn a_loop_by_hand_begins_again_at_conflicts() {
                         let mut step = agent.step().unwrap();
                         let seen = step.get("count").unwrap().as_num().unwrap();
                         step.put("count", seen + 1).unwrap();
-                        match step.fire() {
+                        match step.commit() {
                             Ok(_) => break,
                             Err(error) => assert!(error.is_retry(), "{error}"),
                         }

@@ -1,6 +1,7 @@
 //! Storages: how agents come back, what is refused, and journals.
 use folugben::{
-    Agent, Error, Journal, JournalError, Legality, Location, Move, MoveNumber, Storage, Value, aggregate, compose,
+    Agent, Element, Error, Journal, JournalError, Legality, Limit, Location, Move, MoveNumber, Storage, Value,
+    aggregate, compose,
 };
 use std::cell::RefCell;
 use std::thread;
@@ -28,7 +29,7 @@ fn agents_come_back_when_they_are_let_go_also_by_a_panic() {
     assert!(ended.join().is_err());
     let journal = storage.close().unwrap();
     assert_eq!(journal.check(), Ok(Legality::Legal { calls: 2, moves: 2 }));
-    assert_eq!(storage.agent(0).err(), Some(Error::NumberTaken(0)));
+    assert_eq!(storage.agent(0).err(), Some(Error::NumberTaken(0.into())));
 }
 
 #[test]
@@ -73,7 +74,8 @@ fn a_storage_that_was_closed_goes_on() {
 
 #[test]
 fn refusals_say_what_is_wrong() {
-    assert_eq!(Storage::open([], 0).err(), Some(Error::Range));
+    let told = Storage::open([], 0).err().unwrap();
+    assert_eq!(told.to_string(), "the capacity is 0, and has to be 1 to 1048576");
     let twice = Storage::open([(count(), 1.into()), (count(), 2.into())], 1).unwrap_err();
     assert!(matches!(&twice, Error::Refused(why) if !why.is_empty()), "{twice}");
     let storage = Storage::open([], 10).unwrap();
@@ -82,9 +84,19 @@ fn refusals_say_what_is_wrong() {
     assert!(matches!(&named, Error::Refused(why) if why.contains("name")), "{named}");
     let moved = agent.step().unwrap().push(&Move::new().put(Location::new(""), 1)).unwrap_err();
     assert!(matches!(&moved, Error::Refused(why) if !why.is_empty()), "{moved}");
+    let nested = |depth| (0..depth).fold(Element::Num(1), |it, _| Element::List(vec![it]));
+    for depth in [9, 10, 40, 200] {
+        let told = agent.step().unwrap().put("x", nested(depth)).unwrap_err();
+        assert_eq!(told, Error::Refused("lists nest at most 8 deep".to_owned()), "{depth}");
+        let at = Location::new("x").arg("a { \"list\" \\").arg(nested(depth));
+        assert_eq!(agent.read(&[at]).unwrap_err(), told);
+    }
+    agent.step().unwrap().put("x", nested(8)).unwrap();
+    let told = agent.step().unwrap().put(Location::new("no name"), nested(8)).unwrap_err();
+    assert!(told.to_string().contains("name"), "{told}");
     let places: Vec<Location> = (0..257).map(|i| Location::new("f").arg(i)).collect();
-    assert_eq!(agent.read(&places).err(), Some(Error::Many));
-    assert_eq!(agent.step().unwrap().get_each(&places).err(), Some(Error::Many));
+    assert_eq!(agent.read(&places), Err(Error::Many(Limit::Places(Some(257)))));
+    assert_eq!(agent.step().unwrap().get_each(&places).err(), Some(Error::Many(Limit::Places(None))));
     let mut step = agent.step().unwrap();
     assert_eq!(step.pop(), Err(Error::NoMove));
     for _ in 0..64 {
@@ -134,7 +146,7 @@ fn a_storage_goes_on_from_an_agent_that_has_seen_its_full_end() {
     assert_eq!(one.go_on(5).err(), Some(Error::NotFull));
     assert_eq!(one.follow(), Ok(n(2)));
     assert_eq!(other.go_on(5).err(), Some(Error::NotFull));
-    assert_eq!(one.go_on(0).err(), Some(Error::Range));
+    assert!(matches!(one.go_on(0), Err(Error::Range(_))));
     let next = one.go_on(5).unwrap();
     let mut agent = next.agent(0).unwrap();
     assert_eq!(agent.read(&[count()]).unwrap().values, [Value::from(3)]);
@@ -145,18 +157,18 @@ fn a_storage_goes_on_from_an_agent_that_has_seen_its_full_end() {
 #[test]
 fn an_agent_that_was_given_back_is_taken_and_goes_on() {
     let storage = Storage::open([], 10).unwrap();
-    assert_eq!(storage.take(3).err(), Some(Error::NotGiven(3)));
+    assert_eq!(storage.take(3).err(), Some(Error::NotGiven(3.into())));
     let mut agent = storage.agent(3).unwrap();
-    assert_eq!(storage.take(3).err(), Some(Error::NotGiven(3)));
+    assert_eq!(storage.take(3).err(), Some(Error::NotGiven(3.into())));
     agent.play(|step| step.put(count(), 1)).unwrap();
     drop(agent);
     storage.close().unwrap();
     let mut agent = storage.take(3).unwrap();
-    assert_eq!((agent.number(), agent.won()), (3, 1));
+    assert_eq!((agent.number().get(), agent.won()), (3, 1));
     assert_eq!(storage.next(5).err(), Some(Error::NoJournal));
     assert_eq!(storage.close().err(), Some(Error::Missing(n(1))));
     agent.play(|step| step.inc(count(), 1)).unwrap();
-    assert_eq!(storage.agent(3).err(), Some(Error::NumberTaken(3)));
+    assert_eq!(storage.agent(3).err(), Some(Error::NumberTaken(3.into())));
     drop(agent);
     let journal = storage.close().unwrap();
     assert_eq!(journal.check(), Ok(Legality::Legal { calls: 2, moves: 2 }));
@@ -169,11 +181,11 @@ fn an_agent_that_was_given_back_is_taken_and_goes_on() {
 fn agents_are_all_made_or_none() {
     let storage = Storage::open([], 10).unwrap();
     let _third = storage.agent(2).unwrap();
-    assert_eq!(storage.agents(5).unwrap_err(), Error::NumberTaken(2));
-    assert_eq!(storage.agents(257).unwrap_err(), Error::Range);
+    assert_eq!(storage.agents(5).unwrap_err(), Error::NumberTaken(2.into()));
+    assert!(matches!(storage.agents(257), Err(Error::Range(_))));
     assert_eq!(storage.agents(2).unwrap().len(), 2);
     assert!(storage.agent(3).is_ok());
-    assert_eq!(storage.agents(2).unwrap_err(), Error::NumberTaken(0));
+    assert_eq!(storage.agents(2).unwrap_err(), Error::NumberTaken(0.into()));
 }
 
 fn raise(agent: &mut Agent) {

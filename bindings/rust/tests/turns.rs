@@ -1,4 +1,5 @@
 //! Agents that one thread plays by turns, and agents that go between threads meanwhile.
+#![allow(clippy::cast_possible_truncation, clippy::cast_sign_loss, reason = "no test has so many")]
 mod common;
 
 use common::{Draw, Room, add_one, count, open};
@@ -96,7 +97,7 @@ fn an_open_step_keeps_its_state() {
     raise(&mut third);
     assert_eq!((step.get(count()).unwrap(), blind.get(count()).unwrap()), (1.into(), 1.into()));
     blind.put("y", 1).unwrap();
-    assert!(matches!(blind.fire(), Err(Error::Conflict(_))));
+    assert!(matches!(blind.commit(), Err(Error::Conflict(_))));
     raise(&mut other);
     assert_eq!(step.get(count()).unwrap(), 1.into());
     drop(step);
@@ -113,9 +114,9 @@ fn a_number_that_only_another_agent_has_seen_is_refused() {
     raise(&mut one);
     one.read(&[count()]).unwrap();
     let put = folugben::Move::new().put("x", 1);
-    assert_eq!(other.try_fire(&put, &[(count(), 1.into())]), Err(Error::Range));
-    assert_eq!(other.stands(&[(count(), 1.into())]), Err(Error::Range));
-    assert_eq!(other.try_fire_over(&put, &[], &[("count", 1.into())]), Err(Error::Range));
+    assert!(matches!(other.fire(&put, &[(count(), 1.into())]), Err(Error::Range(_))));
+    assert!(matches!(other.stands(&[(count(), 1.into())]), Err(Error::Range(_))));
+    assert!(matches!(other.fire_over(&put, &[], &[("count", 1.into())]), Err(Error::Range(_))));
     assert_eq!((other.seen(), storage.moves()), (0.into(), 1));
 }
 
@@ -189,16 +190,16 @@ thread_local! {
 fn agents_are_played_where_the_locals_of_a_thread_end() {
     let first = storage(10);
     let agents = first.agents(3).unwrap();
-    thread::scope(|threads| {
-        threads.spawn(|| {
-            // Made before and after the thread remembers an agent.
-            ENDING.with(|it| *it.borrow_mut() = Some(Plays(agents)));
-            let other = storage(10);
-            let mut agent = other.agent(0).unwrap();
-            raise(&mut agent);
-            LATE.with(|it| it.borrow_mut().push((other, agent)));
-        });
+    let played = thread::spawn(|| {
+        // Made before and after the thread remembers an agent.
+        ENDING.with(|it| *it.borrow_mut() = Some(Plays(agents)));
+        let other = storage(10);
+        let mut agent = other.agent(0).unwrap();
+        raise(&mut agent);
+        LATE.with(|it| it.borrow_mut().push((other, agent)));
     });
+    // A scope doesn't wait for the locals.
+    played.join().unwrap();
     assert_eq!(first.close().unwrap().replay().unwrap(), [(count(), Value::from(3))]);
 }
 
@@ -236,7 +237,7 @@ fn time_of(count: usize) -> Duration {
             let at = &places[i % 32];
             let next = step.get_at(at).unwrap().as_num().unwrap_or(0) + 1;
             step.push_prepared(put.clear().put(at, next).unwrap()).unwrap();
-            step.fire().unwrap();
+            step.commit().unwrap();
         }
         begun.elapsed()
     });

@@ -1,11 +1,13 @@
 //! The agents of runs, and their steps.
 use crate::agent::{Agent, Reading};
-use crate::error::{Conflict, Error};
-use crate::number::MoveNumber;
-use crate::play::{Attempt, Patience, Played};
+use crate::cause::Conflict;
+use crate::error::Error;
+use crate::holder::Holder;
+use crate::number::{AgentNumber, MoveNumber};
+use crate::play::{Attempt, Outcome, Patience, Played};
 use crate::run::parts::Core;
 use crate::run::seat::{Lent, Seat};
-use crate::step::{Holder, Step};
+use crate::step::Step;
 use crate::value::{Location, Value};
 use std::fmt;
 use std::ops::{Deref, DerefMut};
@@ -21,7 +23,7 @@ pub struct RunAgent {
 impl RunAgent {
     /// Its number among the agents of the run.
     #[must_use]
-    pub fn number(&self) -> u8 {
+    pub fn number(&self) -> AgentNumber {
         self.seat.number()
     }
 
@@ -52,7 +54,7 @@ impl RunAgent {
     /// # Errors
     ///
     /// - An error of the rule ends the play, and nothing is fired, unless its part has ended meanwhile.
-    /// - Those of [`RunAgent::step`] and [`Step::fire`].
+    /// - Those of [`RunAgent::step`] and [`Step::commit`].
     pub fn play<T, E: From<Error>>(&mut self, rule: impl FnMut(&mut Step<'_>) -> Result<T, E>) -> Result<Played<T>, E> {
         self.play_with(Patience::new(), rule)
     }
@@ -70,7 +72,7 @@ impl RunAgent {
         patience.play(|| {
             let mut step = self.step()?;
             match rule(&mut step) {
-                Ok(result) => Ok(Attempt::of(result, step.fire())?),
+                Ok(result) => Ok(Attempt::of(result, step.step)?),
                 // Its agent was given back meanwhile, whatever the rule makes of that.
                 Err(_) if step.is_past() => Ok(Attempt::Vain(Conflict::Past.into())),
                 Err(error) => Err(error),
@@ -159,7 +161,7 @@ impl fmt::Debug for RunAgent {
 ///
 /// It goes on in its part when that has ended, for 0.1 s. Then its agent is given back, and each call is an [`Error::Conflict`]
 /// with [`Conflict::Past`].
-#[must_use = "a step does nothing until it is fired"]
+#[must_use = "a step does nothing until it is committed"]
 pub struct RunStep<'a> {
     step: Step<'a>,
 }
@@ -182,14 +184,23 @@ impl RunStep<'_> {
         self.lent().is_some_and(|it| it.with(|_| Ok(())) == Err(Conflict::Past.into()))
     }
 
-    /// Fires as [`Step::fire`] does. The number is that among all moves of the run, from 1 up.
+    /// Commits as [`Step::commit`] does. The number is that among all moves of the run, from 1 up.
     ///
     /// # Errors
     ///
-    /// Those of [`Step::fire`].
+    /// Those of [`Step::commit`].
     #[must_use = "a stale step has fired nothing"]
-    pub fn fire(self) -> Result<MoveNumber, Error> {
-        self.step.fire()
+    pub fn commit(self) -> Result<MoveNumber, Error> {
+        self.step.commit()
+    }
+
+    /// Commits as [`Step::try_commit`] does.
+    ///
+    /// # Errors
+    ///
+    /// Those of [`Step::try_commit`].
+    pub fn try_commit(self) -> Result<Outcome, Error> {
+        self.step.try_commit()
     }
 }
 

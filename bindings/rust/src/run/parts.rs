@@ -1,47 +1,22 @@
 //! The parts of a run that aren't on the disk yet.
 use crate::agent::Agent;
 use crate::audit::Counts;
-use crate::error::{EndCause, Ended, Error};
+use crate::error::Error;
+use crate::number::AgentNumber;
+use crate::run::ended::{EndCause, Ended};
 use crate::run::lines::expect_state;
+use crate::run::part::{Limits, Part};
 use crate::run::seat::Seat;
 use crate::storage::Storage;
 use std::collections::btree_map::{BTreeMap, Entry};
 use std::collections::vec_deque::VecDeque;
-use std::sync::atomic::{AtomicBool, AtomicU64, Ordering};
-use std::sync::{Arc, Condvar, Mutex, MutexGuard, OnceLock, PoisonError};
+use std::sync::{Arc, Condvar, Mutex, MutexGuard, PoisonError};
 use std::time::{Duration, Instant};
 
 /// So many parts that have ended may wait for the writer before a further one is opened.
 const WAITING: usize = 2;
 /// How long a part that has ended waits for an agent in a step.
 const PATIENCE: Duration = Duration::from_millis(100);
-
-/// A storage of the run.
-pub(crate) struct Part {
-    pub(crate) number: u64,
-    /// How many moves the parts before have.
-    pub(crate) before: u64,
-    pub(crate) storage: Storage,
-    /// No step begins in it any more.
-    has_ended: AtomicBool,
-    receipts: AtomicU64,
-    first_move: OnceLock<Instant>,
-}
-
-impl Part {
-    fn new(number: u64, before: u64, storage: Storage) -> Part {
-        let (has_ended, receipts) = (AtomicBool::new(false), AtomicU64::new(0));
-        Part { number, before, storage, has_ended, receipts, first_move: OnceLock::new() }
-    }
-
-    pub(crate) fn has_ended(&self) -> bool {
-        self.has_ended.load(Ordering::Acquire)
-    }
-
-    pub(crate) fn count_receipt(&self) {
-        self.receipts.fetch_add(1, Ordering::Relaxed);
-    }
-}
 
 /// A part with what is known of it under the lock.
 struct Unsaved {
@@ -56,20 +31,12 @@ struct Unsaved {
     is_long: bool,
 }
 
-/// How a run's parts end.
-#[derive(Clone, Copy)]
-pub(crate) struct Limits {
-    pub(crate) moves: u32,
-    pub(crate) receipts: u64,
-    pub(crate) every: Option<Duration>,
-}
-
 /// All of a run that changes.
 struct State {
     /// The oldest first; steps begin in the last one.
     parts: VecDeque<Unsaved>,
     /// The agents in use.
-    seats: BTreeMap<u8, Arc<Seat>>,
+    seats: BTreeMap<AgentNumber, Arc<Seat>>,
     is_closing: bool,
     /// The writer has ended.
     is_done: bool,
@@ -96,7 +63,7 @@ impl State {
     /// Has no further step begin in the newest part.
     fn end_newest(&mut self) {
         if let Some(last) = self.parts.back_mut() {
-            last.part.has_ended.store(true, Ordering::Release);
+            last.part.set_ended(true);
             last.ended.get_or_insert_with(Instant::now);
         }
     }
@@ -153,7 +120,7 @@ impl Core {
     // What agents do. Who has the lock of a seat takes that of the state, and never the other way round.
 
     /// A seat with this number, which no agent in use has.
-    pub(crate) fn seat(&self, number: u8) -> Result<Arc<Seat>, Error> {
+    pub(crate) fn seat(&self, number: AgentNumber) -> Result<Arc<Seat>, Error> {
         let mut state = self.lock();
         state.goes_on()?;
         match state.seats.entry(number) {
@@ -169,17 +136,17 @@ impl Core {
         if let Some((taken, _)) = state.seats.iter().find(|(number, _)| usize::from(**number) < count) {
             return Err(Error::NumberTaken(*taken));
         }
-        let seats: Vec<_> = (0..=u8::MAX).take(count).map(|number| Arc::new(Seat::new(number))).collect();
+        let seats: Vec<_> = (0..=u8::MAX).take(count).map(|number| Arc::new(Seat::new(number.into()))).collect();
         state.seats.extend(seats.iter().map(|it| (it.number(), Arc::clone(it))));
         Ok(seats)
     }
 
-    pub(crate) fn release(&self, number: u8) {
+    pub(crate) fn release(&self, number: AgentNumber) {
         self.lock().seats.remove(&number);
     }
 
     /// An agent in the newest part; none where that has ended.
-    pub(crate) fn enter(&self, number: u8) -> Result<Option<(Agent, Arc<Part>)>, Error> {
+    pub(crate) fn enter(&self, number: AgentNumber) -> Result<Option<(Agent, Arc<Part>)>, Error> {
         let mut state = self.lock();
         state.goes_on()?;
         let Some(last) = state.parts.back_mut().filter(|it| !it.part.has_ended()) else {
@@ -205,7 +172,7 @@ impl Core {
 
     /// Has the part end where it has too many receipts.
     pub(crate) fn end_heavy(&self, part: &Part) {
-        if part.receipts.load(Ordering::Relaxed) <= self.limits.receipts {
+        if !part.is_heavy(self.limits.receipts) {
             return;
         }
         let mut state = self.lock();
@@ -217,7 +184,7 @@ impl Core {
 
     /// Notices that a move was fired in the part.
     pub(crate) fn fired(&self, part: &Part) {
-        if self.limits.every.is_some() && part.first_move.set(Instant::now()).is_ok() {
+        if self.limits.every.is_some() && part.begin_time() {
             drop(self.lock());
             self.changed.notify_all();
         }
@@ -328,7 +295,7 @@ impl Core {
     fn end_by_time(&self, state: &mut State) -> Option<Duration> {
         let every = self.limits.every?;
         let last = state.parts.back().filter(|it| !it.is_long && !it.part.has_ended())?;
-        let left = every.saturating_sub(last.part.first_move.get()?.elapsed());
+        let left = every.saturating_sub(last.part.age()?);
         if left.is_zero() {
             state.end_newest();
             return None;
@@ -363,7 +330,7 @@ impl Core {
                 return Err(error);
             }
             (last.is_long, last.ended) = (true, None);
-            part.has_ended.store(false, Ordering::Release);
+            part.set_ended(false);
             self.changed.notify_all();
             return Ok(None);
         }

@@ -1,9 +1,12 @@
 //! Where the agents of a run are.
 use crate::agent::Agent;
-use crate::error::{Conflict, Error};
+use crate::cause::Conflict;
+use crate::error::Error;
+use crate::holder::{commit, offer_text};
+use crate::number::AgentNumber;
 use crate::run::lines::{SHORT, expect_call};
-use crate::run::parts::{Core, Part};
-use crate::step::{commit, offer_text};
+use crate::run::part::Part;
+use crate::run::parts::Core;
 use std::cell::Cell;
 use std::mem;
 use std::sync::{Arc, Mutex, MutexGuard, PoisonError};
@@ -16,7 +19,7 @@ struct Player {
 
 /// An agent of a run, which a step of its own thread and the writer take in turn.
 pub(crate) struct Seat {
-    number: u8,
+    number: AgentNumber,
     place: Mutex<Place>,
 }
 
@@ -35,11 +38,11 @@ pub(crate) struct Begun {
 }
 
 impl Seat {
-    pub(crate) fn new(number: u8) -> Seat {
+    pub(crate) fn new(number: AgentNumber) -> Seat {
         Seat { number, place: Mutex::new(Place { player: None, steps: 0, is_in_step: false }) }
     }
 
-    pub(crate) fn number(&self) -> u8 {
+    pub(crate) fn number(&self) -> AgentNumber {
         self.number
     }
 
@@ -167,7 +170,7 @@ impl<'a> Lent<'a> {
         Lent { core, seat, begun, size: Cell::new(0) }
     }
 
-    pub(crate) fn number(&self) -> u8 {
+    pub(crate) fn number(&self) -> AgentNumber {
         self.seat.number
     }
 
@@ -188,8 +191,8 @@ impl<'a> Lent<'a> {
         self.size.set(self.size.get() + size);
     }
 
-    /// Fires in its part.
-    pub(crate) fn fire(&self) -> Result<u32, Error> {
+    /// Commits in its part.
+    pub(crate) fn commit(&self) -> Result<u32, Error> {
         let part = self.part();
         let told = self.with(|agent| {
             if self.size.get() >= SHORT {

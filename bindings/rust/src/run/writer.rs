@@ -1,9 +1,11 @@
 //! The thread that saves the parts of a run.
 use crate::audit::Counts;
-use crate::error::{EndCause, Error};
+use crate::error::Error;
+use crate::run::ended::EndCause;
 use crate::run::folder::RunFolder;
 use crate::run::lines::events;
-use crate::run::parts::{Core, Part};
+use crate::run::part::Part;
+use crate::run::parts::Core;
 use crate::sys;
 use std::io;
 use std::panic::resume_unwind;

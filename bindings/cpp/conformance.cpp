@@ -1,0 +1,269 @@
+// Does the calls of the table of conformance, of which bindings/conformance/README.md says what its lines are, and compares the
+// answers.
+//
+//     conformance FOLDER
+#include <folugben.hpp>
+
+#include <cstdint>
+#include <cstdio>
+#include <fstream>
+#include <functional>
+#include <map>
+#include <optional>
+#include <stdexcept>
+#include <string>
+#include <string_view>
+#include <vector>
+
+namespace {
+
+using folugben::code;
+using words = std::vector<std::string>;
+
+// The items of a list, split at its commas outside of brackets and strings.
+words split(std::string_view line) {
+    words all;
+    int depth = 0;
+    bool is_in_text = false;
+    std::string word;
+    for (std::size_t i = 1; i + 1 < line.size(); ++i) {
+        const char it = line[i];
+        if (it == '\\') {
+            word += it;
+            word += line[++i];
+            continue;
+        }
+        if (it == '"') is_in_text = !is_in_text;
+        if (!is_in_text) depth += (it == '[' || it == '{') - (it == ']' || it == '}');
+        if (it == ',' && depth == 0 && !is_in_text) {
+            all.push_back(std::move(word));
+            word.clear();
+        } else {
+            word += it;
+        }
+    }
+    all.push_back(std::move(word));
+    return all;
+}
+
+std::string text(const std::string &json) { return folugben::detail::reader(json).text(); }
+std::uint32_t number(const std::string &json) { return static_cast<std::uint32_t>(std::stoull(json)); }
+std::string member(const char *name, const std::string &json) { return std::string("{\"") + name + "\":" + json + "}"; }
+std::string list(std::initializer_list<std::uint64_t> numbers) {
+    std::string all;
+    for (const std::uint64_t it : numbers) all += (all.empty() ? "[" : ",") + std::to_string(it);
+    return all + "]";
+}
+
+// What a table has of an error.
+struct refusal {
+    std::string name;
+    std::string said;
+    std::string numbers;
+};
+
+const char *name_of(code it) {
+    static const std::map<code, const char *> names = {
+        {code::memory, "MEMORY"}, {code::full, "FULL"},     {code::empty, "EMPTY"},       {code::range, "RANGE"},
+        {code::busy, "BUSY"},     {code::many, "MANY"},     {code::none, "NONE"},         {code::taken, "TAKEN"},
+        {code::number, "NUMBER"}, {code::other, "OTHER"},   {code::not_json, "NOT_JSON"}, {code::shape, "SHAPE"},
+        {code::cut, "CUT"},       {code::version, "VERSION"}, {code::large, "LARGE"},     {code::moved, "MOVED"},
+        {code::deep, "DEEP"},     {code::apart, "APART"},   {code::illegal, "ILLEGAL"},   {code::missing, "MISSING"},
+    };
+    return names.at(it);
+}
+
+class replayer {
+  public:
+    // The answer to a call, in the words of the table.
+    std::string answer(const std::string &name, const words &of) try {
+        return calls_.at(name)(of);
+    } catch (const folugben::audit_error &error) {
+        const bool is_line = error.code() == code::shape || error.code() == code::not_json;
+        refused_ = {name_of(error.code()), "", list({error.part()})};
+        if (is_line) refused_.numbers = list({error.line(), error.part()});
+        if (error.code() == code::illegal) refused_.numbers = list({error.call(), error.part()});
+        return "";
+    } catch (const folugben::missing &error) {
+        refused_ = {"MISSING", "", list({error.number()})};
+        return "";
+    } catch (const folugben::error &error) {
+        const bool is_told = error.code() == code::stale || error.code() == code::clash || error.code() == code::large;
+        if (is_told) return error.text();
+        refused_ = {name_of(error.code()), error.text(), ""};
+        if (error.text().starts_with("line ")) {
+            const std::string line = error.text().substr(5, error.text().find(':') - 5);
+            refused_ = {refused_.name, error.text().substr(std::min(error.text().size(), 7 + line.size())), "[" + line + "]"};
+        }
+        return "";
+    }
+    const refusal &refused() const noexcept { return refused_; }
+
+  private:
+    folugben::agent &agent(const words &of) { return agents_.at(number(of[0])); }
+    // A step that isn't there is one that was moved from.
+    folugben::step &step(const words &of) { return steps_.at(number(of[0])); }
+    std::string open(folugben::storage it) {
+        begin_case();
+        storage_.emplace(std::move(it));
+        return "null";
+    }
+    void begin_case() {
+        steps_.clear();
+        agents_.clear();
+        storage_.reset();
+    }
+    std::string make(const words &of, folugben::agent it) {
+        agents_.insert_or_assign(number(of[0]), std::move(it));
+        return "null";
+    }
+    std::string begin(const words &of) {
+        folugben::step it = agent(of).begin();
+        const std::uint32_t begun = it.number();
+        steps_.insert_or_assign(number(of[0]), std::move(it));
+        return std::to_string(begun);
+    }
+    static std::string values(const std::string &told) {
+        const auto at = told.find("\"values\":") + 9;
+        return told.substr(at, told.size() - at - 1);
+    }
+    std::string peek(const words &of) {
+        std::string told;
+        folugben::detail::done(folugben::detail::told(
+            [&](auto *out, auto room, auto *written) {
+                return asm_peek(agent(of).get(), folugben::detail::bytes(of[1]), of[1].size(), out, room, written);
+            },
+            told), refused_shape(of[1]));
+        return told;
+    }
+    static std::string refused_shape(const std::string &locations) { return folugben::explain(ASM_FORM_LOCATIONS, locations); }
+    std::string audit(const std::string &run) {
+        folugben::auditor auditor;
+        auditor.feed(run);
+        const asm_audit_numbers told = auditor.end();
+        return list({told.calls, told.moves, told.parts});
+    }
+    std::string check(const std::string &journal) {
+        const folugben::legality told = folugben::check(journal);
+        if (told.is_legal) return list({told.calls, told.moves});
+        refused_ = {"ILLEGAL", "", list({told.calls})};
+        return "";
+    }
+    std::string scan(const words &of) {
+        std::uint32_t at = 0;
+        std::string told = agent(of).scan_json(text(of[1]), at);
+        return at == number(of[2]) ? told : "at " + std::to_string(at);
+    }
+    static asm_form form(const std::string &name) {
+        static const std::map<std::string, asm_form> forms = {{"LOCATIONS", ASM_FORM_LOCATIONS}, {"MOVE", ASM_FORM_MOVE},
+            {"STATE", ASM_FORM_STATE}, {"EVENT", ASM_FORM_EVENT}, {"SCRIPT", ASM_FORM_SCRIPT}};
+        return forms.at(name);
+    }
+    static std::string json(const std::string &of) {
+        std::string out;
+        folugben::element(of).write_json(out);
+        return out;
+    }
+
+    std::optional<folugben::storage> storage_;
+    std::map<std::uint32_t, folugben::agent> agents_;
+    std::map<std::uint32_t, folugben::step> steps_;
+    std::string journal_;
+    refusal refused_;
+    const std::map<std::string, std::function<std::string(const words &)>> calls_ = {
+        {"case", [this](const words &) { return begin_case(), ""; }},
+        {"open", [this](const words &of) { return open(folugben::storage(of[0], number(of[1]))); }},
+        {"next", [this](const words &of) { return open(storage_.value().next(number(of[0]))); }},
+        {"agent", [this](const words &of) { return make(of, storage_.value().make_agent(number(of[0]))); }},
+        {"take", [this](const words &of) { return make(of, storage_.value().take(number(of[0]))); }},
+        {"give", [this](const words &of) { { folugben::agent gone = std::move(agent(of)); } return "null"; }},
+        {"learn", [this](const words &of) { return agent(of).learn(agents_.at(number(of[1]))), "null"; }},
+        {"read", [this](const words &of) { return agent(of).read_json(of[1]); }},
+        {"peek", [this](const words &of) { return peek(of); }},
+        {"fire", [this](const words &of) {
+             return member("fired", std::to_string(agent(of).fire_json("{\"fire\":" + of[1] + ",\"reads\":" + of[2] + "}", of[3])));
+         }},
+        {"follow", [this](const words &of) { return std::to_string(agent(of).follow()); }},
+        {"stands", [this](const words &of) { return agent(of).stands_json(of[1]), "null"; }},
+        {"state", [this](const words &of) { return agent(of).state_json(); }},
+        {"scan", [this](const words &of) { return scan(of); }},
+        {"seen", [this](const words &of) { return std::to_string(agent(of).seen()); }},
+        {"won", [this](const words &of) { return std::to_string(agent(of).won()); }},
+        {"misses", [this](const words &of) { return std::to_string(agent(of).misses()); }},
+        {"moves", [this](const words &) { return std::to_string(storage_.value().moves()); }},
+        {"begin", [this](const words &of) { return begin(of); }},
+        {"end", [this](const words &of) { { folugben::step gone = std::move(step(of)); } return ""; }},
+        {"get", [this](const words &of) { return values(step(of).get_json(of[1])); }},
+        {"see", [this](const words &of) { return values(step(of).see_json(of[1])); }},
+        {"get_all", [this](const words &of) { return step(of).scan_json(text(of[1])); }},
+        {"push", [this](const words &of) { return step(of).push_json(of[1]), "null"; }},
+        {"extend", [this](const words &of) { return step(of).extend_json(of[1]), "null"; }},
+        {"pop", [this](const words &of) { return step(of).pop(), "null"; }},
+        {"depth", [this](const words &of) { return std::to_string(step(of).depth()); }},
+        {"offer", [this](const words &of) { return step(of).offer_json(); }},
+        {"commit", [this](const words &of) { return member("fired", std::to_string(step(of).commit())); }},
+        {"close", [this](const words &) { return journal_ = storage_.value().close(), "null"; }},
+        {"journal", [this](const words &) { return check(journal_); }},
+        {"check", [this](const words &of) { return check(text(of[0])); }},
+        {"replay", [](const words &of) { return folugben::replay_json(text(of[0])); }},
+        {"audit", [this](const words &of) { return audit(text(of[0])); }},
+        {"aggregate", [](const words &of) { return folugben::aggregate_json(of[0], of[1]); }},
+        {"compose", [](const words &of) { return folugben::compose_json(of[0], of[1]); }},
+        {"explain", [](const words &of) { return json(folugben::explain(form(text(of[0])), text(of[1]))); }},
+    };
+};
+
+// Whether an error is the one that is wanted, as far as that says.
+bool is_refused_so(const refusal &told, const std::string &wanted) {
+    for (const auto &[key, is] : {std::pair{"error", "\"" + told.name + "\""}, {"numbers", told.numbers}}) {
+        const std::string begin = std::string("\"") + key + "\":";
+        const auto at = wanted.find(begin);
+        if (at != std::string::npos && (is.empty() || !wanted.substr(at + begin.size()).starts_with(is))) return false;
+    }
+    const auto at = wanted.find("\"said\":");
+    return at == std::string::npos || folugben::detail::reader(wanted.substr(at + 7)).text() == told.said;
+}
+
+// How many calls of the table were answered as they should be.
+int replayed(const std::string &path) {
+    std::ifstream file(path);
+    replayer calls;
+    std::string line, name;
+    int count = 0;
+    for (int number = 1; std::getline(file, line); ++number) {
+        words of = split(line);
+        const std::string call = text(of.front());
+        of.erase(of.begin());
+        std::string wanted;
+        if (call != "case" && call != "end") {
+            wanted = of.back();
+            of.pop_back();
+        }
+        const std::string told = calls.answer(call, of);
+        const bool is_error = wanted.starts_with("{\"error\":");
+        if (is_error ? !told.empty() || !is_refused_so(calls.refused(), wanted) : told != wanted) {
+            std::printf("%s:%d: %.300s\n  answered %s, %s %s %s\n", path.c_str(), number, line.c_str(), told.c_str(),
+                        calls.refused().name.c_str(), calls.refused().said.c_str(), calls.refused().numbers.c_str());
+            return -1;
+        }
+        count += call != "case";
+    }
+    return count;
+}
+
+} // namespace
+
+int main(int count, char **of) {
+    const std::string folder = count > 1 ? of[1] : "";
+    int all = 0;
+    for (const char *name : {"moves", "calls", "steps", "journals"}) {
+        const int told = replayed(folder + "/" + name + ".jsonl");
+        if (told < 20) {
+            std::printf("%s: %d calls\n", name, told);
+            return 1;
+        }
+        all += told;
+    }
+    std::printf("%d calls answered as in the table\n", all);
+    return 0;
+}

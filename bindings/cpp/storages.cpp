@@ -1,0 +1,249 @@
+// Storages and their agents, audits, and objects that were moved from.
+#include "wanted.hpp"
+
+#include <cstdint>
+#include <cstdio>
+#include <span>
+#include <string>
+#include <thread>
+#include <utility>
+#include <vector>
+
+namespace {
+
+void agents_come_back_when_they_are_destroyed() {
+    folugben::storage storage(COUNT, 10);
+    {
+        folugben::agent agent = storage.make_agent(0);
+        agent.play(empty_move);
+        WANTED(REFUSED(folugben::missing, storage.close()).number() == 1);
+        folugben::agent moved = std::move(agent);
+        moved.play(empty_move);
+        moved = storage.make_agent(1);
+        moved.play(empty_move);
+    }
+    auto told = folugben::check(storage.close());
+    WANTED(told.is_legal && told.calls == 3 && told.moves == 3);
+    folugben::storage next = storage.next(5);
+    WANTED(next.moves() == 0 && storage.moves() == 3);
+    folugben::agent lost = storage.make_agent(2);
+    lost.play(empty_move);
+    lost.abandon();
+    WANTED(REFUSED(folugben::missing, storage.close()).number() == 4);
+}
+
+void storages_go_on_from_agents() {
+    folugben::storage storage(COUNT, 2);
+    folugben::agent agent = storage.make_agent(0);
+    folugben::location count("count");
+    auto raise = [&](folugben::agent &by) {
+        by.play([&](folugben::step &step) { step.push(folugben::instructions().inc(count, 1)); });
+    };
+    raise(agent);
+    WANTED(REFUSED(folugben::error, agent.go_on(5)).code() == code::none);
+    raise(agent);
+    WANTED(agent.follow() == 2 && REFUSED(folugben::error, agent.go_on(0)).code() == code::range);
+    folugben::storage next = agent.go_on(5);
+    folugben::agent later = next.make_agent(0);
+    WANTED(later.peek(count).number() == 9 && next.moves() == 0);
+    raise(later);
+    later.follow();
+    WANTED(later.peek(count).number() == 10 && storage.moves() == 2);
+}
+
+void agents_that_came_back_are_taken() {
+    folugben::storage storage(COUNT, 10);
+    WANTED(REFUSED(folugben::error, storage.take(4)).code() == code::none);
+    storage.make_agent(4).play(empty_move);
+    WANTED(folugben::check(storage.close()).calls == 1);
+    {
+        folugben::agent agent = storage.take(4);
+        WANTED(agent.won() == 1 && REFUSED(folugben::error, storage.take(4)).code() == code::none);
+        WANTED(REFUSED(folugben::missing, storage.close()).number() == 1);
+        agent.play(empty_move);
+    }
+    auto told = folugben::check(storage.close());
+    WANTED(told.is_legal && told.calls == 2 && told.moves == 2);
+}
+
+// Two parts: 2 calls and 2 moves, and 1 call without a move.
+std::string two_parts() {
+    folugben::storage storage(COUNT, 2);
+    auto fill = [&] {
+        folugben::agent agent = storage.make_agent(0);
+        for (int i = 0; i < 2; ++i) agent.play([](folugben::step &step) { step.push_json(R"([["inc",["count"],1]])"); });
+        agent.follow();
+        return agent.go_on(5);
+    };
+    folugben::storage next = fill();
+    next.make_agent(0).read_json(R"([["count"]])");
+    return storage.close() + next.close();
+}
+
+void runs_are_audited_as_their_bytes_come() {
+    const std::string run = two_parts();
+    folugben::auditor auditor;
+    WANTED(REFUSED(folugben::audit_error, auditor.end()).code() == code::cut);
+    WANTED(REFUSED(folugben::error, auditor.state_json()).code() == code::none && auditor.counts().calls == 0);
+    std::uint64_t lines = 0;
+    for (char byte : run) {
+        auditor.feed(std::string_view(&byte, 1));
+        lines += byte == '\n';
+        WANTED(auditor.counts().parts == (lines < 3 ? 0u : lines < 5 ? 1u : 2u));
+    }
+    asm_audit_numbers told = auditor.end();
+    WANTED(told.parts == 2 && told.calls == 3 && told.moves == 2 && auditor.state_json() == R"([[["count"],9]])");
+    auditor.feed("\"");
+    WANTED(REFUSED(folugben::audit_error, auditor.end()).code() == code::not_json);
+
+    std::vector<std::uint8_t> bytes(run.begin(), run.end());
+    folugben::auditor at_once;
+    at_once.feed(bytes);
+    WANTED(at_once.end().parts == 2);
+    folugben::auditor moved = std::move(at_once);
+    WANTED(moved.end().calls == 3);
+}
+
+void the_first_fault_of_a_run_is_told_with_its_place() {
+    const std::string run = two_parts();
+    auto with = [&](const std::string &from, const char *to) {
+        return std::string(run).replace(run.find(from), from.size(), to);
+    };
+    auto fault = [](const std::string &of) {
+        folugben::auditor auditor;
+        auto told = REFUSED(folugben::audit_error, { auditor.feed(of); auditor.end(); });
+        WANTED(REFUSED(folugben::audit_error, auditor.feed("\n")).code() == told.code());
+        WANTED(REFUSED(folugben::audit_error, auditor.end()).part() == told.part());
+        return told;
+    };
+    auto illegal = fault(with("\"fired\":2", "\"fired\":3"));
+    WANTED(illegal.code() == code::illegal && illegal.part() == 0 && illegal.call() == 1 && illegal.line() == 0);
+    WANTED(std::string(illegal.text()) == "part 0 call 1");
+    auto shape = fault(with("\"read\"", "\"reed\""));
+    WANTED(shape.code() == code::shape && shape.part() == 1 && shape.line() == 2 && shape.text() == "part 1 line 2");
+    auto apart = fault(run + run);
+    WANTED(apart.code() == code::apart && apart.part() == 2 && apart.text() == "part 2");
+    auto large = fault(run + std::string((1 << 24) + 1, ' '));
+    WANTED(large.code() == code::large && large.part() == 2 && large.text() == "part 2");
+    WANTED(!folugben::meaning(code::apart).empty() && folugben::meaning(code::apart) != folugben::meaning(code{99}));
+
+    folugben::auditor auditor;
+    std::vector<std::uint8_t> bytes(run.begin(), run.end());
+    bytes.insert(bytes.end(), {'[', ']', '\n', '\n'});
+    std::size_t taken = 0;
+    asm_audit_numbers told{};
+    WANTED(auditor.try_feed(bytes, taken, told) == code::shape && taken == run.size() + 2 && told.parts == 2 && told.calls == 1);
+    WANTED(auditor.try_feed({}, taken, told) == code::shape && taken == 0 && auditor.counts().calls == 3);
+}
+
+// A step goes on with its agent's slot, wherever the agent is.
+void steps_go_on_where_their_agents_move() {
+    folugben::storage storage(COUNT, 10), other(R"([[["count"],100]])", 10);
+    folugben::location count("count");
+    const std::string up = R"([["inc",["count"],1]])";
+    std::vector<folugben::agent> agents;
+    agents.push_back(storage.make_agent(0));
+    folugben::step grown = agents[0].begin();
+    for (std::uint32_t i = 1; i < 50; ++i) agents.push_back(storage.make_agent(i));
+    grown.push_json(up);
+    WANTED(grown.get(count).number() == 8 && grown.commit() == 1);
+
+    folugben::agent stranger = other.make_agent(0);
+    folugben::step swapped = agents[0].begin();
+    std::swap(agents[0], stranger);
+    swapped.push_json(up);
+    WANTED(swapped.get(count).number() == 9 && swapped.commit() == 2 && other.moves() == 0 && storage.moves() == 2);
+    WANTED(agents[0].try_begin(swapped) == code::done && swapped.get(count).number() == 100);
+
+    folugben::step late = stranger.begin();
+    late.push_json(up);
+    { folugben::agent ends = std::move(stranger); }
+    WANTED(late.try_commit().code == code::empty && REFUSED(folugben::error, late.get(count)).code() == code::empty);
+    WANTED(REFUSED(folugben::error, late.commit()).code() == code::empty && storage.moves() == 2);
+    agents.clear();
+    WANTED(folugben::check(storage.close()).moves == 2);
+}
+
+// What was moved from refuses each call, and may be assigned to.
+void moved_objects_are_empty() {
+    auto is_empty = [](auto call) { WANTED(refused<folugben::error>(call, __LINE__).code() == code::empty); };
+    folugben::storage storage(COUNT, 10), next(COUNT, 5), gone = std::move(next);
+    is_empty([&] { next.make_agent(0); });
+    is_empty([&] { next.take(0); });
+    is_empty([&] { next.moves(); });
+    is_empty([&] { next.close(); });
+    is_empty([&] { next.next(5); });
+
+    folugben::agent agent = storage.make_agent(0), left = std::move(agent);
+    folugben::location count("count"), other = std::move(count);
+    is_empty([&] { agent.begin(); });
+    is_empty([&] { agent.play(empty_move); });
+    is_empty([&] { agent.follow(); });
+    is_empty([&] { agent.peek(other); });
+    is_empty([&] { agent.state_json(); });
+    is_empty([&] { agent.read_json(R"([["count"]])"); });
+    is_empty([&] { agent.fire_json(R"({"fire":[],"reads":[]})"); });
+    is_empty([&] { agent.answer(); });
+    is_empty([&] { agent.go_on(5); });
+    is_empty([&] { left.peek(count); });
+    agent.abandon();
+    WANTED(agent.seen() == 0 && agent.won() == 0 && agent.misses() == 0);
+    WANTED(REFUSED(folugben::error, left.learn(agent)).code() == code::other);
+
+    folugben::step step = left.begin(), moved = std::move(step);
+    folugben::instructions move, full;
+    full.put(other, 1);
+    folugben::instructions kept = std::move(full);
+    is_empty([&] { step.get(other); });
+    is_empty([&] { step.push(kept); });
+    is_empty([&] { step.pop(); });
+    is_empty([&] { step.offer_json(); });
+    is_empty([&] { step.commit(); });
+    WANTED(step.depth() == 0 && left.try_begin(step) == code::empty);
+    is_empty([&] { full.put(other, 2); });
+    is_empty([&] { move.put(count, 1); });
+    moved.push(kept);
+    WANTED(moved.try_pop_move(full) == code::empty && moved.depth() == 1);
+    step = left.begin();
+    full = moved.pop_move();
+    step.push(full);
+    WANTED(step.commit() == 1);
+
+    folugben::auditor auditor, last = std::move(auditor);
+    is_empty([&] { auditor.feed("{"); });
+    is_empty([&] { auditor.counts(); });
+    is_empty([&] { auditor.end(); });
+    is_empty([&] { auditor.state_json(); });
+}
+
+void threads_take_agents() {
+    folugben::storage storage(R"([[["count"],0]])", 10000);
+    std::vector<std::thread> threads;
+    for (std::uint32_t i = 0; i < 4; ++i)
+        threads.emplace_back(
+            [](folugben::agent agent) {
+                folugben::location count("count");
+                for (int k = 0; k < 200; ++k)
+                    agent.play([&](folugben::step &step) {
+                        step.push(folugben::instructions().put(count, step.get(count).number() + 1));
+                    });
+            },
+            storage.make_agent(i));
+    for (auto &it : threads) it.join();
+    folugben::agent reader = storage.make_agent(4);
+    WANTED(reader.follow() == 800 && reader.peek(folugben::location("count")).number() == 800);
+}
+
+} // namespace
+
+int main() {
+    agents_come_back_when_they_are_destroyed();
+    storages_go_on_from_agents();
+    agents_that_came_back_are_taken();
+    runs_are_audited_as_their_bytes_come();
+    the_first_fault_of_a_run_is_told_with_its_place();
+    steps_go_on_where_their_agents_move();
+    moved_objects_are_empty();
+    threads_take_agents();
+    std::puts("passed");
+}

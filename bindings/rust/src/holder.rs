@@ -1,0 +1,67 @@
+//! The agents that steps work with.
+use crate::agent::Agent;
+use crate::error::{Error, done, of_text};
+use crate::held::told;
+use crate::number::AgentNumber;
+use crate::run::Lent;
+use crate::sys;
+
+/// The agent that a step works with: one that it borrows, or one that a run has lent it.
+pub(crate) enum Holder<'a> {
+    Own(&'a mut Agent),
+    Lent(Lent<'a>),
+}
+
+impl Holder<'_> {
+    pub(crate) fn number(&self) -> AgentNumber {
+        match self {
+            Holder::Own(agent) => agent.number(),
+            Holder::Lent(lent) => lent.number(),
+        }
+    }
+
+    /// How many moves the parts of a run before that of the step have.
+    pub(crate) fn before(&self) -> u64 {
+        match self {
+            Holder::Own(_) => 0,
+            Holder::Lent(lent) => lent.part().before,
+        }
+    }
+
+    /// Calls the agent, which a run may have taken back.
+    pub(crate) fn with<T>(&self, call: impl FnOnce(&Agent) -> Result<T, Error>) -> Result<T, Error> {
+        match self {
+            Holder::Own(agent) => call(agent),
+            Holder::Lent(lent) => lent.with(call),
+        }
+    }
+
+    /// Counts bytes of what the step has pushed and got, which a line of a run's journal may have.
+    pub(crate) fn count(&self, size: usize) {
+        if let Holder::Lent(lent) = self {
+            lent.count(size);
+        }
+    }
+}
+
+/// Fires what the agent's step has pushed.
+pub(crate) fn commit(agent: &Agent) -> Result<u32, Error> {
+    let mut numbers = sys::Numbers::default();
+    // SAFETY: the slots are of one agent and its step, which this thread alone has, and the texts and numbers outlive the call.
+    let code = unsafe { sys::asm_commit(agent.slots.agent(), agent.slots.step(), &raw mut numbers) };
+    match code {
+        sys::STALE | sys::CLASH => Err(of_text(code, &agent.last_answer()?).of_fire()),
+        code => {
+            done(code)?;
+            Ok(numbers.fired)
+        }
+    }
+}
+
+/// The text of what the agent's step would fire by now.
+pub(crate) fn offer_text(agent: &Agent) -> Result<Vec<u8>, Error> {
+    // SAFETY: the slots are of one agent and its step, which this thread alone has, and the texts and numbers outlive the call.
+    let (code, text) = told(|out, room, written| unsafe { sys::asm_offer(agent.slots.step(), out, room, written) });
+    done(code)?;
+    Ok(text)
+}
