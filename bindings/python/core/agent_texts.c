@@ -132,7 +132,7 @@ PyObject *agent_answer(Agent *self, PyObject *Py_UNUSED(none))
         return NULL;
     room_begin(&room);
     TOLD(code, &room, asm_answer(SLOT(self), ROOM(&room)));
-    PyObject *told = code == ASM_DONE ? read_text(self->held.core, room.at, room.written) : agent_refused(self, code);
+    PyObject *told = code == ASM_DONE ? read_own_text(self->held.core, room.at, room.written, 0) : agent_refused(self, code);
     room_end(&room);
     return told;
 }
@@ -231,7 +231,7 @@ static PyObject *state(Agent *self, int is_text)
         agent_refused(self, code);
     else
         its = is_text ? PyBytes_FromStringAndSize((char *)room.at, (Py_ssize_t)room.written)
-                      : read_text(self->held.core, room.at, room.written);
+                      : read_own_text(self->held.core, room.at, room.written, 0);
     room_end(&room);
     return its ? Py_BuildValue("IN", (unsigned)number, its) : NULL;
 }
@@ -257,7 +257,7 @@ PyObject *agent_scan(Agent *self, PyObject *name)
         return NULL;
     room_begin(&room);
     RUN(&self->held, 1, TOLD(code, &room, asm_scan(SLOT(self), text, (size_t)len, &number, ROOM(&room))));
-    PyObject *its = code == ASM_DONE ? read_text(self->held.core, room.at, room.written) : agent_refused(self, code);
+    PyObject *its = code == ASM_DONE ? read_own_text(self->held.core, room.at, room.written, 0) : agent_refused(self, code);
     room_end(&room);
     return its ? Py_BuildValue("IN", (unsigned)number, its) : NULL;
 }
@@ -279,7 +279,8 @@ PyObject *agent_stands(Agent *self, PyObject *named)
         else if (code == ASM_EMPTY)
             agent_refused(self, code);
         else if (code == ASM_STALE)
-            told = read_text(self->held.core, room.at + sizeof "{\"stale\":" - 1, room.written - sizeof "{\"stale\":}" + 1);
+            told = read_own_text(
+                self->held.core, room.at + sizeof "{\"stale\":" - 1, room.written - sizeof "{\"stale\":}" + 1, 1);
         else
             refuse(self->held.core, code, "stands", "(iOy#)", (int)code, (PyObject *)self, text.at, (Py_ssize_t)text.len);
     }

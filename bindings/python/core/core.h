@@ -155,9 +155,62 @@ const uint8_t *name_of(Core *core, PyObject *name, Py_ssize_t *len);
 #define IS_LONG(text) ((text)->len > LONG_TEXT)
 
 /* read.c: values of texts. */
-PyObject *read_text(Core *core, const void *text, size_t len);
+PyObject *read_text(const void *text, size_t len);
+PyObject *read_own_text(Core *core, const void *text, size_t len, int is_place);
 PyObject *read_values(Core *core, Room *room, uint32_t *number);
 PyObject *value_of(Core *core, const asm_value *value, const Room *room);
+
+/* move.c: a location, prepared or not; and a change of it, which an instruction makes. */
+typedef struct {
+    struct asm_location own;
+    Location *held; /* where it was prepared before */
+    Text text;
+} Place;
+#define AT(its) ((its)->held ? (struct asm_location *)SLOT((its)->held) : &(its)->own)
+#define PLACE_UNREADY(its) ((its)->held && UNREADY(&(its)->held->held))
+int place_begin(Core *core, Place *its, PyObject *place);
+int32_t place_made(Place *its);
+PyObject *place_refused(Core *core, Place *its, int32_t code);
+void place_end(Place *its);
+
+typedef struct {
+    Place place;
+    int verb, kind, is_placed;
+    int32_t code;
+    uint32_t amount;
+    int64_t number;
+    const uint8_t *at;
+    size_t len;
+    Text text;
+} Change;
+int change_begin(Core *core, Change *its, PyObject *const *words, Py_ssize_t count, int verb);
+int32_t change_put(Change *its, struct asm_move *move);
+uint64_t change_size(Change *its);
+PyObject *change_refused(Core *core, Change *its);
+void change_end(Change *its);
+
+/* The methods of a type that make such changes. */
+#define CHANGE_OF(Type, type, name, verb, work)                                                 \
+    static PyObject *type##_##name(Type *self, PyObject *const *words, Py_ssize_t count)        \
+    {                                                                                           \
+        return work(self, words, count, verb);                                                  \
+    }
+#define CHANGES(Type, type, work)                                                               \
+    CHANGE_OF(Type, type, put, ASM_PUT, work)                                                   \
+    CHANGE_OF(Type, type, add, ASM_ADD, work)                                                   \
+    CHANGE_OF(Type, type, remove, ASM_REMOVE, work)                                             \
+    CHANGE_OF(Type, type, bag_add, ASM_BAGADD, work)                                            \
+    CHANGE_OF(Type, type, bag_remove, ASM_BAGREMOVE, work)                                      \
+    CHANGE_OF(Type, type, inc, ASM_INC, work)
+#define CHANGE_METHODS(type)                                                                                     \
+    {"put", METHOD(type##_put), METH_FASTCALL, "put($self, at, value, /)\n--\n\nPut a value; None leaves the location empty."}, \
+    {"add", METHOD(type##_add), METH_FASTCALL, "add($self, at, element, /)\n--\n\nAdd an element to a set."},    \
+    {"remove", METHOD(type##_remove), METH_FASTCALL, "remove($self, at, element, /)\n--\n\nRemove an element from a set."}, \
+    {"bag_add", METHOD(type##_bag_add), METH_FASTCALL,                                                           \
+        "bag_add($self, at, element, amount=1, /)\n--\n\nAdd an element to a bag, 1 to 4,294,967,295 times."},   \
+    {"bag_remove", METHOD(type##_bag_remove), METH_FASTCALL,                                                     \
+        "bag_remove($self, at, element, amount=1, /)\n--\n\nRemove an element from a bag, 1 to 4,294,967,295 times."}, \
+    {"inc", METHOD(type##_inc), METH_FASTCALL, "inc($self, at, by, /)\n--\n\nRaise a number, by 0 or less too."}
 
 /* storage.c, location.c */
 Storage *storage_next_of(Held *held, PyObject *words, PyObject *named, uint32_t *capacity);

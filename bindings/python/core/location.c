@@ -21,7 +21,7 @@ static PyObject *location_new(PyTypeObject *type, PyObject *words, PyObject *nam
     if (self && (self->text = PyBytes_FromStringAndSize(text.at, (Py_ssize_t)text.len))) {
         int32_t code = asm_location(BYTES(&text), SLOT(self));
         if (code != ASM_DONE)
-            refuse(core, code, "location", "(iO)", (int)code, self->text);
+            refuse(core, code, "location", "(iy#)", (int)code, text.at, (Py_ssize_t)text.len);
     }
     text_end(&text);
     if (self && !IS_FULL(self))
@@ -36,7 +36,7 @@ static PyObject *location_text(Location *self, void *Py_UNUSED(none))
 
 static PyObject *location_place(Location *self, void *Py_UNUSED(none))
 {
-    return read_text(self->held.core, PyBytes_AsString(self->text), (size_t)PyBytes_Size(self->text));
+    return read_own_text(self->held.core, PyBytes_AsString(self->text), (size_t)PyBytes_Size(self->text), 1);
 }
 
 static PyObject *location_repr(Location *self)
@@ -60,7 +60,7 @@ static PyMethodDef methods[] = {
 };
 static PyGetSetDef gets[] = {
     {"_text", (getter)location_text, NULL, NULL, NULL},
-    {"place", (getter)location_place, NULL, "The location, as JSON has it.", NULL},
+    {"place", (getter)location_place, NULL, "The location as a tuple, the name first.", NULL},
     {0},
 };
 static PyType_Slot slots[] = {

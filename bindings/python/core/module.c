@@ -23,11 +23,22 @@ static PyObject *core_encoded(PyObject *module, PyObject *words)
     return told;
 }
 
-static PyObject *core_decoded(PyObject *module, PyObject *it)
+static PyObject *core_decoded(PyObject *Py_UNUSED(module), PyObject *it)
 {
     char *at;
     Py_ssize_t len;
-    return PyBytes_AsStringAndSize(it, &at, &len) ? NULL : read_text(PyModule_GetState(module), at, (size_t)len);
+    return PyBytes_AsStringAndSize(it, &at, &len) ? NULL : read_text(at, (size_t)len);
+}
+
+/* The same as Python's own values; a second word says that it is a location. */
+static PyObject *core_owned(PyObject *module, PyObject *words)
+{
+    const char *at;
+    Py_ssize_t len;
+    int is_place = 0;
+    return PyArg_ParseTuple(words, "y#|p", &at, &len, &is_place)
+               ? read_own_text(PyModule_GetState(module), at, (size_t)len, is_place)
+               : NULL;
 }
 
 enum { CHECK, REPLAY, TRACE, AGGREGATE, COMPOSE, EXPLAIN, ERROR_TEXT };
@@ -125,6 +136,7 @@ static PyMethodDef methods[] = {
     {"use", core_use, METH_O, NULL},
     {"encoded", core_encoded, METH_VARARGS, NULL},
     {"decoded", core_decoded, METH_O, NULL},
+    {"owned", core_owned, METH_VARARGS, NULL},
     {"told", core_told, METH_VARARGS, NULL},
     {"version", core_version, METH_NOARGS, NULL},
     {0},

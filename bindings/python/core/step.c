@@ -92,28 +92,39 @@ static PyObject *values_of(Step *self, TextCall call, PyObject *places)
     return values;
 }
 
-static PyObject *step_get(Step *self, PyObject *place)
+/* The value at one location, prepared or not. */
+static PyObject *step_at(Step *self, PyObject *place)
 {
     Core *core = self->held.core;
     Agent *agent = self->agent;
-    if (!is_location(core, place))
-        return values_of(self, asm_get, place);
-    Location *at = (Location *)place;
-    if (UNREADY(&agent->held) || UNREADY(&at->held))
+    Place at;
+    PyObject *one = NULL;
+    if (place_begin(core, &at, place))
         return NULL;
-    asm_value value;
-    int32_t code;
-    Room room;
-    room_begin(&room);
-    TOLD(code, &room, asm_get_at(SLOT(agent), SLOT(self), SLOT(at), &value, ROOM(&room)));
-    self->size += (uint64_t)PyBytes_Size(at->text);
-    PyObject *one;
-    if (!ODD(code != ASM_DONE))
-        one = value_of(core, &value, &room);
-    else
-        one = code == ASM_EMPTY && IS_FULL(self) && IS_FULL(agent) ? location_refused(at, code) : step_refused(self, code);
-    room_end(&room);
+    if (!UNREADY(&agent->held) && !PLACE_UNREADY(&at)) {
+        asm_value value;
+        Room room;
+        room_begin(&room);
+        int32_t code = place_made(&at);
+        int is_placed = code == ASM_DONE;
+        if (is_placed)
+            TOLD(code, &room, asm_get_at(SLOT(agent), SLOT(self), AT(&at), &value, ROOM(&room)));
+        self->size += at.held ? (uint64_t)PyBytes_Size(at.held->text) : at.text.len;
+        if (!ODD(code != ASM_DONE))
+            one = value_of(core, &value, &room);
+        else if (!is_placed || (code == ASM_EMPTY && IS_FULL(self) && IS_FULL(agent)))
+            place_refused(core, &at, code);
+        else
+            step_refused(self, code);
+        room_end(&room);
+    }
+    place_end(&at);
     return one;
+}
+
+static PyObject *step_get(Step *self, PyObject *places)
+{
+    return is_location(self->held.core, places) ? step_at(self, places) : values_of(self, asm_get, places);
 }
 
 static PyObject *step_see(Step *self, PyObject *place)
@@ -136,7 +147,7 @@ static PyObject *step_scan(Step *self, PyObject *name)
         return NULL;
     room_begin(&room);
     int32_t code = told(self, asm_get_all, text, (size_t)len, &room);
-    PyObject *pairs = code == ASM_DONE ? read_text(self->held.core, room.at, room.written) : step_refused(self, code);
+    PyObject *pairs = code == ASM_DONE ? read_own_text(self->held.core, room.at, room.written, 0) : step_refused(self, code);
     room_end(&room);
     return pairs;
 }
@@ -205,6 +216,39 @@ static PyObject *step_extend(Step *self, PyObject *move)
     return grow(self, asm_extend, asm_extend_move, move);
 }
 
+/* Has one instruction join the move that was pushed last. */
+static PyObject *change(Step *self, PyObject *const *words, Py_ssize_t count, int verb)
+{
+    Core *core = self->held.core;
+    Agent *agent = self->agent;
+    struct asm_move move = {0};
+    Change its;
+    PyObject *done = NULL;
+    if (change_begin(core, &its, words, count, verb))
+        return NULL;
+    if (!UNREADY(&agent->held) && !PLACE_UNREADY(&its.place)) {
+        Room room;
+        room_begin(&room);
+        int32_t code = change_put(&its, &move);
+        if (code == ASM_DONE)
+            TOLD(code, &room, asm_extend_move(SLOT(agent), SLOT(self), &move, ROOM(&room)));
+        asm_free(&move.slot);
+        self->size += change_size(&its);
+        self->is_pushed |= code == ASM_DONE;
+        if (code == ASM_DONE)
+            done = Py_NewRef(Py_None);
+        else if (its.code != ASM_DONE)
+            change_refused(core, &its);
+        else
+            not_pushed(self, code, "", 0, &room);
+        room_end(&room);
+    }
+    change_end(&its);
+    return done;
+}
+
+CHANGES(Step, step, change)
+
 static PyObject *step_pop(Step *self, PyObject *Py_UNUSED(none))
 {
     if (UNREADY(&self->agent->held))
@@ -245,7 +289,7 @@ static PyObject *offer(Step *self, int is_text)
         its = step_refused(self, code);
     else
         its = is_text ? PyBytes_FromStringAndSize((char *)room.at, (Py_ssize_t)room.written)
-                      : read_text(self->held.core, room.at, room.written);
+                      : read_own_text(self->held.core, room.at, room.written, 0);
     room_end(&room);
     return its;
 }
@@ -382,6 +426,7 @@ static PyObject *step_full(Step *self, void *Py_UNUSED(none))
 
 static PyMethodDef methods[] = {
     HELD_METHODS,
+    CHANGE_METHODS(step),
     {"get", (PyCFunction)step_get, METH_O,
         "get($self, places, /)\n--\n\nReturn the values of the locations, as they are seen through the pushed moves; of a `Location` its value.\n\n"
         "A location is got where its value is made from that of the state below, and the fire names it. At most 256 are got and\n"
@@ -438,6 +483,6 @@ static PyType_Slot slots[] = {
                 "does what the pushed ones do in turn, unless something was written since that the step depends on. A refused call leaves\n"
                 "the step unchanged. The step is over once it is fired, and at the end of its `with`; calls then raise `Over`. One that\n"
                 "isn't fired leaves no trace. Where the agent has gone on since, a get, a scan or a push raises `Moved`."},
-    {Py_tp_new, step_new}, {Py_tp_dealloc, step_gone}, {Py_tp_traverse, step_traverse}, {Py_tp_methods, methods},
+    {Py_mp_subscript, step_at}, {Py_tp_new, step_new}, {Py_tp_dealloc, step_gone}, {Py_tp_traverse, step_traverse}, {Py_tp_methods, methods},
     {Py_tp_members, members}, {Py_tp_getset, gets}, {Py_tp_repr, step_repr}, {0}};
 PyType_Spec step_spec = {"folugben.Step", sizeof(Step), 0, Py_TPFLAGS_DEFAULT | Py_TPFLAGS_BASETYPE | Py_TPFLAGS_HAVE_GC, slots};

@@ -38,7 +38,7 @@ static int storage_init(Storage *self, PyObject *words, PyObject *named)
     Text text;
     if (!PyArg_ParseTupleAndKeywords(words, named, "|OOO", names, &init, &most, &journal) || storage_note(self, journal))
         return -1;
-    PyObject *pairs = init ? PySequence_List(init) : PyList_New(0);
+    PyObject *pairs = !init ? PyList_New(0) : PyDict_Check(init) ? PyMapping_Items(init) : PySequence_List(init);
     int failed = !pairs || write_named(core, &text, pairs, "init");
     Py_XDECREF(pairs);
     if (failed)
@@ -267,7 +267,7 @@ static PyMethodDef methods[] = {
 };
 static PyType_Slot slots[] = {
     {Py_tp_doc, "Storage(init=(), capacity=4096, journal=None)\n--\n\n"
-                "A storage with an opening state, a list of pairs of a location and a value, for so many moves.\n\n"
+                "A storage with an opening state, a dict of values by location or pairs of the two, for so many moves.\n\n"
                 "Where `journal` names a file, the journal is written there at the end of the `with`, also after an exception, once the\n"
                 "agents are given back."},
     {Py_tp_new, storage_new}, {Py_tp_init, storage_init}, {Py_tp_dealloc, storage_gone}, {Py_tp_methods, methods},

@@ -13,6 +13,7 @@ from . import __version__, audit, import_run, part, replay, trace
 from ._errors import BadJournal, Damaged, Error
 from ._exports import judged, write_csv, write_itf, write_page, write_perfetto
 from ._reading import follow, is_stored, save, verify
+from ._texts import encoded
 
 
 def _check(journal: bytes, out: TextIO) -> bool:
@@ -79,8 +80,8 @@ def _follow(target: str, _: int | None, out: TextIO) -> bool:
 
 
 def _replay(journal: bytes, out: TextIO) -> bool:
-    for pair in replay(journal):
-        out.write(json.dumps(pair, ensure_ascii=False, separators=(",", ":")) + "\n")
+    for at, value in replay(journal):
+        out.write(f"[{encoded(at, 'place').decode()},{encoded(value, 'value').decode()}]\n")
     return True
 
 

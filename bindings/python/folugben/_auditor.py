@@ -5,7 +5,7 @@ from ._core import Audit
 from ._errors import BadJournal, Error, Text, exact
 from ._library import DONE, EMPTY, LARGE
 from ._lines import LINE_LIMIT
-from ._texts import decoded
+from ._texts import owned
 
 
 class Counts(NamedTuple):
@@ -71,7 +71,7 @@ class Auditor(Audit):
     def state(self) -> list[Any]:
         """The state that the moves so far leave, as a list of pairs. `Error` with the code NONE where no part has begun."""
         self._expect_sound()
-        pairs: list[Any] = decoded(self._state())
+        pairs: list[Any] = owned(self._state())
         return pairs
 
     @staticmethod

@@ -59,7 +59,7 @@ class Retry(Error):
 class Stale(Retry):
     """A named location was written since it was read; `at` is the least such location."""
 
-    at: list[Any]
+    at: tuple[Any, ...]
     cause = None
 
 
@@ -69,14 +69,14 @@ class Clash(Error):
     A fire of a step clashes only where another agent wrote there since the step began: begin another step.
     """
 
-    at: list[Any]
+    at: tuple[Any, ...]
     cause: str
 
 
 class Large(Error):
     """An amount or a sum of composed updates is too large, at the location `at`; or a journal has too many calls."""
 
-    at: list[Any] | None = None
+    at: tuple[Any, ...] | None = None
 
 
 class Full(Error):
@@ -192,20 +192,19 @@ def expect(code: int, kind: type[Error] | None = None, numbers: Iterable[int] = 
         raise raised(code, numbers, said)
 
 
-def refusal(code: int, told: Any) -> Stale | Clash | Large:
+def refusal(code: int, text: bytes) -> Stale | Clash | Large:
     """The exception of a code whose text tells a location, and of a clash the cause."""
-    if code == STALE:
-        stale = Stale(code, said=json.dumps(told["stale"]))
-        stale.at = told["stale"]
-        return stale
-    if code == LARGE:
-        large = Large(code, said=json.dumps(told["large"]))
-        large.at = told["large"]
-        return large
-    at, cause = told["clash"]
-    clash = Clash(code, said=f"{json.dumps(at)}, {cause}")
-    clash.at, clash.cause = at, cause
-    return clash
+    ((kind, told),) = _core.owned(text).items()
+    at, *cause = told if kind == "clash" else (told,)
+    said = ", ".join([_core.encoded(at, "place").decode(), *cause])
+    raised: Stale | Clash | Large
+    if kind == "clash":
+        raised = Clash(code, said=said)
+        raised.cause = cause[0]
+    else:
+        raised = Stale(code, said=said) if kind == "stale" else Large(code, said=said)
+    raised.at = at
+    return raised
 
 
 def ahead(reads: Iterable[Any], seen: int, scans: Iterable[Any] = ()) -> Error:

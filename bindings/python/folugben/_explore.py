@@ -203,7 +203,7 @@ def explore(
 
     Each schedule plays on a new storage from `make`, and each program with the agent of its place. Of schedules that differ
     only in the order of calls that don't depend on each other one is played. The invariant gets the values of each state, by
-    the location's JSON, as `states` yields them; `at_end` gets those of the last one. Each returns False or raises an
+    the location, as `states` yields them; `at_end` gets those of the last one. Each returns False or raises an
     AssertionError where it doesn't hold. A program that raises is a finding too.
 
     The programs may share nothing but the storage, and must do the same in the same schedule: a number of a move may be

@@ -5,7 +5,7 @@ from typing import Any
 from . import _core
 from ._errors import INSTRUCTIONS, BadJournal, Text, exact, expect, expect_part, expect_read, explain, refusal
 from ._library import AGGREGATE, CHECK, CLASH, COMPOSE, EVENT, LARGE, MOVE, NOT_JSON, REPLAY, SHAPE, STATE, TRACE
-from ._texts import Form, decoded, encoded
+from ._texts import Form, decoded, encoded, owned
 
 
 def version() -> int:
@@ -31,12 +31,12 @@ def check(journal: Text) -> tuple[int, int]:
 
 def replay(journal: Text) -> list[Any]:
     """The state that the moves of a journal leave, as a list of pairs."""
-    pairs: list[Any] = decoded(_told(REPLAY, journal)[0])
+    pairs: list[Any] = owned(_told(REPLAY, journal)[0])
     return pairs
 
 
 def trace(journal: Text) -> Iterator[dict[str, Any]]:
-    """What each call of a journal did, whether it is legal or not: the objects of its trace, the header first.
+    """What each call of a journal did, whether it is legal or not: the objects of its trace as JSON, the header first.
 
     An event has `right` where a storage of one thread gives another answer, and `updates` where its move was fired: the page
     on formats has them. `BadJournal` where it is no journal, before the first object.
@@ -74,7 +74,7 @@ def compose(first: Sequence[Form], second: Sequence[Form]) -> list[Any]:
 def _answered(code: int, told: bytes, move: bytes) -> list[Any]:
     """What a call on a move told, or raises what its code says."""
     if code in (CLASH, LARGE):
-        raise refusal(code, decoded(told))
+        raise refusal(code, told)
     expect_part(code, INSTRUCTIONS, move)
-    answer: list[Any] = decoded(told)
+    answer: list[Any] = owned(told)
     return answer

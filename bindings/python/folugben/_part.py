@@ -30,7 +30,7 @@ class PartStep(Step):
     def offer(self) -> dict[str, Any]:
         """The same, with numbers of the run."""
         offer, base = super().offer(), self._agent.part.base
-        return {"fire": offer["fire"], "reads": [[at, base + number] for at, number in offer["reads"]]}
+        return offer | {"reads": tuple((at, base + number) for at, number in offer["reads"])}
 
     def fire(self) -> int:
         """The same as of any step; `Past` where its part has ended, `TooLong` where the move's line would be too long."""

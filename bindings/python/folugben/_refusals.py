@@ -12,7 +12,7 @@ from ._errors import expect_scans, explain, refusal
 from ._held import Forked
 from ._library import BUSY, CLASH, EMPTY, INC, LARGE, LIST, LOCATIONS, MISSING, MOVE, NONE, NOT_JSON, NUMBER, RANGE, SHAPE, STALE
 from ._library import TEXT
-from ._texts import decoded, not_a_value
+from ._texts import not_a_value
 
 if TYPE_CHECKING:
     from ._core import Agent, Step, Storage
@@ -64,17 +64,6 @@ def freed(what: str) -> NoReturn:
 
 def odd(name: str, path: str, value: Any) -> NoReturn:
     not_a_value(value, name + path)
-
-
-def operand(value: Any) -> NoReturn:
-    raise TypeError(
-        'a gathered instruction takes None, a bool, an int, a str, {"list": [..]}, {"set": [..]} or {"bag": [..]}, and not '
-        f"{value!r:.40}"
-    )
-
-
-def not_location(it: Any) -> NoReturn:
-    raise TypeError(f"a gathered instruction is at a Location, as Location(['n']), and not at {type(it).__name__!r}")
 
 
 def no_agent(said: str, it: Any) -> NoReturn:
@@ -166,7 +155,7 @@ def step(code: int, it: "Step") -> None:
 
 def committed(code: int, told: bytes, from_: int, to: int) -> None:
     if code in (STALE, CLASH):
-        raise refusal(code, decoded(told))
+        raise refusal(code, told)
     if code == BUSY:
         raise Busy(code, (from_, to))
     expect(code)
@@ -174,7 +163,7 @@ def committed(code: int, told: bytes, from_: int, to: int) -> None:
 
 def pushed(code: int, move: bytes, told: bytes) -> None:
     if code in (CLASH, LARGE):
-        raise refusal(code, decoded(told))
+        raise refusal(code, told)
     expect_part(code, INSTRUCTIONS, move)
 
 
@@ -183,7 +172,7 @@ def location(code: int, text: bytes) -> None:
     expect(code, said=explain(LOCATIONS, b"[%b]" % text if code == SHAPE else text))
 
 
-def instructed(code: int, place: bytes, verb: int, kind: int, text: bytes | None, amount: int) -> None:
+def instructed(code: int, place: bytes, verb: int, kind: int, number: int, text: bytes | None, amount: int) -> None:
     if kind > TEXT and code in (NOT_JSON, SHAPE):
         expect_part(code, INSTRUCTIONS, b'[["%b",%b,%b%b]]' % (_WORDS[verb], place, text or b"", b",%d" % amount if amount else b""))
     if kind > LIST and code == RANGE and verb != INC:

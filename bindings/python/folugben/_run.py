@@ -19,7 +19,7 @@ from ._parts import Chain
 from ._reading import Reading
 from ._refusals import capacity_of, own_number
 from ._run_agent import RunAgent
-from ._texts import Form, decoded
+from ._texts import Form, owned
 
 # The runs whose `with` goes on, which SIGTERM ends.
 _entered: list[Chain] = []
@@ -146,7 +146,7 @@ class Run:
     def state(self) -> tuple[int, list[Any]]:
         """Return the number of moves by now and the state after them: pairs of a location and its value, ascending."""
         number, text = self._chain.state()
-        return number, decoded(text)
+        return number, owned(text)
 
     def close(self) -> None:
         """Ends the run: gives all agents back, and waits until the last part is on the disk; it may be called again.

@@ -113,11 +113,11 @@ class RunAgent:
         """Looks on until nothing more is found, and its own state follows. How many moves it has seen then."""
         return self._looked(lambda agent: (agent.follow(), None))[0]
 
-    def stands(self, reads: Iterable[Form]) -> list[Any] | None:
+    def stands(self, reads: Iterable[Form]) -> tuple[Any, ...] | None:
         """Looks on: the least of the named locations that was written since its number of moves, or None. `Past` as by `fire`."""
         named = list(reads)
 
-        def look(agent: PartAgent) -> tuple[int, list[Any] | None]:
+        def look(agent: PartAgent) -> tuple[int, tuple[Any, ...] | None]:
             try:
                 told = agent.stands(self._of_part(named, agent))
             except Error as error:

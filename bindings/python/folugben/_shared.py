@@ -13,7 +13,7 @@ from ._lines import expect_call, expect_state
 from ._log import Log
 from ._refusals import back_off, capacity_of, own_number
 from ._replica import Era
-from ._texts import Form, decoded, encoded
+from ._texts import Form, encoded, owned
 from ._worker import Worker
 
 _R = TypeVar("_R")
@@ -30,7 +30,7 @@ class SharedStep(Step):
         # The functions that it has scanned.
         self._scans: dict[str, None] = {}
 
-    def scan(self, name: str) -> list[list[Any]]:
+    def scan(self, name: str) -> list[tuple[tuple[Any, ...], Any]]:
         """The same as of any step."""
         found = super().scan(name)
         self._scans[name] = None
@@ -39,7 +39,7 @@ class SharedStep(Step):
     def offer(self) -> dict[str, Any]:
         """The same, with numbers of the run."""
         offer, base = super().offer(), self._era.base
-        return {"fire": offer["fire"], "reads": [[at, base + number] for at, number in offer["reads"]]}
+        return offer | {"reads": tuple((at, base + number) for at, number in offer["reads"])}
 
     def fire(self) -> int:
         """Fire one move that does what the pushed moves do in turn. Return its number, once the move is durable.
@@ -113,7 +113,7 @@ class SharedRun:
 
     def __init__(self, target: str | os.PathLike[str], init: Iterable[Form] | None = None, moves: int = 10_000) -> None:
         self._target, capacity = os.fspath(target), capacity_of(moves)
-        state = None if init is None else list(init)
+        state = init if init is None or isinstance(init, dict) else list(init)
 
         def opening(moves: int) -> bytes:
             with Storage(state or (), moves) as storage:
@@ -151,7 +151,7 @@ class SharedRun:
         """Return the number of moves by now, of all processes, and the state after them: pairs of a location and its value."""
         self._worker.follow()
         number, text = self._worker.state_text()
-        return number, decoded(text)
+        return number, owned(text)
 
     def close(self) -> None:
         """Leave the run, which goes on in other processes; it may be called again.

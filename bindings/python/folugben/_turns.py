@@ -10,11 +10,12 @@ from ._errors import Past
 _A = TypeVar("_A")
 _R = TypeVar("_R")
 
-# The calls of agents and of steps that take a turn.
-CALLS = frozenset({
+# The calls of a step that write one location, and all calls of agents and of steps that take a turn.
+WRITES = frozenset({"put", "add", "remove", "bag_add", "bag_remove", "inc"})
+CALLS = WRITES | {
     "step", "read", "fire", "try_fire", "follow", "stands", "peek", "state", "scan", "learn", "answer", "give", "get", "see",
     "push", "extend", "pop", "pop_move", "offer",
-})
+}
 # How long those that play are waited for after Ctrl-C.
 _GRACE = 5.0
 
@@ -155,6 +156,9 @@ class Played:
             self.player.look(self, name)
             return found
         return lambda *words, **named: self.player.call(self, name, tuple(map(_bare, words)), named)
+
+    def __getitem__(self, place: Any) -> Any:
+        return self.player.call(self, "__getitem__", (place,), {})
 
     def __enter__(self) -> Self:
         self.own.__enter__()

@@ -24,5 +24,5 @@ PROGRAMS = [philosopher(own) for own in range(SEATS)]
 
 def holds(agent: Agent) -> bool:
     """no fork is used twice"""
-    used = [fork for own in agent.peek([EATING])[1][0]["set"] for fork in forks(own)]
+    used = [fork for own in agent.peek([EATING])[1][0] for fork in forks(own)]
     return all(used.count(fork) == 1 for fork in used)

@@ -37,7 +37,7 @@ class Shared(Rooms):
         """The run is legal and has so many moves, each of which raised the count."""
         self.assertEqual(audit(self.target).moves, moves)
         self.assertEqual(audit(io.BytesIO(self.whole())), audit(self.target))
-        counts = [values['["count"]'] for _, values in states(_Target(self.target))]
+        counts = [values[("count",)] for _, values in states(_Target(self.target))]
         self.assertEqual(counts, list(range(moves + 1)))
         verify(self.target)
 
@@ -53,7 +53,7 @@ class Plays(Shared):
         told = [[] for _ in range(4)]
         with SharedRun(self.target, INIT, 25) as run:
             self.assertEqual(in_threads(work, 4), ([], True))
-            self.assertEqual(run.state(), (120, [[COUNT, 120]]))
+            self.assertEqual(run.state(), (120, [(COUNT, 120)]))
         self.assertEqual(sorted(sum(told, [])), list(range(1, 121)))
         self.assertTrue(all(it == sorted(it) for it in told))
         self.assert_is_run(120)
@@ -67,9 +67,9 @@ class Plays(Shared):
                     self.assertEqual((ben.peek(AT), ben.peek([COUNT])), ((number, number), (number, [number])))
                     self.assertEqual(ben.play(raised), (number + 1, None))
                     self.assertEqual(anna.follow(), number + 1)
-                    self.assertEqual((anna.state(), anna.scan("count")), 2 * ((number + 1, [[COUNT, number + 1]]),))
+                    self.assertEqual((anna.state(), anna.scan("count")), 2 * ((number + 1, [(COUNT, number + 1)]),))
             with SharedRun(self.target) as late:
-                self.assertEqual([it.state() for it in (one, other, late)], 3 * [(20, [[COUNT, 20]])])
+                self.assertEqual([it.state() for it in (one, other, late)], 3 * [(20, [(COUNT, 20)])])
         self.assert_is_run(20)
         agents = [json.loads(line)["agent"] for line in self.whole().splitlines() if b'"call"' in line]
         self.assertEqual(agents, 10 * [0, 1])
@@ -99,9 +99,9 @@ class Plays(Shared):
                 other.play(lambda step: step.push([["put", ["s"], 3]]))
                 with self.assertRaises(Clash) as caught:
                     step.fire()
-                self.assertEqual(caught.exception.at, ["s"])
+                self.assertEqual(caught.exception.at, ("s",))
             number = run.state()[0]
-            agent.play(lambda step: step.push(Move().put(AT, 1)))
+            agent.play(lambda step: step.push(Move().put(COUNT, 1)))
             self.assertEqual(run.state()[0], number + 1)
 
     def test_partial_updates_of_two_agents_are_both_fired(self):
@@ -109,9 +109,9 @@ class Plays(Shared):
             with agent.step() as one, other.step() as two:
                 one.push([["inc", COUNT, 2]])
                 two.push([["inc", COUNT, 3]])
-                self.assertEqual((one.offer(), one.number), ({"fire": [["inc", COUNT, 2]], "reads": []}, 0))
+                self.assertEqual((one.offer(), one.number), ({"fire": (("inc", COUNT, 2),), "reads": ()}, 0))
                 self.assertEqual((one.fire(), two.fire()), (1, 2))
-            self.assertEqual(run.state(), (2, [[COUNT, 5]]))
+            self.assertEqual(run.state(), (2, [(COUNT, 5)]))
 
     def test_a_step_of_a_segment_that_has_ended(self):
         with SharedRun(self.target, INIT, 3) as run, run.agent(0) as slow, run.agent(1) as quick:
@@ -262,7 +262,7 @@ class Plays(Shared):
             self.assertFalse(any(life.is_alive() for life in lives))
             self.assertEqual(one.state(), other.state())
         for _, values in states(one):
-            accounts = [money for at, money in values.items() if at.startswith('["account"')]
+            accounts = [money for at, money in values.items() if at[0] == "account"]
             self.assertEqual(sum(accounts), bank.CUSTOMERS * bank.OPENING)
 
     def test_an_engine_in_two_processes(self):
@@ -280,7 +280,7 @@ with SharedRun(sys.argv[1], bank.INIT, 50) as run:
         self.assertEqual([(child.communicate(timeout=120)[1], child.returncode) for child in children], [(b"", 0)] * 2)
         self.assertEqual(audit(self.target).moves, bank.CUSTOMERS * bank.TIMES)
         for _, values in states(_Target(self.target)):
-            accounts = [money for at, money in values.items() if at.startswith('["account"')]
+            accounts = [money for at, money in values.items() if at[0] == "account"]
             self.assertEqual(sum(accounts), bank.CUSTOMERS * bank.OPENING)
 
     def test_a_fork_is_refused_and_harms_nothing(self):
@@ -336,8 +336,8 @@ with SharedRun(sys.argv[1], bank.INIT, 50) as run:
         """Each answered move is in the run once, with its number, and each state has the sum."""
         marks = []
         for _, values in states(_Target(self.target)):
-            self.assertEqual(sum(values[f'["account",{own}]'] for own in range(ACCOUNTS)), ACCOUNTS * MONEY)
-            marks.append(values.get('["mark"]'))
+            self.assertEqual(sum(values["account", own] for own in range(ACCOUNTS)), ACCOUNTS * MONEY)
+            marks.append(values.get(("mark",)))
         self.assertEqual(len(set(marks)), len(marks))
         self.assertEqual({number: marks[number] for number, _ in told}, dict(told))
         self.assertEqual(audit(self.target).moves, len(marks) - 1)

@@ -7,6 +7,7 @@ import unittest
 from unittest import mock
 
 import folugben
+import own
 from folugben import Agent, BadJournal, Busy, Clash, Error, Full, Missing, Stale, Storage, check, replay
 from folugben import _library
 from threads import in_threads
@@ -37,7 +38,7 @@ class Agents(unittest.TestCase):
     def test_a_read_and_a_fire(self):
         agent = self.storage.agent(0)
         self.assertEqual(agent.read(COUNT), (0, [0]))
-        self.assertEqual(agent.fire([["put", ["count"], 1]], [[["count"], 0]]), 1)
+        self.assertEqual(agent.fire([["put", ["count"], 1]], [(("count",), 0)]), 1)
         self.assertEqual(agent.answer(), {"fired": 1})
         self.assertEqual((agent.seen, agent.won), (1, 1))
 
@@ -45,8 +46,8 @@ class Agents(unittest.TestCase):
         first, second = self.storage.agent(0), self.storage.agent(1)
         first.fire([["put", ["count"], 1]])
         with self.assertRaises(Stale) as caught:
-            second.fire([["put", ["count"], 9]], [[["count"], 0]])
-        self.assertEqual(caught.exception.at, ["count"])
+            second.fire([["put", ["count"], 9]], [(("count",), 0)])
+        self.assertEqual(caught.exception.at, ("count",))
         self.assertEqual(str(caught.exception), folugben.error_text(folugben.STALE) + ': ["count"]')
         self.assertEqual(second.read(COUNT), (1, [1]))
 
@@ -54,7 +55,7 @@ class Agents(unittest.TestCase):
         with self.assertRaises(Clash) as caught:
             self.storage.agent(0).fire([["put", ["x"], 1], ["put", ["x"], 2]])
         for clash in (caught.exception, pickle.loads(pickle.dumps(caught.exception))):
-            self.assertEqual((clash.at, clash.cause), (["x"], "Two"))
+            self.assertEqual((clash.at, clash.cause), (("x",), "Two"))
             self.assertEqual(str(clash), folugben.error_text(folugben.CLASH) + ': ["x"], Two')
 
     def test_a_full_storage(self):
@@ -75,12 +76,12 @@ class Agents(unittest.TestCase):
         first.give()
         journal = self.storage.close_journal()
         self.assertEqual(check(journal), (2, 1))
-        self.assertEqual(replay(journal), [[["count"], 0]])
+        self.assertEqual(replay(journal), [(("count",), 0)])
 
     def test_a_with_gives_the_agent_back(self):
         with self.storage.agent(3) as agent:
             agent.fire([["put", ["count"], "ü"]])
-        self.assertEqual(replay(self.storage.close_journal()), [[["count"], "ü"]])
+        self.assertEqual(replay(self.storage.close_journal()), [(("count",), "ü")])
 
     def test_a_with_that_an_exception_ends_gives_the_agent_back(self):
         reader = self.storage.agent(1)
@@ -149,7 +150,7 @@ class Agents(unittest.TestCase):
         self.assertEqual(agent.read(COUNT), (1, ["x" * 5000]))
         self.assertEqual(agent.read([["y"]]), (1, [None]))
         agent.give()
-        self.assertEqual(replay(self.storage.close_journal()), [[["count"], "x" * 5000]])
+        self.assertEqual(replay(self.storage.close_journal()), [(("count",), "x" * 5000)])
 
     def test_threads_that_make_and_give_agents_of_one_storage(self):
         # A large state makes the calls that close long, so that others begin meanwhile.
@@ -168,7 +169,7 @@ class Agents(unittest.TestCase):
             self.assertEqual(in_threads(work, 8), ([], True))
             journal = storage.close_journal()
         self.assertEqual(check(journal)[1], 240)
-        self.assertEqual(replay(journal), [[["count"], 240]] + state[1:])
+        self.assertEqual(replay(journal), [(("count",), 240)] + own.pairs(state[1:]))
 
     def test_agents_that_learn_of_each_other_at_once(self):
         agents = [self.storage.agent(0), self.storage.agent(1)]
@@ -238,7 +239,7 @@ class Agents(unittest.TestCase):
         shape = "JSON of another shape: "
         for said, call, *arguments in [
             (shape + "pair 1: a pair is an array of a location and its value", Storage, [1]),
-            (shape + "init[0][1] is nan, and a number is whole", Storage, [[["x"], float("nan")]]),
+            (shape + "init[0][1] is nan, which is no whole number: pass int(..) of it, or str(..)", Storage, [[["x"], float("nan")]]),
             (shape + "location 2: a location can't hold a bag", agent.read, [["x"], ["y", {"bag": []}]]),
             (shape + "instruction 3: a set can't hold a set", agent.fire, nested),
             (shape + "4,097 instructions, at most 4,096", agent.fire, [["put", ["x"], 1]] * 4097),

@@ -12,6 +12,7 @@ import unittest
 from unittest import mock
 
 import folugben
+import own
 from folugben import APART, CUT, EMPTY, ILLEGAL, LARGE, NONE, NOT_JSON, SHAPE, VERSION
 from folugben import Auditor, BadJournal, Clash, Counts, Error, Stale, Storage, audit, check, part, replay
 from folugben import __main__ as main
@@ -138,7 +139,7 @@ class Audits(unittest.TestCase):
         for number, journal in enumerate(self.journals, 1):
             header, *events = journal.splitlines(keepends=True)
             self.assertEqual(auditor.feed(header), (*total[:2], number - 1))
-            self.assertEqual(auditor.state(), json.loads(header)["init"])
+            self.assertEqual(auditor.state(), own.pairs(json.loads(header)["init"]))
             with self.assertRaises(BadJournal) as caught:
                 auditor.end()
             self.assertEqual((caught.exception.code, caught.exception.part), (CUT, number - 1))

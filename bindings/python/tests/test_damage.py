@@ -115,7 +115,7 @@ class Folders(Rooms):
         for number in (-1, 5):
             self.assertRaises(IndexError, part, self.path, number)
         self.assertEqual([(number, dict(values)) for number, values in states(self.path)],
-                         [(number, {'["count"]': number}) for number in range(15)])
+                         [(number, {("count",): number}) for number in range(15)])
 
 
 class AtWork(Rooms):

@@ -3,6 +3,7 @@ import json
 import unittest
 
 import folugben
+import own
 from folugben import Error, Many, Stale, Storage, check, replay
 from threads import in_threads
 
@@ -22,14 +23,14 @@ class Looks(unittest.TestCase):
         return caught.exception.code
 
     def test_the_whole_state_and_one_name(self):
-        ascending = [[["count"], 0], [["f", True], {"set": [True, 1]}], [["f", 1], "one"], [["g"], "ü"]]
+        ascending = [(("count",), 0), (("f", True), {"set": [True, 1]}), (("f", 1), "one"), (("g",), "ü")]
         number, pairs = self.agent.state()
         self.assertEqual((number, repr(pairs)), (0, repr(ascending)))
         self.assertEqual(repr(self.agent.scan("f")), repr((0, ascending[1:3])))
         self.rival.fire([["put", ["f", 1], None], ["put", ["f", 2], 2**63 - 1]])
         self.assertEqual(self.agent.follow(), 1)
-        self.assertEqual(repr(self.agent.scan("f")), repr((1, [ascending[1], [["f", 2], 2**63 - 1]])))
-        self.assertEqual(self.agent.state(), (1, [ascending[0], ascending[1], [["f", 2], 2**63 - 1], ascending[3]]))
+        self.assertEqual(repr(self.agent.scan("f")), repr((1, [ascending[1], (("f", 2), 2**63 - 1)])))
+        self.assertEqual(self.agent.state(), (1, [ascending[0], ascending[1], (("f", 2), 2**63 - 1), ascending[3]]))
 
     def test_a_fire_rests_on_the_whole_functions_of_its_scans(self):
         number, found = self.agent.scan("f")
@@ -38,7 +39,7 @@ class Looks(unittest.TestCase):
         self.rival.fire([["put", ["f", 7], 1]])
         with self.assertRaises(Stale) as caught:
             self.agent.fire([["put", ["count"], 9]], [[["g"], 0]], [["g", 0], ["f", number]])
-        self.assertEqual(caught.exception.at, ["f", 7])
+        self.assertEqual(caught.exception.at, ("f", 7))
         self.assertEqual(self.agent.peek(COUNT), (2, [2]))
         number, found = self.agent.scan("f")
         self.assertEqual((number, len(found)), (2, 3))
@@ -95,7 +96,7 @@ class Looks(unittest.TestCase):
         self.rival.fire([["put", ["h", k], long] for k in range(20)])
         self.assertEqual(self.agent.follow(), 1)
         self.assertEqual(self.agent.peek([["h", 3]]), (1, [long]))
-        self.assertEqual(self.agent.scan("h"), (1, [[["h", k], long] for k in range(20)]))
+        self.assertEqual(self.agent.scan("h"), (1, [(("h", k), long) for k in range(20)]))
         self.assertEqual(len(self.agent.state()[1]), 24)
         self.assertEqual(self.agent.peek(COUNT * 1000), (1, [0] * 1000))
 
@@ -104,7 +105,7 @@ class Looks(unittest.TestCase):
         for said, call, *arguments in [
             (shape + "location 2: a location can't hold a bag", self.agent.peek, [["x"], ["y", {"bag": []}]]),
             (shape + "read 2: a read is an array of a location and a number", self.agent.stands, [[["x"], 0], ["x"]]),
-            (shape + "reads[0][1] is nan, and a number is whole", self.agent.stands, [[["x"], float("nan")]]),
+            (shape + "reads[0][1] is nan, which is no whole number: pass int(..) of it, or str(..)", self.agent.stands, [[["x"], float("nan")]]),
         ]:
             with self.subTest(said), self.assertRaises(Error) as caught:
                 call(*arguments)
@@ -142,7 +143,7 @@ class Next(unittest.TestCase):
             later = second.close_journal()
         self.assertEqual((check(journal), check(later)), ((3, 2), (5, 3)))
         header = json.loads(later.splitlines()[0])
-        self.assertEqual(repr(header["init"]), repr(replay(journal)))
+        self.assertEqual(repr(own.pairs(header["init"])), repr(replay(journal)))
         self.assertEqual(header["capacity"], 3)
 
     def test_a_number_of_the_storage_before_is_none_of_the_next_one(self):

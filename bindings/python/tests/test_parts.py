@@ -31,12 +31,12 @@ class Parts(Rooms):
         calls, moves, parts = audit(self.path)
         self.assertEqual((moves, parts, run.saved, run.parts), (1200, 25, 1200, 25))
         self.assertGreaterEqual(calls, moves)
-        self.assertEqual(self.last_state(), [[COUNT, 1200]])
+        self.assertEqual(self.last_state(), [(COUNT, 1200)])
         journals = self.journals()
         self.assertEqual(check(journals[0]), (0, 0))
         self.assertEqual([check(journal)[1] for journal in journals[1:]], [50] * 24)
         self.assertEqual([next(states(journal))[1] for journal in journals],
-                         [{'["count"]': 0}, *({'["count"]': 50 * number} for number in range(24))])
+                         [{("count",): 0}, *({("count",): 50 * number} for number in range(24))])
 
     def test_a_part_of_one_move(self):
         with Run(self.path, INIT, 1) as run, run.agent(7) as agent:
@@ -102,23 +102,23 @@ class Parts(Rooms):
                 seen, (count,) = agent.read([COUNT])
                 self.assertEqual((seen, count), (number - 1, number - 1))
                 self.assertIsNone(agent.stands([[COUNT, seen]]))
-                self.assertEqual(agent.fire([["put", COUNT, count + 1]], [[COUNT, seen]]), number)
-            for call in (lambda: agent.fire([], [[COUNT, old[0]]]), lambda: agent.stands([[COUNT, 3]])):
+                self.assertEqual(agent.fire([["put", COUNT, count + 1]], [(COUNT, seen)]), number)
+            for call in (lambda: agent.fire([], [(COUNT, old[0])]), lambda: agent.stands([(COUNT, 3)])):
                 with self.assertRaisesRegex(Past, "read again"):
                     call()
             with self.assertRaisesRegex(Error, r'\["count"\] is named at 8, and the agent has seen 7'):
                 agent.follow()
-                agent.fire([], [[COUNT, 8]])
+                agent.fire([], [(COUNT, 8)])
             self.assertEqual(agent.follow(), 7)
             with self.assertRaises(Stale):
-                agent.fire([["put", COUNT, 0]], [[COUNT, 5]])
+                agent.fire([["put", COUNT, 0]], [(COUNT, 5)])
             self.assertEqual(agent.stands([[COUNT, 4]]), COUNT)
             with self.assertRaises(Clash):
                 agent.fire([["put", COUNT, 0], ["put", COUNT, 1]])
             with self.assertRaisesRegex(Error, "read"):
                 agent.fire([], [[COUNT]])
             self.assertEqual((agent.peek([COUNT]), agent.peek(AT)), ((7, [7]), (7, 7)))
-            self.assertEqual((agent.state(), agent.scan("count")), ((7, [[COUNT, 7]]), (7, [[COUNT, 7]])))
+            self.assertEqual((agent.state(), agent.scan("count")), ((7, [(COUNT, 7)]), (7, [(COUNT, 7)])))
             with self.assertRaises(Stale):
                 agent.fire([["put", COUNT, 0]], scans=[("count", 5)])
             with self.assertRaisesRegex(Past, 'scan 1 names "count" at 0'):
@@ -130,7 +130,7 @@ class Parts(Rooms):
             other.fire([["put", ["else"], 1]])
             self.assertEqual((seen, agent.follow()), (7, 8))
             self.assertEqual(agent.read([COUNT]), (8, [7]))
-            self.assertEqual(agent.fire([["put", COUNT, 9]], [[COUNT, 8]]), 9)
+            self.assertEqual(agent.fire([["put", COUNT, 9]], [(COUNT, 8)]), 9)
             # A fire that names nothing goes on by itself.
             self.assertEqual([agent.fire([["inc", COUNT, 1]]) for _ in range(10)], list(range(10, 20)))
         self.assertEqual(audit(self.path).moves, 19)
@@ -190,10 +190,10 @@ class Parts(Rooms):
         with Run(self.path, INIT, 3) as run, run.agent(0) as agent:
             for number in range(1, 11):
                 with agent.step() as step:
-                    step.push(move.clear().inc(AT, 1))
-                    step.extend(move.clear().inc(AT, 1))
+                    step.push(move.clear().inc(COUNT, 1))
+                    step.extend(move.clear().inc(COUNT, 1))
                     self.assertEqual((step.fire(), step.fired), (number, number))
-        self.assertEqual(self.last_state(), [[COUNT, 20]])
+        self.assertEqual(self.last_state(), [(COUNT, 20)])
 
     def test_offers_have_numbers_of_the_run_and_popped_moves_go_on(self):
         with Run(self.path, INIT, 3) as run, run.agent(0) as agent:
@@ -204,9 +204,9 @@ class Parts(Rooms):
                         step.push([["inc", COUNT, 1]])
                         popped = step.pop_move()
                     step.push(popped)
-                    self.assertEqual(step.offer(), {"fire": [["inc", COUNT, 1]], "reads": [[COUNT, step.number]]})
+                    self.assertEqual(step.offer(), {"fire": (("inc", COUNT, 1),), "reads": ((COUNT, step.number),)})
                     self.assertEqual((step.number, step.fire()), (number, number + 1))
-        self.assertEqual(self.last_state(), [[COUNT, 10]])
+        self.assertEqual(self.last_state(), [(COUNT, 10)])
 
     def test_the_writer_limits_how_many_parts_are_in_memory(self):
         chain = None
@@ -301,7 +301,7 @@ class Random(Rooms):
     def fires(self, agent, rng, told):
         number, (count,) = agent.read([COUNT])
         with contextlib.suppress(Retry):
-            told.append(agent.fire([["put", COUNT, count + 1]], [[COUNT, number]]))
+            told.append(agent.fire([["put", COUNT, count + 1]], [(COUNT, number)]))
 
     def holds(self, agent, rng, told):
         with agent.step() as step:
@@ -330,7 +330,7 @@ class Random(Rooms):
                 self.assertEqual(in_threads(work, 5), ([], True))
             numbers = sorted(itertools.chain(*told))
             self.assertEqual(numbers, list(range(1, len(numbers) + 1)))
-            self.assertEqual((audit(self.path).moves, self.last_state()), (len(numbers), [[COUNT, len(numbers)]]))
+            self.assertEqual((audit(self.path).moves, self.last_state()), (len(numbers), [(COUNT, len(numbers))]))
             self.assertTrue(all(it == sorted(it) for it in told))
 
 
@@ -359,7 +359,7 @@ class Receipts(Rooms):
         # A read that looked on to a part that was to end is read again.
         self.assertEqual((calls >= 630, moves), (True, 30))
         self.assertLessEqual(max(check(journal)[0] for journal in self.journals()), 200)
-        self.assertEqual(self.last_state(), [[COUNT, 30]])
+        self.assertEqual(self.last_state(), [(COUNT, 30)])
 
     def test_stale_fires_in_threads_end_parts(self):
         def work(own):
@@ -370,7 +370,7 @@ class Receipts(Rooms):
         with Run(self.path, INIT, 10_000, receipts=150) as run:
             self.assertEqual(in_threads(work, 4), ([], True))
         calls, moves, parts = audit(self.path)
-        self.assertEqual((moves, self.last_state()), (800, [[COUNT, 800]]))
+        self.assertEqual((moves, self.last_state()), (800, [(COUNT, 800)]))
         self.assertGreaterEqual(parts, 4)
 
     def test_a_step_that_lasts_is_given_back(self):
@@ -410,7 +410,7 @@ class Receipts(Rooms):
             tries = []
             self.assertEqual(slow.play(lasts), (280, None))
             self.assertEqual(tries, [199, 239, 279])
-        self.assertEqual(self.last_state(), [[COUNT, 280]])
+        self.assertEqual(self.last_state(), [(COUNT, 280)])
 
     def test_an_agent_that_was_abandoned_is_told_at_rest_too(self):
         with contextlib.suppress(Broken), Run(self.path, INIT, 10_000, receipts=64) as run, run.agent(0) as agent:

@@ -5,8 +5,12 @@ import pickle
 import random
 import unittest
 from collections import Counter
+from collections.abc import Hashable
+from decimal import Decimal
+from enum import Enum
 
 import folugben
+import own
 from folugben import Clash, Deep, Error, Full, Location, Many, Move, Moved, Over, Stale, Storage, check
 from threads import in_threads
 
@@ -45,10 +49,10 @@ class Plain(unittest.TestCase):
         with self.agent.step() as step:
             for k, value in enumerate(VALUES):
                 with Location(["v", k]) as at:
-                    self.assertEqual((at.place, repr(at)), (["v", k], f"Location(['v', {k}])"))
+                    self.assertEqual((at.place, repr(at)), (("v", k), f"Location(('v', {k}))"))
                     (wanted,) = step.get([["v", k]])
                     for told in (step.get(at), self.agent.peek(at)[1], wanted):
-                        self.assertEqual(repr(told), repr(value))
+                        self.assertEqual(repr(told), repr(own.value(value)))
                     self.assertEqual(self.agent.peek(at)[0], 1)
             self.assertIsNone(step.get(Location(["none", {"list": ["ä"]}])))
 
@@ -109,14 +113,80 @@ class Plain(unittest.TestCase):
     def test_sets_and_counters_of_python_are_put(self):
         at, move = Location(["v", 0]), Move()
         for value, told in [
-            ({2, 1}, {"set": [1, 2]}), (frozenset({"a", None}), {"set": [None, "a"]}), (set(), {"set": []}),
-            (Counter("abba"), {"bag": [["a", 2], ["b", 2]]}), (Counter(), {"bag": []}), ({"list": (1, {"list": []})},
-             {"list": [1, {"list": []}]}),
+            ({2, 1}, {1, 2}), (frozenset({"a", None}), {"a", None}), (set(), set()), ({True}, {True}), ({(1, ("a",))}, {(1, ("a",))}),
+            (Counter("abba"), Counter("abba")), (Counter(), Counter()), ({"list": (1, {"list": []})}, (1, ())), ((), ()),
+            ({"set": [1, True]}, {"set": [True, 1]}), ({"bag": [[1, 2], [True, 1]]}, {"bag": [(True, 1), (1, 2)]}),
         ]:
             with self.agent.step() as step:
                 step.push(move.clear().put(at, value))
-                self.assertEqual(repr(step.get(at)), repr(told))
+                self.assertEqual((step.get(at), type(step.get(at)).__name__), (told, type(told).__name__.replace("set", "frozenset")))
+                self.assertIsInstance(step.get(at), Hashable if isinstance(value, (set, tuple)) else object)
+                step.push(Move().put(["v", 1], step.get(at)).put(("v", 2), value))
+                self.assertEqual(step["v", 1], step["v", 2])
                 step.pop()
+                step.pop()
+
+    def test_a_step_reads_and_writes_single_locations(self):
+        init = {"count": 1, ("s", 1): {1}, ("b", "x"): Counter("a"), "l": (1, (2,))}
+        with Storage(init, 9) as storage, storage.agent(0) as agent:
+            with agent.step() as step:
+                for key in init:
+                    self.assertEqual(step[key], init[key])
+                    self.assertEqual(step[Location(key)], init[key])
+                self.assertIsNone(step["none"])
+                step.inc("count", 2)
+                step.inc(["count"], step["count"])
+                step.add(("s", 1), (1, True))
+                step.remove(Location(("s", 1)), 1)
+                step.bag_add(("b", "x"), "c", 3)
+                step.bag_add(("b", "x"), None)
+                step.bag_remove(("b", "x"), "a")
+                step.put("l", None)
+                self.assertEqual((step.depth, step["count"], step["s", 1]), (1, 6, {(1, True)}))
+                self.assertEqual((step["b", "x"], step["l"]), (Counter(["c", "c", "c", None]), None))
+                with self.assertRaises(Clash) as caught:
+                    step.add("count", 1)
+                self.assertEqual((caught.exception.at, caught.exception.cause), (("count",), "Kind"))
+                self.assertEqual(self.code_of(step.put, "1", 1)[0], folugben.SHAPE)
+                self.assertEqual(self.code_of(step.inc, "count", "1")[0], folugben.RANGE)
+                self.assertEqual(self.code_of(lambda: step[()])[0], folugben.SHAPE)
+                self.assertEqual(self.code_of(step.bag_add, "b", 1, 0)[0], folugben.RANGE)
+                self.assertRaises(TypeError, step.put, "x")
+                self.assertRaises(TypeError, step.put, "x", [1])
+                self.assertEqual((step.fire(), step.depth), (1, 0))
+                self.assertRaises(Over, step.put, "x", 1)
+                self.assertRaises(Over, lambda: step["x"])
+            told = dict(agent.state()[1]) if agent.follow() else {}
+            self.assertEqual(told, {("count",): 6, ("s", 1): {(1, True)}, ("b", "x"): Counter(["c", "c", "c", None])})
+            with agent.step() as step:
+                self.assertEqual(step["count"], 6)
+                step.put("count", 7)
+                agent.fire([("put", "count", 8)])
+                self.assertRaises(Stale, step.fire)
+
+    def test_what_is_no_value_has_a_way_round(self):
+        class Number:
+            dtype = None
+
+            def item(self):
+                return 1
+
+            def __index__(self):
+                return 1
+
+        with self.agent.step() as step:
+            for value, way in [(Enum("Kind", "A").A, "pass its .value or its .name"), (Decimal(1), "pass int"), ([1], "a tuple"),
+                               (Number(), r"pass \.item\(\)"), (b"a", "decode"), (object(), "values are None")]:
+                for call in (lambda: step.put("x", value), lambda: step.push([("put", "x", (1, value))])):
+                    with self.subTest(way), self.assertRaisesRegex((TypeError, Error), way if value != [1] else "a tuple|a list is written"):
+                        call()
+            self.assertEqual(step.depth, 0)
+
+    def test_locations_that_are_one_in_python(self):
+        with Storage([[["f", True], 1], [["f", 1], 2]], 2) as storage:
+            journal = storage.close_journal()
+        with self.assertRaisesRegex(ValueError, r'\["f",true\] and \["f",1\] are two locations, and one key'):
+            list(folugben.states(journal))
 
     def test_a_popped_move_is_pushed_as_it_was(self):
         count, total = Location(["count"]), Location(["total"])
@@ -129,7 +199,7 @@ class Plain(unittest.TestCase):
             self.assertEqual((len(popped), repr(popped)), (1, "<Move, popped, and 0 instructions more>"))
             # More is gathered behind it, and it is pushed any number of times.
             step.push(popped)
-            self.assertEqual((step.depth, step.get(count), step.get(total)), (2, 6, {"set": [1, 2]}))
+            self.assertEqual((step.depth, step.get(count), step.get(total)), (2, 6, {1, 2}))
             step.extend(popped.inc(count, 10))
             self.assertEqual((len(popped), step.get(count)), (2, 21))
             again = step.pop_move()
@@ -153,9 +223,9 @@ class Plain(unittest.TestCase):
             for half in (0, 1):
                 (step.extend if half else step.push)([["add", ["s"], k] for k in range(3000 * half, 3000 * half + 3000)])
             self.assertRaises(Many, step.pop_move)
-            self.assertEqual((step.depth, len(step.get(at)["set"])), (3, 6000))
+            self.assertEqual((step.depth, len(step.get(at))), (3, 6000))
             step.pop()
-            self.assertEqual((step.get(at), step.fire()), ({"set": []}, 1))
+            self.assertEqual((step.get(at), step.fire()), (set(), 1))
 
     def test_limits(self):
         at = Location(["count"])
@@ -181,7 +251,7 @@ class Plain(unittest.TestCase):
     def test_operands_that_are_none(self):
         at, move = Location(["count"]), Move()
         move.put(at, 1)
-        for value in (1.5, [], {}, {"lists": []}, b"", object()):
+        for value in (Decimal(1), Enum("Kind", "A").A, [], {}, {"lists": []}, b"", object()):
             for call in (move.put, move.add, move.remove, move.inc):
                 self.assertRaises(TypeError, call, at, value)
             self.assertRaises(TypeError, move.bagadd, at, value, 1)
@@ -208,8 +278,9 @@ class Plain(unittest.TestCase):
         self.assertRaises(TypeError, move.bagadd, at, 1, "1")
         for value in (True, None, "1"):
             self.assertEqual(self.code_of(move.inc, at, value)[0], folugben.RANGE)
-        self.assertRaises(TypeError, move.put, ["count"], 1)
-        self.assertEqual(len(move), 1)
+        self.assertEqual(len(move.put(["count"], 1).inc("count", 1)), 3)
+        for words in ((), (at,), (at, 1, 2)):
+            self.assertRaises(TypeError, move.put, *words)
 
     def test_a_text_that_is_no_location_says_why(self):
         code, said = self.code_of(Location, 7)
@@ -253,7 +324,7 @@ class Plain(unittest.TestCase):
         with self.agent.step() as step:
             step.get(count)
             self.rival.fire([["put", ["count"], 5]])
-            self.assertEqual((step.try_fire(), self.agent.answer()), (0, {"stale": ["count"]}))
+            self.assertEqual((step.try_fire(), self.agent.answer()), (0, {"stale": ("count",)}))
             self.assertRaises(Stale, step.fire)
         move.inc(count, 1)
         while (fired := self.increased(move)) < 50:

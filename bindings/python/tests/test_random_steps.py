@@ -4,7 +4,9 @@ import random
 import unittest
 from collections import Counter
 
+import own
 import random_moves
+from folugben._texts import encoded
 from folugben import Busy, Clash, Moved, Stale, Storage, check, replay
 from threads import in_threads
 
@@ -15,7 +17,7 @@ class Twin:
     """What the model tells of a step: the state below, and the moves over it, each with those that extend it."""
 
     def __init__(self, pairs):
-        self.below, self.frames = values.read_state(pairs), []
+        self.below, self.frames = values.read_state(json.loads(encoded(pairs, "state"))), []
 
     def after(self, *further):
         """The pairs that are seen through the moves and further ones."""
@@ -23,7 +25,7 @@ class Twin:
         for move in [*sum(self.frames, []), *further]:
             for at, value in moves.updates_on(state, list(map(moves.read_instruction, move))).items():
                 values.write_to(state, at, value)
-        return values.pairs_json(state)
+        return own.pairs(values.pairs_json(state))
 
     def push(self, move):
         self.frames.append([move])
@@ -55,7 +57,7 @@ class RandomSteps(unittest.TestCase):
         try:
             expected = twin.after(move)
         except moves.Clash as clash:
-            expected = values.location_json(clash.at), clash.cause
+            expected = own.place(values.location_json(clash.at)), clash.cause
         try:
             getattr(step, word)(move)
         except Clash as clash:
@@ -82,7 +84,7 @@ class RandomSteps(unittest.TestCase):
         pairs = twin.after()
         found = {repr(at): value for at, value in pairs}
         places = rng.sample(random_moves.PLACES, rng.randrange(4))
-        self.assertEqual(repr(step.get(places)), repr([found.get(repr(at)) for at in places]))
+        self.assertEqual(repr(step.get(places)), repr([found.get(repr(own.place(at))) for at in places]))
         name = rng.choice(["free", "set", "number", "none"])
         self.assertEqual(repr(step.scan(name)), repr([pair for pair in pairs if pair[0][0] == name]))
 

@@ -56,7 +56,7 @@ class Ends(Rooms):
         with Run(self.path, INIT, 20) as run:
             self.assertEqual(in_threads(work, 5), ([], True))
         self.assertGreaterEqual(audit(self.path).moves, max(last))
-        self.assertEqual(self.last_state(), [[COUNT, audit(self.path).moves]])
+        self.assertEqual(self.last_state(), [(COUNT, audit(self.path).moves)])
 
     def test_what_the_body_raises_closes_the_run(self):
         with self.assertRaises(KeyError), Run(self.path, INIT, 5) as run, run.agent(0) as agent:
@@ -337,7 +337,7 @@ class Signals(Rooms):
             self.assertFalse(thread.is_alive())
             before = agent.follow()
             self.assertEqual(agent.play(raised), (before + 1, None))
-        self.assertEqual(self.last_state(), [[COUNT, before + 1]])
+        self.assertEqual(self.last_state(), [(COUNT, before + 1)])
         self.assertEqual(audit(self.path).moves, before + 1)
 
     def test_no_call_comes_between_two_lines_of_another(self):

@@ -172,13 +172,13 @@ with Run(sys.argv[1], [[["count"], 0]]) as run, ThreadPoolExecutor() as pool:
             with run.agent(0) as agent, run.agent(1) as other:
                 for number in range(1, 10):
                     agent.play(raised)
-                    self.assertEqual(run.state(), (number, [[COUNT, number]]))
+                    self.assertEqual(run.state(), (number, [(COUNT, number)]))
                     other.follow()
-            self.assertEqual(run.state(), (9, [[COUNT, 9]]))
+            self.assertEqual(run.state(), (9, [(COUNT, 9)]))
             agents = [run.agent(own) for own in range(5)]
             for agent in agents:
                 agent.play(raised)
-            self.assertEqual(run.state(), (14, [[COUNT, 14]]))
+            self.assertEqual(run.state(), (14, [(COUNT, 14)]))
         self.assertEqual(audit(self.path)[1], 14)
         with self.assertRaisesRegex(Error, "the run was closed"):
             run.state()

@@ -4,6 +4,7 @@ import json
 import pathlib
 import pickle
 import unittest
+from collections import Counter
 
 import folugben
 from folugben import Clash, Deep, Error, Full, Location, Many, Moved, Over, Stale, Storage, _refusals, check
@@ -47,10 +48,10 @@ class Steps(unittest.TestCase):
             step.push(put(7))
             step.push([["inc", ["count"], 1], ["put", ["f", 3], True]])
             self.assertEqual((step.get(COUNT), step.depth), ([8], 2))
-            self.assertEqual(repr(step.scan("f")), repr([[["f", 1], 1], [["f", 2], 2], [["f", 3], True]]))
+            self.assertEqual(repr(step.scan("f")), repr([(("f", 1), 1), (("f", 2), 2), (("f", 3), True)]))
             step.extend([["inc", ["count"], 1], ["put", ["f", 1], None]])
             self.assertEqual((step.get(COUNT), step.depth), ([9], 2))
-            self.assertEqual(step.scan("f"), [[["f", 2], 2], [["f", 3], True]])
+            self.assertEqual(step.scan("f"), [(("f", 2), 2), (("f", 3), True)])
             self.assertEqual(self.agent.peek(COUNT), (1, [0]))
             self.assertEqual(step.fire(), 2)
             self.assertEqual(self.agent.answer(), {"fired": 2})
@@ -92,8 +93,8 @@ class Steps(unittest.TestCase):
         self.assertEqual(step.get(COUNT), [1])
         with self.assertRaises(Stale) as caught:
             step.fire()
-        self.assertEqual(caught.exception.at, ["count"])
-        self.assertEqual(self.agent.answer(), {"stale": ["count"]})
+        self.assertEqual(caught.exception.at, ("count",))
+        self.assertEqual(self.agent.answer(), {"stale": ("count",)})
         for call, *arguments in [(step.get, COUNT), (step.scan, "f"), (step.push, []), (step.extend, [])]:
             self.assertRaises(Moved, call, *arguments)
         self.assertRaises(Stale, step.fire)
@@ -109,10 +110,10 @@ class Steps(unittest.TestCase):
         with self.agent.step() as step:
             self.assertEqual((step.see(COUNT), step.see(Location(["f", 1])), step.see([])), ([0], 1, []))
             step.push(put(1, "g"))
-            self.assertEqual(step.see([["g"], ["none"], ["bag"]]), [1, None, {"bag": [["e", 1]]}])
+            self.assertEqual(step.see([["g"], ["none"], ["bag"]]), [1, None, Counter("e")])
             self.assertEqual(step.see([["x", k] for k in range(300)]), [None] * 300)
             self.rival.fire(put(5) + put(7, "f", 1))
-            self.assertEqual((step.see(COUNT), step.offer()["reads"]), ([0], []))
+            self.assertEqual((step.see(COUNT), step.offer()["reads"]), ([0], ()))
             self.assertEqual(step.fire(), 2)
         with self.agent.step() as step:
             step.see(COUNT)
@@ -126,7 +127,7 @@ class Steps(unittest.TestCase):
 
     def test_an_offer_tells_what_would_be_fired(self):
         with self.agent.step() as step:
-            self.assertEqual(step.offer(), {"fire": [], "reads": []})
+            self.assertEqual(step.offer(), {"fire": (), "reads": ()})
             step.get([["f", 2]])
             step.push([["inc", ["count"], 1], ["put", ["g"], "a"]])
             step.push([["inc", ["count"], 2]])
@@ -135,9 +136,9 @@ class Steps(unittest.TestCase):
             step.pop()
             step.pop()
             # That both were taken told that there is a number.
-            self.assertEqual(step.offer(), {"fire": [], "reads": [[["count"], 0], [["f", 2], 0]]})
-        self.assertEqual(sorted(map(repr, offer["fire"])), sorted(map(repr, put("a", "g") + [["inc", ["count"], 3]])))
-        self.assertEqual(offer["reads"], [[["count"], 0], [["f", 2], 0]])
+            self.assertEqual(step.offer(), {"fire": (), "reads": ((("count",), 0), (("f", 2), 0))})
+        self.assertEqual(sorted(map(repr, offer["fire"])), sorted(map(repr, [("put", ("g",), "a"), ("inc", ("count",), 3)])))
+        self.assertEqual(offer["reads"], ((("count",), 0), (("f", 2), 0)))
         self.assertEqual(self.agent.fire(offer["fire"], offer["reads"]), 1)
         self.assertRaises(Stale, self.agent.fire, offer["fire"], offer["reads"])
 
@@ -148,9 +149,9 @@ class Steps(unittest.TestCase):
             self.rival.fire(remove)
             with self.assertRaises(Clash) as caught:
                 step.fire()
-            self.assertEqual((caught.exception.at, caught.exception.cause), (["bag"], "Short"))
+            self.assertEqual((caught.exception.at, caught.exception.cause), (("bag",), "Short"))
             self.assertEqual((step.try_fire(), step.depth), (0, 1))
-            self.assertEqual(self.agent.answer(), {"clash": [["bag"], "Short"]})
+            self.assertEqual(self.agent.answer(), {"clash": (("bag",), "Short")})
             self.assertRaises(Moved, step.get, COUNT)
         with self.agent.step() as step:
             self.assertRaises(Clash, step.push, remove)
@@ -191,7 +192,7 @@ class Steps(unittest.TestCase):
                 (shape + "location 2: a location can't hold a bag", step.get, [["x"], ["y", {"bag": []}]]),
                 (shape + "instruction 2: a set can't hold a set", step.push, put(1) + put({"set": [{"set": []}]})),
                 (shape + "4,097 instructions, at most 4,096", step.extend, put(1) * 4097),
-                (shape + "instructions[0][2] is nan, and a number is whole", step.push, put(float("nan"))),
+                (shape + "instructions[0][2] is nan, which is no whole number: pass int(..) of it, or str(..)", step.push, put(float("nan"))),
             ]:
                 with self.subTest(said), self.assertRaises(Error) as caught:
                     call(*arguments)
@@ -204,8 +205,8 @@ class Steps(unittest.TestCase):
         with self.agent.step() as step:
             step.push(put(long) + put(least, "g") + put(True, "h", 1) + put(1, "h", True))
             self.assertEqual(step.get([["count"], ["g"]]), [long, least])
-            self.assertEqual(repr(step.scan("h")), repr([[["h", True], 1], [["h", 1], True]]))
-            self.assertEqual(step.scan("count"), [[["count"], long]])
+            self.assertEqual(repr(step.scan("h")), repr([(("h", True), 1), (("h", 1), True)]))
+            self.assertEqual(step.scan("count"), [(("count",), long)])
             step.fire()
         with self.agent.step() as step:
             step.get([["count"]])
@@ -253,7 +254,7 @@ class Steps(unittest.TestCase):
         # No step of the agent's own storage leads to it, so the library's answer is made up.
         with self.assertRaises(folugben.Large) as caught:
             _refusals.pushed(folugben.LARGE, b"[]", b'{"large":["bag"]}')
-        self.assertEqual(caught.exception.at, ["bag"])
+        self.assertEqual(caught.exception.at, ("bag",))
 
     def test_gets_take_no_memory(self):
         places = [["f", 1], ["f", 2], ["count"], ["bag"], ["x" * 64, "y" * 64]]
