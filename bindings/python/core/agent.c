@@ -323,19 +323,19 @@ static PyMethodDef methods[] = {
     {"play", (PyCFunction)agent_play, METH_O,
         "play($self, rule, /)\n--\n\nBegin a step, play the rule on it and fire it, and begin again where other agents were quicker: where it\n"
         "was stale or busy, or clashed with what was written since. Return the number of the move, and what the rule returned.\n\n"
-        "What the rule raises ends it, and nothing is fired; so does `Full`. Between tries in vain other threads run."},
+        "What the rule raises ends it, and nothing is fired; so does `FullError`. Between tries in vain other threads run."},
     {"give", (PyCFunction)agent_give_back, METH_NOARGS, "give($self, /)\n--\n\nGive it back to its storage."},
     {"free", (PyCFunction)agent_free, METH_NOARGS, "free($self, /)\n--\n\nThe same as `abandon`; it may be called again."},
     {"abandon", (PyCFunction)agent_free, METH_NOARGS,
-        "abandon($self, /)\n--\n\nRelease it without giving it back: its moves hold, and are `Missing` in each journal of its storage."},
+        "abandon($self, /)\n--\n\nRelease it without giving it back: its moves hold, and are `MissingError` in each journal of its storage."},
     {"read", (PyCFunction)agent_read, METH_O,
-        "read($self, places, /)\n--\n\nReturn the number of moves, and the values of the locations after them; at most 256, else `Many`."},
+        "read($self, places, /)\n--\n\nReturn the number of moves, and the values of the locations after them; at most 256, else `ManyError`."},
     {"fire", METHOD(agent_fire), METH_VARARGS | METH_KEYWORDS,
         "fire($self, instructions, reads=(), scans=())\n--\n\nFire a move that depends on these reads, pairs of a location and a number, and on the whole functions of\n"
         "these scans, pairs of a function's name and a number. Return the number of the move.\n\n"
-        "`Stale` where one of the locations, or any location of one of the functions, was written since that number of moves; `Clash`\n"
-        "where the updates clash, `Full` where as many moves were fired as the capacity, `Busy` where 64 offers were lost to other\n"
-        "agents, `Many` for more than 256 reads and scans. A number that the agent hasn't seen is an `Error` with the code RANGE."},
+        "`StaleError` where one of the locations, or any location of one of the functions, was written since that number of moves; `ClashError`\n"
+        "where the updates clash, `FullError` where as many moves were fired as the capacity, `BusyError` where 64 offers were lost to other\n"
+        "agents, `ManyError` for more than 256 reads and scans. A number that the agent hasn't seen is an `Error` with the code RANGE."},
     {"answer", (PyCFunction)agent_answer, METH_NOARGS, "answer($self, /)\n--\n\nReturn the answer to the last answered call."},
     {"learn", (PyCFunction)agent_learn, METH_O,
         "learn($self, other, /)\n--\n\nTake in what another agent of the storage has seen."},

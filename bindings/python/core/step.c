@@ -346,16 +346,28 @@ int64_t step_fires(Step *self, int is_try)
     return is_vain ? 0 : -1;
 }
 
-static PyObject *step_fire(Step *self, PyObject *Py_UNUSED(none))
+static PyObject *step_commit(Step *self, PyObject *Py_UNUSED(none))
 {
     int64_t number = step_fires(self, 0);
     return number < 0 ? NULL : PyLong_FromLongLong(number);
 }
 
-static PyObject *step_try_fire(Step *self, PyObject *Py_UNUSED(none))
+static PyObject *step_try_commit(Step *self, PyObject *Py_UNUSED(none))
 {
     int64_t number = step_fires(self, 1);
     return number < 0 ? NULL : PyLong_FromLongLong(number);
+}
+
+static PyObject *step_fire(PyObject *self, PyObject *Py_UNUSED(none))
+{
+    int failed = PyErr_WarnEx(PyExc_DeprecationWarning, "Step.fire is deprecated: it is Step.commit", 1);
+    return failed ? NULL : PyObject_CallMethod(self, "commit", NULL);
+}
+
+static PyObject *step_try_fire(PyObject *self, PyObject *Py_UNUSED(none))
+{
+    int failed = PyErr_WarnEx(PyExc_DeprecationWarning, "Step.try_fire is deprecated: it is Step.try_commit", 1);
+    return failed ? NULL : PyObject_CallMethod(self, "try_commit", NULL);
 }
 
 static PyObject *step_free(Step *self, PyObject *Py_UNUSED(none))
@@ -430,31 +442,33 @@ static PyMethodDef methods[] = {
     {"get", (PyCFunction)step_get, METH_O,
         "get($self, places, /)\n--\n\nReturn the values of the locations, as they are seen through the pushed moves; of a `Location` its value.\n\n"
         "A location is got where its value is made from that of the state below, and the fire names it. At most 256 are got and\n"
-        "functions scanned, else `Many`. What a pushed move put there depends on nothing."},
+        "functions scanned, else `ManyError`. What a pushed move put there depends on nothing."},
     {"see", (PyCFunction)step_see, METH_O,
         "see($self, places, /)\n--\n\nReturn what `get` returns, but the step doesn't depend on it: for what is shown, of any number of locations."},
     {"scan", (PyCFunction)step_scan, METH_O,
         "scan($self, name, /)\n--\n\nReturn each location with this function name and its value, as a list of pairs, ascending.\n\n"
-        "The step then depends on the whole function: a write to any location of it makes the fire `Stale`."},
+        "The step then depends on the whole function: a write to any location of it makes the fire `StaleError`."},
     {"push", (PyCFunction)step_push, METH_O,
         "push($self, instructions, /)\n--\n\nPush a move, which is fired with the others.\n\n"
-        "`Clash`, with the location and the cause, where its updates clash on what is seen; `Many` for more than 4,096 instructions\n"
-        "in all; `Deep` where 64 moves are pushed. A push that is refused, or popped, is a dry run."},
+        "`ClashError`, with the location and the cause, where its updates clash on what is seen; `ManyError` for more than 4,096 instructions\n"
+        "in all; `DeepError` where 64 moves are pushed. A push that is refused, or popped, is a dry run."},
     {"extend", (PyCFunction)step_extend, METH_O,
         "extend($self, instructions, /)\n--\n\nThe same, but the move joins the one that was pushed last, and is popped with it."},
     {"pop", (PyCFunction)step_pop, METH_NOARGS,
         "pop($self, /)\n--\n\nTake away the move that was pushed last, with those that extend it. `Error` with the code NONE without one."},
     {"pop_move", (PyCFunction)step_pop_move, METH_NOARGS,
-        "pop_move($self, /)\n--\n\nThe same, and return the one move that does what the popped ones do in turn. `Many` where that has more\n"
+        "pop_move($self, /)\n--\n\nThe same, and return the one move that does what the popped ones do in turn. `ManyError` where that has more\n"
         "than 4,096 instructions; nothing is popped then."},
     {"offer", (PyCFunction)step_offer, METH_NOARGS,
-        "offer($self, /)\n--\n\nReturn what `fire` would offer: {\"fire\": [..], \"reads\": [..]}, which `Agent.fire` takes. Scans aren't in it."},
-    {"fire", (PyCFunction)step_fire, METH_NOARGS,
-        "fire($self, /)\n--\n\nFire one move that does what the pushed moves do in turn. Return its number; the step is over then.\n\n"
-        "`Stale`, `Full` and `Busy` as a fire of the agent; `Many` where more than 256 locations and functions are named; `Clash` where\n"
-        "what is written by now doesn't bear an update: begin the step again, as after `Stale`."},
-    {"try_fire", (PyCFunction)step_try_fire, METH_NOARGS,
-        "try_fire($self, /)\n--\n\nThe same, but return 0 where the step is to be begun again, for `Stale`, `Clash` or `Busy`."},
+        "offer($self, /)\n--\n\nReturn what `commit` would offer: {\"fire\": [..], \"reads\": [..]}, which `Agent.fire` takes. Scans aren't in it."},
+    {"commit", (PyCFunction)step_commit, METH_NOARGS,
+        "commit($self, /)\n--\n\nFire one move that does what the pushed moves do in turn. Return its number; the step is over then.\n\n"
+        "A `ConflictError` where the step is to be begun again: `StaleError`, `BusyError`, or `CommitClashError` where what is written\n"
+        "by now doesn't bear an update. `FullError` as of a fire; `ManyError` where more than 256 locations and functions are named."},
+    {"try_commit", (PyCFunction)step_try_commit, METH_NOARGS,
+        "try_commit($self, /)\n--\n\nThe same, but return 0 where the step is to be begun again."},
+    {"fire", step_fire, METH_NOARGS, NULL},
+    {"try_fire", step_try_fire, METH_NOARGS, NULL},
     {"free", (PyCFunction)step_free, METH_NOARGS, "free($self, /)\n--\n\nRelease it; it may be called again."},
     {"_offer_text", (PyCFunction)step_offer_text, METH_NOARGS, NULL},
     {"_end", (PyCFunction)step_end, METH_O, NULL},
@@ -479,10 +493,10 @@ static PyMemberDef members[] = {
 static PyType_Slot slots[] = {
     {Py_tp_doc, "Step(agent)\n--\n\n"
                 "A step of an agent: what it does between a look and a fire, on the state that `number` moves have led to.\n\n"
-                "`push` puts a move over that state, through which all is seen that is got and pushed later. `fire` fires one move that\n"
+                "`push` puts a move over that state, through which all is seen that is got and pushed later. `commit` fires one move that\n"
                 "does what the pushed ones do in turn, unless something was written since that the step depends on. A refused call leaves\n"
-                "the step unchanged. The step is over once it is fired, and at the end of its `with`; calls then raise `Over`. One that\n"
-                "isn't fired leaves no trace. Where the agent has gone on since, a get, a scan or a push raises `Moved`."},
+                "the step unchanged. The step is over once it is fired, and at the end of its `with`; calls then raise `OverError`. One that\n"
+                "isn't fired leaves no trace. Where the agent has gone on since, a get, a scan or a push raises `MovedError`."},
     {Py_mp_subscript, step_at}, {Py_tp_new, step_new}, {Py_tp_dealloc, step_gone}, {Py_tp_traverse, step_traverse}, {Py_tp_methods, methods},
     {Py_tp_members, members}, {Py_tp_getset, gets}, {Py_tp_repr, step_repr}, {0}};
 PyType_Spec step_spec = {"folugben.Step", sizeof(Step), 0, Py_TPFLAGS_DEFAULT | Py_TPFLAGS_BASETYPE | Py_TPFLAGS_HAVE_GC, slots};

@@ -254,7 +254,7 @@ static PyMethodDef methods[] = {
     {"moves", (PyCFunction)storage_moves, METH_NOARGS, "moves($self, /)\n--\n\nReturn how many moves were fired on it."},
     {"give", (PyCFunction)storage_give, METH_O, "give($self, agent, /)\n--\n\nTake an agent back."},
     {"close_journal", (PyCFunction)storage_close_journal, METH_NOARGS,
-        "close_journal($self, /)\n--\n\nReturn the journal of the agents that were given back, as bytes. `Missing` where one is missing."},
+        "close_journal($self, /)\n--\n\nReturn the journal of the agents that were given back, as bytes. `MissingError` where one is missing."},
     {"next", METHOD(storage_next), METH_VARARGS | METH_KEYWORDS,
         "next($self, capacity=4096, journal=None)\n--\n\nReturn a storage that goes on where this one ended; its agents start anew.\n\n"
         "Its opening state is what the moves of the closed journal leave, and the journals of both, one after the other, tell one run.\n"

@@ -7,7 +7,7 @@ state; what it writes is seen by what comes after that, and is fired as one move
         with storage.agent(0) as agent, agent.step() as step:
             step.put("count", step["count"] + 1)
             step.put("double", 2 * step["count"])
-            step.fire()
+            step.commit()
         journal = storage.close_journal()
 
 A location is a tuple ("name", argument, ..), or the name alone. Values are None, truths, whole numbers and texts; a list is a
@@ -26,7 +26,7 @@ A Location is prepared once, and a Move is gathered, for steps that write and re
     count, move = Location("count"), Move()
     with agent.step() as step:
         step.push(move.clear().put(count, step[count] + 1))
-        step.fire()
+        step.commit()
 
 Any thread may call a Storage, an Agent, a Step, a Location or a Move, and so may signal handlers and finalizers: a call is done
 or not begun. Short calls keep the interpreter's lock. Closes, journals, states, long texts, and an agent that is far behind
@@ -40,43 +40,66 @@ themselves, and its folder has the journals of all of them, which `audit` checks
         agent.play(lambda step: step.inc("count", 1))
     calls, moves, parts = audit("count.run")
 
-The journal tells every move: where an agent that fired was freed and not given back, `close_journal` raises `Missing` for
+The journal tells every move: where an agent that fired was freed and not given back, `close_journal` raises `MissingError` for
 good. A `with` gives its agent back. The error of a refused text says where and why, as `explain` does.
 
 A run's own calls are Python: a signal handler or a finalizer that makes one in the midst of another one of its thread raises
-`Nested`, and nothing is done.
+`NestedError`, and nothing is done.
 
 The storage tells true from 1 and false from 0, but in Python True == 1 and False == 0, and equal keys are one: {True, 1} has one
 item. A set or a bag that has both is read as {"set": [True, 1]} or {"bag": [..]}, and is written so. Likewise ("f", True) and
 ("f", 1) are two locations, and a value that was read as true equals 1; compare by `is True` where both may occur.
 """
+import warnings
+from typing import TYPE_CHECKING
+
+try:
+    from . import _core
+except ImportError as error:
+    raise ImportError(
+        f"folugben has no compiled part here ({error}). Install a wheel, or build it: in a clone ./build_c proves and builds the "
+        "library and compiles the part; bindings/python/build_core ARCHIVE compiles it over a libfolugben.a that is there"
+    ) from error
+
 from ._auditor import Auditor, Counts
 from ._core import Agent, Location, Move, Step, Storage
-from ._errors import BadJournal, Broken, Busy, Clash, Damaged, Deep, Error, Full, Large, Many, Mismatch, Missing, Moved, Over
-from ._errors import Past, Retry, Stale, TooLong, Unknown, error_text, explain
-from ._explore import Differs, Explored, explore
+from ._errors import BadJournalError, BrokenError, BusyError, ClashError, CommitClashError, ConflictError, DamagedError, DeepError
+from ._errors import Error, FullError, LargeError, ManyError, MismatchError, MissingError, MovedError, OverError, PastError
+from ._errors import StaleError, TooLongError, UnknownError, error_text, explain
+from ._explore import DiffersError, Explored, explore
 from ._functions import aggregate, check, compose, replay, trace, version
-from ._held import Forked, Nested
+from ._held import ForkedError, NestedError
 from ._import import import_run
-from ._library import APART, BUSY, CLASH, CUT, DEEP, DONE, EMPTY, EVENT, FULL, ILLEGAL, LARGE, LOCATIONS, MANY, MEMORY, MISSING
-from ._library import MOVE, MOVED, NONE, NOT_JSON, NUMBER, OTHER, RANGE, SCRIPT, SHAPE, SMALL, STALE, STATE, TAKEN, VERSION
+from ._library import Code, TextForm
 from ._reading import audit, part
 from ._run import Run
 from ._run_agent import RunAgent
 from ._runs import states
 from ._shared import SharedAgent, SharedRun
-from ._turns import Endless, interleave
+from ._turns import EndlessError, interleave
 from ._types import Element, Place, Update, Value
 
 __version__ = "0.2.0"
 
 __all__ = [
-    "Agent", "Auditor", "BadJournal", "Broken", "Busy", "Clash", "Counts", "Damaged", "Deep", "Differs", "Element", "Endless",
-    "Error", "Explored", "Forked", "Full", "Large", "Location", "Many", "Mismatch", "Missing", "Move", "Moved", "Nested", "Over", "Past", "Place", "Retry",
-    "Run", "RunAgent", "SharedAgent", "SharedRun", "Stale", "Step", "Storage", "TooLong", "Unknown", "Update", "Value",
-    "aggregate", "audit", "check", "compose", "error_text", "explain", "explore", "import_run", "interleave", "part", "replay", "states",
-    "trace", "version",
-    "EVENT", "LOCATIONS", "MOVE", "SCRIPT", "STATE",
-    "APART", "BUSY", "CLASH", "CUT", "DEEP", "DONE", "EMPTY", "FULL", "ILLEGAL", "LARGE", "MANY", "MEMORY", "MISSING", "MOVED",
-    "NONE", "NOT_JSON", "NUMBER", "OTHER", "RANGE", "SHAPE", "SMALL", "STALE", "TAKEN", "VERSION",
+    "Agent", "Auditor", "BadJournalError", "BrokenError", "BusyError", "ClashError", "Code", "CommitClashError", "ConflictError",
+    "Counts", "DamagedError", "DeepError", "DiffersError", "Element", "EndlessError", "Error", "Explored", "ForkedError", "FullError",
+    "LargeError", "Location", "ManyError", "MismatchError", "MissingError", "Move", "MovedError", "NestedError", "OverError",
+    "PastError", "Place", "Run", "RunAgent", "SharedAgent", "SharedRun", "StaleError", "Step", "Storage", "TextForm", "TooLongError",
+    "UnknownError", "Update", "Value", "aggregate", "audit", "check", "compose", "error_text", "explain", "explore", "import_run",
+    "interleave", "part", "replay", "states", "trace", "version",
 ]
+
+if not TYPE_CHECKING:
+    # Names that were others before; they go with the next version.
+    _BEFORE = {name.removesuffix("Error"): name for name in __all__ if name.endswith("Error") and name != "Error"} | {
+        "Retry": "ConflictError",
+    }
+
+    def __getattr__(name):
+        kind = next((kind for kind in (Code, TextForm) if name in kind.__members__), None)
+        if kind is None and name not in _BEFORE:
+            raise AttributeError(f"module {__name__!r} has no attribute {name!r}")
+        now = _BEFORE.get(name) or f"{kind.__name__}.{name}"
+        warnings.warn(f"folugben.{name} is deprecated: it is folugben.{now}", DeprecationWarning, stacklevel=2)
+        return kind[name] if kind else globals()[now]

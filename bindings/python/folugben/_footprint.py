@@ -4,12 +4,13 @@ from collections.abc import Iterable, Iterator
 from contextlib import contextmanager
 from typing import Any
 
-from ._errors import Clash, Error, Full
+from ._errors import ClashError, Error, FullError
 from ._texts import encoded
 from ._turns import WRITES, Played, Player, Turns
 
 # The calls that look at what other agents did, or write. All others stay within what their agent has looked at.
-_LOOKS = frozenset({"step", "read", "fire", "try_fire", "follow", "stands", "learn"})
+_COMMITS = frozenset({"commit", "try_commit", "fire", "try_fire"})
+_LOOKS = _COMMITS | {"step", "read", "follow", "stands", "learn"}
 
 
 class Footprint:
@@ -62,7 +63,7 @@ def _without_number(name: str, is_step: bool, told: Any) -> Any:
     """What a call has told, but for numbers of moves."""
     if name in ("read", "peek", "state") or name == "scan" and not is_step:
         return told[1]
-    if name in ("fire", "try_fire"):
+    if name in _COMMITS:
         return told > 0
     return told if name in ("get", "see", "scan", "stands", "__getitem__") else None
 
@@ -113,9 +114,9 @@ class Noted(Player):
         try:
             yield
         except Error as error:
-            if isinstance(error, Clash):
+            if isinstance(error, ClashError):
                 self.now.read([error.at])
-            self.now.reads_all |= isinstance(error, Full)
+            self.now.reads_all |= isinstance(error, FullError)
             self._hear([type(error).__name__, getattr(error, "at", None)])
             raise
 
@@ -157,7 +158,7 @@ class Noted(Player):
 
     def _step_call(self, it: Played, name: str, words: tuple[Any, ...], named: dict[str, Any]) -> Any:
         call = getattr(it.own, name)
-        if name in ("fire", "try_fire"):
+        if name in _COMMITS:
             self._step = None
             offer = it.own.offer()
             self.now.read(at for at, _ in offer["reads"])

@@ -7,11 +7,10 @@ import time
 from typing import TYPE_CHECKING, Any, NoReturn
 
 from . import _core
-from ._errors import INSTRUCTIONS, READS, Busy, Error, Missing, Over, ahead, exact, expect, expect_part, expect_read
+from ._errors import INSTRUCTIONS, READS, BusyError, ClashError, CommitClashError, Error, MissingError, OverError, ahead, exact, expect, expect_part, expect_read
 from ._errors import expect_scans, explain, refusal
-from ._held import Forked
-from ._library import BUSY, CLASH, EMPTY, INC, LARGE, LIST, LOCATIONS, MISSING, MOVE, NONE, NOT_JSON, NUMBER, RANGE, SHAPE, STALE
-from ._library import TEXT
+from ._held import ForkedError
+from ._library import Code, INC, LIST, TEXT, TextForm
 from ._texts import not_a_value
 
 if TYPE_CHECKING:
@@ -35,7 +34,7 @@ def back_off(tries: int) -> None:
 
 
 def out_of_range(what: str, value: int, least: int, most: int) -> NoReturn:
-    raise Error(RANGE, said=_RANGES[what].format(value=int.__index__(value), most=most))
+    raise Error(Code.RANGE, said=_RANGES[what].format(value=int.__index__(value), most=most))
 
 
 def number_of(what: str, value: int, least: int, most: int) -> int:
@@ -55,11 +54,11 @@ def capacity_of(capacity: int) -> int:
 
 
 def forked() -> NoReturn:
-    raise Forked("this was made in the parent of this process, and a fork's child has a copy of it alone")
+    raise ForkedError("this was made in the parent of this process, and a fork's child has a copy of it alone")
 
 
 def freed(what: str) -> NoReturn:
-    raise Error(EMPTY, said=f"the {what} was freed")
+    raise Error(Code.EMPTY, said=f"the {what} was freed")
 
 
 def odd(name: str, path: str, value: Any) -> NoReturn:
@@ -81,11 +80,11 @@ def name(it: Any) -> NoReturn:
 def gone(agent: "Agent") -> NoReturn:
     """An agent that isn't held; one of a run may tell why."""
     getattr(agent, "_expect_held", lambda: None)()
-    raise Error(EMPTY, said="the agent was given back")
+    raise Error(Code.EMPTY, said="the agent was given back")
 
 
 def no_such_agent(code: int, own: int) -> NoReturn:
-    raise Error(code, said=f"agent {own}" if code == NUMBER else f"agent {own} was not given back")
+    raise Error(code, said=f"agent {own}" if code == Code.NUMBER else f"agent {own} was not given back")
 
 
 def missing(move: int, agents: bytes, is_abandoned: bool) -> NoReturn:
@@ -95,22 +94,22 @@ def missing(move: int, agents: bytes, is_abandoned: bool) -> NoReturn:
         said = f"agents {', '.join(map(str, at_work))} were not given back"
     elif at_work and not is_abandoned:
         said += f": it fired move {move}"
-    raise Missing(MISSING, (move,), said)
+    raise MissingError(Code.MISSING, (move,), said)
 
 
 def fired_behind(fired: int, closed: int) -> NoReturn:
-    raise Error(NONE, said=f"{fired} moves were fired, and the journal tells {closed}: close it again")
+    raise Error(Code.NONE, said=f"{fired} moves were fired, and the journal tells {closed}: close it again")
 
 
 def not_full(seen: int) -> NoReturn:
-    raise Error(NONE, said=f"the agent's own state stands at {seen} moves, and its storage has room for more")
+    raise Error(Code.NONE, said=f"the agent's own state stands at {seen} moves, and its storage has room for more")
 
 
 def leave(storage: "Storage", path: str, error: BaseException | None) -> None:
     """Writes the journal at the end of a `with`."""
     try:
         pathlib.Path(path).write_bytes(storage.close_journal())
-    except Missing as missing:
+    except MissingError as missing:
         if error is None:
             raise
         error.add_note(f"the journal wasn't written: {missing}")
@@ -121,21 +120,22 @@ def read(code: int, form: int, text: bytes) -> None:
 
 
 def stands(code: int, agent: "Agent", reads: bytes) -> None:
-    if code == RANGE:
+    if code == Code.RANGE:
         raise ahead(json.loads(reads), agent.seen)
     expect_part(code, READS, reads)
 
 
 def fired(code: int, agent: "Agent", told: bytes, from_: int, to: int, call: bytes, scans: bytes) -> None:
-    if code == RANGE:
+    if code == Code.RANGE:
         raise ahead(json.loads(call)["reads"], agent.seen, json.loads(scans))
-    if code == SHAPE and not explain(MOVE, call):
+    if code == Code.SHAPE and not explain(TextForm.MOVE, call):
         expect_scans(code, json.loads(scans))
-    committed(code, told, from_, to) if code in (STALE, CLASH, BUSY) else expect_read(code, MOVE, call)
+    answered(code, told, from_, to, ClashError)
+    expect_read(code, TextForm.MOVE, call)
 
 
 def no_part(code: int) -> None:
-    expect(code, said="no part has begun" if code == NONE else "the audit was freed")
+    expect(code, said="no part has begun" if code == Code.NONE else "the audit was freed")
 
 
 # Of steps, locations and moves.
@@ -144,7 +144,7 @@ def no_part(code: int) -> None:
 def over(code: int, step: "Step") -> NoReturn:
     """A step that is over, or whose agent isn't held; one of a shared run may tell why."""
     if not step._is_full:
-        raise Over(code)
+        raise OverError(code)
     getattr(step, "_expect_held", lambda: None)()
     gone(step._agent)
 
@@ -153,29 +153,33 @@ def step(code: int, it: "Step") -> None:
     expect(code)
 
 
+def answered(code: int, told: bytes, from_: int, to: int, clash: type[ClashError]) -> None:
+    if code in (Code.STALE, Code.CLASH):
+        raise refusal(code, told, clash)
+    if code == Code.BUSY:
+        raise BusyError(code, (from_, to))
+
+
 def committed(code: int, told: bytes, from_: int, to: int) -> None:
-    if code in (STALE, CLASH):
-        raise refusal(code, told)
-    if code == BUSY:
-        raise Busy(code, (from_, to))
+    answered(code, told, from_, to, CommitClashError)
     expect(code)
 
 
 def pushed(code: int, move: bytes, told: bytes) -> None:
-    if code in (CLASH, LARGE):
+    if code in (Code.CLASH, Code.LARGE):
         raise refusal(code, told)
     expect_part(code, INSTRUCTIONS, move)
 
 
 def location(code: int, text: bytes) -> None:
     # Where it isn't JSON, the byte is told, counted from its own beginning.
-    expect(code, said=explain(LOCATIONS, b"[%b]" % text if code == SHAPE else text))
+    expect(code, said=explain(TextForm.LOCATIONS, b"[%b]" % text if code == Code.SHAPE else text))
 
 
 def instructed(code: int, place: bytes, verb: int, kind: int, number: int, text: bytes | None, amount: int) -> None:
-    if kind > TEXT and code in (NOT_JSON, SHAPE):
+    if kind > TEXT and code in (Code.NOT_JSON, Code.SHAPE):
         expect_part(code, INSTRUCTIONS, b'[["%b",%b,%b%b]]' % (_WORDS[verb], place, text or b"", b",%d" % amount if amount else b""))
-    if kind > LIST and code == RANGE and verb != INC:
+    if kind > LIST and code == Code.RANGE and verb != INC:
         raise Error(code, said="a set or a bag can be put, and is no element")
     expect(code)
 

@@ -46,7 +46,7 @@ def states(run: "Text | os.PathLike[str] | Run | SharedRun") -> Iterator[tuple[i
     of the locations that have one, by the location, such as ("count",), in a dict of their own for each state.
 
     Raises:
-        BadJournal: it is no journal.
+        BadJournalError: it is no journal.
         ValueError: Python takes two of the locations for one, as ("f", True) and ("f", 1).
     """
     if isinstance(run, (bytes, bytearray, memoryview, str)):

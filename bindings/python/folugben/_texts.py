@@ -6,7 +6,7 @@ from typing import Any, NoReturn, TypeAlias
 
 from ._core import decoded, encoded, owned
 from ._errors import Error, exact
-from ._library import SHAPE
+from ._library import Code
 
 # A location, an instruction, or a pair, of a location and its value or number, or of a name and a number.
 Form: TypeAlias = Sequence[Any]
@@ -34,4 +34,4 @@ def not_a_value(value: object, path: str) -> NoReturn:
     ) if is_so), "")
     said = f"{path} is {value!r:.60}, which {whole or 'is no value'}: " + (way or "values are None, True, False, whole numbers, "
            "texts, tuples of these, and sets and Counters of all that")
-    raise Error(SHAPE, said=said) if isinstance(value, float) else TypeError(said)
+    raise Error(Code.SHAPE, said=said) if isinstance(value, float) else TypeError(said)

@@ -5,7 +5,7 @@ from collections.abc import Callable, Sequence
 from types import TracebackType
 from typing import Any, Self, TypeVar
 
-from ._errors import Past
+from ._errors import PastError
 
 _A = TypeVar("_A")
 _R = TypeVar("_R")
@@ -13,14 +13,14 @@ _R = TypeVar("_R")
 # The calls of a step that write one location, and all calls of agents and of steps that take a turn.
 WRITES = frozenset({"put", "add", "remove", "bag_add", "bag_remove", "inc"})
 CALLS = WRITES | {
-    "step", "read", "fire", "try_fire", "follow", "stands", "peek", "state", "scan", "learn", "answer", "give", "get", "see",
+    "step", "read", "fire", "try_fire", "commit", "try_commit", "follow", "stands", "peek", "state", "scan", "learn", "answer", "give", "get", "see",
     "push", "extend", "pop", "pop_move", "offer",
 }
 # How long those that play are waited for after Ctrl-C.
 _GRACE = 5.0
 
 
-class Endless(RuntimeError):
+class EndlessError(RuntimeError):
     """A schedule has not ended after as many turns as it may take, as where an agent waits for another one for ever."""
 
 
@@ -113,9 +113,9 @@ class Turns:
         self._taken += 1
         return self._choice(alive) if alive else None
 
-    def _endless(self, alive: list[int]) -> Endless:
+    def _endless(self, alive: list[int]) -> EndlessError:
         who = f"agent {alive[0]} is" if len(alive) == 1 else f"agents {', '.join(map(str, alive))} are"
-        return Endless(f"{who} still at work after {self._most:,} turns: does one wait for another?")
+        return EndlessError(f"{who} still at work after {self._most:,} turns: does one wait for another?")
 
 
 class Player:
@@ -185,10 +185,10 @@ class PlayedAgent(Played):
             try:
                 with step:
                     told = rule(step)
-                    number = step.try_fire()
+                    number = step.try_commit()
                 if number:
                     return number, told
-            except Past:
+            except PastError:
                 if not getattr(step.own, "is_taken", False):
                     raise
 
@@ -268,7 +268,7 @@ def interleave(
     Ctrl-C ends each work at its next call.
 
     Raises:
-        Endless: the works haven't ended after so many turns (`most`).
+        EndlessError: the works haven't ended after so many turns (`most`).
         the first error of a work, by the number of its place, once all have ended.
     """
     if len(agents) != len(works):

@@ -7,7 +7,7 @@ from contextlib import suppress
 from threading import Event
 from typing import Any
 
-from folugben import Agent, Past, Run, SharedRun, Storage
+from folugben import Agent, PastError, Run, SharedRun, Storage
 
 from .rules import Program
 
@@ -16,9 +16,9 @@ def live(storage: Storage | Run | SharedRun, number: int, program: Program, stop
     rule, is_over = program
     with storage.agent(number) as agent:
         while not (stop.is_set() or is_over(agent)):
-            with suppress(Past), agent.step() as step:
+            with suppress(PastError), agent.step() as step:
                 if any(rule.play(step)):
-                    step.try_fire()  # or others were quicker, and the next step sees what they did
+                    step.try_commit()  # or others were quicker, and the next step sees what they did
                 else:
                     time.sleep(0.001)  # nothing to do until others have fired
 

@@ -13,7 +13,7 @@ def play(program: Program, agent: Agent) -> None:
     while not is_over(agent):
         with agent.step() as step:
             if any(rule.play(step)):
-                step.try_fire()
+                step.try_commit()
 
 
 def run_by_turns(init: list[Any], programs: list[Program], seed: int) -> bytes:

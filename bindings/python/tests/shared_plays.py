@@ -10,8 +10,8 @@ import threading
 import time
 from unittest import mock
 
-from folugben import Broken, Clash, Damaged, Error, Forked, Mismatch, Move, Over, Past, SharedRun, Stale, TooLong
-from folugben import Unknown, _lines, audit, check, states
+from folugben import BrokenError, ClashError, DamagedError, Error, ForkedError, MismatchError, Move, OverError, PastError, SharedRun, StaleError, TooLongError
+from folugben import UnknownError, _lines, audit, check, states
 from folugben._reading import save, texts, verify
 from folugben_engine import bank
 from folugben_engine.agents import live_all
@@ -88,17 +88,17 @@ class Plays(Shared):
                         step.push([["put", ["own"], 1]])
                         if is_changed:
                             other.play(lambda step: step.push(change))
-                            self.assertRaises(Stale, step.fire)
-                            self.assertEqual((step.try_fire(), step.fired), (0, 0))
+                            self.assertRaises(StaleError, step.commit)
+                            self.assertEqual((step.try_commit(), step.fired), (0, 0))
                         else:
-                            self.assertEqual(step.fire(), step.fired)
-                            self.assertRaises(Over, step.get, [COUNT])
+                            self.assertEqual(step.commit(), step.fired)
+                            self.assertRaises(OverError, step.get, [COUNT])
             agent.play(lambda step: step.push([["put", ["s"], {"set": []}]]))
             with agent.step() as step:
                 step.push([["add", ["s"], 1]])
                 other.play(lambda step: step.push([["put", ["s"], 3]]))
-                with self.assertRaises(Clash) as caught:
-                    step.fire()
+                with self.assertRaises(ClashError) as caught:
+                    step.commit()
                 self.assertEqual(caught.exception.at, ("s",))
             number = run.state()[0]
             agent.play(lambda step: step.push(Move().put(COUNT, 1)))
@@ -110,7 +110,7 @@ class Plays(Shared):
                 one.push([["inc", COUNT, 2]])
                 two.push([["inc", COUNT, 3]])
                 self.assertEqual((one.offer(), one.number), ({"fire": (("inc", COUNT, 2),), "reads": ()}, 0))
-                self.assertEqual((one.fire(), two.fire()), (1, 2))
+                self.assertEqual((one.commit(), two.commit()), (1, 2))
             self.assertEqual(run.state(), (2, [(COUNT, 5)]))
 
     def test_a_step_of_a_segment_that_has_ended(self):
@@ -120,8 +120,8 @@ class Plays(Shared):
             for _ in range(4):
                 quick.play(raised)
             self.assertEqual((step.get(AT), step.number), (1, 0))
-            self.assertEqual(step.try_fire(), 0)
-            self.assertRaises(Past, step.fire)
+            self.assertEqual(step.try_commit(), 0)
+            self.assertRaises(PastError, step.commit)
             step.free()
             self.assertEqual(slow.play(raised), (5, None))
             self.assertEqual(slow.seen, 5)
@@ -133,7 +133,7 @@ class Plays(Shared):
                 with agent.step() as step:
                     raised(step)
                     other.play(raised)
-                    self.assertEqual(step.try_fire(), 0)
+                    self.assertEqual(step.try_commit(), 0)
         calls, moves, parts = audit(self.target)
         self.assertEqual((moves, parts), (30, 4))
         self.assertTrue(all(check(text)[0] <= 20 for text in texts(self.target)))
@@ -162,30 +162,30 @@ class Plays(Shared):
         self.assertRaises(FileNotFoundError, SharedRun, self.target)
         SharedRun(self.target, INIT, 7).close()
         SharedRun(self.target, INIT, 100).close()
-        self.assertRaises(Mismatch, SharedRun, self.target, BANK)
+        self.assertRaises(MismatchError, SharedRun, self.target, BANK)
         with SharedRun(self.target) as run, run.agent(0) as agent:
             for _ in range(10):
                 agent.play(raised)
         self.assertEqual(audit(self.target), (10, 10, 3))
         self.alter("update run set format = 9")
         for call in (SharedRun, audit, verify):
-            with self.assertRaisesRegex(Mismatch, "of version 9"):
+            with self.assertRaisesRegex(MismatchError, "of version 9"):
                 call(self.target)
 
     def test_lines_that_are_too_long(self):
         with mock.patch.object(_lines, "LINE_LIMIT", 3_000):
-            with self.assertRaises(TooLong):
+            with self.assertRaises(TooLongError):
                 SharedRun(self.target, [[["x"], "x" * 5_000]])
             with SharedRun(self.target, INIT, 3) as run, run.agent(0) as agent:
-                with self.assertRaises(TooLong):
+                with self.assertRaises(TooLongError):
                     agent.play(lambda step: step.push([["put", ["x"], "x" * 3_000]]))
                 agent.play(lambda step: step.push([["put", ["x"], "x" * 2_500]]))
                 agent.play(lambda step: step.push([["put", ["y"], "x" * 2_500]]))
-        with self.assertRaises(Broken) as caught, mock.patch.object(_lines, "LINE_LIMIT", 3_000), SharedRun(self.target) as run:
+        with self.assertRaises(BrokenError) as caught, mock.patch.object(_lines, "LINE_LIMIT", 3_000), SharedRun(self.target) as run:
             with run.agent(0) as agent:
                 agent.play(raised)
                 agent.play(raised)
-        self.assertIsInstance(caught.exception.__cause__, TooLong)
+        self.assertIsInstance(caught.exception.__cause__, TooLongError)
         self.assertEqual(audit(self.target).moves, 3)
 
     def test_what_was_altered_is_found(self):
@@ -194,12 +194,12 @@ class Plays(Shared):
                 agent.play(raised)
         self.alter("update segment set digest = replace(digest, substr(digest, 1, 4), '0000') where number = 2")
         for call in audit, verify:
-            with self.assertRaises(Damaged) as caught:
+            with self.assertRaises(DamagedError) as caught:
                 call(self.target)
             self.assertEqual(caught.exception.segment, 2)
 
     def test_replicas_that_differ_are_found(self):
-        with self.assertRaises(Broken) as caught, SharedRun(self.target, INIT, 3) as run, SharedRun(self.target) as other:
+        with self.assertRaises(BrokenError) as caught, SharedRun(self.target, INIT, 3) as run, SharedRun(self.target) as other:
             with run.agent(0) as agent, other.agent(1) as ben:
                 era = other._worker.replica.era
                 agent.play(raised)
@@ -224,7 +224,7 @@ class Plays(Shared):
                     def play():
                         try:
                             told.append(ben.play(raised))
-                        except Unknown as unknown:
+                        except UnknownError as unknown:
                             told.append(unknown)
 
                     def exchanged(batch):
@@ -244,7 +244,7 @@ class Plays(Shared):
                             agent.play(raised)
                         is_behind.set()
                         thread.join(60)
-                    self.assertEqual(type(told[0]), Unknown if is_sent else tuple)
+                    self.assertEqual(type(told[0]), UnknownError if is_sent else tuple)
                     self.assertEqual(ben.follow(), other.state()[0])
                     self.assertGreater(ben.play(raised)[0], 21)
                 self.assertEqual(run.state(), other.state())
@@ -291,7 +291,7 @@ with SharedRun(sys.argv[1], bank.INIT, 50) as run:
                 status = 1
                 try:
                     agent.play(raised)
-                except Forked:
+                except ForkedError:
                     status = 0
                 finally:
                     os._exit(status)

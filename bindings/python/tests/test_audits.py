@@ -14,7 +14,7 @@ from unittest import mock
 import folugben
 import own
 from folugben import APART, CUT, EMPTY, ILLEGAL, LARGE, NONE, NOT_JSON, SHAPE, VERSION
-from folugben import Auditor, BadJournal, Clash, Counts, Error, Stale, Storage, audit, check, part, replay
+from folugben import Auditor, BadJournalError, ClashError, Counts, Error, StaleError, Storage, audit, check, part, replay
 from folugben import __main__ as main
 from folugben import _auditor
 from random_moves import INIT, move
@@ -32,7 +32,7 @@ def parts_of_a_run(seed: int, count: int = 4) -> list[bytes]:
             number, _ = agent.read([["set"], ["number"]])
             try:
                 rng.choice([first, second]).fire(move(rng), [[["set"], rng.randrange(min(number, first.seen, second.seen) + 1)]])
-            except (Stale, Clash):
+            except (StaleError, ClashError):
                 pass
         first.give()
         second.give()
@@ -48,7 +48,7 @@ def fed(text: bytes, size: int) -> tuple[object, ...]:
         for start in range(0, len(text), size):
             auditor.feed(text[start : start + size])
         return (*auditor.end(), auditor.state())
-    except BadJournal as bad:
+    except BadJournalError as bad:
         return bad.code, bad.part, bad.numbers, bad.call, bad.line, str(bad)
 
 
@@ -107,7 +107,7 @@ class Audits(unittest.TestCase):
     def test_a_line_above_the_limit_is_told(self):
         auditor = Auditor()
         auditor.feed(self.text)
-        with self.assertRaises(BadJournal) as caught:
+        with self.assertRaises(BadJournalError) as caught:
             for _ in range(17):
                 auditor.feed(b" " * (1 << 20))
         self.assertEqual((caught.exception.code, caught.exception.part), (LARGE, 4))
@@ -119,11 +119,11 @@ class Audits(unittest.TestCase):
         for line in lines[:4]:
             auditor.feed(line.decode())
         self.assertEqual(auditor.counts[::2], (3, 0))
-        with self.assertRaises(BadJournal) as caught:
+        with self.assertRaises(BadJournalError) as caught:
             auditor.feed(lines[4])
         feeds = lambda: auditor.feed(lines[5]), lambda: auditor.feed(b"")
         for call in (*feeds, auditor.end, auditor.state, lambda: auditor.counts):
-            with self.assertRaises(BadJournal) as again:
+            with self.assertRaises(BadJournalError) as again:
                 call()
             self.assertEqual(str(again.exception), str(caught.exception))
             self.assertEqual((again.exception.part, again.exception.call), (0, 3))
@@ -140,7 +140,7 @@ class Audits(unittest.TestCase):
             header, *events = journal.splitlines(keepends=True)
             self.assertEqual(auditor.feed(header), (*total[:2], number - 1))
             self.assertEqual(auditor.state(), own.pairs(json.loads(header)["init"]))
-            with self.assertRaises(BadJournal) as caught:
+            with self.assertRaises(BadJournalError) as caught:
                 auditor.end()
             self.assertEqual((caught.exception.code, caught.exception.part), (CUT, number - 1))
             auditor.feed(b"".join(events))
@@ -191,7 +191,7 @@ class Files(unittest.TestCase):
         lines = self.run_file.read_bytes().splitlines(True)
         with open(read_end, "rb") as pipe, open(write_end, "wb", buffering=0) as out:
             out.write(b"".join(lines[:3]) + b"{}\n")  # and the pipe stays open
-            with self.assertRaises(BadJournal) as caught:
+            with self.assertRaises(BadJournalError) as caught:
                 audit(pipe)
         self.assertEqual((caught.exception.part, caught.exception.line), (0, 4))
 

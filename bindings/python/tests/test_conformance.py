@@ -5,7 +5,7 @@ import unittest
 import folugben
 import own
 from checkout import ROOT
-from folugben import Auditor, BadJournal, Clash, Error, Large, Stale, Storage
+from folugben import Auditor, BadJournalError, ClashError, Error, LargeError, StaleError, Storage
 
 TABLES = ROOT / "bindings" / "conformance"
 FORMS = ["LOCATIONS", "MOVE", "STATE", "EVENT", "SCRIPT"]
@@ -91,7 +91,7 @@ class Replayer:
         return self.steps[own].depth
 
     def commit(self, own):
-        return {"fired": self.steps[own].fire()}
+        return {"fired": self.steps[own].commit()}
 
     def get_all(self, own, name):
         return self.steps[own].scan(name)
@@ -119,11 +119,11 @@ class Replayer:
             if name in ("get", "see", "push", "extend", "pop", "offer"):
                 return self.on_step(name, *words)
             return getattr(self if hasattr(self, name) else folugben, name)(*words)
-        except Stale as stale:
+        except StaleError as stale:
             return {"stale": stale.at}
-        except Clash as clash:
+        except ClashError as clash:
             return {"clash": [clash.at, clash.cause]}
-        except Large as large:
+        except LargeError as large:
             return {"large": large.at}
         except Error as error:
             return refused(error)
@@ -131,9 +131,8 @@ class Replayer:
 
 def refused(error):
     """What the table has of an error: its code, and where and why, and its numbers, with that of the part in an audit."""
-    (name,) = (it for it in dir(folugben) if it.isupper() and it not in FORMS and getattr(folugben, it) == error.code)
-    part = [error.part] if isinstance(error, BadJournal) and error.part is not None else []
-    return {"error": name, "said": error.said, "numbers": [*error.numbers, *part]}
+    part = [error.part] if isinstance(error, BadJournalError) and error.part is not None else []
+    return {"error": error.code.name, "said": error.said, "numbers": [*error.numbers, *part]}
 
 
 def in_python(call, wanted):

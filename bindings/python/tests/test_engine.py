@@ -9,7 +9,7 @@ from threading import Event
 
 import folugben_engine
 from checkout import ROOT
-from folugben import Clash, Run, Stale, Storage, audit, check
+from folugben import ClashError, Run, StaleError, Storage, audit, check
 from folugben_engine import bank, colony, crossing, philosophers
 from folugben_engine.agents import live, live_all, run, run_on, states
 from folugben_engine.rules import Add, Choose, Forall, If, Instruction, Iterate, Let, Par, Remove, Rule, Seq, Update, While
@@ -38,7 +38,7 @@ class Rules(unittest.TestCase):
         """The values at the locations once the rule has fired."""
         with self.agent.step() as step:
             rule.play(step)
-            step.fire()
+            step.commit()
         self.agent.follow()
         return self.agent.peek(places)[1]
 
@@ -98,7 +98,7 @@ class Rules(unittest.TestCase):
     def test_rules_in_sequence_beside_others_are_dry_runs(self):
         inner = Seq(raised(), Iterate(If(lambda see: see(COUNT) < 9, raised(2))), Update(["inner"], count))
         rule = Par(inner, Update(["beside"], count), Seq(raised(0), Update(["beside", 2], count)))
-        with self.assertRaises(Clash) as caught, self.agent.step() as step:
+        with self.assertRaises(ClashError) as caught, self.agent.step() as step:
             rule.play(step)
         self.assertEqual((caught.exception.at, caught.exception.cause), (COUNT, "Two"))
         rule = Par(inner, Update(["beside"], count))
@@ -110,8 +110,8 @@ class Rules(unittest.TestCase):
         with self.agent.step() as step:
             rule.play(step)
             self.rival.fire([["put", COUNT, "no number"]])
-            with self.assertRaises(Stale) as caught:
-                step.fire()
+            with self.assertRaises(StaleError) as caught:
+                step.commit()
         self.assertEqual(caught.exception.at, COUNT)
 
     def test_a_step_that_clashes_with_what_a_rival_wrote_is_begun_anew(self):
@@ -139,7 +139,7 @@ class Rules(unittest.TestCase):
 
     def test_a_clash_in_a_sequence_is_told(self):
         for rule in (Seq(Par(raised(), Update(COUNT, 9)), raised()), Par(Seq(Update(["s"], 1), Add(["s"], 2)))):
-            with self.assertRaises(Clash), self.agent.step() as step:
+            with self.assertRaises(ClashError), self.agent.step() as step:
                 rule.play(step)
 
 
@@ -172,7 +172,7 @@ class Machines(unittest.TestCase):
     def test_an_error_of_one_program_ends_all(self):
         def work(_):
             waits = If(False, raised()), lambda agent: False
-            with self.assertRaises(Clash):
+            with self.assertRaises(ClashError):
                 run([], [waits, (Par(Update(COUNT, 1), Update(COUNT, 2)), lambda agent: False), waits])
 
         self.assertEqual(in_threads(work, 1), ([], True))
@@ -199,7 +199,7 @@ class Endless(Rooms):
 
     def test_an_error_of_one_program_ends_the_run(self):
         wrong = Par(Update(COUNT, 1), Update(COUNT, 2)), None
-        with self.assertRaises(Clash):
+        with self.assertRaises(ClashError):
             run_on(self.path, INIT, [(raised(), None), wrong, (raised(), None)], 60)
         self.assertEqual(self.last_state()[0], (COUNT, 3 + audit(self.path).moves))
 

@@ -4,7 +4,7 @@ import unittest
 
 import own
 import random_moves
-from folugben import Clash, Error, Large, Many, aggregate, compose
+from folugben import ClashError, Error, LargeError, ManyError, aggregate, compose
 
 X = ["x"]
 
@@ -13,7 +13,7 @@ class Moves(unittest.TestCase):
     def test_too_many_instructions(self):
         half = [["put", ["x", k], k] for k in range(4096)]
         self.assertTrue(compose(half, []) == sorted((word, tuple(at), value) for word, at, value in half))
-        self.assertRaises(Many, compose, half, [["put", ["y"], 1]])
+        self.assertRaises(ManyError, compose, half, [["put", ["y"], 1]])
         self.assertEqual(len(aggregate([], half)), 4096)
 
     def test_a_refused_text_says_where(self):
@@ -33,11 +33,11 @@ class Moves(unittest.TestCase):
         def told(call, *arguments):
             try:
                 return call(*arguments)
-            except (Clash, moves.Clash) as clash:
-                at = clash.at if isinstance(clash, Clash) else values.location_json(clash.at)
+            except (ClashError, moves.Clash) as clash:
+                at = clash.at if isinstance(clash, ClashError) else values.location_json(clash.at)
                 return "clash", own.place(at), clash.cause
-            except (Large, moves.LargeAmount) as large:
-                return "large", large.at if isinstance(large, Large) else own.place(values.location_json(large.at))
+            except (LargeError, moves.LargeAmount) as large:
+                return "large", large.at if isinstance(large, LargeError) else own.place(values.location_json(large.at))
 
         def composed(*two):
             told = moves.composed(*(list(map(moves.read_instruction, it)) for it in two))

@@ -49,10 +49,10 @@ class Odd(unittest.TestCase):
         self.assertIn(said, str(caught.exception))
 
     def test_subclasses_are_taken_for_what_they_hold(self) -> None:
-        self.assertEqual(explain(folugben.LOCATIONS, Short(b"[]")), "")
-        self.assertEqual(explain(folugben.LOCATIONS, "[]"), "")
-        self.assertEqual(explain(folugben.LOCATIONS, bytearray(b"[nul]")), "not JSON at byte 2")
-        self.refused(TypeError, "a text is bytes or a str, and not 'int'", explain, folugben.LOCATIONS, 7)
+        self.assertEqual(explain(folugben.TextForm.LOCATIONS, Short(b"[]")), "")
+        self.assertEqual(explain(folugben.TextForm.LOCATIONS, "[]"), "")
+        self.assertEqual(explain(folugben.TextForm.LOCATIONS, bytearray(b"[nul]")), "not JSON at byte 2")
+        self.refused(TypeError, "a text is bytes or a str, and not 'int'", explain, folugben.TextForm.LOCATIONS, 7)
         for form in (Cunning(2**40), Cunning(-1)):
             self.refused(Error, "out of range", explain, form, b"")
         for call in (Storage, ) * 2 + (self.storage.next, ):
@@ -173,17 +173,17 @@ class Signals(unittest.TestCase):
         step = self.agent.step()
         step.push([["put", ["n"], 1]])
         self.assertEqual(step.fired, 0)
-        step.fire()
+        step.commit()
         self.assertEqual((step.fired, repr(step)), (1, "<Step, over>"))
-        with self.assertRaises(folugben.Over):
-            step.fire()
+        with self.assertRaises(folugben.OverError):
+            step.commit()
         with self.agent.step() as step, self.storage.agent(1) as rival:
             step.get(self.count)
             rival.fire([["put", ["n"], 2]])
             step.push([["put", ["n"], 3]])
-            self.assertEqual((step.try_fire(), step.fired), (0, 0))
+            self.assertEqual((step.try_commit(), step.fired), (0, 0))
         with self.agent.step() as step:
-            self.assertEqual((step.fire(), step.fired), (3, 3))
+            self.assertEqual((step.commit(), step.fired), (3, 3))
 
 
 if __name__ == "__main__":

@@ -7,7 +7,7 @@ from collections import Counter
 import own
 import random_moves
 from folugben._texts import encoded
-from folugben import Busy, Clash, Moved, Stale, Storage, check, replay
+from folugben import BusyError, ClashError, MovedError, StaleError, Storage, check, replay
 from threads import in_threads
 
 moves, values = random_moves.model("moves"), random_moves.model("values")
@@ -60,7 +60,7 @@ class RandomSteps(unittest.TestCase):
             expected = own.place(values.location_json(clash.at)), clash.cause
         try:
             getattr(step, word)(move)
-        except Clash as clash:
+        except ClashError as clash:
             self.assertEqual(repr((clash.at, clash.cause)), repr(expected))
             self.assertEqual(repr(self.fired_in_turn(twin, move)), repr(expected))
             return False
@@ -74,7 +74,7 @@ class RandomSteps(unittest.TestCase):
             try:
                 for move in [*sum(twin.frames, []), *further]:
                     agent.fire(move)
-            except Clash as clash:
+            except ClashError as clash:
                 return clash.at, clash.cause
             agent.follow()
             return agent.state()[1]
@@ -103,7 +103,7 @@ class RandomSteps(unittest.TestCase):
                     self.done[word, True] += 1
                 self.assertEqual(step.depth, len(twin.frames))
                 self.assert_seen(rng, step, twin)
-            self.assertEqual(step.fire(), number)
+            self.assertEqual(step.commit(), number)
         state = repr(twin.after())
         self.assertEqual(agent.follow(), number)
         self.assertEqual(repr(agent.state()), f"({number}, {state})")
@@ -146,8 +146,8 @@ class Threads(unittest.TestCase):
                         if rng.random() < 0.2:
                             agent.stands([])
                         try:
-                            done += step.fire() > 0
-                        except (Stale, Busy) as error:
+                            done += step.commit() > 0
+                        except (StaleError, BusyError) as error:
                             refused.append(error)
                     looks.append(agent.state())
 
@@ -155,7 +155,7 @@ class Threads(unittest.TestCase):
             self.assertEqual(in_threads(work, 8), ([], True))
             journal = storage.close_journal()
         calls, fired = check(journal)
-        self.assertEqual((fired, calls), (160, 160 + sum(isinstance(error, Stale) for error in refused)))
+        self.assertEqual((fired, calls), (160, 160 + sum(isinstance(error, StaleError) for error in refused)))
         states = {number: up_to(journal, number) for number, _ in looks}
         for number, pairs in looks:
             expected = states[number]
@@ -173,9 +173,9 @@ class Threads(unittest.TestCase):
                     try:
                         (count,) = step.get([["count"]])
                         step.push([["put", ["count"], count + 1]])
-                        step.fire()
+                        step.commit()
                         fired[own] += 1
-                    except (Moved, Stale):
+                    except (MovedError, StaleError):
                         pass
 
         with Storage([[["count"], 0]], 400) as storage:

@@ -10,7 +10,7 @@ import time
 import unittest
 from unittest import mock
 
-from folugben import Agent, Broken, Error, Forked, Missing, Nested, Run, Storage, audit
+from folugben import Agent, BrokenError, Error, ForkedError, MissingError, NestedError, Run, Storage, audit
 from rooms import AT, COUNT, INIT, Rooms, called, raised, until
 from threads import in_threads
 
@@ -27,7 +27,7 @@ class Ends(Rooms):
         run.close()
         run.close()
         for call in (
-            step.fire, step.try_fire, lambda: step.get(AT), lambda: step.push([]), agents[0].step, agents[1].follow,
+            step.commit, step.try_commit, lambda: step.get(AT), lambda: step.push([]), agents[0].step, agents[1].follow,
             lambda: agents[2].play(raised), lambda: run.agent(5), lambda: agents[0].peek(AT), lambda: agents[0].fire([]),
         ):
             with self.assertRaisesRegex(Error, "the run was closed"):
@@ -83,16 +83,16 @@ class Ends(Rooms):
                         if own == 2 and run.parts > 3:
                             agent.play(raised)
                             return agent.abandon()
-                except Broken as broken:
+                except BrokenError as broken:
                     told.append(broken)
 
         told, start = [], threading.Barrier(4)
-        with self.assertRaises(Broken) as caught, Run(self.path, INIT, 20) as run:
+        with self.assertRaises(BrokenError) as caught, Run(self.path, INIT, 20) as run:
             self.assertEqual(in_threads(work, 4), ([], True))
         self.assertEqual(len(told), 3)
         parts = audit(self.path).parts
         for broken in (*told, caught.exception):
-            self.assertEqual((broken.part, type(broken.__cause__)), (parts, Missing))
+            self.assertEqual((broken.part, type(broken.__cause__)), (parts, MissingError))
             self.assertRegex(str(broken), f"part {parts} couldn't be written: .*agent 2 was abandoned")
         self.assertEqual(audit(self.path).moves, 20 * (parts - 1))
         # What was whole goes on.
@@ -103,16 +103,16 @@ class Ends(Rooms):
         def work(own):
             with run.agent(own) as agent:
                 start.wait()
-                with self.assertRaises(Broken) as caught:
+                with self.assertRaises(BrokenError) as caught:
                     while True:
                         agent.play(raised)
             told.append(caught.exception)
 
         told, start = [], threading.Barrier(3)
-        with self.assertRaises(Broken), Run(self.path, INIT, 20) as run, run.agent(9) as other, fault:
+        with self.assertRaises(BrokenError), Run(self.path, INIT, 20) as run, run.agent(9) as other, fault:
             self.assertEqual(in_threads(work, 3), ([], True))
             for call in (other.step, other.follow, lambda: run.agent(8), run.close, lambda: other.play(raised)):
-                with self.assertRaises(Broken):
+                with self.assertRaises(BrokenError):
                     call()
         counts = audit(self.path)
         self.assertEqual({(it.part, type(it.__cause__)) for it in told}, {(run.parts, kind)})
@@ -229,12 +229,12 @@ class Processes(Rooms):
         said = []
         for call in (
             agent.step, lambda: agent.play(raised), other.step, lambda: other.play(raised), lambda: run.agent(3), run.close,
-            step.fire, lambda: step.get([COUNT]), agent.follow, lambda: agent.fire([]), agent.give, agent.abandon,
+            step.commit, lambda: step.get([COUNT]), agent.follow, lambda: agent.fire([]), agent.give, agent.abandon,
         ):
             try:
                 call()
                 said.append("done")
-            except Forked:
+            except ForkedError:
                 said.append("forked")
             except BaseException as error:
                 said.append(repr(error))
@@ -351,7 +351,7 @@ class Signals(Rooms):
                 try:
                     call()
                     told.append("done")
-                except Nested:
+                except NestedError:
                     told.append("nested")
             return real(*words)
 

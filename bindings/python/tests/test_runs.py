@@ -11,7 +11,7 @@ import unittest
 from collections import Counter
 from unittest import mock
 
-from folugben import BadJournal, Storage, TooLong, check, interleave, replay, states
+from folugben import BadJournalError, Storage, TooLongError, check, interleave, replay, states
 from folugben import _exports
 from folugben._texts import encoded
 from folugben_engine import bank
@@ -36,7 +36,7 @@ def unguarded(agent, from_, to):
     with agent.step() as step:
         if there >= 10:
             step.push([["put", from_, there - 10], ["put", to, here + 10]])
-        step.try_fire()
+        step.try_commit()
 
 
 def run(seed, transfer=guarded, agents=3, rounds=8):
@@ -108,7 +108,7 @@ class Runs(unittest.TestCase):
             (2, {("s",): {1, "a"}, ("b",): Counter([None, *"eee"]), ("n",): 5}),
             (3, {("s",): {1, "a"}, ("b",): Counter([None]), ("l", (1,)): ()}),
         ])
-        with self.assertRaises(BadJournal):
+        with self.assertRaises(BadJournalError):
             list(states(b"{"))
 
 
@@ -183,7 +183,7 @@ class Exports(unittest.TestCase):
         _exports.write_itf(self.journal, out, first=3, last=5)
         self.assertEqual(json.loads(out.getvalue())["states"], whole[3:6])
         with mock.patch.object(_exports, "ITF_LIMIT", 1000):
-            with self.assertRaisesRegex(TooLong, "moves 0 to [0-9]+ have more than 1,000 characters: take fewer by --from and --to"):
+            with self.assertRaisesRegex(TooLongError, "moves 0 to [0-9]+ have more than 1,000 characters: take fewer by --from and --to"):
                 self.written(_exports.write_itf)
 
     def test_the_informal_trace_format_has_each_kind_of_value(self):

@@ -12,7 +12,7 @@ import sys
 import unittest
 from unittest import mock
 
-from folugben import Agent, Clash, Differs, Endless, Stale, Step, Storage, check, interleave, states
+from folugben import Agent, ClashError, DiffersError, EndlessError, StaleError, Step, Storage, check, interleave, states
 from folugben import _explore, _footprint
 from folugben_engine import bank, rules
 from checkout import ROOT
@@ -41,7 +41,7 @@ def guarded(agent):
         number, (count,) = agent.read([COUNT])
         try:
             return agent.fire([["put", COUNT, count + 1]], [[COUNT, number]])
-        except Stale:
+        except StaleError:
             pass
 
 
@@ -129,9 +129,9 @@ class Interleaved(unittest.TestCase):
                 pass
 
         self.left([waits, lost], 1)
-        with self.assertRaisesRegex(Endless, "agents 0, 1 are still at work after 500 turns"):
+        with self.assertRaisesRegex(EndlessError, "agents 0, 1 are still at work after 500 turns"):
             self.left([waits, lost], [], most=500)
-        with self.assertRaisesRegex(Endless, "agent 0 is still at work after 300 turns"):
+        with self.assertRaisesRegex(EndlessError, "agent 0 is still at work after 300 turns"):
             explore(counting, [waits], turns=300)
 
     def test_ctrl_c_ends_it(self):
@@ -221,7 +221,7 @@ class Explored(unittest.TestCase):
         self.assertEqual((explored.turns, explored.schedules, explored.is_exhaustive), (None, 30, False))
         found = explore(counting, [waits, lost, lost], lambda values: values[("count",)] != 2)
         self.assert_breaks(found, counting, [waits, lost, lost], lambda values: values[("count",)] != 2)
-        with self.assertRaisesRegex(Endless, "agents 0, 1 are still at work after 200 turns"):
+        with self.assertRaisesRegex(EndlessError, "agents 0, 1 are still at work after 200 turns"):
             explore(counting, [waits, waits], turns=200)
 
     def test_programs_that_draw_are_refused(self):
@@ -231,7 +231,7 @@ class Explored(unittest.TestCase):
             agent.read([["x", rng.random() > 0.5]])
             guarded(agent)
 
-        with self.assertRaisesRegex(Differs, "did something else in the same schedule"):
+        with self.assertRaisesRegex(DiffersError, "did something else in the same schedule"):
             explore(counting, [draws, draws, draws], at_end=lambda values: True)
 
     def test_it_is_bounded(self):
@@ -311,12 +311,12 @@ class Random(unittest.TestCase):
         with agent.step() as step:
             if word == "inc":
                 step.push([["inc", ["n"], 1], ["put", x, by]])
-                return step.try_fire() > 0
+                return step.try_commit() > 0
             told = step.scan("x") if word == "scan" else step.get([x])
             if word == "if" and told != [by % 3]:
                 told += step.get([y])
             step.push([["put", x if by % 2 else y, len(told) if word == "scan" else (told[0] or 0) + 1]])
-            return [told, step.try_fire() > 0]
+            return [told, step.try_commit() > 0]
 
     def work(self, rng, told):
         """A program of a few words."""
@@ -328,7 +328,7 @@ class Random(unittest.TestCase):
             for word in words:
                 try:
                     heard.append(self.do(agent, *word))
-                except (Clash, Stale) as error:
+                except (ClashError, StaleError) as error:
                     heard.append(type(error).__name__)
 
         return play
