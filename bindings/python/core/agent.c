@@ -37,9 +37,12 @@ static int32_t comes(Agent *self, int is_taken, int is_made)
     return code;
 }
 
-/* Is in its storage's list no longer. */
+/* Is in its storage's list, and its turns, no longer. */
 static void leaves(Agent *self)
 {
+    for (int k = 0; self->storage && k < TURNS; k++)
+        if (self->storage->turns[k].agent == self)
+            self->storage->turns[k].agent = NULL;
     if (!self->before)
         return;
     *self->before = self->next;
@@ -205,6 +208,39 @@ int agent_is_far(const Agent *self)
     return self->storage->last > self->seen && self->storage->last - self->seen > FAR;
 }
 
+void agent_saw(Agent *self)
+{
+    self->seen = asm_seen(SLOT(self));
+    self->is_behind = 0;
+}
+
+/* Is about to look. Where the last look of this thread was another agent's that is in no step, and has come further, it takes
+ * the state of that one, so that it follows the newest moves alone. That one is behind then, and catches up before it tells of
+ * its own state. The interpreter's lock is held, so nobody else is at work with either, unless its slot is busy. */
+void agent_turn(Agent *self)
+{
+    unsigned long thread = PyThread_get_thread_ident();
+    Turn *turn = &self->storage->turns[(thread >> 12) % TURNS];
+    Agent *other = turn->thread == thread ? turn->agent : NULL;
+    int is_free = other && other != self && other->thread == thread && !other->steps && !other->held.is_busy;
+    if (is_free && other->seen > self->seen && asm_take_state(SLOT(self), SLOT(other)) == ASM_DONE) {
+        other->seen = self->seen;
+        other->is_behind = 1;
+        self->seen = asm_seen(SLOT(self));
+    }
+    turn->thread = self->thread = thread;
+    turn->agent = self;
+}
+
+/* Follows where another agent has taken its state; in the course of calls. */
+int32_t agent_catches_up(Agent *self)
+{
+    uint32_t number;
+    int32_t code = self->is_behind ? asm_follow(SLOT(self), &number) : ASM_DONE;
+    self->is_behind = code != ASM_DONE;
+    return code;
+}
+
 static PyObject *agent_step(Agent *self, PyObject *Py_UNUSED(none))
 {
     return (PyObject *)step_begun(self, self->held.core->step);
@@ -215,7 +251,7 @@ static PyObject *played(Step *step, PyObject *told)
 {
     int64_t number = told ? step_fires(step, 1) : -1;
     if (IS_FULL(step) && !(ODD(step->agent->held.is_busy) && unready(&step->agent->held)))
-        asm_free(SLOT(step));
+        step_drop(step);
     Py_DECREF((PyObject *)step);
     if (number > 0)
         return Py_BuildValue("LN", (long long)number, told);

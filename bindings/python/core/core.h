@@ -49,6 +49,13 @@ typedef struct {
 typedef struct Agent Agent;
 typedef struct Step Step;
 
+/* A thread, and the agent of a storage whose call was its last one that looked; without a reference. */
+typedef struct {
+    unsigned long thread;
+    Agent *agent;
+} Turn;
+enum { TURNS = 16 };
+
 typedef struct {
     Held held;
     uint32_t last;      /* the greatest number of a move that is known to be fired */
@@ -57,6 +64,7 @@ typedef struct {
     char is_made;
     Agent *first;       /* its agents, without references */
     PyObject *journal;  /* the path of its journal, or null */
+    Turn turns[TURNS];
 } Storage;
 
 struct Agent {
@@ -65,6 +73,9 @@ struct Agent {
     uint32_t own, seen, kept_seen, kept_won; /* the kept numbers are those of an agent that was given back */
     uint64_t base;                           /* how many moves of a run came before its storage */
     char is_taken;                           /* another thread has given it back */
+    char is_behind;                          /* another agent has taken its state */
+    unsigned steps;                          /* how many of its steps are open */
+    unsigned long thread;                    /* of its last call that looked */
     Step *last;                              /* the step that it began last, without a reference */
     Agent *next, **before;
 };
@@ -74,7 +85,7 @@ struct Step {
     Agent *agent;
     uint32_t number, fired;
     uint64_t size; /* about how many bytes of text it has got and pushed */
-    char is_fired, is_tried, is_pushed;
+    char is_fired, is_tried, is_pushed, is_open;
 };
 
 typedef struct {
@@ -221,6 +232,9 @@ PyObject *location_refused(Location *self, int32_t code);
 PyObject *agent_made(Storage *storage, PyObject *number, int is_taken);
 int32_t agent_give(Agent *self);
 int agent_is_far(const Agent *self);
+void agent_turn(Agent *self);
+void agent_saw(Agent *self);
+int32_t agent_catches_up(Agent *self);
 PyObject *agent_refused(Agent *self, int32_t code);
 PyObject *agent_read(Agent *self, PyObject *places);
 PyObject *agent_fire(Agent *self, PyObject *words, PyObject *named);
@@ -239,6 +253,7 @@ PyObject *agent_go_on(Agent *self, PyObject *words, PyObject *named);
 /* step.c */
 Step *step_begun(Agent *agent, PyTypeObject *type);
 int64_t step_fires(Step *self, int is_try);
+void step_drop(Step *self);
 
 extern PyType_Spec storage_spec, agent_spec, step_spec, location_spec, move_spec, audit_spec;
 

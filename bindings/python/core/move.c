@@ -165,6 +165,46 @@ static PyObject *instruct(Move *self, PyObject *const *words, Py_ssize_t count, 
 
 CHANGES(Move, move, instruct)
 
+static Py_ssize_t move_len(Move *self)
+{
+    return self->count + self->is_popped;
+}
+
+/* Appends the instructions of another move. */
+static PyObject *unite(Move *self, PyObject *it)
+{
+    Core *core = self->held.core;
+    Move *other = (Move *)it;
+    if (Py_TYPE(it) != core->move || other == self) {
+        PyErr_SetString(PyExc_TypeError, "a move is united with another Move");
+        return NULL;
+    }
+    if (UNREADY(&self->held) || UNREADY(&other->held))
+        return NULL;
+    if (ODD(self->is_freed || other->is_freed))
+        return refuse(core, ASM_EMPTY, "freed", "(s)", "move");
+    int32_t code = IS_FULL(other) ? asm_unite(SLOT(self), SLOT(other)) : ASM_DONE;
+    if (ODD(code != ASM_DONE))
+        return refuse(core, code, "united", "(inn)", (int)code, move_len(self), move_len(other));
+    self->count += move_len(other);
+    self->size += other->size;
+    return Py_NewRef((PyObject *)self);
+}
+
+static PyObject *move_or(PyObject *one, PyObject *two)
+{
+    Core *core = core_of(Py_TYPE(one));
+    if (!core || Py_TYPE(one) != core->move || Py_TYPE(two) != core->move) {
+        PyErr_Clear();
+        return Py_NewRef(Py_NotImplemented);
+    }
+    Move *both = held_new(core->move, core);
+    PyObject *first = both ? unite(both, one) : NULL, *second = first ? unite(both, two) : NULL;
+    Py_XDECREF(first);
+    Py_XDECREF((PyObject *)both);
+    return second;
+}
+
 static void drop(Move *self)
 {
     asm_free(SLOT(self));
@@ -203,11 +243,6 @@ static PyObject *move_new(PyTypeObject *type, PyObject *words, PyObject *named)
     return PyArg_ParseTupleAndKeywords(words, named, "", names) ? held_new(type, core_of(type)) : NULL;
 }
 
-static Py_ssize_t move_len(Move *self)
-{
-    return self->count + self->is_popped;
-}
-
 static int move_bool(Move *Py_UNUSED(self))
 {
     return 1;
@@ -225,6 +260,9 @@ static PyMethodDef methods[] = {
     CHANGE_METHODS(move),
     {"bagadd", METHOD(move_bag_add), METH_FASTCALL, NULL},
     {"bagremove", METHOD(move_bag_remove), METH_FASTCALL, NULL},
+    {"unite", (PyCFunction)unite, METH_O,
+        "unite($self, other, /)\n--\n\nAppend the instructions of another move: it does then what both do at once. `ManyError` where these\n"
+        "are more than 4,096; nothing is appended then. `one | other` makes a third move."},
     {"clear", (PyCFunction)move_clear, METH_NOARGS, "clear($self, /)\n--\n\nDrop its instructions."},
     {"free", (PyCFunction)move_free, METH_NOARGS, "free($self, /)\n--\n\nRelease it; it may be called again."},
     {"__exit__", METHOD(move_exit), METH_FASTCALL, NULL},
@@ -236,5 +274,6 @@ static PyType_Slot slots[] = {
                 "It keeps its instructions until `clear`, and may be pushed any number of times, in steps of any storage. One that\n"
                 "`Step.pop_move` returns counts what was popped as one instruction; more can be gathered behind that."},
     {Py_tp_new, move_new}, {Py_tp_dealloc, held_gone}, {Py_tp_methods, methods}, {Py_tp_members, held_members},
-    {Py_tp_getset, held_gets}, {Py_tp_repr, move_repr}, {Py_sq_length, move_len}, {Py_nb_bool, move_bool}, {0}};
+    {Py_tp_getset, held_gets}, {Py_tp_repr, move_repr}, {Py_sq_length, move_len}, {Py_nb_bool, move_bool},
+    {Py_nb_or, move_or}, {Py_nb_inplace_or, unite}, {0}};
 PyType_Spec move_spec = {"folugben.Move", sizeof(Move), 0, Py_TPFLAGS_DEFAULT | Py_TPFLAGS_IMMUTABLETYPE, slots};

@@ -10,6 +10,19 @@ static PyObject *step_refused(Step *self, int32_t code)
     return refuse(self->held.core, code, code == ASM_EMPTY ? "over" : "step", "(iO)", (int)code, (PyObject *)self);
 }
 
+/* Is over where its slot is empty. */
+static void closes(Step *self)
+{
+    self->agent->steps -= self->is_open && !IS_FULL(self);
+    self->is_open &= IS_FULL(self);
+}
+
+void step_drop(Step *self)
+{
+    asm_free(SLOT(self));
+    closes(self);
+}
+
 /* Makes a step of a type, and begins it. */
 Step *step_begun(Agent *agent, PyTypeObject *type)
 {
@@ -23,13 +36,17 @@ Step *step_begun(Agent *agent, PyTypeObject *type)
         Py_DECREF((PyObject *)self);
         return NULL;
     }
+    agent_turn(agent);
     CALL(code, &agent->held, agent_is_far(agent), asm_begin(SLOT(agent), SLOT(self), &self->number));
     if (ODD(code != ASM_DONE)) {
         Py_DECREF((PyObject *)self);
         return (Step *)agent_refused(agent, code);
     }
     agent->seen = self->number;
+    agent->is_behind = 0;
     agent->last = self;
+    agent->steps++;
+    self->is_open = 1;
     return self;
 }
 
@@ -45,8 +62,10 @@ static void step_gone(Step *self)
 {
     Agent *agent = self->agent;
     PyObject_GC_UnTrack(self);
-    if (agent && agent->last == self)
-        agent->last = NULL;
+    if (agent) {
+        agent->steps -= self->is_open;
+        agent->last = agent->last == self ? NULL : agent->last;
+    }
     held_gone(self);
     Py_XDECREF((PyObject *)agent);
 }
@@ -331,6 +350,7 @@ int64_t step_fires(Step *self, int is_try)
     if (code == ASM_DONE) {
         self->fired = numbers.fired;
         self->is_fired = 1;
+        closes(self);
         if (numbers.fired > agent->storage->last)
             agent->storage->last = numbers.fired;
         return (int64_t)(agent->base + numbers.fired);
@@ -374,7 +394,7 @@ static PyObject *step_free(Step *self, PyObject *Py_UNUSED(none))
 {
     if (UNREADY(&self->agent->held))
         return NULL;
-    asm_free(SLOT(self));
+    step_drop(self);
     return Py_NewRef(Py_None);
 }
 
@@ -394,7 +414,7 @@ static PyObject *step_exit(Step *self, PyObject *const *words, Py_ssize_t count)
     if (UNREADY(&self->agent->held))
         return NULL;
     int is_forgotten = count > 0 && words[0] == Py_None && !self->is_tried && self->is_pushed && asm_depth(SLOT(self)) > 0;
-    asm_free(SLOT(self));
+    step_drop(self);
     if (is_forgotten && PyErr_WarnEx(PyExc_ResourceWarning, "a step ended with moves that were pushed and not fired", 1))
         return NULL;
     return Py_NewRef(Py_None);

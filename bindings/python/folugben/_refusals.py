@@ -171,6 +171,11 @@ def pushed(code: int, move: bytes, told: bytes) -> None:
     expect_part(code, INSTRUCTIONS, move)
 
 
+def united(code: int, own: int, others: int) -> None:
+    many = f"{own:,} instructions and {others:,} more: a move has at most 4,096"
+    expect(code, said=many if code == Code.MANY else "")
+
+
 def location(code: int, text: bytes) -> None:
     # Where it isn't JSON, the byte is told, counted from its own beginning.
     expect(code, said=explain(TextForm.LOCATIONS, b"[%b]" % text if code == Code.SHAPE else text))

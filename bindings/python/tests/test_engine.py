@@ -157,7 +157,7 @@ class Machines(unittest.TestCase):
         for machine, state in [
             (philosophers, [[["eating"], {"set": [0, 1]}]]),
             (philosophers, [[["eating"], {"set": [0, 4]}]]),
-            (bank, [*bank.INIT[1:], [["account", 0], 101]]),
+            (bank, bank.INIT | {("account", 0): 101}),
             (crossing, [[["gate"], "open"], [["train", 2], "crossing"], [["train", 0], "away"]]),
             (colony, [[["cell", 0], 7], [["cell", 64], 6], [["age"], 1]]),
             (colony, [[["cell", 0], 6], [["cell", 64], 6], [["age"], 2]]),

@@ -27,7 +27,7 @@ test_a_transfer_keeps_the_sum()
 print(explore(make, [blind] * 3, sum_stays))
 """
 # Each customer needs what two of these have.
-INIT = bank.INIT[:5]
+INIT = dict(list(bank.INIT.items())[:5])
 
 
 def lost(agent):
