@@ -214,7 +214,7 @@ void agent_saw(Agent *self)
     self->is_behind = 0;
 }
 
-/* Is about to look. Where the last look of this thread was another agent's that is in no step, and has come further, it takes
+/* Is about to look, by a call that names no numbers. Where the last look of this thread was another agent's that is in no step, and has come further, it takes
  * the state of that one, so that it follows the newest moves alone. That one is behind then, and catches up before it tells of
  * its own state. The interpreter's lock is held, so nobody else is at work with either, unless its slot is busy. */
 void agent_turn(Agent *self)
@@ -246,29 +246,62 @@ static PyObject *agent_step(Agent *self, PyObject *Py_UNUSED(none))
     return (PyObject *)step_begun(self, self->held.core->step);
 }
 
-/* What follows a try: a pair of the move's number and what the rule told, or null, without an exception to try again. */
-static PyObject *played(Step *step, PyObject *told)
+static PyObject *played(Core *core, int64_t number, PyObject *told, long tries)
 {
-    int64_t number = told ? step_fires(step, 1) : -1;
+    PyObject *its = PyStructSequence_New(core->played), *one = PyLong_FromLongLong(number), *retries = PyLong_FromLong(tries);
+    if (its && one && retries) {
+        PyStructSequence_SetItem(its, 0, one);
+        PyStructSequence_SetItem(its, 1, told);
+        PyStructSequence_SetItem(its, 2, retries);
+        return its;
+    }
+    Py_XDECREF(its);
+    Py_XDECREF(one);
+    Py_XDECREF(retries);
+    Py_DECREF(told);
+    return NULL;
+}
+
+/* What follows a try: what was played, or null, without an exception to try again. */
+static PyObject *tried(Step *step, PyObject *told, long tries)
+{
+    Core *core = step->held.core;
+    if (told && ODD(PyObject_IsInstance(told, core->no_rules))) {
+        refuse(core, ASM_SHAPE, "no_rule", "(O)", told);
+        Py_CLEAR(told);
+    }
+    int is_idle = told && !step->is_pushed && IS_FULL(step);
+    int64_t number = !told ? -1 : is_idle ? 0 : step_fires(step, 1);
     if (IS_FULL(step) && !(ODD(step->agent->held.is_busy) && unready(&step->agent->held)))
         step_drop(step);
     Py_DECREF((PyObject *)step);
-    if (number > 0)
-        return Py_BuildValue("LN", (long long)number, told);
+    if (is_idle || number > 0)
+        return played(core, number, told, tries);
     Py_XDECREF(told);
     return NULL;
 }
 
-static PyObject *agent_play(Agent *self, PyObject *rule)
+static PyObject *agent_play(Agent *self, PyObject *words, PyObject *named)
 {
+    Core *core = self->held.core;
+    PyObject *rule, *its = NULL;
+    if (named) {
+        PyObject *call = PyObject_GetAttrString(core->refusals, "play"), *before = call ? PyTuple_Pack(1, (PyObject *)self) : NULL;
+        PyObject *all = before ? PySequence_Concat(before, words) : NULL;
+        its = all ? PyObject_Call(call, all, named) : NULL;
+        Py_XDECREF(all);
+        Py_XDECREF(before);
+        Py_XDECREF(call);
+        return its;
+    }
+    if (!PyArg_ParseTuple(words, "O:play", &rule))
+        return NULL;
     for (long tries = 0;; tries++) {
-        Step *step = step_begun(self, self->held.core->step);
-        if (!step)
-            return NULL;
-        PyObject *told = played(step, PyObject_CallFunctionObjArgs(rule, (PyObject *)step, NULL));
-        if (told || PyErr_Occurred())
-            return told;
-        PyObject *waited = PyErr_CheckSignals() ? NULL : PyObject_CallMethod(self->held.core->refusals, "back_off", "l", tries);
+        Step *step = step_begun(self, core->step);
+        its = step ? tried(step, PyObject_CallFunctionObjArgs(rule, (PyObject *)step, NULL), tries) : NULL;
+        if (its || PyErr_Occurred())
+            return its;
+        PyObject *waited = PyErr_CheckSignals() ? NULL : PyObject_CallMethod(core->refusals, "back_off", "l", tries);
         if (!waited)
             return NULL;
         Py_DECREF(waited);
@@ -356,10 +389,11 @@ static PyMethodDef methods[] = {
     HELD_METHODS,
     {"step", (PyCFunction)agent_step, METH_NOARGS,
         "step($self, /)\n--\n\nBegin a step, on its own state as that is after a look. The step is freed at the end of its `with`."},
-    {"play", (PyCFunction)agent_play, METH_O,
-        "play($self, rule, /)\n--\n\nBegin a step, play the rule on it and fire it, and begin again where other agents were quicker: where it\n"
-        "was stale or busy, or clashed with what was written since. Return the number of the move, and what the rule returned.\n\n"
-        "What the rule raises ends it, and nothing is fired; so does `FullError`. Between tries in vain other threads run."},
+    {"play", METHOD(agent_play), METH_VARARGS | METH_KEYWORDS,
+        "play($self, rule, /, *, tries=None, timeout=None)\n--\n\nBegin a step, play the rule on it and commit it, and begin again where other agents were quicker.\n\n"
+        "Return the number of the move and what the rule returned; `.retries` is how many tries were in vain. A rule that writes nothing\n"
+        "fires nothing: the number is 0. After so many tries, or the first one that ends behind so many seconds, the last `ConflictError`\n"
+        "is raised. What the rule raises ends it, and nothing is fired; so does `FullError`. Between tries in vain other threads run."},
     {"give", (PyCFunction)agent_give_back, METH_NOARGS, "give($self, /)\n--\n\nGive it back to its storage."},
     {"free", (PyCFunction)agent_free, METH_NOARGS, "free($self, /)\n--\n\nThe same as `abandon`; it may be called again."},
     {"abandon", (PyCFunction)agent_free, METH_NOARGS,
@@ -409,6 +443,7 @@ static PyGetSetDef gets[] = {
 };
 static PyMemberDef members[] = {
     {"__weaklistoffset__", T_PYSSIZET, offsetof(Held, weak), READONLY, NULL},
+    {"_thread", T_ULONG, offsetof(Agent, thread), READONLY, NULL},
     {"_base", T_ULONGLONG, offsetof(Agent, base), 0, NULL},
     {"_is_taken", T_BOOL, offsetof(Agent, is_taken), 0, NULL},
     {0},

@@ -251,7 +251,7 @@ PyObject *agent_scan(Agent *self, PyObject *name)
     uint32_t number = 0;
     int32_t code;
     Py_ssize_t len;
-    const uint8_t *text = name_of(self->held.core, name, &len);
+    const uint8_t *text = name_of(self->held.core, name, 0, &len);
     if (!text || UNREADY(&self->held))
         return NULL;
     room_begin(&room);
@@ -272,7 +272,6 @@ PyObject *agent_stands(Agent *self, PyObject *named)
     text_begin(&text);
     room_begin(&room);
     if (!write_list(self->held.core, &text, "", 0, named, "reads") && !UNREADY(&self->held)) {
-        agent_turn(self);
         int is_long = IS_LONG(&text) || agent_is_far(self);
         RUN(&self->held, is_long, TOLD(code, &room, asm_stands(SLOT(self), BYTES(&text), ROOM(&room))));
         agent_saw(self);

@@ -33,6 +33,8 @@ typedef struct {
     PyTypeObject *storage, *agent, *step, *location, *move, *audit;
     PyObject *refusals; /* the module of Python whose functions raise errors */
     PyObject *counter;  /* collections.Counter */
+    PyObject *no_rules; /* the types of what a function returns that is no rule: coroutines and generators */
+    PyTypeObject *played;
 } Core;
 
 /* What holds a slot. */
@@ -84,6 +86,7 @@ struct Step {
     Held held;
     Agent *agent;
     uint32_t number, fired;
+    unsigned long thread; /* that began it */
     uint64_t size; /* about how many bytes of text it has got and pushed */
     char is_fired, is_tried, is_pushed, is_open;
 };
@@ -161,7 +164,7 @@ void text_end(Text *text);
 int text_put(Text *text, const char *what, size_t len);
 int write_more(Core *core, Text *text, PyObject *value, const char *name);
 int write_named(Core *core, Text *text, PyObject *value, const char *name);
-const uint8_t *name_of(Core *core, PyObject *name, Py_ssize_t *len);
+const uint8_t *name_of(Core *core, PyObject *name, int is_guard, Py_ssize_t *len);
 #define BYTES(text) (const uint8_t *)(text)->at, (text)->len
 #define IS_LONG(text) ((text)->len > LONG_TEXT)
 

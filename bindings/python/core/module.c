@@ -79,6 +79,22 @@ static PyObject *core_version(PyObject *Py_UNUSED(module), PyObject *Py_UNUSED(n
     return PyLong_FromUnsignedLong(asm_version());
 }
 
+static PyObject *imported(const char *module, const char *name)
+{
+    PyObject *from = PyImport_ImportModule(module), *its = from ? PyObject_GetAttrString(from, name) : NULL;
+    Py_XDECREF(from);
+    return its;
+}
+
+static PyStructSequence_Field played_fields[] = {
+    {"number", "The number of the move; 0 where the rule wrote nothing, so that nothing was fired."},
+    {"result", "What the rule returned."},
+    {"retries", "How many tries were in vain before."},
+    {0},
+};
+static PyStructSequence_Desc played = {
+    "folugben.Played", "What `play` has done, as a pair of the number and the result; it has `retries` too.", played_fields, 2};
+
 static int core_begin(PyObject *module)
 {
     Core *core = PyModule_GetState(module);
@@ -93,10 +109,15 @@ static int core_begin(PyObject *module)
         if (!*types[k].type || PyModule_AddType(module, *types[k].type))
             return -1;
     }
-    PyObject *collections = PyImport_ImportModule("collections");
-    core->counter = collections ? PyObject_GetAttrString(collections, "Counter") : NULL;
-    Py_XDECREF(collections);
-    return core->counter ? 0 : -1;
+    core->counter = imported("collections", "Counter");
+    PyObject *of_async = imported("types", "CoroutineType"), *of_yield = imported("types", "GeneratorType");
+    PyObject *of_both = imported("types", "AsyncGeneratorType");
+    core->no_rules = of_async && of_yield && of_both ? PyTuple_Pack(3, of_async, of_yield, of_both) : NULL;
+    Py_XDECREF(of_async);
+    Py_XDECREF(of_yield);
+    Py_XDECREF(of_both);
+    core->played = PyStructSequence_NewType(&played);
+    return core->counter && core->no_rules && core->played ? PyModule_AddType(module, core->played) : -1;
 }
 
 static int core_traverse(PyObject *module, visitproc visit, void *arg)
@@ -110,6 +131,8 @@ static int core_traverse(PyObject *module, visitproc visit, void *arg)
     Py_VISIT(core->audit);
     Py_VISIT(core->refusals);
     Py_VISIT(core->counter);
+    Py_VISIT(core->no_rules);
+    Py_VISIT(core->played);
     return 0;
 }
 
@@ -124,6 +147,8 @@ static int core_clear(PyObject *module)
     Py_CLEAR(core->audit);
     Py_CLEAR(core->refusals);
     Py_CLEAR(core->counter);
+    Py_CLEAR(core->no_rules);
+    Py_CLEAR(core->played);
     return 0;
 }
 

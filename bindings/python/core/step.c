@@ -45,6 +45,7 @@ Step *step_begun(Agent *agent, PyTypeObject *type)
     agent->seen = self->number;
     agent->is_behind = 0;
     agent->last = self;
+    self->thread = agent->thread;
     agent->steps++;
     self->is_open = 1;
     return self;
@@ -161,7 +162,7 @@ static PyObject *step_scan(Step *self, PyObject *name)
 {
     Py_ssize_t len;
     Room room;
-    const uint8_t *text = name_of(self->held.core, name, &len);
+    const uint8_t *text = name_of(self->held.core, name, 1, &len);
     if (!text || UNREADY(&self->agent->held))
         return NULL;
     room_begin(&room);
@@ -176,8 +177,8 @@ static PyObject *not_pushed(Step *self, int32_t code, const char *move, size_t l
 {
     if (code == ASM_EMPTY || code == ASM_MOVED)
         return step_refused(self, code);
-    return refuse(self->held.core, code, "pushed", "(iy#y#)", (int)code, move, (Py_ssize_t)len, room->at,
-        (Py_ssize_t)(code == ASM_CLASH || code == ASM_LARGE ? room->written : 0));
+    return refuse(self->held.core, code, "pushed", "(iy#y#O)", (int)code, move, (Py_ssize_t)len, room->at,
+        (Py_ssize_t)(code == ASM_CLASH || code == ASM_LARGE ? room->written : 0), (PyObject *)self);
 }
 
 static PyObject *grow_by_text(Step *self, TextCall call, PyObject *move)
@@ -273,6 +274,7 @@ static PyObject *step_pop(Step *self, PyObject *Py_UNUSED(none))
     if (UNREADY(&self->agent->held))
         return NULL;
     int32_t code = asm_pop(SLOT(self));
+    self->is_pushed &= asm_depth(SLOT(self)) > 0;
     return code == ASM_DONE ? Py_NewRef(Py_None) : step_refused(self, code);
 }
 
@@ -285,6 +287,7 @@ static PyObject *step_pop_move(Step *self, PyObject *Py_UNUSED(none))
         return NULL;
     }
     int32_t code = asm_pop_move(SLOT(self), SLOT(move));
+    self->is_pushed &= asm_depth(SLOT(self)) > 0;
     if (code == ASM_DONE) {
         move->is_popped = 1;
         /* Of its instructions nothing is known. */
@@ -505,9 +508,11 @@ static PyGetSetDef gets[] = {
 };
 static PyMemberDef members[] = {
     {"__weaklistoffset__", T_PYSSIZET, offsetof(Held, weak), READONLY, NULL},
+    {"_thread", T_ULONG, offsetof(Step, thread), READONLY, NULL},
     {"_own_number", T_UINT, offsetof(Step, number), READONLY, NULL},
     {"_size", T_ULONGLONG, offsetof(Step, size), READONLY, NULL},
     {"_is_tried", T_BOOL, offsetof(Step, is_tried), 0, NULL},
+    {"_is_pushed", T_BOOL, offsetof(Step, is_pushed), READONLY, NULL},
     {0},
 };
 static PyType_Slot slots[] = {

@@ -5,7 +5,7 @@
 
 /* What is written, which tells what a tuple is there: a list as a value, and an array else. Where one location is wanted (AT), a
  * str is one without arguments. */
-enum { VALUE, MEMBERS, BAG, COUNT, PLACE, AT, PLACES, UPDATE, MOVE, PAIR, PAIRS, SCAN, SCANS };
+enum { VALUE, MEMBERS, BAG, COUNT, PLACE, AT, PLACES, UPDATE, MOVE, PAIR, PAIRS, NAME, SCAN, SCANS };
 
 static const struct {
     const char *name;
@@ -21,6 +21,7 @@ static int inner(int kind, Py_ssize_t place)
     case MOVE: return UPDATE;
     case PAIRS: return PAIR;
     case SCANS: return SCAN;
+    case SCAN: return place == 0 ? NAME : VALUE;
     case UPDATE: return place == 1 ? AT : VALUE;
     case PAIR: return place == 0 ? AT : VALUE;
     default: return VALUE;
@@ -226,8 +227,23 @@ static int write_other(Core *core, Text *text, PyObject *value)
     return PyFloat_Check(value) ? write_float(text, value) : odd(text, value);
 }
 
+/* Whether a text is the name of a function; what isn't is the name of none, so a scan of it guards nothing. */
+static int is_name(const char *at, Py_ssize_t len)
+{
+    Py_ssize_t k = 0;
+    while (k < len && (at[k] == '_' || (at[k] >= '0' && at[k] <= '9' && k) || ((at[k] | 32) >= 'a' && (at[k] | 32) <= 'z')))
+        k++;
+    return k == len && len > 0 && len <= 64;
+}
+
 static int write_value(Core *core, Text *text, PyObject *value, int kind)
 {
+    if (ODD(kind == NAME && PyUnicode_Check(value))) {
+        Py_ssize_t len = 0;
+        const char *at = PyUnicode_AsUTF8AndSize(value, &len);
+        if (!at || !is_name(at, len))
+            return odd(text, value);
+    }
     if (kind == AT && PyUnicode_Check(value))
         return PUT(text, "[") || write_str(text, value) ? -1 : PUT(text, "]");
     if (PyUnicode_CheckExact(value))
@@ -273,13 +289,14 @@ int write_named(Core *core, Text *text, PyObject *value, const char *name)
     return -1;
 }
 
-/* The text of a function's name, which lives as long as the name; null with an exception. */
-const uint8_t *name_of(Core *core, PyObject *name, Py_ssize_t *len)
+/* The text of a function's name, which lives as long as the name; null with an exception. Where something is to depend on the
+ * function it has to be a name. */
+const uint8_t *name_of(Core *core, PyObject *name, int is_guard, Py_ssize_t *len)
 {
     const char *at = PyUnicode_Check(name) ? PyUnicode_AsUTF8AndSize(name, len) : NULL;
-    if (!at) {
-        PyErr_Clear();
-        refuse(core, ASM_SHAPE, "name", "(O)", name);
-    }
-    return (const uint8_t *)at;
+    if (at && (!is_guard || is_name(at, *len)))
+        return (const uint8_t *)at;
+    PyErr_Clear();
+    refuse(core, ASM_SHAPE, "name", "(O)", name);
+    return NULL;
 }

@@ -62,7 +62,7 @@ except ImportError as error:
     ) from error
 
 from ._auditor import Auditor, Counts
-from ._core import Agent, Location, Move, Step, Storage
+from ._core import Agent, Location, Move, Played, Step, Storage
 from ._errors import BadJournalError, BrokenError, BusyError, ClashError, CommitClashError, ConflictError, DamagedError, DeepError
 from ._errors import Error, FullError, LargeError, ManyError, MismatchError, MissingError, MovedError, OverError, PastError
 from ._errors import StaleError, TooLongError, UnknownError, error_text, explain
@@ -85,7 +85,7 @@ __all__ = [
     "Agent", "Auditor", "BadJournalError", "BrokenError", "BusyError", "ClashError", "Code", "CommitClashError", "ConflictError",
     "Counts", "DamagedError", "DeepError", "DiffersError", "Element", "EndlessError", "Error", "Explored", "ForkedError", "FullError",
     "LargeError", "Location", "ManyError", "MismatchError", "MissingError", "Move", "MovedError", "NestedError", "OverError",
-    "PastError", "Place", "Run", "RunAgent", "SharedAgent", "SharedRun", "StaleError", "Step", "Storage", "TextForm", "TooLongError",
+    "PastError", "Place", "Played", "Run", "RunAgent", "SharedAgent", "SharedRun", "StaleError", "Step", "Storage", "TextForm", "TooLongError",
     "UnknownError", "Update", "Value", "aggregate", "audit", "check", "compose", "error_text", "explain", "explore", "import_run",
     "interleave", "part", "replay", "states", "trace", "version",
 ]

@@ -26,6 +26,18 @@ INSTRUCTIONS = b'{"fire":%b,"reads":[]}'
 READS = b'{"fire":[],"reads":%b}'
 
 
+# Why the updates of a location clash.
+_CAUSES = {
+    "Two": "two different values are put",
+    "Mixed": "instructions of two of these: sets, bags, numbers",
+    "Kind": "add and remove need a set, bag_add and bag_remove a bag, and inc a number",
+    "Both": "an element is added to a set and removed from it",
+    "Against": "a value is put that the other instructions don't agree with",
+    "Short": "more of an element is removed than the bag has",
+    "Large": "a count is above 4,294,967,295, or a number is none of 64 bits",
+}
+
+
 def error_text(code: int) -> str:
     """What a code means, in a line."""
     code = int.__index__(operator.index(code))
@@ -48,7 +60,9 @@ class Error(Exception):
     def __str__(self) -> str:
         text = error_text(self.code)
         if self.said:
-            text = self.said if self.code == Code.NOT_JSON else f"{text}: {self.said}"
+            # Of these the code's own line says less.
+            is_said = self.code in (Code.NOT_JSON, Code.RANGE, Code.MANY)
+            text = self.said if is_said else f"{text}: {self.said}"
         where = NUMBERS[self.code].format(*self.numbers) if self.numbers else ""
         return text if text.endswith(where) else f"{text} ({where})"
 
@@ -72,6 +86,12 @@ class ClashError(Error):
 
     at: tuple[Any, ...]
     cause: str
+    # What is there, where that is of another kind.
+    there: str | None = None
+
+    def __str__(self) -> str:
+        there = "" if self.there is None else f", and there is {self.there}"
+        return f"{super().__str__()}: {_CAUSES.get(getattr(self, 'cause', ''), '')}{there}"
 
 
 class CommitClashError(ClashError, ConflictError):
@@ -246,8 +266,8 @@ def exact(text: Text, name: str) -> bytes:
 def explain(form: int, text: Text) -> str:
     """Where and why a text isn't of a form, LOCATIONS, MOVE, STATE, EVENT or SCRIPT; empty for a text that is."""
     form, text = int.__index__(operator.index(form)), exact(text, "a text")
-    if not 0 <= form < 2**31:
-        raise Error(Code.RANGE)
+    if form not in frozenset(TextForm):
+        raise Error(Code.RANGE, said=f"a form is one of TextForm, 0 to {len(TextForm) - 1}, and not {form}")
     code, said, *_ = _core.told(EXPLAIN, form, text)
     expect(code)
     return said.decode()
@@ -266,10 +286,22 @@ def refused_number(text: bytes) -> str:
     return told.replace('["fire"]', "instructions", 1).replace('["reads"]', "reads", 1)
 
 
+def is_json(text: bytes) -> bool:
+    """Whether a text is JSON, which the library doesn't read where it nests too deep."""
+    try:
+        json.loads(text)
+    except (ValueError, RecursionError) as error:
+        return isinstance(error, RecursionError)
+    return True
+
+
 def expect_read(code: int, form: int, text: bytes) -> None:
     """Raises what the code of a call says that was passed a text of this form, unless it is DONE."""
+    if code == Code.NOT_JSON and is_json(text):
+        expect(Code.SHAPE, said="lists nest at most 8 deep")
     if code in (Code.NOT_JSON, Code.SHAPE):
         said = explain(form, text)
+        said = said.replace('a list is written {"list":[..]}', 'a list is a tuple, or written {"list":[..]}')
         if " is whole, from " in said and (at := refused_number(text)):
             said += f", and {at}"
         expect(code, said=said)

@@ -3,15 +3,17 @@ import json
 import operator
 import pathlib
 import sys
-import time
 from typing import TYPE_CHECKING, Any, NoReturn
 
 from . import _core
-from ._errors import INSTRUCTIONS, READS, BusyError, ClashError, CommitClashError, Error, MissingError, OverError, ahead, exact, expect, expect_part, expect_read
+from ._errors import INSTRUCTIONS, READS, BusyError, ClashError, CommitClashError, Error, MissingError, OverError, ahead, expect, expect_part, expect_read
 from ._errors import expect_scans, explain, refusal
 from ._held import ForkedError
-from ._library import Code, INC, LIST, TEXT, TextForm
-from ._texts import not_a_value
+from ._library import Code, INC, TEXT, TextForm
+from ._play import back_off, no_rule, play
+from ._texts import expect_name, not_a_value
+
+__all__ = ["back_off", "no_rule", "play"]
 
 if TYPE_CHECKING:
     from ._core import Agent, Step, Storage
@@ -23,15 +25,6 @@ _RANGES = {
     "agent": "agent {value}: numbers are below 256",
     "capacity": "a capacity is 1 to {most:,}, not {value}",
 }
-# After so many tries in vain an agent sleeps between them, for at most so many seconds.
-_TRIES_WITHOUT_SLEEP, _LONGEST_SLEEP = 4, 0.001
-
-
-def back_off(tries: int) -> None:
-    """Lets others run after so many tries in vain."""
-    more = tries - _TRIES_WITHOUT_SLEEP
-    time.sleep(0 if more < 0 else min(_LONGEST_SLEEP, 1e-6 * 2 ** min(more, 10)))
-
 
 def out_of_range(what: str, value: int, least: int, most: int) -> NoReturn:
     raise Error(Code.RANGE, said=_RANGES[what].format(value=int.__index__(value), most=most))
@@ -70,7 +63,8 @@ def no_agent(said: str, it: Any) -> NoReturn:
 
 
 def name(it: Any) -> NoReturn:
-    exact(it, "a name")
+    if isinstance(it, str):
+        expect_name(it, "a name")
     raise TypeError(f"a name is a str, and not {type(it).__name__!r}")
 
 
@@ -116,12 +110,16 @@ def leave(storage: "Storage", path: str, error: BaseException | None) -> None:
 
 
 def read(code: int, form: int, text: bytes) -> None:
+    if code == Code.MANY:
+        expect(code, said=f"{len(json.loads(text)):,} locations: a read, or a step, depends on at most 256 locations and functions")
     expect_read(code, form, text)
 
 
 def stands(code: int, agent: "Agent", reads: bytes) -> None:
     if code == Code.RANGE:
         raise ahead(json.loads(reads), agent.seen)
+    if code == Code.MANY:
+        expect(code, said=f"{len(json.loads(reads)):,} reads: at most 256")
     expect_part(code, READS, reads)
 
 
@@ -130,6 +128,9 @@ def fired(code: int, agent: "Agent", told: bytes, from_: int, to: int, call: byt
         raise ahead(json.loads(call)["reads"], agent.seen, json.loads(scans))
     if code == Code.SHAPE and not explain(TextForm.MOVE, call):
         expect_scans(code, json.loads(scans))
+    if code == Code.MANY:
+        count = len(json.loads(call)["reads"]) + len(json.loads(scans))
+        expect(code, said=f"{count:,} reads and scans: a fire names at most 256")
     answered(code, told, from_, to, ClashError)
     expect_read(code, TextForm.MOVE, call)
 
@@ -150,7 +151,10 @@ def over(code: int, step: "Step") -> NoReturn:
 
 
 def step(code: int, it: "Step") -> None:
-    expect(code)
+    agent, said = it._agent, ""
+    if code == Code.MOVED and it._thread != agent._thread:
+        said = f"agent {agent.number} is used by two threads"
+    expect(code, said="a step depends on at most 256 locations and functions" if code == Code.MANY else said)
 
 
 def answered(code: int, told: bytes, from_: int, to: int, clash: type[ClashError]) -> None:
@@ -165,9 +169,16 @@ def committed(code: int, told: bytes, from_: int, to: int) -> None:
     expect(code)
 
 
-def pushed(code: int, move: bytes, told: bytes) -> None:
+def pushed(code: int, move: bytes, told: bytes, step: "Step") -> None:
     if code in (Code.CLASH, Code.LARGE):
-        raise refusal(code, told)
+        raised = refusal(code, told)
+        if isinstance(raised, ClashError) and raised.cause == "Kind":
+            (value,) = step.see([raised.at])
+            raised.there = "nothing" if value is None else f"{value!r:.60}"
+        raise raised
+    if code == Code.MANY:
+        count = f"{len(json.loads(move)):,} more: " if move else ""
+        expect(code, said=f"{count}the moves of a step come to at most 4,096 instructions, and it depends on at most 256 locations")
     expect_part(code, INSTRUCTIONS, move)
 
 
@@ -177,16 +188,15 @@ def united(code: int, own: int, others: int) -> None:
 
 
 def location(code: int, text: bytes) -> None:
-    # Where it isn't JSON, the byte is told, counted from its own beginning.
-    expect(code, said=explain(TextForm.LOCATIONS, b"[%b]" % text if code == Code.SHAPE else text))
+    expect_read(code, TextForm.LOCATIONS, b"[%b]" % text if code == Code.SHAPE else text)
 
 
 def instructed(code: int, place: bytes, verb: int, kind: int, number: int, text: bytes | None, amount: int) -> None:
     if kind > TEXT and code in (Code.NOT_JSON, Code.SHAPE):
         expect_part(code, INSTRUCTIONS, b'[["%b",%b,%b%b]]' % (_WORDS[verb], place, text or b"", b",%d" % amount if amount else b""))
-    if kind > LIST and code == Code.RANGE and verb != INC:
-        raise Error(code, said="a set or a bag can be put, and is no element")
-    expect(code)
+    if code == Code.RANGE:
+        expect(code, said="inc takes a whole number" if verb == INC else "a set or a bag can be put, and is no element")
+    expect(code, said="a move has at most 4,096 instructions" if code == Code.MANY else "")
 
 
 _core.use(sys.modules[__name__])

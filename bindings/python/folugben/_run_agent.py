@@ -4,13 +4,13 @@ from collections.abc import Callable, Iterable, Sequence
 from types import TracebackType
 from typing import TYPE_CHECKING, Any, NoReturn, Self, TypeVar, overload
 
-from ._core import Location, Step
+from ._core import Location, Played, Step
 from ._errors import Error, FullError, PastError, ahead
 from ._held import is_in_call
 from ._library import Code
 from ._lines import LINE_LIMIT, SHORT, expect_call, too_long
 from ._part import PartAgent, PartStep
-from ._refusals import back_off
+from ._play import play
 from ._texts import Form, encoded
 
 if TYPE_CHECKING:
@@ -52,27 +52,14 @@ class RunAgent:
                     step.free()
             self._go_on()
 
-    def play(self, rule: Callable[[Step], _R]) -> tuple[int, _R]:
-        """Begins a step, plays the rule on it and fires it, and begins anew where other agents were quicker, or its part had
-        ended. The number of the fired move, and what the rule returned.
+    def play(
+        self, rule: Callable[[Step], _R], /, *, tries: int | None = None, timeout: float | None = None
+    ) -> Played[_R]:
+        """Play a rule as the agent of a storage does, and begin again too where the part of the run has ended.
 
-        What the rule raises ends it, and nothing is fired; but `PastError`, where the step was given back. Between tries in vain
-        other threads run.
+        What the rule raises ends it, and nothing is fired; but `PastError`, where the step was given back.
         """
-        tries = 0
-        while True:
-            step = self.step()
-            try:
-                with step:
-                    told = rule(step)
-                    number = step.try_commit()
-                if number:
-                    return number, told
-            except PastError:
-                if not step.is_taken:
-                    raise
-            back_off(tries)
-            tries += 1
+        return play(self, rule, tries=tries, timeout=timeout)
 
     def read(self, places: Sequence[Form]) -> tuple[int, list[Any]]:
         """The number of moves, and the values of the locations after them; at most 256 locations, else `ManyError`.

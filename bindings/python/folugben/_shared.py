@@ -5,13 +5,14 @@ from collections.abc import Callable, Iterable, Sequence
 from types import TracebackType
 from typing import Any, NoReturn, Self, TypeVar, overload
 
-from ._core import Agent, Location, Step, Storage
+from ._core import Agent, Location, Played, Step, Storage
 from ._errors import BrokenError, Error, PastError, as_conflict
 from ._held import ForkedError, is_in_call
 from ._library import Code
 from ._lines import expect_call, expect_state
 from ._log import Log
-from ._refusals import back_off, capacity_of, own_number
+from ._play import play
+from ._refusals import capacity_of, own_number
 from ._replica import Era
 from ._texts import Form, encoded, owned
 from ._worker import Worker
@@ -194,21 +195,11 @@ class SharedAgent:
         era, agent = self._now()
         return SharedStep(self, agent, era)
 
-    def play(self, rule: Callable[[Step], _R]) -> tuple[int, _R]:
-        """Begin a step, play the rule on it and fire it, and begin again where other agents were quicker.
-
-        Return the number of the move, once that is durable, and what the rule returned. What the rule raises ends it, and nothing
-        is fired.
-        """
-        tries = 0
-        while True:
-            with self.step() as step:
-                told = rule(step)
-                number = step.try_commit()
-            if number:
-                return number, told
-            back_off(tries)
-            tries += 1
+    def play(
+        self, rule: Callable[[Step], _R], /, *, tries: int | None = None, timeout: float | None = None
+    ) -> Played[_R]:
+        """Play a rule as the agent of a storage does, and return once its move is durable."""
+        return play(self, rule, tries=tries, timeout=timeout)
 
     def follow(self) -> int:
         """Wait until the replica has all that is in the log now, and follow it. Return the number of moves seen."""

@@ -19,10 +19,16 @@ def utf_8(text: str) -> bytes:
     return exact(text, "a text")
 
 
+def expect_name(text: str, path: str) -> NoReturn:
+    """Raises why a text is no value, or no name where one is wanted."""
+    exact(text, path)
+    raise Error(Code.SHAPE, said=f"{path} is {text!r:.60}: a name has 1 to 64 letters, digits and _, and begins with no digit")
+
+
 def not_a_value(value: object, path: str) -> NoReturn:
     """Raises why something at a path is no value."""
     if isinstance(value, str):
-        exact(value, path)
+        expect_name(value, path)
     whole = "is no whole number" if isinstance(value, numbers.Number) and not hasattr(value, "__index__") else ""
     way = next((way for is_so, way in (
         (isinstance(value, Enum), "pass its .value or its .name"),

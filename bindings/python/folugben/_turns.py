@@ -5,7 +5,8 @@ from collections.abc import Callable, Sequence
 from types import TracebackType
 from typing import Any, Self, TypeVar
 
-from ._errors import PastError
+from ._core import Played as CorePlayed
+from ._play import play
 
 _A = TypeVar("_A")
 _R = TypeVar("_R")
@@ -179,18 +180,10 @@ class PlayedAgent(Played):
         step: Played = self.player.call(self, "step", (), {})
         return step
 
-    def play(self, rule: Callable[[Any], _R]) -> tuple[int, _R]:
-        while True:
-            step = self.step()
-            try:
-                with step:
-                    told = rule(step)
-                    number = step.try_commit()
-                if number:
-                    return number, told
-            except PastError:
-                if not getattr(step.own, "is_taken", False):
-                    raise
+    def play(
+        self, rule: Callable[[Any], _R], /, *, tries: int | None = None, timeout: float | None = None
+    ) -> CorePlayed[_R]:
+        return play(self, rule, tries=tries, timeout=timeout)
 
 
 def _bare(word: Any) -> Any:

@@ -56,7 +56,7 @@ class Agents(unittest.TestCase):
             self.storage.agent(0).fire([["put", ["x"], 1], ["put", ["x"], 2]])
         for clash in (caught.exception, pickle.loads(pickle.dumps(caught.exception))):
             self.assertEqual((clash.at, clash.cause), (("x",), "Two"))
-            self.assertEqual(str(clash), folugben.error_text(folugben.Code.CLASH) + ': ["x"], Two')
+            self.assertEqual(str(clash), folugben.error_text(folugben.Code.CLASH) + ': ["x"], Two: two different values are put')
 
     def test_a_full_storage(self):
         agent = self.storage.agent(0)

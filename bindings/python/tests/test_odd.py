@@ -54,7 +54,7 @@ class Odd(unittest.TestCase):
         self.assertEqual(explain(folugben.TextForm.LOCATIONS, bytearray(b"[nul]")), "not JSON at byte 2")
         self.refused(TypeError, "a text is bytes or a str, and not 'int'", explain, folugben.TextForm.LOCATIONS, 7)
         for form in (Cunning(2**40), Cunning(-1)):
-            self.refused(Error, "out of range", explain, form, b"")
+            self.refused(Error, "a form is one of", explain, form, b"")
         for call in (Storage, ) * 2 + (self.storage.next, ):
             arguments = [[], Cunning(2**32 + 1)] if call is Storage else [Cunning(2**32 + 1)]
             self.refused(Error, "", call, *arguments)

@@ -61,7 +61,9 @@ def collect(is_guarded):
         if is_guarded:
             return agent.play(rule.play)
         with agent.step() as step:
-            move = rule.updates(step)
+            rule.play(step)
+            move = step.offer()["fire"]
+            step.pop()
         return agent.fire(move)
 
     return work

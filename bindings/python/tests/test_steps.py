@@ -253,7 +253,7 @@ class Steps(unittest.TestCase):
     def test_an_amount_that_is_too_large_has_a_location(self):
         # No step of the agent's own storage leads to it, so the library's answer is made up.
         with self.assertRaises(folugben.LargeError) as caught:
-            _refusals.pushed(folugben.Code.LARGE, b"[]", b'{"large":["bag"]}')
+            _refusals.pushed(folugben.Code.LARGE, b"[]", b'{"large":["bag"]}', self.agent.step())
         self.assertEqual(caught.exception.at, ("bag",))
 
     def test_gets_take_no_memory(self):
