@@ -185,14 +185,14 @@ class Ends(Rooms):
         """A limit of the process stands for the disk."""
         code = """
 import resource, sys
-from folugben import Broken, Run
+from folugben import BrokenError, Run
 resource.setrlimit(resource.RLIMIT_FSIZE, (3_000, 3_000))
 try:
     with Run(sys.argv[1], [[["count"], 0]], 30) as run, run.agent(0) as agent:
         while True:
             text = "x" * (run.parts * 20)
             agent.play(lambda step: step.push([["put", ["count"], text]]))
-except Broken as broken:
+except BrokenError as broken:
     print(broken.part, broken.__cause__.errno, broken)
 """
         told = called(code, self.path)
@@ -258,7 +258,7 @@ class Processes(Rooms):
                 os._exit(1)
         with open(told[0], "rb") as pipe:
             said = json.loads(pipe.readline())
-        self.assertEqual(said, ["forked"] * 12 + ["(1, None)"])
+        self.assertEqual(said, ["forked"] * 12 + ["folugben.Played(number=1, result=None)"])
         step.free()
         for _ in range(10):
             agent.play(raised)
