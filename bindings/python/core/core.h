@@ -204,18 +204,18 @@ PyObject *change_refused(Core *core, Change *its);
 void change_end(Change *its);
 
 /* The methods of a type that make such changes. */
-#define CHANGE_OF(Type, type, name, verb, work)                                                 \
-    static PyObject *type##_##name(Type *self, PyObject *const *words, Py_ssize_t count)        \
+#define CHANGE_OF(scope, Type, type, name, verb, work)                                          \
+    scope PyObject *type##_##name(Type *self, PyObject *const *words, Py_ssize_t count)        \
     {                                                                                           \
         return work(self, words, count, verb);                                                  \
     }
-#define CHANGES(Type, type, work)                                                               \
-    CHANGE_OF(Type, type, put, ASM_PUT, work)                                                   \
-    CHANGE_OF(Type, type, add, ASM_ADD, work)                                                   \
-    CHANGE_OF(Type, type, remove, ASM_REMOVE, work)                                             \
-    CHANGE_OF(Type, type, bag_add, ASM_BAGADD, work)                                            \
-    CHANGE_OF(Type, type, bag_remove, ASM_BAGREMOVE, work)                                      \
-    CHANGE_OF(Type, type, inc, ASM_INC, work)
+#define CHANGES(scope, Type, type, work)                                                        \
+    CHANGE_OF(scope, Type, type, put, ASM_PUT, work)                                                   \
+    CHANGE_OF(scope, Type, type, add, ASM_ADD, work)                                                   \
+    CHANGE_OF(scope, Type, type, remove, ASM_REMOVE, work)                                             \
+    CHANGE_OF(scope, Type, type, bag_add, ASM_BAGADD, work)                                            \
+    CHANGE_OF(scope, Type, type, bag_remove, ASM_BAGREMOVE, work)                                      \
+    CHANGE_OF(scope, Type, type, inc, ASM_INC, work)
 #define CHANGE_METHODS(type)                                                                                     \
     {"put", METHOD(type##_put), METH_FASTCALL, "put($self, at, value, /)\n--\n\nPut a value; None leaves the location empty."}, \
     {"add", METHOD(type##_add), METH_FASTCALL, "add($self, at, element, /)\n--\n\nAdd an element to a set."},    \
@@ -226,15 +226,16 @@ void change_end(Change *its);
         "bag_remove($self, at, element, amount=1, /)\n--\n\nRemove an element from a bag, 1 to 4,294,967,295 times."}, \
     {"inc", METHOD(type##_inc), METH_FASTCALL, "inc($self, at, by, /)\n--\n\nRaise a number, by 0 or less too."}
 
-/* storage.c, location.c */
+/* storage.c, and move.c */
 Storage *storage_next_of(Held *held, PyObject *words, PyObject *named, uint32_t *capacity);
 PyObject *storage_refused(Storage *self, int32_t code);
 PyObject *location_refused(Location *self, int32_t code);
 
-/* agent.c, and agent_texts.c */
+/* agent.c, agent_texts.c and play.c */
 PyObject *agent_made(Storage *storage, PyObject *number, int is_taken);
 int32_t agent_give(Agent *self);
 int agent_is_far(const Agent *self);
+PyObject *agent_play(Agent *self, PyObject *words, PyObject *named);
 void agent_turn(Agent *self);
 void agent_saw(Agent *self);
 int32_t agent_catches_up(Agent *self);
@@ -253,7 +254,23 @@ PyObject *agent_scan(Agent *self, PyObject *name);
 PyObject *agent_stands(Agent *self, PyObject *reads);
 PyObject *agent_go_on(Agent *self, PyObject *words, PyObject *named);
 
-/* step.c */
+/* step.c, and step_values.c */
+PyObject *step_refused(Step *self, int32_t code);
+PyObject *step_get(Step *self, PyObject *it);
+PyObject *step_at(Step *self, PyObject *it);
+PyObject *step_see(Step *self, PyObject *it);
+PyObject *step_scan(Step *self, PyObject *it);
+PyObject *step_push(Step *self, PyObject *it);
+PyObject *step_extend(Step *self, PyObject *it);
+PyObject *step_pop(Step *self, PyObject *it);
+PyObject *step_pop_move(Step *self, PyObject *it);
+#define CHANGE_DECLARED(name) PyObject *step_##name(Step *self, PyObject *const *words, Py_ssize_t count)
+CHANGE_DECLARED(put);
+CHANGE_DECLARED(add);
+CHANGE_DECLARED(remove);
+CHANGE_DECLARED(bag_add);
+CHANGE_DECLARED(bag_remove);
+CHANGE_DECLARED(inc);
 Step *step_begun(Agent *agent, PyTypeObject *type);
 int64_t step_fires(Step *self, int is_try);
 void step_drop(Step *self);

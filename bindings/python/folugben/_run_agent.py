@@ -23,7 +23,7 @@ class RunAgent:
     """An agent of a run, for one thread, which goes on from part to part by itself. It is given back at the end of a `with`.
 
     It works in steps as the agent of a storage does. Where a part has ended, the next step begins in the newest part; a step
-    that was begun before goes on seeing its state, but fires no more: its `fire` raises `PastError`, which is a `ConflictError`, `try_fire`
+    that was begun before goes on seeing its state, but fires no more: its `commit` raises `PastError`, which is a `ConflictError`, `try_commit`
     answers 0, and `play` begins anew.
 
     Numbers of moves are those of the run. What was read or scanned in a part that has ended can't be named in a fire: `PastError`.

@@ -244,7 +244,7 @@ class Plays(Shared):
                             agent.play(raised)
                         is_behind.set()
                         thread.join(60)
-                    self.assertEqual(type(told[0]), UnknownError if is_sent else tuple)
+                    self.assertIsInstance(told[0], UnknownError if is_sent else tuple)
                     self.assertEqual(ben.follow(), other.state()[0])
                     self.assertGreater(ben.play(raised)[0], 21)
                 self.assertEqual(run.state(), other.state())

@@ -13,12 +13,14 @@ from unittest import mock
 
 import folugben
 import own
-from folugben import APART, CUT, EMPTY, ILLEGAL, LARGE, NONE, NOT_JSON, SHAPE, VERSION
-from folugben import Auditor, BadJournalError, ClashError, Counts, Error, StaleError, Storage, audit, check, part, replay
+from folugben import Auditor, BadJournalError, ClashError, Code, Counts, Error, StaleError, Storage, audit, check, part, replay
 from folugben import __main__ as main
 from folugben import _auditor
 from random_moves import INIT, move
 from threads import in_threads
+
+APART, CUT, EMPTY, ILLEGAL, LARGE, NONE, NOT_JSON, SHAPE, VERSION = map(
+    Code.__getitem__, "APART CUT EMPTY ILLEGAL LARGE NONE NOT_JSON SHAPE VERSION".split())
 
 
 def parts_of_a_run(seed: int, count: int = 4) -> list[bytes]:
