@@ -204,7 +204,8 @@ class BadJournalError(Error):
 
 # The exceptions of codes that have one of their own.
 KINDS: dict[int, type[Error]] = {
-    Code.STALE: StaleError, Code.CLASH: ClashError, Code.FULL: FullError, Code.BUSY: BusyError, Code.MANY: ManyError, Code.MISSING: MissingError, Code.LARGE: LargeError, Code.MOVED: MovedError, Code.DEEP: DeepError,
+    Code.STALE: StaleError, Code.CLASH: ClashError, Code.FULL: FullError, Code.BUSY: BusyError, Code.MANY: ManyError,
+    Code.MISSING: MissingError, Code.LARGE: LargeError, Code.MOVED: MovedError, Code.DEEP: DeepError,
 }
 
 

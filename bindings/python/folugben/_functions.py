@@ -61,8 +61,8 @@ def aggregate(state: Iterable[Form], instructions: Sequence[Form]) -> list[Any]:
 def compose(first: Sequence[Form], second: Sequence[Form]) -> list[Any]:
     """One move that does what the first and then the second do, wherever the first fires.
 
-    `ClashError` and `LargeError` where on no state both fire: updates clash, or an amount or a sum of increments is too large. `ManyError`
-    where it would have more than 4,096 instructions.
+    `ClashError` and `LargeError` where on no state both fire: updates clash, or an amount or a sum of increments is too large.
+    `ManyError` where it would have more than 4,096 instructions.
     """
     one, two = encoded(first, "first"), encoded(second, "second")
     code, told, *_ = _core.told(COMPOSE, 0, one, two)

@@ -6,17 +6,17 @@ import sys
 from typing import TYPE_CHECKING, Any, NoReturn
 
 from . import _core
-from ._errors import INSTRUCTIONS, READS, BusyError, ClashError, CommitClashError, Error, MissingError, OverError, ahead, expect, expect_part, expect_read
-from ._errors import expect_scans, explain, refusal
+from ._errors import INSTRUCTIONS, READS, BusyError, ClashError, CommitClashError, Error, MissingError, OverError, ahead, expect
+from ._errors import expect_part, expect_read, expect_scans, explain, refusal
 from ._held import ForkedError
 from ._library import Code, INC, TEXT, TextForm
 from ._play import back_off, no_rule, play
 from ._texts import expect_name, not_a_value
 
-__all__ = ["back_off", "no_rule", "play"]
-
 if TYPE_CHECKING:
     from ._core import Agent, Step, Storage
+
+__all__ = ["back_off", "no_rule", "play"]
 
 _WORDS = (b"put", b"add", b"remove", b"bagadd", b"bagremove", b"inc")
 _RANGES = {
@@ -25,6 +25,7 @@ _RANGES = {
     "agent": "agent {value}: numbers are below 256",
     "capacity": "a capacity is 1 to {most:,}, not {value}",
 }
+
 
 def out_of_range(what: str, value: int, least: int, most: int) -> NoReturn:
     raise Error(Code.RANGE, said=_RANGES[what].format(value=int.__index__(value), most=most))
