@@ -5,7 +5,7 @@
 import sys
 import threading
 
-from folugben import Agent, Busy, Stale, Storage, check, replay
+from folugben import Agent, BusyError, StaleError, Storage, check, replay
 
 AGENTS, TIMES = 8, 100
 
@@ -18,7 +18,7 @@ def work(agent: Agent, own: int) -> None:
         move = [["put", ["count"], count + 1], ["put", ["own", own], done + 1], ["add", ["seen"], count]]
         try:
             fired = agent.fire(move, [[["count"], number]])
-        except (Stale, Busy):
+        except (StaleError, BusyError):
             continue
         assert fired == count + 1
         done += 1

@@ -4,8 +4,7 @@ from folugben import Storage, check
 
 
 def deposit(step):
-    (balance,) = step.get([["balance"]])
-    step.push([["put", ["balance"], balance + 10]])
+    step.put("balance", step["balance"] + 10)
 
 
 def teller(agent):
@@ -13,10 +12,10 @@ def teller(agent):
         agent.play(deposit)                     # again, where the other was quicker
 
 
-with Storage([[["balance"], 0]], 1000) as storage:
+with Storage({"balance": 0}, 1000) as storage:
     with storage.agent(0) as anna, storage.agent(1) as ben, ThreadPoolExecutor() as pool:
         list(pool.map(teller, [anna, ben]))
         anna.follow()
-        number, (balance,) = anna.peek([["balance"]])
+        number, (balance,) = anna.peek([("balance",)])
     check(storage.close_journal())              # raises where an answer wasn't right
     print(f"{number} moves, balance {balance}")

@@ -37,9 +37,12 @@ static int32_t comes(Agent *self, int is_taken, int is_made)
     return code;
 }
 
-/* Is in its storage's list no longer. */
+/* Is in its storage's list, and its turns, no longer. */
 static void leaves(Agent *self)
 {
+    for (int k = 0; self->storage && k < TURNS; k++)
+        if (self->storage->turns[k].agent == self)
+            self->storage->turns[k].agent = NULL;
     if (!self->before)
         return;
     *self->before = self->next;
@@ -210,35 +213,6 @@ static PyObject *agent_step(Agent *self, PyObject *Py_UNUSED(none))
     return (PyObject *)step_begun(self, self->held.core->step);
 }
 
-/* What follows a try: a pair of the move's number and what the rule told, or null, without an exception to try again. */
-static PyObject *played(Step *step, PyObject *told)
-{
-    int64_t number = told ? step_fires(step, 1) : -1;
-    if (IS_FULL(step) && !(ODD(step->agent->held.is_busy) && unready(&step->agent->held)))
-        asm_free(SLOT(step));
-    Py_DECREF((PyObject *)step);
-    if (number > 0)
-        return Py_BuildValue("LN", (long long)number, told);
-    Py_XDECREF(told);
-    return NULL;
-}
-
-static PyObject *agent_play(Agent *self, PyObject *rule)
-{
-    for (long tries = 0;; tries++) {
-        Step *step = step_begun(self, self->held.core->step);
-        if (!step)
-            return NULL;
-        PyObject *told = played(step, PyObject_CallFunctionObjArgs(rule, (PyObject *)step, NULL));
-        if (told || PyErr_Occurred())
-            return told;
-        PyObject *waited = PyErr_CheckSignals() ? NULL : PyObject_CallMethod(self->held.core->refusals, "back_off", "l", tries);
-        if (!waited)
-            return NULL;
-        Py_DECREF(waited);
-    }
-}
-
 static PyObject *agent_counts(Agent *self, PyObject *Py_UNUSED(none))
 {
     if (UNREADY(&self->held))
@@ -320,22 +294,23 @@ static PyMethodDef methods[] = {
     HELD_METHODS,
     {"step", (PyCFunction)agent_step, METH_NOARGS,
         "step($self, /)\n--\n\nBegin a step, on its own state as that is after a look. The step is freed at the end of its `with`."},
-    {"play", (PyCFunction)agent_play, METH_O,
-        "play($self, rule, /)\n--\n\nBegin a step, play the rule on it and fire it, and begin again where other agents were quicker: where it\n"
-        "was stale or busy, or clashed with what was written since. Return the number of the move, and what the rule returned.\n\n"
-        "What the rule raises ends it, and nothing is fired; so does `Full`. Between tries in vain other threads run."},
+    {"play", METHOD(agent_play), METH_VARARGS | METH_KEYWORDS,
+        "play($self, rule, /, *, tries=None, timeout=None)\n--\n\nBegin a step, play the rule on it and commit it, and begin again where other agents were quicker.\n\n"
+        "Return the number of the move and what the rule returned; `.retries` is how many tries were in vain. A rule that writes nothing\n"
+        "fires nothing: the number is 0. After so many tries, or the first one that ends behind so many seconds, the last `ConflictError`\n"
+        "is raised. What the rule raises ends it, and nothing is fired; so does `FullError`. Between tries in vain other threads run."},
     {"give", (PyCFunction)agent_give_back, METH_NOARGS, "give($self, /)\n--\n\nGive it back to its storage."},
     {"free", (PyCFunction)agent_free, METH_NOARGS, "free($self, /)\n--\n\nThe same as `abandon`; it may be called again."},
     {"abandon", (PyCFunction)agent_free, METH_NOARGS,
-        "abandon($self, /)\n--\n\nRelease it without giving it back: its moves hold, and are `Missing` in each journal of its storage."},
+        "abandon($self, /)\n--\n\nRelease it without giving it back: its moves hold, and are `MissingError` in each journal of its storage."},
     {"read", (PyCFunction)agent_read, METH_O,
-        "read($self, places, /)\n--\n\nReturn the number of moves, and the values of the locations after them; at most 256, else `Many`."},
+        "read($self, places, /)\n--\n\nReturn the number of moves, and the values of the locations after them; at most 256, else `ManyError`."},
     {"fire", METHOD(agent_fire), METH_VARARGS | METH_KEYWORDS,
         "fire($self, instructions, reads=(), scans=())\n--\n\nFire a move that depends on these reads, pairs of a location and a number, and on the whole functions of\n"
         "these scans, pairs of a function's name and a number. Return the number of the move.\n\n"
-        "`Stale` where one of the locations, or any location of one of the functions, was written since that number of moves; `Clash`\n"
-        "where the updates clash, `Full` where as many moves were fired as the capacity, `Busy` where 64 offers were lost to other\n"
-        "agents, `Many` for more than 256 reads and scans. A number that the agent hasn't seen is an `Error` with the code RANGE."},
+        "`StaleError` where one of the locations, or any location of one of the functions, was written since that number of moves; `ClashError`\n"
+        "where the updates clash, `FullError` where as many moves were fired as the capacity, `BusyError` where 64 offers were lost to other\n"
+        "agents, `ManyError` for more than 256 reads and scans. A number that the agent hasn't seen is an `Error` with the code RANGE."},
     {"answer", (PyCFunction)agent_answer, METH_NOARGS, "answer($self, /)\n--\n\nReturn the answer to the last answered call."},
     {"learn", (PyCFunction)agent_learn, METH_O,
         "learn($self, other, /)\n--\n\nTake in what another agent of the storage has seen."},
@@ -373,6 +348,7 @@ static PyGetSetDef gets[] = {
 };
 static PyMemberDef members[] = {
     {"__weaklistoffset__", T_PYSSIZET, offsetof(Held, weak), READONLY, NULL},
+    {"_thread", T_ULONG, offsetof(Agent, thread), READONLY, NULL},
     {"_base", T_ULONGLONG, offsetof(Agent, base), 0, NULL},
     {"_is_taken", T_BOOL, offsetof(Agent, is_taken), 0, NULL},
     {0},

@@ -9,11 +9,6 @@ static PyObject *text_refused(Agent *self, int32_t code, int form, Text *text)
     return refuse(self->held.core, code, "read", "(iiy#)", (int)code, form, text->at, (Py_ssize_t)text->len);
 }
 
-static void saw(Agent *self)
-{
-    self->seen = asm_seen(SLOT(self));
-}
-
 static int32_t reads(Agent *self, Text *text, Room *room)
 {
     int32_t code = asm_read(SLOT(self), BYTES(text));
@@ -39,8 +34,9 @@ PyObject *agent_read(Agent *self, PyObject *places)
         return NULL;
     room_begin(&room);
     if (!UNREADY(&self->held)) {
+        agent_turn(self);
         CALL(code, &self->held, IS_LONG(&text) || agent_is_far(self), reads(self, &text, &room));
-        saw(self);
+        agent_saw(self);
         told = code == ASM_DONE ? numbered(self->held.core, &room) : text_refused(self, code, ASM_FORM_LOCATIONS, &text);
     }
     room_end(&room);
@@ -72,7 +68,7 @@ static PyObject *fire(Agent *self, const Offer *its)
     room_begin(&room);
     int is_long = its->len > LONG_TEXT || its->scans_len > LONG_TEXT || agent_is_far(self);
     CALL(code, &self->held, is_long, fires(self, its, &room, &numbers));
-    saw(self);
+    self->seen = asm_seen(SLOT(self));
     if (numbers.fired > self->storage->last)
         self->storage->last = numbers.fired;
     PyObject *told = code == ASM_DONE ? PyLong_FromUnsignedLong(numbers.fired) : NULL;
@@ -132,7 +128,7 @@ PyObject *agent_answer(Agent *self, PyObject *Py_UNUSED(none))
         return NULL;
     room_begin(&room);
     TOLD(code, &room, asm_answer(SLOT(self), ROOM(&room)));
-    PyObject *told = code == ASM_DONE ? read_text(self->held.core, room.at, room.written) : agent_refused(self, code);
+    PyObject *told = code == ASM_DONE ? read_own_text(self->held.core, room.at, room.written, 0) : agent_refused(self, code);
     room_end(&room);
     return told;
 }
@@ -150,7 +146,6 @@ PyObject *agent_learn(Agent *self, PyObject *other)
             return NULL;
     while (ODD(self->held.is_busy | from->held.is_busy));
     int32_t code = asm_learn(SLOT(self), SLOT(from));
-    saw(self);
     return code == ASM_DONE ? Py_NewRef(Py_None) : agent_refused(IS_FULL(self) ? from : self, code);
 }
 
@@ -160,8 +155,9 @@ PyObject *agent_follow(Agent *self, PyObject *Py_UNUSED(none))
     int32_t code;
     if (UNREADY(&self->held))
         return NULL;
+    agent_turn(self);
     CALL(code, &self->held, agent_is_far(self), asm_follow(SLOT(self), &number));
-    saw(self);
+    agent_saw(self);
     return code == ASM_DONE ? PyLong_FromUnsignedLong(number) : agent_refused(self, code);
 }
 
@@ -175,7 +171,8 @@ static PyObject *peek_at(Agent *self, Location *at)
     if (UNREADY(&self->held) || UNREADY(&at->held))
         return NULL;
     room_begin(&room);
-    TOLD(code, &room, asm_peek_at(SLOT(self), SLOT(at), &number, &value, ROOM(&room)));
+    if ((code = agent_catches_up(self)) == ASM_DONE)
+        TOLD(code, &room, asm_peek_at(SLOT(self), SLOT(at), &number, &value, ROOM(&room)));
     PyObject *one = code == ASM_DONE ? value_of(core, &value, &room) : NULL;
     if (code != ASM_DONE && (IS_FULL(self) || code != ASM_EMPTY))
         location_refused(at, code);
@@ -195,7 +192,8 @@ static PyObject *peek(Agent *self, PyObject *places, int is_length)
         return NULL;
     room_begin(&room);
     if (!UNREADY(&self->held)) {
-        RUN(&self->held, IS_LONG(&text), TOLD(code, &room, asm_peek(SLOT(self), BYTES(&text), ROOM(&room))));
+        RUN(&self->held, IS_LONG(&text) || self->is_behind,
+            if ((code = agent_catches_up(self)) == ASM_DONE) TOLD(code, &room, asm_peek(SLOT(self), BYTES(&text), ROOM(&room))));
         if (code != ASM_DONE)
             text_refused(self, code, ASM_FORM_LOCATIONS, &text);
         else
@@ -225,13 +223,14 @@ static PyObject *state(Agent *self, int is_text)
     if (UNREADY(&self->held))
         return NULL;
     room_begin(&room);
-    RUN(&self->held, 1, TOLD(code, &room, asm_state(SLOT(self), &number, ROOM(&room))));
+    RUN(&self->held, 1,
+        if ((code = agent_catches_up(self)) == ASM_DONE) TOLD(code, &room, asm_state(SLOT(self), &number, ROOM(&room))));
     PyObject *its = NULL;
     if (code != ASM_DONE)
         agent_refused(self, code);
     else
         its = is_text ? PyBytes_FromStringAndSize((char *)room.at, (Py_ssize_t)room.written)
-                      : read_text(self->held.core, room.at, room.written);
+                      : read_own_text(self->held.core, room.at, room.written, 0);
     room_end(&room);
     return its ? Py_BuildValue("IN", (unsigned)number, its) : NULL;
 }
@@ -252,12 +251,14 @@ PyObject *agent_scan(Agent *self, PyObject *name)
     uint32_t number = 0;
     int32_t code;
     Py_ssize_t len;
-    const uint8_t *text = name_of(self->held.core, name, &len);
+    const uint8_t *text = name_of(self->held.core, name, 0, &len);
     if (!text || UNREADY(&self->held))
         return NULL;
     room_begin(&room);
-    RUN(&self->held, 1, TOLD(code, &room, asm_scan(SLOT(self), text, (size_t)len, &number, ROOM(&room))));
-    PyObject *its = code == ASM_DONE ? read_text(self->held.core, room.at, room.written) : agent_refused(self, code);
+    RUN(&self->held, 1,
+        if ((code = agent_catches_up(self)) == ASM_DONE)
+            TOLD(code, &room, asm_scan(SLOT(self), text, (size_t)len, &number, ROOM(&room))));
+    PyObject *its = code == ASM_DONE ? read_own_text(self->held.core, room.at, room.written, 0) : agent_refused(self, code);
     room_end(&room);
     return its ? Py_BuildValue("IN", (unsigned)number, its) : NULL;
 }
@@ -273,13 +274,14 @@ PyObject *agent_stands(Agent *self, PyObject *named)
     if (!write_list(self->held.core, &text, "", 0, named, "reads") && !UNREADY(&self->held)) {
         int is_long = IS_LONG(&text) || agent_is_far(self);
         RUN(&self->held, is_long, TOLD(code, &room, asm_stands(SLOT(self), BYTES(&text), ROOM(&room))));
-        saw(self);
+        agent_saw(self);
         if (code == ASM_DONE)
             told = Py_NewRef(Py_None);
         else if (code == ASM_EMPTY)
             agent_refused(self, code);
         else if (code == ASM_STALE)
-            told = read_text(self->held.core, room.at + sizeof "{\"stale\":" - 1, room.written - sizeof "{\"stale\":}" + 1);
+            told = read_own_text(
+                self->held.core, room.at + sizeof "{\"stale\":" - 1, room.written - sizeof "{\"stale\":}" + 1, 1);
         else
             refuse(self->held.core, code, "stands", "(iOy#)", (int)code, (PyObject *)self, text.at, (Py_ssize_t)text.len);
     }
@@ -297,7 +299,7 @@ PyObject *agent_go_on(Agent *self, PyObject *words, PyObject *named)
         Py_XDECREF((PyObject *)next);
         return NULL;
     }
-    CALL(code, &self->held, 1, asm_go_on(SLOT(self), capacity, SLOT(next)));
+    RUN(&self->held, 1, if ((code = agent_catches_up(self)) == ASM_DONE) code = asm_go_on(SLOT(self), capacity, SLOT(next)));
     if (code == ASM_DONE)
         return (PyObject *)next;
     if (code == ASM_NONE)

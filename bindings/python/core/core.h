@@ -33,6 +33,8 @@ typedef struct {
     PyTypeObject *storage, *agent, *step, *location, *move, *audit;
     PyObject *refusals; /* the module of Python whose functions raise errors */
     PyObject *counter;  /* collections.Counter */
+    PyObject *no_rules; /* the types of what a function returns that is no rule: coroutines and generators */
+    PyTypeObject *played;
 } Core;
 
 /* What holds a slot. */
@@ -49,6 +51,13 @@ typedef struct {
 typedef struct Agent Agent;
 typedef struct Step Step;
 
+/* A thread, and the agent of a storage whose call was its last one that looked; without a reference. */
+typedef struct {
+    unsigned long thread;
+    Agent *agent;
+} Turn;
+enum { TURNS = 16 };
+
 typedef struct {
     Held held;
     uint32_t last;      /* the greatest number of a move that is known to be fired */
@@ -57,6 +66,7 @@ typedef struct {
     char is_made;
     Agent *first;       /* its agents, without references */
     PyObject *journal;  /* the path of its journal, or null */
+    Turn turns[TURNS];
 } Storage;
 
 struct Agent {
@@ -65,6 +75,9 @@ struct Agent {
     uint32_t own, seen, kept_seen, kept_won; /* the kept numbers are those of an agent that was given back */
     uint64_t base;                           /* how many moves of a run came before its storage */
     char is_taken;                           /* another thread has given it back */
+    char is_behind;                          /* another agent has taken its state */
+    unsigned steps;                          /* how many of its steps are open */
+    unsigned long thread;                    /* of its last call that looked */
     Step *last;                              /* the step that it began last, without a reference */
     Agent *next, **before;
 };
@@ -73,8 +86,9 @@ struct Step {
     Held held;
     Agent *agent;
     uint32_t number, fired;
+    unsigned long thread; /* that began it */
     uint64_t size; /* about how many bytes of text it has got and pushed */
-    char is_fired, is_tried, is_pushed;
+    char is_fired, is_tried, is_pushed, is_open;
 };
 
 typedef struct {
@@ -150,24 +164,81 @@ void text_end(Text *text);
 int text_put(Text *text, const char *what, size_t len);
 int write_more(Core *core, Text *text, PyObject *value, const char *name);
 int write_named(Core *core, Text *text, PyObject *value, const char *name);
-const uint8_t *name_of(Core *core, PyObject *name, Py_ssize_t *len);
+const uint8_t *name_of(Core *core, PyObject *name, int is_guard, Py_ssize_t *len);
 #define BYTES(text) (const uint8_t *)(text)->at, (text)->len
 #define IS_LONG(text) ((text)->len > LONG_TEXT)
 
 /* read.c: values of texts. */
-PyObject *read_text(Core *core, const void *text, size_t len);
+PyObject *read_text(const void *text, size_t len);
+PyObject *read_own_text(Core *core, const void *text, size_t len, int is_place);
 PyObject *read_values(Core *core, Room *room, uint32_t *number);
 PyObject *value_of(Core *core, const asm_value *value, const Room *room);
 
-/* storage.c, location.c */
+/* move.c: a location, prepared or not; and a change of it, which an instruction makes. */
+typedef struct {
+    struct asm_location own;
+    Location *held; /* where it was prepared before */
+    Text text;
+} Place;
+#define AT(its) ((its)->held ? (struct asm_location *)SLOT((its)->held) : &(its)->own)
+#define PLACE_UNREADY(its) ((its)->held && UNREADY(&(its)->held->held))
+int place_begin(Core *core, Place *its, PyObject *place);
+int32_t place_made(Place *its);
+PyObject *place_refused(Core *core, Place *its, int32_t code);
+void place_end(Place *its);
+
+typedef struct {
+    Place place;
+    int verb, kind, is_placed;
+    int32_t code;
+    uint32_t amount;
+    int64_t number;
+    const uint8_t *at;
+    size_t len;
+    Text text;
+} Change;
+int change_begin(Core *core, Change *its, PyObject *const *words, Py_ssize_t count, int verb);
+int32_t change_put(Change *its, struct asm_move *move);
+uint64_t change_size(Change *its);
+PyObject *change_refused(Core *core, Change *its);
+void change_end(Change *its);
+
+/* The methods of a type that make such changes. */
+#define CHANGE_OF(scope, Type, type, name, verb, work)                                          \
+    scope PyObject *type##_##name(Type *self, PyObject *const *words, Py_ssize_t count)        \
+    {                                                                                           \
+        return work(self, words, count, verb);                                                  \
+    }
+#define CHANGES(scope, Type, type, work)                                                        \
+    CHANGE_OF(scope, Type, type, put, ASM_PUT, work)                                                   \
+    CHANGE_OF(scope, Type, type, add, ASM_ADD, work)                                                   \
+    CHANGE_OF(scope, Type, type, remove, ASM_REMOVE, work)                                             \
+    CHANGE_OF(scope, Type, type, bag_add, ASM_BAGADD, work)                                            \
+    CHANGE_OF(scope, Type, type, bag_remove, ASM_BAGREMOVE, work)                                      \
+    CHANGE_OF(scope, Type, type, inc, ASM_INC, work)
+#define CHANGE_METHODS(type)                                                                                     \
+    {"put", METHOD(type##_put), METH_FASTCALL, "put($self, at, value, /)\n--\n\nPut a value; None leaves the location empty."}, \
+    {"add", METHOD(type##_add), METH_FASTCALL, "add($self, at, element, /)\n--\n\nAdd an element to a set."},    \
+    {"remove", METHOD(type##_remove), METH_FASTCALL, "remove($self, at, element, /)\n--\n\nRemove an element from a set."}, \
+    {"bag_add", METHOD(type##_bag_add), METH_FASTCALL,                                                           \
+        "bag_add($self, at, element, amount=1, /)\n--\n\nAdd an element to a bag, 1 to 4,294,967,295 times."},   \
+    {"bag_remove", METHOD(type##_bag_remove), METH_FASTCALL,                                                     \
+        "bag_remove($self, at, element, amount=1, /)\n--\n\nRemove an element from a bag, 1 to 4,294,967,295 times."}, \
+    {"inc", METHOD(type##_inc), METH_FASTCALL, "inc($self, at, by, /)\n--\n\nRaise a number, by 0 or less too."}
+
+/* storage.c, and move.c */
 Storage *storage_next_of(Held *held, PyObject *words, PyObject *named, uint32_t *capacity);
 PyObject *storage_refused(Storage *self, int32_t code);
 PyObject *location_refused(Location *self, int32_t code);
 
-/* agent.c, and agent_texts.c */
+/* agent.c, agent_texts.c and play.c */
 PyObject *agent_made(Storage *storage, PyObject *number, int is_taken);
 int32_t agent_give(Agent *self);
 int agent_is_far(const Agent *self);
+PyObject *agent_play(Agent *self, PyObject *words, PyObject *named);
+void agent_turn(Agent *self);
+void agent_saw(Agent *self);
+int32_t agent_catches_up(Agent *self);
 PyObject *agent_refused(Agent *self, int32_t code);
 PyObject *agent_read(Agent *self, PyObject *places);
 PyObject *agent_fire(Agent *self, PyObject *words, PyObject *named);
@@ -183,9 +254,26 @@ PyObject *agent_scan(Agent *self, PyObject *name);
 PyObject *agent_stands(Agent *self, PyObject *reads);
 PyObject *agent_go_on(Agent *self, PyObject *words, PyObject *named);
 
-/* step.c */
+/* step.c, and step_values.c */
+PyObject *step_refused(Step *self, int32_t code);
+PyObject *step_get(Step *self, PyObject *it);
+PyObject *step_at(Step *self, PyObject *it);
+PyObject *step_see(Step *self, PyObject *it);
+PyObject *step_scan(Step *self, PyObject *it);
+PyObject *step_push(Step *self, PyObject *it);
+PyObject *step_extend(Step *self, PyObject *it);
+PyObject *step_pop(Step *self, PyObject *it);
+PyObject *step_pop_move(Step *self, PyObject *it);
+#define CHANGE_DECLARED(name) PyObject *step_##name(Step *self, PyObject *const *words, Py_ssize_t count)
+CHANGE_DECLARED(put);
+CHANGE_DECLARED(add);
+CHANGE_DECLARED(remove);
+CHANGE_DECLARED(bag_add);
+CHANGE_DECLARED(bag_remove);
+CHANGE_DECLARED(inc);
 Step *step_begun(Agent *agent, PyTypeObject *type);
 int64_t step_fires(Step *self, int is_try);
+void step_drop(Step *self);
 
 extern PyType_Spec storage_spec, agent_spec, step_spec, location_spec, move_spec, audit_spec;
 

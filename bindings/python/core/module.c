@@ -1,5 +1,94 @@
-/* The module, and the calls that need no slot. */
+/* The module, the calls that need no slot, and audits: runs of any length, which are checked as their bytes come. */
 #include "core.h"
+
+typedef struct {
+    Held held;
+    PyObject *rest; /* what refused memory has left of the bytes that were fed */
+} Audit;
+
+static PyObject *audit_new(PyTypeObject *type, PyObject *Py_UNUSED(words), PyObject *Py_UNUSED(named))
+{
+    return held_new(type, core_of(type));
+}
+
+static PyObject *numbers_of(int32_t code, const asm_audit_numbers *told)
+{
+    return Py_BuildValue("iKKK", (int)code, (unsigned long long)told->parts, (unsigned long long)told->calls, (unsigned long long)told->moves);
+}
+
+/* Takes bytes behind those that are left; the code and the numbers. */
+static PyObject *audit_feed(Audit *self, PyObject *chunk)
+{
+    asm_audit_numbers told;
+    int32_t code;
+    size_t taken;
+    if (!PyBytes_Check(chunk)) {
+        PyErr_SetString(PyExc_TypeError, "an audit takes bytes");
+        return NULL;
+    }
+    if (UNREADY(&self->held))
+        return NULL;
+    PyObject *rest = self->rest, *all = rest ? PySequence_Concat(rest, chunk) : Py_NewRef(chunk);
+    if (!all)
+        return NULL;
+    self->rest = NULL;
+    Py_XDECREF(rest);
+    const char *at = PyBytes_AsString(all);
+    size_t len = (size_t)PyBytes_Size(all);
+    CALL(code, &self->held, len > LONG_TEXT, asm_audit(SLOT(self), (const uint8_t *)at, len, &taken, &told));
+    if (code == ASM_MEMORY)
+        self->rest = taken ? PyBytes_FromStringAndSize(at + taken, (Py_ssize_t)(len - taken)) : Py_NewRef(all);
+    Py_DECREF(all);
+    if (code == ASM_MEMORY)
+        return PyErr_NoMemory();
+    /* What would be told if no further byte came is of the part that the long line is in. */
+    if (code == ASM_LARGE && asm_audited(SLOT(self), &told) == ASM_MEMORY)
+        return PyErr_NoMemory();
+    return numbers_of(code, &told);
+}
+
+static PyObject *audit_end(Audit *self, PyObject *Py_UNUSED(none))
+{
+    asm_audit_numbers told;
+    if (UNREADY(&self->held))
+        return NULL;
+    int32_t code = asm_audited(SLOT(self), &told);
+    return code == ASM_MEMORY ? PyErr_NoMemory() : numbers_of(code, &told);
+}
+
+static PyObject *audit_state(Audit *self, PyObject *Py_UNUSED(none))
+{
+    int32_t code;
+    Room room;
+    if (UNREADY(&self->held))
+        return NULL;
+    room_begin(&room);
+    RUN(&self->held, 1, TOLD(code, &room, asm_audit_state(SLOT(self), ROOM(&room))));
+    PyObject *told = code == ASM_DONE ? PyBytes_FromStringAndSize((char *)room.at, (Py_ssize_t)room.written) : NULL;
+    if (code != ASM_DONE)
+        refuse(self->held.core, code, "no_part", "(i)", (int)code);
+    room_end(&room);
+    return told;
+}
+
+static void audit_gone(Audit *self)
+{
+    Py_XDECREF(self->rest);
+    held_gone(self);
+}
+
+static PyMethodDef audit_methods[] = {
+    HELD_METHODS,
+    {"_take", (PyCFunction)audit_feed, METH_O, NULL},
+    {"_told", (PyCFunction)audit_end, METH_NOARGS, NULL},
+    {"_state", (PyCFunction)audit_state, METH_NOARGS, NULL},
+    {"free", (PyCFunction)held_free, METH_NOARGS, "free($self, /)\n--\n\nRelease it; it may be called again."},
+    {"__exit__", METHOD(held_exit), METH_FASTCALL, NULL},
+    {0},
+};
+static PyType_Slot audit_slots[] = {{Py_tp_new, audit_new}, {Py_tp_dealloc, audit_gone}, {Py_tp_methods, audit_methods},
+    {Py_tp_members, held_members}, {Py_tp_getset, held_gets}, {0}};
+PyType_Spec audit_spec = {"folugben._core.Audit", sizeof(Audit), 0, Py_TPFLAGS_DEFAULT | Py_TPFLAGS_BASETYPE, audit_slots};
 
 /* Has the module of Python by whose functions errors are raised. */
 static PyObject *core_use(PyObject *module, PyObject *refusals)
@@ -23,11 +112,22 @@ static PyObject *core_encoded(PyObject *module, PyObject *words)
     return told;
 }
 
-static PyObject *core_decoded(PyObject *module, PyObject *it)
+static PyObject *core_decoded(PyObject *Py_UNUSED(module), PyObject *it)
 {
     char *at;
     Py_ssize_t len;
-    return PyBytes_AsStringAndSize(it, &at, &len) ? NULL : read_text(PyModule_GetState(module), at, (size_t)len);
+    return PyBytes_AsStringAndSize(it, &at, &len) ? NULL : read_text(at, (size_t)len);
+}
+
+/* The same as Python's own values; a second word says that it is a location. */
+static PyObject *core_owned(PyObject *module, PyObject *words)
+{
+    const char *at;
+    Py_ssize_t len;
+    int is_place = 0;
+    return PyArg_ParseTuple(words, "y#|p", &at, &len, &is_place)
+               ? read_own_text(PyModule_GetState(module), at, (size_t)len, is_place)
+               : NULL;
 }
 
 enum { CHECK, REPLAY, TRACE, AGGREGATE, COMPOSE, EXPLAIN, ERROR_TEXT };
@@ -68,6 +168,22 @@ static PyObject *core_version(PyObject *Py_UNUSED(module), PyObject *Py_UNUSED(n
     return PyLong_FromUnsignedLong(asm_version());
 }
 
+static PyObject *imported(const char *module, const char *name)
+{
+    PyObject *from = PyImport_ImportModule(module), *its = from ? PyObject_GetAttrString(from, name) : NULL;
+    Py_XDECREF(from);
+    return its;
+}
+
+static PyStructSequence_Field played_fields[] = {
+    {"number", "The number of the move; 0 where the rule wrote nothing, so that nothing was fired."},
+    {"result", "What the rule returned."},
+    {"retries", "How many tries were in vain before."},
+    {0},
+};
+static PyStructSequence_Desc played = {
+    "folugben.Played", "What `play` has done, as a pair of the number and the result; it has `retries` too.", played_fields, 2};
+
 static int core_begin(PyObject *module)
 {
     Core *core = PyModule_GetState(module);
@@ -82,10 +198,15 @@ static int core_begin(PyObject *module)
         if (!*types[k].type || PyModule_AddType(module, *types[k].type))
             return -1;
     }
-    PyObject *collections = PyImport_ImportModule("collections");
-    core->counter = collections ? PyObject_GetAttrString(collections, "Counter") : NULL;
-    Py_XDECREF(collections);
-    return core->counter ? 0 : -1;
+    core->counter = imported("collections", "Counter");
+    PyObject *of_async = imported("types", "CoroutineType"), *of_yield = imported("types", "GeneratorType");
+    PyObject *of_both = imported("types", "AsyncGeneratorType");
+    core->no_rules = of_async && of_yield && of_both ? PyTuple_Pack(3, of_async, of_yield, of_both) : NULL;
+    Py_XDECREF(of_async);
+    Py_XDECREF(of_yield);
+    Py_XDECREF(of_both);
+    core->played = PyStructSequence_NewType(&played);
+    return core->counter && core->no_rules && core->played ? PyModule_AddType(module, core->played) : -1;
 }
 
 static int core_traverse(PyObject *module, visitproc visit, void *arg)
@@ -99,6 +220,8 @@ static int core_traverse(PyObject *module, visitproc visit, void *arg)
     Py_VISIT(core->audit);
     Py_VISIT(core->refusals);
     Py_VISIT(core->counter);
+    Py_VISIT(core->no_rules);
+    Py_VISIT(core->played);
     return 0;
 }
 
@@ -113,6 +236,8 @@ static int core_clear(PyObject *module)
     Py_CLEAR(core->audit);
     Py_CLEAR(core->refusals);
     Py_CLEAR(core->counter);
+    Py_CLEAR(core->no_rules);
+    Py_CLEAR(core->played);
     return 0;
 }
 
@@ -125,6 +250,7 @@ static PyMethodDef methods[] = {
     {"use", core_use, METH_O, NULL},
     {"encoded", core_encoded, METH_VARARGS, NULL},
     {"decoded", core_decoded, METH_O, NULL},
+    {"owned", core_owned, METH_VARARGS, NULL},
     {"told", core_told, METH_VARARGS, NULL},
     {"version", core_version, METH_NOARGS, NULL},
     {0},

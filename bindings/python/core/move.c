@@ -1,131 +1,278 @@
-/* Moves that are gathered. */
+/* Locations that are prepared, and moves that are gathered. */
 #include <string.h>
 
 #include "core.h"
 
-/* The operand of an instruction, as the library takes it. */
-typedef struct {
-    int kind;
-    int64_t number;
-    const uint8_t *at;
-    size_t len;
+/* Raises what the code of a call on it and on other slots says. */
+PyObject *location_refused(Location *self, int32_t code)
+{
+    if (code == ASM_EMPTY && !IS_FULL(self))
+        return refuse(self->held.core, code, "freed", "(s)", "location");
+    return refuse(self->held.core, code, "expect", "(i)", (int)code);
+}
+
+static PyObject *location_new(PyTypeObject *type, PyObject *words, PyObject *named)
+{
+    static char *names[] = {"place", NULL};
+    PyObject *place;
+    Core *core = core_of(type);
     Text text;
-} Operand;
+    if (!PyArg_ParseTupleAndKeywords(words, named, "O", names, &place) || write_named(core, &text, place, "place"))
+        return NULL;
+    Location *self = held_new(type, core);
+    if (self && (self->text = PyBytes_FromStringAndSize(text.at, (Py_ssize_t)text.len))) {
+        int32_t code = asm_location(BYTES(&text), SLOT(self));
+        if (code != ASM_DONE)
+            refuse(core, code, "location", "(iy#)", (int)code, text.at, (Py_ssize_t)text.len);
+    }
+    text_end(&text);
+    if (self && !IS_FULL(self))
+        Py_CLEAR(self);
+    return (PyObject *)self;
+}
+
+static PyObject *location_text(Location *self, void *Py_UNUSED(none))
+{
+    return Py_NewRef(self->text);
+}
+
+static PyObject *location_place(Location *self, void *Py_UNUSED(none))
+{
+    return read_own_text(self->held.core, PyBytes_AsString(self->text), (size_t)PyBytes_Size(self->text), 1);
+}
+
+static PyObject *location_repr(Location *self)
+{
+    PyObject *place = location_place(self, NULL), *told = place ? PyUnicode_FromFormat("Location(%R)", place) : NULL;
+    Py_XDECREF(place);
+    return told;
+}
+
+static void location_gone(Location *self)
+{
+    Py_XDECREF(self->text);
+    held_gone(self);
+}
+
+static PyMethodDef location_methods[] = {
+    HELD_METHODS,
+    {"free", (PyCFunction)held_free, METH_NOARGS, "free($self, /)\n--\n\nRelease it; it may be called again."},
+    {"__exit__", METHOD(held_exit), METH_FASTCALL, NULL},
+    {0},
+};
+static PyGetSetDef location_gets[] = {
+    {"_text", (getter)location_text, NULL, NULL, NULL},
+    {"place", (getter)location_place, NULL, "The location as a tuple, the name first.", NULL},
+    {0},
+};
+static PyType_Slot location_slots[] = {
+    {Py_tp_doc, "Location(place)\n--\n\n"
+                "A location that is prepared once, for calls of agents and steps of any storage, which write no text of it then."},
+    {Py_tp_new, location_new}, {Py_tp_dealloc, location_gone}, {Py_tp_methods, location_methods}, {Py_tp_members, held_members},
+    {Py_tp_getset, location_gets}, {Py_tp_repr, location_repr}, {0}};
+PyType_Spec location_spec = {"folugben.Location", sizeof(Location), 0, Py_TPFLAGS_DEFAULT | Py_TPFLAGS_IMMUTABLETYPE, location_slots};
 
 /* Finds the kind by how the text begins; whether it is one. */
-static int begins_as(Operand *operand)
+static int begins_as(Change *its)
 {
     static const struct {
         const char *begins;
         int kind;
     } kinds[] = {{"{\"list\":", ASM_KIND_LIST}, {"{\"set\":", ASM_KIND_SET}, {"{\"bag\":", ASM_KIND_BAG}};
     for (size_t k = 0; k < sizeof kinds / sizeof *kinds; k++)
-        if (operand->text.len > 8 && !strncmp(operand->text.at, kinds[k].begins, strlen(kinds[k].begins))) {
-            operand->kind = kinds[k].kind;
+        if (its->text.len > 8 && !strncmp(its->text.at, kinds[k].begins, strlen(kinds[k].begins))) {
+            its->kind = kinds[k].kind;
             return 1;
         }
     return 0;
 }
 
-static int read_operand(Core *core, PyObject *value, Operand *operand)
+static int read_operand(Core *core, PyObject *value, Change *its)
 {
-    int is_over = 0;
+    int is_odd = 0;
     Py_ssize_t len = 0;
-    operand->number = 0;
-    operand->at = NULL;
-    text_begin(&operand->text);
     if (PyBool_Check(value)) {
-        operand->kind = ASM_KIND_BOOL;
-        operand->number = value == Py_True;
+        its->kind = ASM_KIND_BOOL;
+        its->number = value == Py_True;
     } else if (PyLong_Check(value)) {
-        operand->kind = ASM_KIND_NUM;
-        operand->number = PyLong_AsLongLongAndOverflow(value, &is_over);
-        if (ODD(is_over))
+        its->kind = ASM_KIND_NUM;
+        its->number = PyLong_AsLongLongAndOverflow(value, &is_odd);
+        if (ODD(is_odd))
             refuse(core, ASM_RANGE, "out_of_range", "(sOII)", "number", value, 0, 0);
     } else if (PyUnicode_Check(value)) {
-        operand->kind = ASM_KIND_TEXT;
-        operand->at = (const uint8_t *)PyUnicode_AsUTF8AndSize(value, &len);
-        if (ODD(!operand->at)) {
+        its->kind = ASM_KIND_TEXT;
+        its->at = (const uint8_t *)PyUnicode_AsUTF8AndSize(value, &len);
+        if (ODD(is_odd = !its->at))
             PyErr_Clear();
-            refuse(core, ASM_SHAPE, "odd", "(ssO)", "a text", "", value);
-            is_over = 1;
-        }
     } else if (value == Py_None) {
-        operand->kind = ASM_KIND_UNDEF;
+        its->kind = ASM_KIND_UNDEF;
     } else if (PyDict_Check(value) || PyAnySet_Check(value) || PyTuple_Check(value)) {
-        if (write_more(core, &operand->text, value, "value")) {
-            text_end(&operand->text);
+        if (write_more(core, &its->text, value, "value"))
             return -1;
-        }
-        operand->at = (const uint8_t *)operand->text.at;
-        len = (Py_ssize_t)operand->text.len;
-        is_over = !begins_as(operand);
+        its->at = (const uint8_t *)its->text.at;
+        len = (Py_ssize_t)its->text.len;
+        is_odd = !begins_as(its);
     } else {
-        is_over = 1;
+        is_odd = 1;
     }
-    operand->len = (size_t)len;
-    if (ODD(is_over) && !PyErr_Occurred())
-        refuse(core, ASM_SHAPE, "operand", "(O)", value);
-    if (ODD(is_over))
-        text_end(&operand->text);
-    return is_over ? -1 : 0;
+    its->len = (size_t)len;
+    if (ODD(is_odd) && !PyErr_Occurred())
+        refuse(core, ASM_SHAPE, "odd", "(ssO)", "value", "", value);
+    return is_odd ? -1 : 0;
 }
 
-static PyObject *instruct(Move *self, PyObject *place, int verb, PyObject *value, uint32_t amount)
+/* Has the text of a location, unless it is prepared; -1 with an exception. */
+int place_begin(Core *core, Place *its, PyObject *place)
+{
+    memset(&its->own, 0, sizeof its->own);
+    its->held = is_location(core, place) ? (Location *)place : NULL;
+    text_begin(&its->text);
+    return its->held ? 0 : write_named(core, &its->text, place, "place");
+}
+
+/* Prepares it, in the course of calls, unless it is. */
+int32_t place_made(Place *its)
+{
+    return its->held ? ASM_DONE : asm_location(BYTES(&its->text), &its->own);
+}
+
+void place_end(Place *its)
+{
+    asm_free(&its->own.slot);
+    text_end(&its->text);
+}
+
+/* Raises what the code of its making says, or of a call that it was passed to. */
+PyObject *place_refused(Core *core, Place *its, int32_t code)
+{
+    if (its->held)
+        return location_refused(its->held, code);
+    return refuse(core, code, "location", "(iy#)", (int)code, its->text.at, (Py_ssize_t)its->text.len);
+}
+
+static size_t place_len(Place *its)
+{
+    return its->held ? (size_t)PyBytes_Size(its->held->text) : its->text.len;
+}
+
+int change_begin(Core *core, Change *its, PyObject *const *words, Py_ssize_t count, int verb)
+{
+    static const char *const names[] = {"put", "add", "remove", "bag_add", "bag_remove", "inc"};
+    int is_bag = verb == ASM_BAGADD || verb == ASM_BAGREMOVE;
+    its->verb = verb;
+    its->number = 0;
+    its->at = NULL;
+    its->amount = is_bag;
+    text_begin(&its->text);
+    if (ODD(count < 2 || count > 2 + is_bag)) {
+        PyErr_Format(PyExc_TypeError, "%s() takes 2%s positional arguments but %zd were given", names[verb], is_bag ? " or 3" : "", count);
+        return -1;
+    }
+    if (count == 3 && number_of(core, words[2], "amount", 1, UINT32_MAX, &its->amount))
+        return -1;
+    if (place_begin(core, &its->place, words[0]))
+        return -1;
+    if (!read_operand(core, words[1], its))
+        return 0;
+    change_end(its);
+    return -1;
+}
+
+void change_end(Change *its)
+{
+    place_end(&its->place);
+    text_end(&its->text);
+}
+
+/* Puts it behind the instructions of a move. */
+int32_t change_put(Change *its, struct asm_move *move)
+{
+    its->code = place_made(&its->place);
+    its->is_placed = its->code == ASM_DONE;
+    if (its->is_placed)
+        its->code = asm_instruct(move, AT(&its->place), its->verb, its->kind, its->number, its->at, its->len, its->amount);
+    return its->code;
+}
+
+uint64_t change_size(Change *its)
+{
+    return its->len + place_len(&its->place);
+}
+
+/* Raises why it was not put. */
+PyObject *change_refused(Core *core, Change *its)
+{
+    Place *at = &its->place;
+    if (!its->is_placed || its->code == ASM_EMPTY)
+        return place_refused(core, at, its->code);
+    const char *text = at->held ? PyBytes_AsString(at->held->text) : at->text.at;
+    return refuse(core, its->code, "instructed", "(iy#iiLy#I)", (int)its->code, text, (Py_ssize_t)place_len(at), its->verb, its->kind,
+        (long long)its->number, its->at, (Py_ssize_t)its->len, (unsigned)its->amount);
+}
+
+static PyObject *instruct(Move *self, PyObject *const *words, Py_ssize_t count, int verb)
 {
     Core *core = self->held.core;
-    Operand its;
+    Change its;
     PyObject *told = NULL;
-    if (ODD(!is_location(core, place)))
-        return refuse(core, ASM_EMPTY, "not_location", "(O)", place);
-    if (read_operand(core, value, &its))
+    if (change_begin(core, &its, words, count, verb))
         return NULL;
-    Location *at = (Location *)place;
-    if (!UNREADY(&self->held) && !UNREADY(&at->held)) {
-        int32_t code = ASM_EMPTY;
+    if (!UNREADY(&self->held) && !PLACE_UNREADY(&its.place)) {
         if (ODD(self->is_freed))
-            refuse(core, code, "freed", "(s)", "move");
-        else if (ODD((code = asm_instruct(SLOT(self), SLOT(at), verb, its.kind, its.number, its.at, its.len, amount)) == ASM_EMPTY))
-            location_refused(at, code);
-        else if (ODD(code != ASM_DONE))
-            refuse(core, code, "instructed", "(iOiiy#I)", (int)code, at->text, verb, its.kind, its.at, (Py_ssize_t)its.len,
-                (unsigned)amount);
+            refuse(core, ASM_EMPTY, "freed", "(s)", "move");
+        else if (ODD(change_put(&its, SLOT(self)) != ASM_DONE))
+            change_refused(core, &its);
         else {
             self->count++;
-            self->size += its.len + (uint64_t)PyBytes_Size(at->text);
+            self->size += change_size(&its);
             told = Py_NewRef((PyObject *)self);
         }
     }
-    text_end(&its.text);
+    change_end(&its);
     return told;
 }
 
-static int takes(Py_ssize_t count, Py_ssize_t wanted, const char *name)
+CHANGES(static, Move, move, instruct)
+
+static Py_ssize_t move_len(Move *self)
 {
-    if (ODD(count != wanted))
-        PyErr_Format(PyExc_TypeError, "%s() takes %zd positional arguments but %zd were given", name, wanted, count);
-    return count == wanted;
+    return self->count + self->is_popped;
 }
 
-#define INSTRUCTION(name, verb)                                                                     \
-    static PyObject *move_##name(Move *self, PyObject *const *words, Py_ssize_t count)              \
-    {                                                                                               \
-        return takes(count, 2, #name) ? instruct(self, words[0], verb, words[1], 0) : NULL;         \
+/* Appends the instructions of another move. */
+static PyObject *unite(Move *self, PyObject *it)
+{
+    Core *core = self->held.core;
+    Move *other = (Move *)it;
+    if (Py_TYPE(it) != core->move || other == self) {
+        PyErr_SetString(PyExc_TypeError, "a move is united with another Move");
+        return NULL;
     }
-INSTRUCTION(put, ASM_PUT)
-INSTRUCTION(add, ASM_ADD)
-INSTRUCTION(remove, ASM_REMOVE)
-INSTRUCTION(inc, ASM_INC)
+    if (UNREADY(&self->held) || UNREADY(&other->held))
+        return NULL;
+    if (ODD(self->is_freed || other->is_freed))
+        return refuse(core, ASM_EMPTY, "freed", "(s)", "move");
+    int32_t code = IS_FULL(other) ? asm_unite(SLOT(self), SLOT(other)) : ASM_DONE;
+    if (ODD(code != ASM_DONE))
+        return refuse(core, code, "united", "(inn)", (int)code, move_len(self), move_len(other));
+    self->count += move_len(other);
+    self->size += other->size;
+    return Py_NewRef((PyObject *)self);
+}
 
-#define OF_BAG(name, verb)                                                                                         \
-    static PyObject *move_##name(Move *self, PyObject *const *words, Py_ssize_t count)                             \
-    {                                                                                                              \
-        uint32_t amount;                                                                                           \
-        int is_right = takes(count, 3, #name) && !number_of(self->held.core, words[2], "amount", 1, UINT32_MAX, &amount); \
-        return is_right ? instruct(self, words[0], verb, words[1], amount) : NULL;                                 \
+static PyObject *move_or(PyObject *one, PyObject *two)
+{
+    Core *core = core_of(Py_TYPE(one));
+    if (!core || Py_TYPE(one) != core->move || Py_TYPE(two) != core->move) {
+        PyErr_Clear();
+        return Py_NewRef(Py_NotImplemented);
     }
-OF_BAG(bagadd, ASM_BAGADD)
-OF_BAG(bagremove, ASM_BAGREMOVE)
+    Move *both = held_new(core->move, core);
+    PyObject *first = both ? unite(both, one) : NULL, *second = first ? unite(both, two) : NULL;
+    Py_XDECREF(first);
+    Py_XDECREF((PyObject *)both);
+    return second;
+}
 
 static void drop(Move *self)
 {
@@ -165,11 +312,6 @@ static PyObject *move_new(PyTypeObject *type, PyObject *words, PyObject *named)
     return PyArg_ParseTupleAndKeywords(words, named, "", names) ? held_new(type, core_of(type)) : NULL;
 }
 
-static Py_ssize_t move_len(Move *self)
-{
-    return self->count + self->is_popped;
-}
-
 static int move_bool(Move *Py_UNUSED(self))
 {
     return 1;
@@ -184,14 +326,12 @@ static PyObject *move_repr(Move *self)
 
 static PyMethodDef methods[] = {
     HELD_METHODS,
-    {"put", METHOD(move_put), METH_FASTCALL, "put($self, at, value, /)\n--\n\nPut a value; None leaves the location empty."},
-    {"add", METHOD(move_add), METH_FASTCALL, "add($self, at, element, /)\n--\n\nAdd an element to a set."},
-    {"remove", METHOD(move_remove), METH_FASTCALL, "remove($self, at, element, /)\n--\n\nRemove an element from a set."},
-    {"bagadd", METHOD(move_bagadd), METH_FASTCALL,
-        "bagadd($self, at, element, amount, /)\n--\n\nAdd an element to a bag, 1 to 4,294,967,295 times."},
-    {"bagremove", METHOD(move_bagremove), METH_FASTCALL,
-        "bagremove($self, at, element, amount, /)\n--\n\nRemove an element from a bag, 1 to 4,294,967,295 times."},
-    {"inc", METHOD(move_inc), METH_FASTCALL, "inc($self, at, by, /)\n--\n\nRaise a number, by 0 or less too."},
+    CHANGE_METHODS(move),
+    {"bagadd", METHOD(move_bag_add), METH_FASTCALL, NULL},
+    {"bagremove", METHOD(move_bag_remove), METH_FASTCALL, NULL},
+    {"unite", (PyCFunction)unite, METH_O,
+        "unite($self, other, /)\n--\n\nAppend the instructions of another move: it does then what both do at once. `ManyError` where these\n"
+        "are more than 4,096; nothing is appended then. `one | other` makes a third move."},
     {"clear", (PyCFunction)move_clear, METH_NOARGS, "clear($self, /)\n--\n\nDrop its instructions."},
     {"free", (PyCFunction)move_free, METH_NOARGS, "free($self, /)\n--\n\nRelease it; it may be called again."},
     {"__exit__", METHOD(move_exit), METH_FASTCALL, NULL},
@@ -199,9 +339,10 @@ static PyMethodDef methods[] = {
 };
 static PyType_Slot slots[] = {
     {Py_tp_doc, "Move()\n--\n\n"
-                "A move that is gathered instruction by instruction at prepared locations, and pushed by a step without any text.\n\n"
+                "A move that is gathered instruction by instruction, and pushed by a step; at prepared locations without any text.\n\n"
                 "It keeps its instructions until `clear`, and may be pushed any number of times, in steps of any storage. One that\n"
                 "`Step.pop_move` returns counts what was popped as one instruction; more can be gathered behind that."},
     {Py_tp_new, move_new}, {Py_tp_dealloc, held_gone}, {Py_tp_methods, methods}, {Py_tp_members, held_members},
-    {Py_tp_getset, held_gets}, {Py_tp_repr, move_repr}, {Py_sq_length, move_len}, {Py_nb_bool, move_bool}, {0}};
+    {Py_tp_getset, held_gets}, {Py_tp_repr, move_repr}, {Py_sq_length, move_len}, {Py_nb_bool, move_bool},
+    {Py_nb_or, move_or}, {Py_nb_inplace_or, unite}, {0}};
 PyType_Spec move_spec = {"folugben.Move", sizeof(Move), 0, Py_TPFLAGS_DEFAULT | Py_TPFLAGS_IMMUTABLETYPE, slots};

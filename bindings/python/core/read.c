@@ -1,10 +1,13 @@
-/* Reads the library's texts, which are JSON without spaces. */
+/* Reads the library's texts, which are JSON without spaces: as JSON, or as Python's own values, in which a list is a tuple, a set a
+ * frozenset and a bag a Counter, and so is each other array a tuple, but for the outermost. */
 #include <string.h>
 
 #include "core.h"
 
 typedef struct {
     const char *at, *end;
+    Core *core;
+    int is_own, depth;
 } Reader;
 
 static PyObject *read_value(Reader *from);
@@ -95,23 +98,93 @@ static int is_end(Reader *from, char sign)
     return 1;
 }
 
-static PyObject *read_list(Reader *from)
+static PyObject *read_items(Reader *from)
 {
     PyObject *list = PyList_New(0);
     from->at++;
+    from->depth++;
     while (list && !is_end(from, ']')) {
         PyObject *one = read_value(from);
         if (!one || PyList_Append(list, one))
             Py_CLEAR(list);
         Py_XDECREF(one);
     }
+    from->depth--;
     return list;
+}
+
+/* A list as what a function of Python makes of it. */
+static PyObject *made_of(PyObject *list, PyObject *(*make)(PyObject *))
+{
+    PyObject *told = list ? make(list) : NULL;
+    Py_XDECREF(list);
+    return told;
+}
+
+static PyObject *read_list(Reader *from)
+{
+    PyObject *list = read_items(from);
+    return from->is_own && from->depth > 0 ? made_of(list, PyList_AsTuple) : list;
+}
+
+static PyObject *counted(Core *core, PyObject *pairs)
+{
+    PyObject *bag = PyObject_CallNoArgs(core->counter);
+    for (Py_ssize_t k = 0; bag && k < PyList_Size(pairs); k++) {
+        PyObject *pair = PyList_GetItem(pairs, k);
+        if (PyDict_SetItem(bag, PyTuple_GetItem(pair, 0), PyTuple_GetItem(pair, 1)))
+            Py_CLEAR(bag);
+    }
+    return bag;
+}
+
+/* A set or a bag; as JSON has it where Python takes two of its elements for one, as True and 1. */
+static PyObject *read_members(Reader *from, int is_bag)
+{
+    PyObject *list = read_items(from), *told = NULL;
+    if (list)
+        told = is_bag ? counted(from->core, list) : PyFrozenSet_New(list);
+    if (told && (is_bag ? PyDict_Size(told) : PySet_Size(told)) != PyList_Size(list)) {
+        Py_DECREF(told);
+        told = Py_BuildValue("{sO}", is_bag ? "bag" : "set", list);
+    }
+    Py_XDECREF(list);
+    return told;
+}
+
+static int begins(Reader *from, const char *word)
+{
+    size_t len = strlen(word);
+    if ((size_t)(from->end - from->at) <= len || memcmp(from->at, word, len))
+        return 0;
+    from->at += len;
+    return 1;
+}
+
+/* A list, a set or a bag as Python's own; null without an exception where an object is none. */
+static PyObject *read_own(Reader *from)
+{
+    PyObject *told;
+    if (begins(from, "{\"list\":"))
+        told = made_of(read_items(from), PyList_AsTuple);
+    else if (begins(from, "{\"set\":"))
+        told = read_members(from, 0);
+    else if (begins(from, "{\"bag\":"))
+        told = read_members(from, 1);
+    else
+        return NULL;
+    from->at++;
+    return told;
 }
 
 static PyObject *read_object(Reader *from)
 {
-    PyObject *dict = PyDict_New();
+    PyObject *dict = from->is_own ? read_own(from) : NULL;
+    if (dict || PyErr_Occurred())
+        return dict;
+    dict = PyDict_New();
     from->at++;
+    from->depth++;
     while (dict && !is_end(from, '}')) {
         PyObject *key = from->at < from->end && *from->at == '"' ? read_str(from) : broken(), *one = NULL;
         from->at++;
@@ -120,6 +193,7 @@ static PyObject *read_object(Reader *from)
         Py_XDECREF(key);
         Py_XDECREF(one);
     }
+    from->depth--;
     return dict;
 }
 
@@ -169,9 +243,17 @@ static PyObject *read_value(Reader *from)
     }
 }
 
-PyObject *read_text(Core *Py_UNUSED(core), const void *text, size_t len)
+/* What a text of JSON tells. */
+PyObject *read_text(const void *text, size_t len)
 {
-    Reader from = {text, (const char *)text + len};
+    Reader from = {text, (const char *)text + len, NULL, 0, 0};
+    return read_value(&from);
+}
+
+/* The same as Python's own values. The outermost array is a list, but for a location's. */
+PyObject *read_own_text(Core *core, const void *text, size_t len, int is_place)
+{
+    Reader from = {text, (const char *)text + len, core, 1, is_place};
     return read_value(&from);
 }
 
@@ -183,7 +265,7 @@ PyObject *read_values(Core *core, Room *room, uint32_t *number)
     for (*number = 0; at < end && *at != ','; at++)
         *number = 10 * *number + (uint32_t)(*at - '0');
     at += sizeof between - 1;
-    return at < end ? read_text(core, at, (size_t)(end - at)) : broken();
+    return at < end ? read_own_text(core, at, (size_t)(end - at), 0) : broken();
 }
 
 /* The value that a call without text told. */
@@ -194,6 +276,6 @@ PyObject *value_of(Core *core, const asm_value *value, const Room *room)
     case ASM_KIND_UNDEF: return Py_NewRef(Py_None);
     case ASM_KIND_BOOL: return PyBool_FromLong((long)value->number);
     case ASM_KIND_TEXT: return PyUnicode_DecodeUTF8((const char *)room->at, (Py_ssize_t)room->written, NULL);
-    default: return read_text(core, room->at, room->written);
+    default: return read_own_text(core, room->at, room->written, 0);
     }
 }

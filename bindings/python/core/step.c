@@ -1,13 +1,23 @@
 /* Steps of agents. */
 #include "core.h"
 
-typedef int32_t (*TextCall)(struct asm_agent *agent, struct asm_step *step, const uint8_t *text, size_t len, uint8_t *out, size_t room, size_t *written);
-typedef int32_t (*MoveCall)(struct asm_agent *agent, struct asm_step *step, struct asm_move *move, uint8_t *out, size_t room, size_t *written);
-
 /* Raises what the code of a call on it says, and of the location or the move that was passed. */
-static PyObject *step_refused(Step *self, int32_t code)
+PyObject *step_refused(Step *self, int32_t code)
 {
     return refuse(self->held.core, code, code == ASM_EMPTY ? "over" : "step", "(iO)", (int)code, (PyObject *)self);
+}
+
+/* Is over where its slot is empty. */
+static void closes(Step *self)
+{
+    self->agent->steps -= self->is_open && !IS_FULL(self);
+    self->is_open &= IS_FULL(self);
+}
+
+void step_drop(Step *self)
+{
+    asm_free(SLOT(self));
+    closes(self);
 }
 
 /* Makes a step of a type, and begins it. */
@@ -23,13 +33,18 @@ Step *step_begun(Agent *agent, PyTypeObject *type)
         Py_DECREF((PyObject *)self);
         return NULL;
     }
+    agent_turn(agent);
     CALL(code, &agent->held, agent_is_far(agent), asm_begin(SLOT(agent), SLOT(self), &self->number));
     if (ODD(code != ASM_DONE)) {
         Py_DECREF((PyObject *)self);
         return (Step *)agent_refused(agent, code);
     }
     agent->seen = self->number;
+    agent->is_behind = 0;
     agent->last = self;
+    self->thread = agent->thread;
+    agent->steps++;
+    self->is_open = 1;
     return self;
 }
 
@@ -45,8 +60,10 @@ static void step_gone(Step *self)
 {
     Agent *agent = self->agent;
     PyObject_GC_UnTrack(self);
-    if (agent && agent->last == self)
-        agent->last = NULL;
+    if (agent) {
+        agent->steps -= self->is_open;
+        agent->last = agent->last == self ? NULL : agent->last;
+    }
     held_gone(self);
     Py_XDECREF((PyObject *)agent);
 }
@@ -56,180 +73,6 @@ static int step_traverse(Step *self, visitproc visit, void *arg)
     Py_VISIT(Py_TYPE((PyObject *)self));
     Py_VISIT((PyObject *)self->agent);
     return 0;
-}
-
-/* Makes a call that takes a text. */
-static int32_t told(Step *self, TextCall call, const uint8_t *text, size_t len, Room *room)
-{
-    Agent *agent = self->agent;
-    int32_t code;
-    RUN(&agent->held, len > LONG_TEXT, TOLD(code, room, call(SLOT(agent), SLOT(self), text, len, ROOM(room))));
-    return code;
-}
-
-static PyObject *values_of(Step *self, TextCall call, PyObject *places)
-{
-    Core *core = self->held.core;
-    Text text;
-    Room room;
-    PyObject *values = NULL;
-    uint32_t number;
-    if (write_named(core, &text, places, "places"))
-        return NULL;
-    room_begin(&room);
-    if (!UNREADY(&self->agent->held)) {
-        int32_t code = told(self, call, BYTES(&text), &room);
-        self->size += text.len;
-        if (code == ASM_DONE)
-            values = read_values(core, &room, &number);
-        else if (code == ASM_EMPTY || code == ASM_MOVED)
-            step_refused(self, code);
-        else
-            refuse(core, code, "read", "(iiy#)", (int)code, ASM_FORM_LOCATIONS, text.at, (Py_ssize_t)text.len);
-    }
-    room_end(&room);
-    text_end(&text);
-    return values;
-}
-
-static PyObject *step_get(Step *self, PyObject *place)
-{
-    Core *core = self->held.core;
-    Agent *agent = self->agent;
-    if (!is_location(core, place))
-        return values_of(self, asm_get, place);
-    Location *at = (Location *)place;
-    if (UNREADY(&agent->held) || UNREADY(&at->held))
-        return NULL;
-    asm_value value;
-    int32_t code;
-    Room room;
-    room_begin(&room);
-    TOLD(code, &room, asm_get_at(SLOT(agent), SLOT(self), SLOT(at), &value, ROOM(&room)));
-    self->size += (uint64_t)PyBytes_Size(at->text);
-    PyObject *one;
-    if (!ODD(code != ASM_DONE))
-        one = value_of(core, &value, &room);
-    else
-        one = code == ASM_EMPTY && IS_FULL(self) && IS_FULL(agent) ? location_refused(at, code) : step_refused(self, code);
-    room_end(&room);
-    return one;
-}
-
-static PyObject *step_see(Step *self, PyObject *place)
-{
-    if (!is_location(self->held.core, place))
-        return values_of(self, asm_see, place);
-    PyObject *places = PyTuple_Pack(1, place), *values = places ? values_of(self, asm_see, places) : NULL;
-    PyObject *one = values ? Py_XNewRef(PyList_GetItem(values, 0)) : NULL;
-    Py_XDECREF(values);
-    Py_XDECREF(places);
-    return one;
-}
-
-static PyObject *step_scan(Step *self, PyObject *name)
-{
-    Py_ssize_t len;
-    Room room;
-    const uint8_t *text = name_of(self->held.core, name, &len);
-    if (!text || UNREADY(&self->agent->held))
-        return NULL;
-    room_begin(&room);
-    int32_t code = told(self, asm_get_all, text, (size_t)len, &room);
-    PyObject *pairs = code == ASM_DONE ? read_text(self->held.core, room.at, room.written) : step_refused(self, code);
-    room_end(&room);
-    return pairs;
-}
-
-/* Raises why a move isn't pushed. */
-static PyObject *not_pushed(Step *self, int32_t code, const char *move, size_t len, Room *room)
-{
-    if (code == ASM_EMPTY || code == ASM_MOVED)
-        return step_refused(self, code);
-    return refuse(self->held.core, code, "pushed", "(iy#y#)", (int)code, move, (Py_ssize_t)len, room->at,
-        (Py_ssize_t)(code == ASM_CLASH || code == ASM_LARGE ? room->written : 0));
-}
-
-static PyObject *grow_by_text(Step *self, TextCall call, PyObject *move)
-{
-    Text text;
-    Room room;
-    PyObject *done = NULL;
-    if (write_named(self->held.core, &text, move, "instructions"))
-        return NULL;
-    room_begin(&room);
-    if (!UNREADY(&self->agent->held)) {
-        int32_t code = told(self, call, BYTES(&text), &room);
-        self->size += text.len;
-        /* A move of no instructions is none that is missed. */
-        self->is_pushed |= code == ASM_DONE && text.len > 2;
-        done = code == ASM_DONE ? Py_NewRef(Py_None) : not_pushed(self, code, text.at, text.len, &room);
-    }
-    room_end(&room);
-    text_end(&text);
-    return done;
-}
-
-static PyObject *grow(Step *self, TextCall text_call, MoveCall call, PyObject *it)
-{
-    Agent *agent = self->agent;
-    Move *move = (Move *)it;
-    Room room;
-    int32_t code;
-    if (Py_TYPE(it) != self->held.core->move)
-        return grow_by_text(self, text_call, it);
-    if (UNREADY(&agent->held) || UNREADY(&move->held))
-        return NULL;
-    if (ODD(move->is_freed))
-        return refuse(self->held.core, ASM_EMPTY, "freed", "(s)", "move");
-    room_begin(&room);
-    /* A slot holds no move of no instructions. */
-    if (IS_FULL(move))
-        TOLD(code, &room, call(SLOT(agent), SLOT(self), SLOT(move), ROOM(&room)));
-    else
-        code = told(self, text_call, (const uint8_t *)"[]", 2, &room);
-    self->size += move->size;
-    self->is_pushed |= code == ASM_DONE && IS_FULL(move);
-    PyObject *done = ODD(code != ASM_DONE) ? not_pushed(self, code, "", 0, &room) : Py_NewRef(Py_None);
-    room_end(&room);
-    return done;
-}
-
-static PyObject *step_push(Step *self, PyObject *move)
-{
-    return grow(self, asm_push, asm_push_move, move);
-}
-
-static PyObject *step_extend(Step *self, PyObject *move)
-{
-    return grow(self, asm_extend, asm_extend_move, move);
-}
-
-static PyObject *step_pop(Step *self, PyObject *Py_UNUSED(none))
-{
-    if (UNREADY(&self->agent->held))
-        return NULL;
-    int32_t code = asm_pop(SLOT(self));
-    return code == ASM_DONE ? Py_NewRef(Py_None) : step_refused(self, code);
-}
-
-static PyObject *step_pop_move(Step *self, PyObject *Py_UNUSED(none))
-{
-    Core *core = self->held.core;
-    Move *move = held_new(core->move, core);
-    if (!move || UNREADY(&self->agent->held)) {
-        Py_XDECREF((PyObject *)move);
-        return NULL;
-    }
-    int32_t code = asm_pop_move(SLOT(self), SLOT(move));
-    if (code == ASM_DONE) {
-        move->is_popped = 1;
-        /* Of its instructions nothing is known. */
-        move->size = LINE_LIMIT;
-        return (PyObject *)move;
-    }
-    Py_DECREF((PyObject *)move);
-    return step_refused(self, code);
 }
 
 static PyObject *offer(Step *self, int is_text)
@@ -245,7 +88,7 @@ static PyObject *offer(Step *self, int is_text)
         its = step_refused(self, code);
     else
         its = is_text ? PyBytes_FromStringAndSize((char *)room.at, (Py_ssize_t)room.written)
-                      : read_text(self->held.core, room.at, room.written);
+                      : read_own_text(self->held.core, room.at, room.written, 0);
     room_end(&room);
     return its;
 }
@@ -287,6 +130,7 @@ int64_t step_fires(Step *self, int is_try)
     if (code == ASM_DONE) {
         self->fired = numbers.fired;
         self->is_fired = 1;
+        closes(self);
         if (numbers.fired > agent->storage->last)
             agent->storage->last = numbers.fired;
         return (int64_t)(agent->base + numbers.fired);
@@ -302,23 +146,35 @@ int64_t step_fires(Step *self, int is_try)
     return is_vain ? 0 : -1;
 }
 
-static PyObject *step_fire(Step *self, PyObject *Py_UNUSED(none))
+static PyObject *step_commit(Step *self, PyObject *Py_UNUSED(none))
 {
     int64_t number = step_fires(self, 0);
     return number < 0 ? NULL : PyLong_FromLongLong(number);
 }
 
-static PyObject *step_try_fire(Step *self, PyObject *Py_UNUSED(none))
+static PyObject *step_try_commit(Step *self, PyObject *Py_UNUSED(none))
 {
     int64_t number = step_fires(self, 1);
     return number < 0 ? NULL : PyLong_FromLongLong(number);
+}
+
+static PyObject *step_fire(PyObject *self, PyObject *Py_UNUSED(none))
+{
+    int failed = PyErr_WarnEx(PyExc_DeprecationWarning, "Step.fire is deprecated: it is Step.commit", 1);
+    return failed ? NULL : PyObject_CallMethod(self, "commit", NULL);
+}
+
+static PyObject *step_try_fire(PyObject *self, PyObject *Py_UNUSED(none))
+{
+    int failed = PyErr_WarnEx(PyExc_DeprecationWarning, "Step.try_fire is deprecated: it is Step.try_commit", 1);
+    return failed ? NULL : PyObject_CallMethod(self, "try_commit", NULL);
 }
 
 static PyObject *step_free(Step *self, PyObject *Py_UNUSED(none))
 {
     if (UNREADY(&self->agent->held))
         return NULL;
-    asm_free(SLOT(self));
+    step_drop(self);
     return Py_NewRef(Py_None);
 }
 
@@ -338,7 +194,7 @@ static PyObject *step_exit(Step *self, PyObject *const *words, Py_ssize_t count)
     if (UNREADY(&self->agent->held))
         return NULL;
     int is_forgotten = count > 0 && words[0] == Py_None && !self->is_tried && self->is_pushed && asm_depth(SLOT(self)) > 0;
-    asm_free(SLOT(self));
+    step_drop(self);
     if (is_forgotten && PyErr_WarnEx(PyExc_ResourceWarning, "a step ended with moves that were pushed and not fired", 1))
         return NULL;
     return Py_NewRef(Py_None);
@@ -382,34 +238,37 @@ static PyObject *step_full(Step *self, void *Py_UNUSED(none))
 
 static PyMethodDef methods[] = {
     HELD_METHODS,
+    CHANGE_METHODS(step),
     {"get", (PyCFunction)step_get, METH_O,
         "get($self, places, /)\n--\n\nReturn the values of the locations, as they are seen through the pushed moves; of a `Location` its value.\n\n"
         "A location is got where its value is made from that of the state below, and the fire names it. At most 256 are got and\n"
-        "functions scanned, else `Many`. What a pushed move put there depends on nothing."},
+        "functions scanned, else `ManyError`. What a pushed move put there depends on nothing."},
     {"see", (PyCFunction)step_see, METH_O,
         "see($self, places, /)\n--\n\nReturn what `get` returns, but the step doesn't depend on it: for what is shown, of any number of locations."},
     {"scan", (PyCFunction)step_scan, METH_O,
         "scan($self, name, /)\n--\n\nReturn each location with this function name and its value, as a list of pairs, ascending.\n\n"
-        "The step then depends on the whole function: a write to any location of it makes the fire `Stale`."},
+        "The step then depends on the whole function: a write to any location of it makes the fire `StaleError`."},
     {"push", (PyCFunction)step_push, METH_O,
         "push($self, instructions, /)\n--\n\nPush a move, which is fired with the others.\n\n"
-        "`Clash`, with the location and the cause, where its updates clash on what is seen; `Many` for more than 4,096 instructions\n"
-        "in all; `Deep` where 64 moves are pushed. A push that is refused, or popped, is a dry run."},
+        "`ClashError`, with the location and the cause, where its updates clash on what is seen; `ManyError` for more than 4,096 instructions\n"
+        "in all; `DeepError` where 64 moves are pushed. A push that is refused, or popped, is a dry run."},
     {"extend", (PyCFunction)step_extend, METH_O,
         "extend($self, instructions, /)\n--\n\nThe same, but the move joins the one that was pushed last, and is popped with it."},
     {"pop", (PyCFunction)step_pop, METH_NOARGS,
         "pop($self, /)\n--\n\nTake away the move that was pushed last, with those that extend it. `Error` with the code NONE without one."},
     {"pop_move", (PyCFunction)step_pop_move, METH_NOARGS,
-        "pop_move($self, /)\n--\n\nThe same, and return the one move that does what the popped ones do in turn. `Many` where that has more\n"
+        "pop_move($self, /)\n--\n\nThe same, and return the one move that does what the popped ones do in turn. `ManyError` where that has more\n"
         "than 4,096 instructions; nothing is popped then."},
     {"offer", (PyCFunction)step_offer, METH_NOARGS,
-        "offer($self, /)\n--\n\nReturn what `fire` would offer: {\"fire\": [..], \"reads\": [..]}, which `Agent.fire` takes. Scans aren't in it."},
-    {"fire", (PyCFunction)step_fire, METH_NOARGS,
-        "fire($self, /)\n--\n\nFire one move that does what the pushed moves do in turn. Return its number; the step is over then.\n\n"
-        "`Stale`, `Full` and `Busy` as a fire of the agent; `Many` where more than 256 locations and functions are named; `Clash` where\n"
-        "what is written by now doesn't bear an update: begin the step again, as after `Stale`."},
-    {"try_fire", (PyCFunction)step_try_fire, METH_NOARGS,
-        "try_fire($self, /)\n--\n\nThe same, but return 0 where the step is to be begun again, for `Stale`, `Clash` or `Busy`."},
+        "offer($self, /)\n--\n\nReturn what `commit` would offer: {\"fire\": [..], \"reads\": [..]}, which `Agent.fire` takes. Scans aren't in it."},
+    {"commit", (PyCFunction)step_commit, METH_NOARGS,
+        "commit($self, /)\n--\n\nFire one move that does what the pushed moves do in turn. Return its number; the step is over then.\n\n"
+        "A `ConflictError` where the step is to be begun again: `StaleError`, `BusyError`, or `CommitClashError` where what is written\n"
+        "by now doesn't bear an update. `FullError` as of a fire; `ManyError` where more than 256 locations and functions are named."},
+    {"try_commit", (PyCFunction)step_try_commit, METH_NOARGS,
+        "try_commit($self, /)\n--\n\nThe same, but return 0 where the step is to be begun again."},
+    {"fire", step_fire, METH_NOARGS, NULL},
+    {"try_fire", step_try_fire, METH_NOARGS, NULL},
     {"free", (PyCFunction)step_free, METH_NOARGS, "free($self, /)\n--\n\nRelease it; it may be called again."},
     {"_offer_text", (PyCFunction)step_offer_text, METH_NOARGS, NULL},
     {"_end", (PyCFunction)step_end, METH_O, NULL},
@@ -426,18 +285,20 @@ static PyGetSetDef gets[] = {
 };
 static PyMemberDef members[] = {
     {"__weaklistoffset__", T_PYSSIZET, offsetof(Held, weak), READONLY, NULL},
+    {"_thread", T_ULONG, offsetof(Step, thread), READONLY, NULL},
     {"_own_number", T_UINT, offsetof(Step, number), READONLY, NULL},
     {"_size", T_ULONGLONG, offsetof(Step, size), READONLY, NULL},
     {"_is_tried", T_BOOL, offsetof(Step, is_tried), 0, NULL},
+    {"_is_pushed", T_BOOL, offsetof(Step, is_pushed), READONLY, NULL},
     {0},
 };
 static PyType_Slot slots[] = {
     {Py_tp_doc, "Step(agent)\n--\n\n"
                 "A step of an agent: what it does between a look and a fire, on the state that `number` moves have led to.\n\n"
-                "`push` puts a move over that state, through which all is seen that is got and pushed later. `fire` fires one move that\n"
+                "`push` puts a move over that state, through which all is seen that is got and pushed later. `commit` fires one move that\n"
                 "does what the pushed ones do in turn, unless something was written since that the step depends on. A refused call leaves\n"
-                "the step unchanged. The step is over once it is fired, and at the end of its `with`; calls then raise `Over`. One that\n"
-                "isn't fired leaves no trace. Where the agent has gone on since, a get, a scan or a push raises `Moved`."},
-    {Py_tp_new, step_new}, {Py_tp_dealloc, step_gone}, {Py_tp_traverse, step_traverse}, {Py_tp_methods, methods},
+                "the step unchanged. The step is over once it is fired, and at the end of its `with`; calls then raise `OverError`. One that\n"
+                "isn't fired leaves no trace. Where the agent has gone on since, a get, a scan or a push raises `MovedError`."},
+    {Py_mp_subscript, step_at}, {Py_tp_new, step_new}, {Py_tp_dealloc, step_gone}, {Py_tp_traverse, step_traverse}, {Py_tp_methods, methods},
     {Py_tp_members, members}, {Py_tp_getset, gets}, {Py_tp_repr, step_repr}, {0}};
 PyType_Spec step_spec = {"folugben.Step", sizeof(Step), 0, Py_TPFLAGS_DEFAULT | Py_TPFLAGS_BASETYPE | Py_TPFLAGS_HAVE_GC, slots};

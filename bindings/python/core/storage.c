@@ -38,7 +38,7 @@ static int storage_init(Storage *self, PyObject *words, PyObject *named)
     Text text;
     if (!PyArg_ParseTupleAndKeywords(words, named, "|OOO", names, &init, &most, &journal) || storage_note(self, journal))
         return -1;
-    PyObject *pairs = init ? PySequence_List(init) : PyList_New(0);
+    PyObject *pairs = !init ? PyList_New(0) : PyDict_Check(init) ? PyMapping_Items(init) : PySequence_List(init);
     int failed = !pairs || write_named(core, &text, pairs, "init");
     Py_XDECREF(pairs);
     if (failed)
@@ -254,7 +254,7 @@ static PyMethodDef methods[] = {
     {"moves", (PyCFunction)storage_moves, METH_NOARGS, "moves($self, /)\n--\n\nReturn how many moves were fired on it."},
     {"give", (PyCFunction)storage_give, METH_O, "give($self, agent, /)\n--\n\nTake an agent back."},
     {"close_journal", (PyCFunction)storage_close_journal, METH_NOARGS,
-        "close_journal($self, /)\n--\n\nReturn the journal of the agents that were given back, as bytes. `Missing` where one is missing."},
+        "close_journal($self, /)\n--\n\nReturn the journal of the agents that were given back, as bytes. `MissingError` where one is missing."},
     {"next", METHOD(storage_next), METH_VARARGS | METH_KEYWORDS,
         "next($self, capacity=4096, journal=None)\n--\n\nReturn a storage that goes on where this one ended; its agents start anew.\n\n"
         "Its opening state is what the moves of the closed journal leave, and the journals of both, one after the other, tell one run.\n"
@@ -267,7 +267,7 @@ static PyMethodDef methods[] = {
 };
 static PyType_Slot slots[] = {
     {Py_tp_doc, "Storage(init=(), capacity=4096, journal=None)\n--\n\n"
-                "A storage with an opening state, a list of pairs of a location and a value, for so many moves.\n\n"
+                "A storage with an opening state, a dict of values by location or pairs of the two, for so many moves.\n\n"
                 "Where `journal` names a file, the journal is written there at the end of the `with`, also after an exception, once the\n"
                 "agents are given back."},
     {Py_tp_new, storage_new}, {Py_tp_init, storage_init}, {Py_tp_dealloc, storage_gone}, {Py_tp_methods, methods},

@@ -3,14 +3,15 @@
 
 #include "core.h"
 
-/* What is written, which tells what a tuple is there: a list as a value, and an array else. */
-enum { VALUE, MEMBERS, BAG, COUNT, PLACE, PLACES, UPDATE, MOVE, PAIR, PAIRS };
+/* What is written, which tells what a tuple is there: a list as a value, and an array else. Where one location is wanted (AT), a
+ * str is one without arguments. */
+enum { VALUE, MEMBERS, BAG, COUNT, PLACE, AT, PLACES, UPDATE, MOVE, PAIR, PAIRS, NAME, SCAN, SCANS };
 
 static const struct {
     const char *name;
     int kind;
-} names[] = {{"places", PLACES}, {"place", PLACE}, {"instructions", MOVE}, {"first", MOVE}, {"second", MOVE}, {"init", PAIRS},
-    {"state", PAIRS}, {"reads", PAIRS}, {"scans", PAIRS}};
+} names[] = {{"places", PLACES}, {"place", AT}, {"instructions", MOVE}, {"first", MOVE}, {"second", MOVE}, {"init", PAIRS},
+    {"state", PAIRS}, {"reads", PAIRS}, {"scans", SCANS}};
 
 static int inner(int kind, Py_ssize_t place)
 {
@@ -19,8 +20,10 @@ static int inner(int kind, Py_ssize_t place)
     case PLACES: return PLACE;
     case MOVE: return UPDATE;
     case PAIRS: return PAIR;
-    case UPDATE: return place == 1 ? PLACE : VALUE;
-    case PAIR: return place == 0 ? PLACE : VALUE;
+    case SCANS: return SCAN;
+    case SCAN: return place == 0 ? NAME : VALUE;
+    case UPDATE: return place == 1 ? AT : VALUE;
+    case PAIR: return place == 0 ? AT : VALUE;
     default: return VALUE;
     }
 }
@@ -186,18 +189,6 @@ static int write_dict(Core *core, Text *text, PyObject *value)
     return failed ? -1 : PUT(text, "}");
 }
 
-/* Whether no other value is equal to it in Python, as 1 and True are. */
-static int is_plain(PyObject *value)
-{
-    if (PyTuple_CheckExact(value)) {
-        Py_ssize_t k = 0, size = PyTuple_Size(value);
-        while (k < size && is_plain(PyTuple_GetItem(value, k)))
-            k++;
-        return k == size;
-    }
-    return value == Py_None || PyLong_CheckExact(value) || PyUnicode_CheckExact(value);
-}
-
 /* Writes a set, or the elements of a Counter that are there, with their numbers. */
 static int write_members(Core *core, Text *text, PyObject *value, int is_counter)
 {
@@ -207,9 +198,7 @@ static int write_members(Core *core, Text *text, PyObject *value, int is_counter
         PyObject *number = is_counter ? PyDict_GetItemWithError(value, one) : NULL;
         int is_absent = is_counter && (!number || (PyLong_Check(number) && !PyObject_IsTrue(number)));
         Py_XINCREF(number);
-        if (!is_plain(one))
-            failed = odd(text, value);
-        else if (!is_absent) {
+        if (!is_absent) {
             failed = (count++ && PUT(text, ",")) || (number && PUT(text, "[")) || write_value(core, text, one, VALUE);
             if (!failed && number && (PUT(text, ",") || write_value(core, text, number, VALUE) || PUT(text, "]")))
                 failed = odd_inside(text, "[%R]%U", one, 0);
@@ -238,8 +227,25 @@ static int write_other(Core *core, Text *text, PyObject *value)
     return PyFloat_Check(value) ? write_float(text, value) : odd(text, value);
 }
 
+/* Whether a text is the name of a function; what isn't is the name of none, so a scan of it guards nothing. */
+static int is_name(const char *at, Py_ssize_t len)
+{
+    Py_ssize_t k = 0;
+    while (k < len && (at[k] == '_' || (at[k] >= '0' && at[k] <= '9' && k) || ((at[k] | 32) >= 'a' && (at[k] | 32) <= 'z')))
+        k++;
+    return k == len && len > 0 && len <= 64;
+}
+
 static int write_value(Core *core, Text *text, PyObject *value, int kind)
 {
+    if (ODD(kind == NAME && PyUnicode_Check(value))) {
+        Py_ssize_t len = 0;
+        const char *at = PyUnicode_AsUTF8AndSize(value, &len);
+        if (!at || !is_name(at, len))
+            return odd(text, value);
+    }
+    if (kind == AT && PyUnicode_Check(value))
+        return PUT(text, "[") || write_str(text, value) ? -1 : PUT(text, "]");
     if (PyUnicode_CheckExact(value))
         return write_str(text, value);
     if (PyLong_CheckExact(value))
@@ -250,7 +256,7 @@ static int write_value(Core *core, Text *text, PyObject *value, int kind)
         return write_items(core, text, value, kind);
     if (value == Py_None)
         return PUT(text, "null");
-    if (kind == PLACE && is_location(core, value)) {
+    if ((kind == AT || kind == PLACE) && is_location(core, value)) {
         PyObject *its = ((Location *)value)->text;
         return text_put(text, PyBytes_AsString(its), (size_t)PyBytes_Size(its));
     }
@@ -283,13 +289,14 @@ int write_named(Core *core, Text *text, PyObject *value, const char *name)
     return -1;
 }
 
-/* The text of a function's name, which lives as long as the name; null with an exception. */
-const uint8_t *name_of(Core *core, PyObject *name, Py_ssize_t *len)
+/* The text of a function's name, which lives as long as the name; null with an exception. Where something is to depend on the
+ * function it has to be a name. */
+const uint8_t *name_of(Core *core, PyObject *name, int is_guard, Py_ssize_t *len)
 {
     const char *at = PyUnicode_Check(name) ? PyUnicode_AsUTF8AndSize(name, len) : NULL;
-    if (!at) {
-        PyErr_Clear();
-        refuse(core, ASM_SHAPE, "name", "(O)", name);
-    }
-    return (const uint8_t *)at;
+    if (at && (!is_guard || is_name(at, *len)))
+        return (const uint8_t *)at;
+    PyErr_Clear();
+    refuse(core, ASM_SHAPE, "name", "(O)", name);
+    return NULL;
 }

@@ -10,9 +10,10 @@ from pathlib import Path
 from typing import BinaryIO, TextIO
 
 from . import __version__, audit, import_run, part, replay, trace
-from ._errors import BadJournal, Damaged, Error
+from ._errors import BadJournalError, DamagedError, Error
 from ._exports import judged, write_csv, write_itf, write_page, write_perfetto
 from ._reading import follow, is_stored, save, verify
+from ._texts import encoded
 
 
 def _check(journal: bytes, out: TextIO) -> bool:
@@ -45,7 +46,7 @@ def _audit(file: str, _: int | None, out: TextIO) -> bool:
     progress = _Progress(file) if sys.stderr.isatty() else None
     try:
         calls, moves, parts = audit(sys.stdin.buffer if file == "-" else file, progress)
-    except BadJournal as bad:
+    except BadJournalError as bad:
         told = str(bad)
     else:
         told = f"legal {calls} {moves} {parts}"
@@ -79,8 +80,8 @@ def _follow(target: str, _: int | None, out: TextIO) -> bool:
 
 
 def _replay(journal: bytes, out: TextIO) -> bool:
-    for pair in replay(journal):
-        out.write(json.dumps(pair, ensure_ascii=False, separators=(",", ":")) + "\n")
+    for at, value in replay(journal):
+        out.write(f"[{encoded(at, 'place').decode()},{encoded(value, 'value').decode()}]\n")
     return True
 
 
@@ -164,7 +165,7 @@ def _words() -> argparse.ArgumentParser:
 def _import(file: str, folder: str) -> int:
     try:
         counts, left = import_run(file, folder)
-    except BadJournal as bad:
+    except BadJournalError as bad:
         print(f"folugben: {file}: {bad}", file=sys.stderr)
         return 1
     print(f"{counts.moves} moves in {counts.parts} parts")
@@ -182,7 +183,7 @@ def _work_on(asked: argparse.Namespace, out: TextIO) -> int:
             out.write(f"{file}: ")
         try:
             status = status if work(file, getattr(asked, "part", None), out) else 1
-        except (BadJournal, Damaged, Error, IndexError, ValueError) as refused:
+        except (BadJournalError, DamagedError, Error, IndexError, ValueError) as refused:
             print(f"folugben: {file}: {refused}", file=sys.stderr)
             status = 1
     out.flush()

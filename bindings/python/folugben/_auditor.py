@@ -2,10 +2,10 @@
 from typing import Any, NamedTuple
 
 from ._core import Audit
-from ._errors import BadJournal, Error, Text, exact
-from ._library import DONE, EMPTY, LARGE
+from ._errors import BadJournalError, Error, Text, exact
+from ._library import Code
 from ._lines import LINE_LIMIT
-from ._texts import decoded
+from ._texts import owned
 
 
 class Counts(NamedTuple):
@@ -25,27 +25,27 @@ class Auditor(Audit):
             auditor.feed(chunk)             # raises the first wrong answer at once
         calls, moves, parts = auditor.end() # raises where the last part isn't complete
 
-    What is wrong is a `BadJournal` with the part, and the call or the line. Each further call raises it again.
+    What is wrong is a `BadJournalError` with the part, and the call or the line. Each further call raises it again.
     """
 
     def __init__(self) -> None:
         if hasattr(self, "_counts"):
             raise TypeError("this Auditor was made before")
-        self._fault: BadJournal | None = None
+        self._fault: BadJournalError | None = None
         self._counts = Counts(0, 0, 0)
         self._take(b"")
 
     def feed(self, chunk: Text) -> Counts:
         """Takes the next bytes, or characters, any number of them. What the audit has counted so far.
 
-        `BadJournal` at the first wrong answer, the first fault, or the first part that opens with another state; a line of more
+        `BadJournalError` at the first wrong answer, the first fault, or the first part that opens with another state; a line of more
         than 16,777,216 bytes is such a fault too. After a `MemoryError` what wasn't taken is kept, and the next call begins with
         it: `feed(b"")` tries again.
         """
         text = exact(chunk, "what an audit takes")
         self._expect_sound()
         code, parts, calls, moves = self._take(text)
-        if code != DONE:
+        if code != Code.DONE:
             self._fault = self._bad(code, parts, calls)
             raise self._fault
         self._counts = Counts(calls, moves, parts)
@@ -58,33 +58,33 @@ class Auditor(Audit):
         return self._counts
 
     def end(self) -> Counts:
-        """What it has counted, where no further byte comes. `BadJournal` where the last part isn't complete.
+        """What it has counted, where no further byte comes. `BadJournalError` where the last part isn't complete.
 
         The audit is unchanged, and may be fed on.
         """
         self._expect_sound()
         code, parts, calls, moves = self._told()
-        if code != DONE:
+        if code != Code.DONE:
             raise self._bad(code, parts, calls)
         return Counts(calls, moves, parts)
 
     def state(self) -> list[Any]:
         """The state that the moves so far leave, as a list of pairs. `Error` with the code NONE where no part has begun."""
         self._expect_sound()
-        pairs: list[Any] = decoded(self._state())
+        pairs: list[Any] = owned(self._state())
         return pairs
 
     @staticmethod
-    def _bad(code: int, part: int, number: int) -> BadJournal:
-        bad = BadJournal(code, (number,), f"a line has more than {LINE_LIMIT:,} bytes" if code == LARGE else "")
+    def _bad(code: int, part: int, number: int) -> BadJournalError:
+        bad = BadJournalError(code, (number,), f"a line has more than {LINE_LIMIT:,} bytes" if code == Code.LARGE else "")
         bad.part = part
         return bad
 
     def _expect_sound(self) -> None:
         if not self._is_full:
-            raise Error(EMPTY, said="the audit was freed")
+            raise Error(Code.EMPTY, said="the audit was freed")
         if self._fault is not None:
-            bad = BadJournal(self._fault.code, self._fault.numbers, self._fault.said)
+            bad = BadJournalError(self._fault.code, self._fault.numbers, self._fault.said)
             bad.part = self._fault.part
             raise bad
 

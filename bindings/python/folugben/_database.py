@@ -13,7 +13,7 @@ import time
 from collections.abc import Iterator, Sequence
 from typing import Any, Protocol
 
-from ._errors import Damaged
+from ._errors import DamagedError
 from ._folder import sync_folder
 
 # What a file of SQLite has in its header that is a run.
@@ -52,7 +52,7 @@ class Database(Protocol):
         """Run what is done within as one transaction, alone, that is on the disk at the end."""
 
     def has_run(self) -> bool:
-        """Return whether the tables of a run are there; `Damaged` where others are."""
+        """Return whether the tables of a run are there; `DamagedError` where others are."""
 
     def make(self) -> None:
         """Make what has to be there before the tables, in a transaction."""
@@ -77,7 +77,7 @@ def connect(target: str | os.PathLike[str], writes: bool = True, makes: bool = F
         ConnectionError: the server doesn't answer.
         FileNotFoundError: there is no file.
         OSError: the file can't be opened, or not be written.
-        Damaged: the file is another one.
+        DamagedError: the file is another one.
     """
     if is_server(target):
         return Postgres(str(target))
@@ -103,7 +103,7 @@ def is_database(path: str | os.PathLike[str]) -> bool:
 
 @contextlib.contextmanager
 def reaching(target: object) -> Iterator[None]:
-    """Raises a `ConnectionError` where the connection is lost, and an `OSError` or `Damaged` for a file that is no good."""
+    """Raises a `ConnectionError` where the connection is lost, and an `OSError` or `DamagedError` for a file that is no good."""
     try:
         yield
     except Lost as error:
@@ -177,7 +177,7 @@ class Sqlite:
     def transaction(self) -> Iterator[None]:
         # Neither SQLite nor a new connection notices a file that was removed.
         if not os.path.samestat(os.stat(self._path), self._file):
-            raise Damaged(0, f"{self._path} was removed or replaced")
+            raise DamagedError(0, f"{self._path} was removed or replaced")
         self._db.execute("begin immediate")
         try:
             yield
@@ -190,7 +190,7 @@ class Sqlite:
     def has_run(self) -> bool:
         tables = self.run("select count(*) from sqlite_schema")[0][0]
         if tables and self.run("pragma application_id") != [(_APPLICATION,)]:
-            raise Damaged(0, f"{self._path} is another database than a run's")
+            raise DamagedError(0, f"{self._path} is another database than a run's")
         return bool(tables)
 
     def make(self) -> None:
@@ -224,11 +224,11 @@ class Sqlite:
             self._agents = -1
 
 
-def _as_os_error(error: sqlite3.Error, target: object) -> OSError | Damaged:
+def _as_os_error(error: sqlite3.Error, target: object) -> OSError | DamagedError:
     """The error of a file that SQLite can't open or write."""
     code = getattr(error, "sqlite_errorcode", 0) & 0xFF
     if code in (sqlite3.SQLITE_NOTADB, sqlite3.SQLITE_CORRUPT):
-        return Damaged(0, f"{error}: {target}")
+        return DamagedError(0, f"{error}: {target}")
     number = {sqlite3.SQLITE_FULL: errno.ENOSPC, sqlite3.SQLITE_READONLY: errno.EROFS, sqlite3.SQLITE_PERM: errno.EACCES,
               sqlite3.SQLITE_BUSY: errno.EBUSY, sqlite3.SQLITE_CANTOPEN: errno.EACCES}
     return OSError(number.get(code, errno.EIO), f"SQLite: {error}", str(target))

@@ -5,24 +5,37 @@ from collections.abc import Iterable
 from typing import Any, TypeAlias
 
 from . import _core
-from ._library import BUSY, CLASH, DEEP, DONE, ERROR_TEXT, EXPLAIN, FULL, ILLEGAL, LARGE, MANY, MEMORY, MISSING, MOVE, MOVED
-from ._library import NOT_JSON, RANGE, SHAPE, STALE
+from ._library import Code, ERROR_TEXT, EXPLAIN, TextForm
+
+CODES = frozenset(Code)
 
 # A text in UTF-8, or as Python has it.
 Text: TypeAlias = bytes | bytearray | memoryview | str
 
 # What the numbers of an error mean, for the codes that have some.
-NUMBERS = {
-    BUSY: "the agent had seen {} moves at the start of the call and {} at its end",
-    MISSING: "move {}",
-    ILLEGAL: "call {}, counted from 0",
-    NOT_JSON: "line {}",
-    SHAPE: "line {}",
+NUMBERS: dict[int, str] = {
+    Code.BUSY: "the agent had seen {} moves at the start of the call and {} at its end",
+    Code.MISSING: "move {}",
+    Code.ILLEGAL: "call {}, counted from 0",
+    Code.NOT_JSON: "line {}",
+    Code.SHAPE: "line {}",
 }
 
 # A MOVE of which the instructions, or the named reads, are a part.
 INSTRUCTIONS = b'{"fire":%b,"reads":[]}'
 READS = b'{"fire":[],"reads":%b}'
+
+
+# Why the updates of a location clash.
+_CAUSES = {
+    "Two": "two different values are put",
+    "Mixed": "instructions of two of these: sets, bags, numbers",
+    "Kind": "add and remove need a set, bag_add and bag_remove a bag, and inc a number",
+    "Both": "an element is added to a set and removed from it",
+    "Against": "a value is put that the other instructions don't agree with",
+    "Short": "more of an element is removed than the bag has",
+    "Large": "a count is above 4,294,967,295, or a number is none of 64 bits",
+}
 
 
 def error_text(code: int) -> str:
@@ -39,7 +52,7 @@ class Error(Exception):
     """
 
     def __init__(self, code: int, numbers: Iterable[int] = (), said: str = "") -> None:
-        self.code = code
+        self.code = Code(code) if code in CODES else code
         self.numbers = tuple(numbers) if code in NUMBERS else ()
         self.said = said
         super().__init__(self.code, self.numbers, self.said)
@@ -47,66 +60,78 @@ class Error(Exception):
     def __str__(self) -> str:
         text = error_text(self.code)
         if self.said:
-            text = self.said if self.code == NOT_JSON else f"{text}: {self.said}"
+            # Of these the code's own line says less.
+            is_said = self.code in (Code.NOT_JSON, Code.RANGE, Code.MANY)
+            text = self.said if is_said else f"{text}: {self.said}"
         where = NUMBERS[self.code].format(*self.numbers) if self.numbers else ""
         return text if text.endswith(where) else f"{text} ({where})"
 
 
-class Retry(Error):
-    """Other agents were quicker: what was tried is to be begun anew, as `Agent.play` does."""
+class ConflictError(Error):
+    """Other agents were quicker: begin what was tried again, as `Agent.play` does.
+
+    It is what a retry loop by hand catches. A clash of a push, or of an agent's fire, is none.
+    """
 
 
-class Stale(Retry):
+class StaleError(ConflictError):
     """A named location was written since it was read; `at` is the least such location."""
 
-    at: list[Any]
+    at: tuple[Any, ...]
     cause = None
 
 
-class Clash(Error):
-    """The updates of the move clash; `at` is the location and `cause` the cause.
+class ClashError(Error):
+    """The updates of the move clash; `at` is the location and `cause` the cause."""
 
-    A fire of a step clashes only where another agent wrote there since the step began: begin another step.
-    """
-
-    at: list[Any]
+    at: tuple[Any, ...]
     cause: str
+    # What is there, where that is of another kind.
+    there: str | None = None
+
+    def __str__(self) -> str:
+        there = "" if self.there is None else f", and there is {self.there}"
+        return f"{super().__str__()}: {_CAUSES.get(getattr(self, 'cause', ''), '')}{there}"
 
 
-class Large(Error):
+class CommitClashError(ClashError, ConflictError):
+    """A commit of a step clashes, as another agent wrote there since the step began."""
+
+
+class LargeError(Error):
     """An amount or a sum of composed updates is too large, at the location `at`; or a journal has too many calls."""
 
-    at: list[Any] | None = None
+    at: tuple[Any, ...] | None = None
 
 
-class Full(Error):
+class FullError(Error):
     """As many moves were fired as the capacity."""
 
 
-class Busy(Retry):
+class BusyError(ConflictError):
     """64 offers were lost; `numbers` are how many moves had been seen at the start and at the end."""
 
 
-class Many(Error):
+class ManyError(Error):
     """More than 256 locations are read, got, scanned by a name or named, or a composed move has more than 4,096 instructions."""
 
 
-class Deep(Error):
+class DeepError(Error):
     """64 moves are pushed already."""
 
 
-class Moved(Error):
+class MovedError(Error):
     """The agent's own state doesn't stand at the number of the step, as it has moved on since: begin another step."""
 
 
-class Past(Retry):
+class PastError(ConflictError):
     """The part of the run has ended in which the step was begun, or a location was read that a fire names: begin anew."""
 
 
-class Broken(RuntimeError):
+class BrokenError(RuntimeError):
     """A run has ended, as its part with the number `part` couldn't be written; what stands before that in its file is whole.
 
-    The cause is `Missing` where an agent was abandoned that had fired, an `OSError` where a write failed.
+    The cause is `MissingError` where an agent was abandoned that had fired, an `OSError` where a write failed.
     """
 
     def __init__(self, part: int, cause: BaseException) -> None:
@@ -118,7 +143,7 @@ class Broken(RuntimeError):
         return f"the run has ended, as its part {self.part} couldn't be written: {told}"
 
 
-class Damaged(RuntimeError):
+class DamagedError(RuntimeError):
     """What is stored of a run isn't what the run has written; `segment` is the number of the first segment concerned."""
 
     def __init__(self, segment: int, said: str) -> None:
@@ -129,33 +154,33 @@ class Damaged(RuntimeError):
         return f"segment {self.segment}: {self.said}"
 
 
-class Mismatch(ValueError):
+class MismatchError(ValueError):
     """A shared run has another opening state than it was told, or tables of another version."""
 
 
-class Unknown(RuntimeError):
+class UnknownError(RuntimeError):
     """Whether a move of a shared run was fired isn't known: the process was away while others saved several segments."""
 
     def __str__(self) -> str:
         return "whether the move was fired isn't known, as this process was away while others saved several segments"
 
 
-class TooLong(Error):
+class TooLongError(Error):
     """A line of the journal would be longer than an audit reads, `LINE_LIMIT` bytes; nothing was done."""
 
 
-class Over(Error):
+class OverError(Error):
     """The step is over: it was fired, or freed as at the end of its `with`."""
 
     def __str__(self) -> str:
         return "the step is over: it was fired, or freed as at the end of its `with`"
 
 
-class Missing(Error):
+class MissingError(Error):
     """A move has no receipt among the agents that were given back; `numbers` has its number, and `said` tells who isn't."""
 
 
-class BadJournal(Error):
+class BadJournalError(Error):
     """The journal is illegal, or is none; `numbers` has the number of the call or of the line, if there is one.
 
     An audit tells the number of the part besides, from 0 up.
@@ -166,12 +191,12 @@ class BadJournal(Error):
     @property
     def call(self) -> int | None:
         """The number of the first call whose answer is wrong, from 0 up in its part, where the journal is illegal."""
-        return self.numbers[0] if self.code == ILLEGAL else None
+        return self.numbers[0] if self.code == Code.ILLEGAL else None
 
     @property
     def line(self) -> int | None:
         """The number of the line that is at fault, from 1 up in its part, where it is one line's."""
-        return self.numbers[0] if self.code in (NOT_JSON, SHAPE) else None
+        return self.numbers[0] if self.code in (Code.NOT_JSON, Code.SHAPE) else None
 
     def __str__(self) -> str:
         return super().__str__() if self.part is None else f"part {self.part}: {super().__str__()}"
@@ -179,32 +204,41 @@ class BadJournal(Error):
 
 # The exceptions of codes that have one of their own.
 KINDS: dict[int, type[Error]] = {
-    STALE: Stale, CLASH: Clash, FULL: Full, BUSY: Busy, MANY: Many, MISSING: Missing, LARGE: Large, MOVED: Moved, DEEP: Deep,
+    Code.STALE: StaleError, Code.CLASH: ClashError, Code.FULL: FullError, Code.BUSY: BusyError, Code.MANY: ManyError,
+    Code.MISSING: MissingError, Code.LARGE: LargeError, Code.MOVED: MovedError, Code.DEEP: DeepError,
 }
 
 
 def expect(code: int, kind: type[Error] | None = None, numbers: Iterable[int] = (), said: str = "") -> None:
     """Raises what the code says, as an exception of this kind or of its own, unless it is DONE."""
-    if code == MEMORY:
+    if code == Code.MEMORY:
         raise MemoryError
-    if code != DONE:
+    if code != Code.DONE:
         raised = KINDS.get(code, Error) if kind is None else kind
         raise raised(code, numbers, said)
 
 
-def refusal(code: int, told: Any) -> Stale | Clash | Large:
+def refusal(code: int, text: bytes, clash: type[ClashError] = ClashError) -> StaleError | ClashError | LargeError:
     """The exception of a code whose text tells a location, and of a clash the cause."""
-    if code == STALE:
-        stale = Stale(code, said=json.dumps(told["stale"]))
-        stale.at = told["stale"]
-        return stale
-    if code == LARGE:
-        large = Large(code, said=json.dumps(told["large"]))
-        large.at = told["large"]
-        return large
-    at, cause = told["clash"]
-    clash = Clash(code, said=f"{json.dumps(at)}, {cause}")
-    clash.at, clash.cause = at, cause
+    ((kind, told),) = _core.owned(text).items()
+    at, *cause = told if kind == "clash" else (told,)
+    said = ", ".join([_core.encoded(at, "place").decode(), *cause])
+    raised: StaleError | ClashError | LargeError
+    if kind == "clash":
+        raised = clash(code, said=said)
+        raised.cause = cause[0]
+    else:
+        raised = StaleError(code, said=said) if kind == "stale" else LargeError(code, said=said)
+    raised.at = at
+    return raised
+
+
+def as_conflict(error: Error) -> Error:
+    """The error of a commit that was answered as a fire."""
+    if type(error) is not ClashError:
+        return error
+    clash = CommitClashError(error.code, said=error.said)
+    clash.at, clash.cause = error.at, error.cause
     return clash
 
 
@@ -214,8 +248,8 @@ def ahead(reads: Iterable[Any], seen: int, scans: Iterable[Any] = ()) -> Error:
         for place, (at, number) in enumerate(those, 1):
             if number > seen:
                 said = f"{kind} {place}: {json.dumps(at)} is named at {number}, and the agent has seen {seen}"
-                return Error(RANGE, said=said)
-    return Error(RANGE)
+                return Error(Code.RANGE, said=said)
+    return Error(Code.RANGE)
 
 
 def exact(text: Text, name: str) -> bytes:
@@ -224,7 +258,7 @@ def exact(text: Text, name: str) -> bytes:
         try:
             return str.encode(text)
         except UnicodeEncodeError as error:
-            raise Error(SHAPE, said=f"{name} has {text[error.start]!r} at {error.start}, which isn't Unicode") from None
+            raise Error(Code.SHAPE, said=f"{name} has {text[error.start]!r} at {error.start}, which isn't Unicode") from None
     if isinstance(text, (bytes, bytearray, memoryview)):
         return b"".join((text,))
     raise TypeError(f"{name} is bytes or a str, and not {type(text).__name__!r}")
@@ -233,8 +267,8 @@ def exact(text: Text, name: str) -> bytes:
 def explain(form: int, text: Text) -> str:
     """Where and why a text isn't of a form, LOCATIONS, MOVE, STATE, EVENT or SCRIPT; empty for a text that is."""
     form, text = int.__index__(operator.index(form)), exact(text, "a text")
-    if not 0 <= form < 2**31:
-        raise Error(RANGE)
+    if form not in frozenset(TextForm):
+        raise Error(Code.RANGE, said=f"a form is one of TextForm, 0 to {len(TextForm) - 1}, and not {form}")
     code, said, *_ = _core.told(EXPLAIN, form, text)
     expect(code)
     return said.decode()
@@ -253,10 +287,22 @@ def refused_number(text: bytes) -> str:
     return told.replace('["fire"]', "instructions", 1).replace('["reads"]', "reads", 1)
 
 
+def is_json(text: bytes) -> bool:
+    """Whether a text is JSON, which the library doesn't read where it nests too deep."""
+    try:
+        json.loads(text)
+    except (ValueError, RecursionError) as error:
+        return isinstance(error, RecursionError)
+    return True
+
+
 def expect_read(code: int, form: int, text: bytes) -> None:
     """Raises what the code of a call says that was passed a text of this form, unless it is DONE."""
-    if code in (NOT_JSON, SHAPE):
+    if code == Code.NOT_JSON and is_json(text):
+        expect(Code.SHAPE, said="lists nest at most 8 deep")
+    if code in (Code.NOT_JSON, Code.SHAPE):
         said = explain(form, text)
+        said = said.replace('a list is written {"list":[..]}', 'a list is a tuple, or written {"list":[..]}')
         if " is whole, from " in said and (at := refused_number(text)):
             said += f", and {at}"
         expect(code, said=said)
@@ -265,7 +311,7 @@ def expect_read(code: int, form: int, text: bytes) -> None:
 
 def expect_scans(code: int, scans: Iterable[Any]) -> None:
     """Raises what the code of a fire says of which the move is read: SHAPE where one of these is no scan."""
-    if code == SHAPE:
+    if code == Code.SHAPE:
         for place, scan in enumerate(scans, 1):
             if not is_scan(scan):
                 expect(code, said=f"scan {place}: a scan is an array of a function's name and a number, from 0 to 4,294,967,295")
@@ -283,4 +329,4 @@ def is_scan(value: Any) -> bool:
 def expect_part(code: int, move: bytes, part: bytes) -> None:
     """The same of a text that is a part of a MOVE: INSTRUCTIONS or READS."""
     # Where it isn't JSON, the byte is told, counted from its own beginning.
-    expect_read(code, MOVE, move % part if code == SHAPE else part)
+    expect_read(code, TextForm.MOVE, move % part if code == Code.SHAPE else part)

@@ -13,7 +13,7 @@ from typing import TYPE_CHECKING, NamedTuple, TypeAlias
 from ._errors import Error
 from ._footprint import Footprint, Noted
 from ._found import Breach, Event, Holds, Invariant, listed
-from ._turns import Endless, Turns, interleave, play_all
+from ._turns import EndlessError, Turns, interleave, play_all
 
 if TYPE_CHECKING:
     from . import Agent, Storage
@@ -25,7 +25,7 @@ Make: TypeAlias = "Callable[[], Storage]"
 Program: TypeAlias = "Callable[[Agent], object]"
 
 
-class Differs(RuntimeError):
+class DiffersError(RuntimeError):
     """The programs did something else in the same schedule, as where they draw at random, or share more than the storage."""
 
 
@@ -93,8 +93,8 @@ class _Tree:
         return self.footprints[key]
 
 
-def _differs(agent: int) -> Differs:
-    return Differs(f"agent {agent} did something else in the same schedule: the programs draw, or share more than the storage")
+def _differs(agent: int) -> DiffersError:
+    return DiffersError(f"agent {agent} did something else in the same schedule: the programs draw, or share more than the storage")
 
 
 class _Blocked(Exception):
@@ -203,7 +203,7 @@ def explore(
 
     Each schedule plays on a new storage from `make`, and each program with the agent of its place. Of schedules that differ
     only in the order of calls that don't depend on each other one is played. The invariant gets the values of each state, by
-    the location's JSON, as `states` yields them; `at_end` gets those of the last one. Each returns False or raises an
+    the location, as `states` yields them; `at_end` gets those of the last one. Each returns False or raises an
     AssertionError where it doesn't hold. A program that raises is a finding too.
 
     The programs may share nothing but the storage, and must do the same in the same schedule: a number of a move may be
@@ -212,9 +212,9 @@ def explore(
     The search ends at the first finding, after so many schedules or seconds, or when it has tried all.
 
     Raises:
-        Endless: a schedule hasn't ended after so many turns, as where agents wait for each other. Who looks again and again is
+        EndlessError: a schedule hasn't ended after so many turns, as where agents wait for each other. Who looks again and again is
             made to wait for others, but then there is no end of schedules.
-        Differs: the programs did something else in the same schedule.
+        DiffersError: the programs did something else in the same schedule.
     """
     end, holds, played, pushed = time.monotonic() + seconds, Holds(invariant, at_end), 0, 0
     tree, is_exact = _Tree({}), True
@@ -230,7 +230,7 @@ def explore(
         if breach is not None:
             turns_of, journal = _replayed(make, programs, breach, play, turns)
             if breach.error is None and not holds.is_broken(journal):
-                raise Differs(f"{breach.broken}, but not when it was played again by the turns {turns_of}")
+                raise DiffersError(f"{breach.broken}, but not when it was played again by the turns {turns_of}")
             return Explored(played, False, turns_of, journal, breach.broken, breach.error)
         if not queue and tree.has_grown:
             tree, queue = _Tree(tree.footprints), [(0, 0, [])]
@@ -246,7 +246,7 @@ def _replayed(make: Make, programs: Sequence[Program], breach: Breach, play: _Pl
             agents = [storage.agent(number) for number in range(len(programs))]
             try:
                 interleave(agents, programs, turns, most=most)
-            except Endless:
+            except EndlessError:
                 is_ended = False
             except Exception:
                 pass  # which may be the finding

@@ -9,9 +9,9 @@ import sys
 from collections.abc import Iterator
 from typing import Any, TextIO
 
-from ._errors import BadJournal, TooLong
+from ._errors import BadJournalError, TooLongError
 from ._functions import check, trace
-from ._library import LARGE
+from ._library import Code
 from ._texts import encoded
 
 # How many characters the states in the Informal Trace Format may have.
@@ -134,7 +134,7 @@ def write_itf(journal: bytes, out: TextIO, source: str = "", first: int = 0, las
     no other, so the output grows with the moves times the size of the state.
 
     Raises:
-        TooLong: the states have more than 1,073,741,824 characters.
+        TooLongError: the states have more than 1,073,741,824 characters.
     """
     names = sorted({at[0] for line in trace(journal) for at, *_ in line.get("init", line.get("updates", ()))})
     meta = {"format": "ITF", "format-description": "https://apalache-mc.org/docs/adr/015adr-trace.html", "source": source}
@@ -149,7 +149,7 @@ def write_itf(journal: bytes, out: TextIO, source: str = "", first: int = 0, las
         written += len(text)
         if written > ITF_LIMIT:
             said = f"the states of moves {first} to {told['index']} have more than {ITF_LIMIT:,} characters"
-            raise TooLong(LARGE, said=f"{said}: take fewer by --from and --to")
+            raise TooLongError(Code.LARGE, said=f"{said}: take fewer by --from and --to")
         out.write(text)
     out.write("]}\n")
 
@@ -209,6 +209,6 @@ def judged(journal: bytes) -> tuple[bool, str]:
     """Whether a journal is legal, and the line that tells it."""
     try:
         calls, moves = check(journal)
-    except BadJournal as bad:
+    except BadJournalError as bad:
         return False, str(bad)
     return True, f"legal {calls} {moves}"

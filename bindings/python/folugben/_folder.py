@@ -10,7 +10,7 @@ import stat
 from collections.abc import Iterator
 from typing import NamedTuple
 
-from ._errors import Damaged
+from ._errors import DamagedError
 
 # How many bytes of a file are read at once.
 CHUNK = 1 << 20
@@ -70,20 +70,20 @@ class RunFolder:
 
         Raises:
             FileNotFoundError: there is none.
-            Damaged: the names aren't those of a run.
+            DamagedError: the names aren't those of a run.
         """
         found = [it for it in os.listdir(self._fd) if it.endswith(_SUFFIX)]
         segments, last = [], START
         for name in sorted(found):
             told = _NAME.fullmatch(name)
             if told is None:
-                raise Damaged(last.number + 1, f"{name!r} is no name of a segment")
+                raise DamagedError(last.number + 1, f"{name!r} is no name of a segment")
             number, moves, events = map(int, told.groups()[:3])
             if number != last.number + 1:
                 said = f"another file has this number too: {name}" if number == last.number else "its file is missing"
-                raise Damaged(min(number, last.number + 1), said)
+                raise DamagedError(min(number, last.number + 1), said)
             if number == 0 and moves + events > 0:
-                raise Damaged(0, "the opening segment has no event")
+                raise DamagedError(0, "the opening segment has no event")
             last = Segment(number, last.end, moves, events, told[4])
             segments.append(last)
         if not segments:
@@ -94,12 +94,12 @@ class RunFolder:
         """Yield the text of a segment, behind the one with the previous digest.
 
         Raises:
-            Damaged: the text isn't the one that was saved, at its end at the latest.
+            DamagedError: the text isn't the one that was saved, at its end at the latest.
         """
         try:
             fd = os.open(segment.name, os.O_RDONLY | os.O_CLOEXEC | os.O_NOFOLLOW, dir_fd=self._fd)
         except FileNotFoundError:
-            raise Damaged(segment.number, "its file is gone") from None
+            raise DamagedError(segment.number, "its file is gone") from None
         with open(fd, "rb", buffering=0) as file:
             length = os.fstat(fd).st_size
             digest = begun_digest(segment, previous, length)
@@ -107,7 +107,7 @@ class RunFolder:
                 digest.update(chunk)
                 yield chunk
         if digest.hexdigest() != segment.digest:
-            raise Damaged(segment.number, "its text isn't the one that was saved")
+            raise DamagedError(segment.number, "its text isn't the one that was saved")
 
     def rest(self, last: Segment) -> list[bytes]:
         """Return what is behind the last segment: nothing is."""
@@ -173,7 +173,7 @@ class RunWriter(RunFolder):
         Raises:
             FileNotFoundError: there is no run.
             BlockingIOError: another run is at work there.
-            Damaged: the names aren't those of a run.
+            DamagedError: the names aren't those of a run.
         """
         with RunFolder(path) as folder:
             folder.segments()  # nothing is created in a folder without a run
@@ -228,18 +228,18 @@ class RunWriter(RunFolder):
         """Check that the path leads to this folder, with the lock and the last segment.
 
         Raises:
-            Damaged: something was moved, removed, replaced or truncated.
+            DamagedError: something was moved, removed, replaced or truncated.
         """
         number = self.last.number + 1
         try:
             if not _same(os.stat(self.path), os.fstat(self._fd)):
-                raise Damaged(number, f"{self.path} was moved or replaced")
+                raise DamagedError(number, f"{self.path} was moved or replaced")
             if not _same(os.stat(_LOCK, dir_fd=self._fd, follow_symlinks=False), os.fstat(self._lock)):
-                raise Damaged(number, f"the lock in {self.path} was replaced")
+                raise DamagedError(number, f"the lock in {self.path} was replaced")
             if number > 0 and os.stat(self.last.name, dir_fd=self._fd, follow_symlinks=False).st_size != self._size:
-                raise Damaged(self.last.number, "its file has another size than it was written with")
+                raise DamagedError(self.last.number, "its file has another size than it was written with")
         except FileNotFoundError as error:
-            raise Damaged(number, f"{self.path}: what the run has written was removed") from error
+            raise DamagedError(number, f"{self.path}: what the run has written was removed") from error
 
     def close(self) -> None:
         """Let another run have the folder; it may be called again."""

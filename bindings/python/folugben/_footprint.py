@@ -4,12 +4,13 @@ from collections.abc import Iterable, Iterator
 from contextlib import contextmanager
 from typing import Any
 
-from ._errors import Clash, Error, Full
+from ._errors import ClashError, Error, FullError
 from ._texts import encoded
-from ._turns import Played, Player, Turns
+from ._turns import WRITES, Played, Player, Turns
 
 # The calls that look at what other agents did, or write. All others stay within what their agent has looked at.
-_LOOKS = frozenset({"step", "read", "fire", "try_fire", "follow", "stands", "learn"})
+_COMMITS = frozenset({"commit", "try_commit", "fire", "try_fire"})
+_LOOKS = _COMMITS | {"step", "read", "follow", "stands", "learn"}
 
 
 class Footprint:
@@ -26,7 +27,7 @@ class Footprint:
     def write(self, places: Iterable[Any]) -> None:
         for place in places:
             self.writes.add(text_of(place))
-            self.written.add(place[0])
+            self.written.add(name_of(place))
 
     def meets(self, other: "Footprint") -> bool:
         """Whether the order of the two matters: one writes what the other reads or writes."""
@@ -47,6 +48,12 @@ class Footprint:
         return isinstance(other, Footprint) and vars(self) == vars(other)
 
 
+def name_of(place: Any) -> str:
+    """The name of a location's function."""
+    name: str = place if isinstance(place, str) else getattr(place, "place", place)[0]
+    return name
+
+
 def text_of(place: Any) -> str:
     """The text of a location, prepared or not."""
     return encoded(getattr(place, "place", place), "place").decode()
@@ -56,9 +63,9 @@ def _without_number(name: str, is_step: bool, told: Any) -> Any:
     """What a call has told, but for numbers of moves."""
     if name in ("read", "peek", "state") or name == "scan" and not is_step:
         return told[1]
-    if name in ("fire", "try_fire"):
+    if name in _COMMITS:
         return told > 0
-    return told if name in ("get", "see", "scan", "stands") else None
+    return told if name in ("get", "see", "scan", "stands", "__getitem__") else None
 
 
 class Noted(Player):
@@ -107,9 +114,9 @@ class Noted(Player):
         try:
             yield
         except Error as error:
-            if isinstance(error, Clash):
+            if isinstance(error, ClashError):
                 self.now.read([error.at])
-            self.now.reads_all |= isinstance(error, Full)
+            self.now.reads_all |= isinstance(error, FullError)
             self._hear([type(error).__name__, getattr(error, "at", None)])
             raise
 
@@ -151,7 +158,7 @@ class Noted(Player):
 
     def _step_call(self, it: Played, name: str, words: tuple[Any, ...], named: dict[str, Any]) -> Any:
         call = getattr(it.own, name)
-        if name in ("fire", "try_fire"):
+        if name in _COMMITS:
             self._step = None
             offer = it.own.offer()
             self.now.read(at for at, _ in offer["reads"])
@@ -160,11 +167,13 @@ class Noted(Player):
         if name in ("get", "see"):
             places = words[0] if words else named["places"]
             self.now.read([places] if hasattr(places, "place") else places)
+        elif name == "__getitem__":
+            self.now.read(words)
         elif name == "scan":
             self._scanned += [*words, *named.values()]
             self.now.scans.update(self._scanned)
         told = call(*words, **named)
-        if name in ("push", "extend"):
+        if name in ("push", "extend", *WRITES):
             # A partial update is taken or refused by the value that it changes.
             self.now.read(at for word, at, *_ in it.own.offer()["fire"] if word != "put")
         return told

@@ -1,13 +1,12 @@
 """What a search looks for in a schedule: a state in which an invariant doesn't hold, or an error of a program."""
-import json
 from collections.abc import Callable, Iterator, Mapping, Sequence
 from typing import Any, NamedTuple, TypeAlias
 
 from ._footprint import Footprint
-from ._runs import states
+from ._runs import by_place, states_by_text
 
 # What has to hold in a state: where it doesn't, it returns False or raises an AssertionError.
-Invariant: TypeAlias = Callable[[Mapping[str, Any]], object]
+Invariant: TypeAlias = Callable[[Mapping[tuple[Any, ...], Any]], object]
 
 
 class Event(NamedTuple):
@@ -41,7 +40,7 @@ class Holds:
         """What doesn't hold in a schedule, and in those in which its dependent events have the same order."""
         for number in sorted(errors):
             return Breach(events, f"agent {number} raised {errors[number]!r}", errors[number])
-        moments = [dict(values) for _, values in states(journal)]
+        moments = [dict(values) for _, values in states_by_text(journal)]
         moves = [at for at, event in enumerate(events) if event.is_move]
         if self._invariant is not None:
             for count, values in enumerate(moments):
@@ -58,23 +57,23 @@ class Holds:
     def is_broken(self, journal: bytes) -> bool:
         """Whether something doesn't hold in this very schedule."""
         values: dict[str, Any] = {}
-        for _, values in states(journal):
+        for _, values in states_by_text(journal):
             if self._invariant is not None and self._told(values) is not None:
                 return True
         return self._at_end is not None and _refused(self._at_end, values) is not None
 
     def _told(self, values: dict[str, Any]) -> str | None:
         assert self._invariant is not None
-        key = json.dumps(values, sort_keys=True)
+        key = repr(sorted(values.items()))
         if key not in self._known:
             self._known[key] = _refused(self._invariant, values)
         return self._known[key]
 
 
-def _refused(holds: Invariant, values: Mapping[str, Any]) -> str | None:
+def _refused(holds: Invariant, values: dict[str, Any]) -> str | None:
     """Why something doesn't hold, or None where it does."""
     try:
-        told = holds(values)
+        told = holds(by_place(values))
     except AssertionError as error:
         return f": {error}" if str(error) else ""
     return None if told is None or told else ""

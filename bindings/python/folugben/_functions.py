@@ -3,9 +3,9 @@ from collections.abc import Iterable, Iterator, Sequence
 from typing import Any
 
 from . import _core
-from ._errors import INSTRUCTIONS, BadJournal, Text, exact, expect, expect_part, expect_read, explain, refusal
-from ._library import AGGREGATE, CHECK, CLASH, COMPOSE, EVENT, LARGE, MOVE, NOT_JSON, REPLAY, SHAPE, STATE, TRACE
-from ._texts import Form, decoded, encoded
+from ._errors import INSTRUCTIONS, BadJournalError, Text, exact, expect, expect_part, expect_read, explain, refusal
+from ._library import AGGREGATE, CHECK, COMPOSE, REPLAY, TRACE, Code, TextForm
+from ._texts import Form, decoded, encoded, owned
 
 
 def version() -> int:
@@ -18,28 +18,28 @@ def _told(call: int, journal: Text) -> tuple[bytes, int, int]:
     text = exact(journal, "a journal")
     code, told, number, moves = _core.told(call, 0, text)
     said = ""
-    if code in (NOT_JSON, SHAPE) and number > 1:
-        said = explain(EVENT, text.split(b"\n", number)[number - 1])
-    expect(code, BadJournal, (number,), said)
+    if code in (Code.NOT_JSON, Code.SHAPE) and number > 1:
+        said = explain(TextForm.EVENT, text.split(b"\n", number)[number - 1])
+    expect(code, BadJournalError, (number,), said)
     return told, number, moves
 
 
 def check(journal: Text) -> tuple[int, int]:
-    """The numbers of calls and of moves of a journal that is legal. `BadJournal` where it isn't, or is none."""
+    """The numbers of calls and of moves of a journal that is legal. `BadJournalError` where it isn't, or is none."""
     return _told(CHECK, journal)[1:]
 
 
 def replay(journal: Text) -> list[Any]:
     """The state that the moves of a journal leave, as a list of pairs."""
-    pairs: list[Any] = decoded(_told(REPLAY, journal)[0])
+    pairs: list[Any] = owned(_told(REPLAY, journal)[0])
     return pairs
 
 
 def trace(journal: Text) -> Iterator[dict[str, Any]]:
-    """What each call of a journal did, whether it is legal or not: the objects of its trace, the header first.
+    """What each call of a journal did, whether it is legal or not: the objects of its trace as JSON, the header first.
 
     An event has `right` where a storage of one thread gives another answer, and `updates` where its move was fired: the page
-    on formats has them. `BadJournal` where it is no journal, before the first object.
+    on formats has them. `BadJournalError` where it is no journal, before the first object.
     """
     return map(decoded, _told(TRACE, journal)[0].split(b"\n")[:-1])
 
@@ -47,34 +47,35 @@ def trace(journal: Text) -> Iterator[dict[str, Any]]:
 def aggregate(state: Iterable[Form], instructions: Sequence[Form]) -> list[Any]:
     """The updates of a move on a state: the locations that it writes with their new values, as a list of pairs, ascending.
 
-    The value None leaves a location empty. The state, a list of pairs, needs the locations of partial updates alone. `Clash`
+    The value None leaves a location empty. The state, a list of pairs, needs the locations of partial updates alone. `ClashError`
     where the updates clash, with the least location that does.
     """
     old, move = encoded(list(state), "state"), encoded(instructions, "instructions")
     code, told, *_ = _core.told(AGGREGATE, 0, old, move)
     # The code is that of the state where that is at fault.
-    if code in (NOT_JSON, SHAPE) and explain(STATE, old):
-        expect_read(code, STATE, old)
+    if code in (Code.NOT_JSON, Code.SHAPE) and explain(TextForm.STATE, old):
+        expect_read(code, TextForm.STATE, old)
     return _answered(code, told, move)
 
 
 def compose(first: Sequence[Form], second: Sequence[Form]) -> list[Any]:
     """One move that does what the first and then the second do, wherever the first fires.
 
-    `Clash` and `Large` where on no state both fire: updates clash, or an amount or a sum of increments is too large. `Many`
-    where it would have more than 4,096 instructions.
+    `ClashError` and `LargeError` where on no state both fire: updates clash, or an amount or a sum of increments is too large.
+    `ManyError` where it would have more than 4,096 instructions.
     """
     one, two = encoded(first, "first"), encoded(second, "second")
     code, told, *_ = _core.told(COMPOSE, 0, one, two)
-    if code in (NOT_JSON, SHAPE) and explain(MOVE, INSTRUCTIONS % one):
+    if code in (Code.NOT_JSON, Code.SHAPE) and explain(TextForm.MOVE, INSTRUCTIONS % one):
         expect_part(code, INSTRUCTIONS, one)
     return _answered(code, told, two)
 
 
 def _answered(code: int, told: bytes, move: bytes) -> list[Any]:
     """What a call on a move told, or raises what its code says."""
-    if code in (CLASH, LARGE):
-        raise refusal(code, decoded(told))
+    expect(code, said="the one move would have more than 4,096 instructions") if code == Code.MANY else None
+    if code in (Code.CLASH, Code.LARGE):
+        raise refusal(code, told)
     expect_part(code, INSTRUCTIONS, move)
-    answer: list[Any] = decoded(told)
+    answer: list[Any] = owned(told)
     return answer

@@ -12,11 +12,11 @@ _P = ParamSpec("_P")
 _R = TypeVar("_R")
 
 
-class Nested(RuntimeError):
+class NestedError(RuntimeError):
     """A call on a run by a signal handler or a finalizer, in the midst of another one of its thread; nothing was done."""
 
 
-class Forked(RuntimeError):
+class ForkedError(RuntimeError):
     """A call in the child of a fork on what its parent has made; nothing was done.
 
     The child has a copy of the parent's memory, so that nothing which it fires comes to the parent, and a lock that another
@@ -28,7 +28,7 @@ class _ForkedLock:
     """The lock, in the child of a fork, of what the parent has made."""
 
     def __enter__(self) -> NoReturn:
-        raise Forked("this was made in the parent of this process, and a fork's child has a copy of it alone")
+        raise ForkedError("this was made in the parent of this process, and a fork's child has a copy of it alone")
 
     def __exit__(self, *_: object) -> None:
         pass
@@ -79,7 +79,7 @@ def one_call(method: Callable[_P, _R]) -> Callable[_P, _R]:
     @functools.wraps(method)
     def call(*arguments: _P.args, **named: _P.kwargs) -> _R:
         if is_in_call(2):
-            raise Nested("this thread is in another call, which a signal handler or a finalizer has interrupted")
+            raise NestedError("this thread is in another call, which a signal handler or a finalizer has interrupted")
         return method(*arguments, **named)
 
     return call

@@ -9,9 +9,9 @@ from typing import BinaryIO
 
 from ._auditor import Auditor, Counts
 from ._core import Storage
-from ._errors import BadJournal
+from ._errors import BadJournalError
 from ._folder import CHUNK, RunWriter, sync_folder
-from ._library import CUT, NOT_JSON, SHAPE
+from ._library import Code
 from ._reading import HEADER
 from ._texts import decoded
 
@@ -23,7 +23,7 @@ def import_run(file: str | os.PathLike[str], folder: str | os.PathLike[str]) -> 
     changed. The folder is there as a whole, or not at all.
 
     Raises:
-        BadJournal: a part isn't legal, or none is complete.
+        BadJournalError: a part isn't legal, or none is complete.
         FileExistsError: there is something at the folder's path.
     """
     path = pathlib.Path(os.path.realpath(folder))
@@ -51,8 +51,8 @@ def _imported(source: BinaryIO, made: pathlib.Path) -> tuple[Counts, int]:
             if events > 0 or counts.parts > 0:
                 writer.save(memoryview(text), moves, events)
             counts, complete = now, complete + len(text)
-    except BadJournal as bad:
-        if not complete or bad.code not in (CUT, NOT_JSON, SHAPE) or _has_header(source, complete + 1):
+    except BadJournalError as bad:
+        if not complete or bad.code not in (Code.CUT, Code.NOT_JSON, Code.SHAPE) or _has_header(source, complete + 1):
             raise
     finally:
         if writer is not None:

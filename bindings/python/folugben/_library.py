@@ -1,14 +1,25 @@
 """The numbers that the compiled part and the library use."""
+from enum import IntEnum
+
 from . import _core
 
 # The version of the library that this package was written for.
 WRITTEN_FOR = 2000
 
-DONE, STALE, CLASH, MEMORY, FULL, EMPTY, RANGE, SMALL, BUSY, MANY, NONE = range(11)
-TAKEN, NUMBER, MISSING, OTHER, ILLEGAL, NOT_JSON, SHAPE, VERSION, CUT, LARGE, MOVED, DEEP, APART = range(11, 24)
 
-# The forms of texts that `explain` knows.
-LOCATIONS, MOVE, STATE, EVENT, SCRIPT = range(5)
+class Code(IntEnum):
+    """What a call of the library answers."""
+
+    DONE, STALE, CLASH, MEMORY, FULL, EMPTY, RANGE, SMALL, BUSY, MANY, NONE = range(11)
+    TAKEN, NUMBER, MISSING, OTHER, ILLEGAL, NOT_JSON, SHAPE, VERSION, CUT, LARGE, MOVED, DEEP, APART = range(11, 24)
+
+
+class TextForm(IntEnum):
+    """The forms of texts that `explain` knows."""
+
+    LOCATIONS, MOVE, STATE, EVENT, SCRIPT = range(5)
+
+
 # The kinds of values: those above TEXT are told by texts of JSON. What an instruction does.
 UNDEF, BOOL, NUM, TEXT, LIST, SET, BAG = range(7)
 PUT, ADD, REMOVE, BAGADD, BAGREMOVE, INC = range(6)

@@ -1,8 +1,8 @@
 """How long the lines of a run's journals may be, so that an audit reads each of them."""
 from typing import TYPE_CHECKING, Any
 
-from ._errors import TooLong
-from ._library import LARGE
+from ._errors import TooLongError
+from ._library import Code
 from ._texts import decoded, encoded
 
 # How many bytes a line may have, its line feed apart: what an audit reads, and what is written.
@@ -13,13 +13,13 @@ ROOM = 120
 SHORT = LINE_LIMIT // 16
 
 
-def too_long(what: str, length: int) -> TooLong:
+def too_long(what: str, length: int) -> TooLongError:
     """Return the error of something that would be too long."""
-    return TooLong(LARGE, said=f"{what} would make a line of about {length:,} bytes, and an audit reads {LINE_LIMIT:,}")
+    return TooLongError(Code.LARGE, said=f"{what} would make a line of about {length:,} bytes, and an audit reads {LINE_LIMIT:,}")
 
 
 def expect_call(call: bytes) -> None:
-    """Expect that the line of a fire is short enough, whatever its reply is; `TooLong` otherwise."""
+    """Expect that the line of a fire is short enough, whatever its reply is; `TooLongError` otherwise."""
     if 2 * len(call) + ROOM <= LINE_LIMIT:
         return
     told: dict[str, Any] = decoded(call)
@@ -30,13 +30,13 @@ def expect_call(call: bytes) -> None:
 
 
 def expect_state(length: int) -> None:
-    """Expect that a journal may open with a state whose text is so long; `TooLong` otherwise."""
+    """Expect that a journal may open with a state whose text is so long; `TooLongError` otherwise."""
     if length + ROOM > LINE_LIMIT:
         raise too_long("the state", length + ROOM)
 
 
 def expect_lines(journal: memoryview) -> None:
-    """Expect that all lines of a journal are short enough; `TooLong` otherwise."""
+    """Expect that all lines of a journal are short enough; `TooLongError` otherwise."""
     if len(journal) > LINE_LIMIT:
         longest = max(map(len, bytes(journal).split(b"\n")))
         if longest > LINE_LIMIT:

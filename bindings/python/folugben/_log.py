@@ -6,7 +6,7 @@ from collections.abc import Callable, Iterator
 from typing import NamedTuple
 
 from ._database import Database, connect, reaching
-from ._errors import Damaged, Mismatch
+from ._errors import DamagedError, MismatchError
 from ._folder import START, Segment, begun_digest
 
 _FORMAT = 1
@@ -61,7 +61,7 @@ class Log:
 
         Raises:
             FileNotFoundError: there is no run.
-            Mismatch: the run has another opening state, or was made by another version.
+            MismatchError: the run has another opening state, or was made by another version.
             ConnectionError, OSError, Damaged: as of `connect`.
         """
         log = cls(target, connect(target, makes=opening is not None))
@@ -96,7 +96,7 @@ class Log:
             self._check()
             database.run("update run set joined = joined + 1")
         if opening is not None and START.following(0, 0, memoryview(opening(self.moves))) != self.segment(0):
-            raise Mismatch(f"the run has another opening state: {self.target}")
+            raise MismatchError(f"the run has another opening state: {self.target}")
 
     def _make(self, opening: bytes, moves: int) -> None:
         self.database.make()
@@ -110,7 +110,7 @@ class Log:
         if not rows:
             raise FileNotFoundError(f"there is no run: {self.target}")
         if rows[0][0] != _FORMAT:
-            raise Mismatch(f"the tables are of version {rows[0][0]}, and this package reads {_FORMAT}: {self.target}")
+            raise MismatchError(f"the tables are of version {rows[0][0]}, and this package reads {_FORMAT}: {self.target}")
         self.moves = rows[0][1]
 
     def reconnect(self) -> None:
@@ -145,7 +145,7 @@ class Log:
         """Save a segment that ended at a place, unless another process has, and drop calls that nobody needs.
 
         Raises:
-            Damaged: another process has saved another one.
+            DamagedError: another process has saved another one.
         """
         with self.database.transaction():
             there = self.database.run("select digest from segment where number = ?", (segment.number,))
@@ -154,7 +154,7 @@ class Log:
                 self.database.run("delete from call where place <= (select last_place from segment where number = ?)",
                                   (segment.number - _KEPT,))
             elif there[0][0] != segment.digest:
-                raise Damaged(segment.number, "another process has saved another text of it")
+                raise DamagedError(segment.number, "another process has saved another text of it")
 
     def _insert(self, segment: Segment, text: bytes, last_place: int) -> None:
         self.database.insert("segment", [(*segment, len(text), last_place)])
@@ -169,7 +169,7 @@ class Log:
         last = START
         for segment in segments:
             if (segment.number, segment.first) != (last.number + 1, last.end):
-                raise Damaged(last.number + 1, "its row is missing, or has other numbers")
+                raise DamagedError(last.number + 1, "its row is missing, or has other numbers")
             last = segment
         return segments
 
@@ -178,7 +178,7 @@ class Log:
         sql = "select number, first_move, moves, events, digest from segment where number = ?"
         for row in self.database.run(sql, (number,)):
             return Segment(*row)
-        raise Damaged(number, "its row is missing")
+        raise DamagedError(number, "its row is missing")
 
     def ended(self, segment: Segment | None = None) -> tuple[Segment, Segment, int]:
         """Return a segment, the last one unless another is told, with the one before it, and the place at which it ended."""
@@ -187,7 +187,7 @@ class Log:
         return self.segment(number), self.segment(number - 1) if number else START, int(place)
 
     def text(self, segment: Segment, previous: str) -> Iterator[bytes]:
-        """Yield the text of a segment; `Damaged` where it isn't the one that was saved, at its end at the latest."""
+        """Yield the text of a segment; `DamagedError` where it isn't the one that was saved, at its end at the latest."""
         rows = self.database.run("select length from segment where number = ?", (segment.number,))
         digest, place, length = begun_digest(segment, previous, rows[0][0] if rows else 0), 0, 0
         while rows and length < rows[0][0]:
@@ -196,12 +196,12 @@ class Log:
             with contextlib.suppress(zlib.error):
                 piece = zlib.decompress(data[0][0]) if data else b""
             if not piece:
-                raise Damaged(segment.number, f"its piece {place} is missing or isn't the one that was saved")
+                raise DamagedError(segment.number, f"its piece {place} is missing or isn't the one that was saved")
             digest.update(piece)
             yield piece
             place, length = place + 1, length + len(piece)
         if digest.hexdigest() != segment.digest:
-            raise Damaged(segment.number, "its text isn't the one that was saved")
+            raise DamagedError(segment.number, "its text isn't the one that was saved")
 
     def close(self) -> None:
         """Close the connection; it may be called again."""

@@ -3,8 +3,8 @@ import time
 from typing import TYPE_CHECKING, Any
 
 from ._core import Agent, Step, Storage
-from ._errors import Error, Full, Missing, Past
-from ._library import EMPTY, FULL, MISSING
+from ._errors import Error, FullError, MissingError, PastError
+from ._library import Code
 from ._lines import SHORT, expect_call
 from ._turns import here
 
@@ -30,22 +30,22 @@ class PartStep(Step):
     def offer(self) -> dict[str, Any]:
         """The same, with numbers of the run."""
         offer, base = super().offer(), self._agent.part.base
-        return {"fire": offer["fire"], "reads": [[at, base + number] for at, number in offer["reads"]]}
+        return offer | {"reads": tuple((at, base + number) for at, number in offer["reads"])}
 
-    def fire(self) -> int:
-        """The same as of any step; `Past` where its part has ended, `TooLong` where the move's line would be too long."""
+    def commit(self) -> int:
+        """The same as of any step; `PastError` where its part has ended, `TooLongError` where the move's line would be too long."""
         self._try()
         try:
-            return super().fire()
-        except Full:
-            raise Past(FULL, said="the part of the run has ended, so begin another step") from None
+            return super().commit()
+        except FullError:
+            raise PastError(Code.FULL, said="the part of the run has ended, so begin another step") from None
 
-    def try_fire(self) -> int:
+    def try_commit(self) -> int:
         """The same, but 0 where the step is to be begun again, also where its part has ended."""
         self._try()
         try:
-            return super().try_fire()
-        except (Full, Past):
+            return super().try_commit()
+        except (FullError, PastError):
             self._is_tried = True
             return 0
 
@@ -81,8 +81,8 @@ class PartAgent(Agent):
     def _expect_held(self) -> None:
         self.part.chain.expect_going()
         if self._is_taken or self.part.has_ended():
-            raise Past(EMPTY, said="the part of the run has ended, so begin another step")
-        raise Error(EMPTY, said="the agent was given back")
+            raise PastError(Code.EMPTY, said="the part of the run has ended, so begin another step")
+        raise Error(Code.EMPTY, said="the agent was given back")
 
 
 class Part:
@@ -116,8 +116,8 @@ class Part:
         """Has it go on until it is full."""
         self.most, self.tries, self.begun, self.is_forced = self.capacity, 0, 0.0, False
 
-    def missing(self, move: int) -> Missing:
+    def missing(self, move: int) -> MissingError:
         abandoned = sorted(own for own, agent in self.agents.items() if agent.is_abandoned)
         were = "was" if len(abandoned) == 1 else "were"
         said = f"agent{'s' * (len(abandoned) > 1)} {', '.join(map(str, abandoned))} {were} abandoned" if abandoned else ""
-        return Missing(MISSING, (move,), said)
+        return MissingError(Code.MISSING, (move,), said)

@@ -8,7 +8,7 @@ What always holds, whichever thread goes on when:
   moves before it leave.
 - An agent is given back to its part before it comes into another one: it is never in two.
 - A step that has begun goes on in its part, with the state that it saw, until the part has ended and `PATIENCE` has passed.
-  Then its agent is given back, and the step raises `Past`. Agents that are played by turns are waited for, until two further
+  Then its agent is given back, and the step raises `PastError`. Agents that are played by turns are waited for, until two further
   parts have ended.
 - An agent that is between two steps may be given back by another thread. Its own thread finds the slot empty, as any call looks
   there under the agent's lock, and comes into the newest part.
@@ -33,10 +33,10 @@ import time
 import weakref
 
 from ._core import Storage
-from ._errors import Broken, Error, Missing, TooLong
+from ._errors import BrokenError, Error, MissingError, TooLongError
 from ._folder import RunWriter
 from ._held import Locked, one_call
-from ._library import EMPTY, NUMBER
+from ._library import Code
 from ._lines import expect_lines, expect_state
 from ._part import PATIENCE, Part, PartAgent
 from ._turns import here
@@ -79,9 +79,9 @@ class Chain(Locked):
     def expect_going(self) -> None:
         """Raises where the run has ended."""
         if self._fault is not None:
-            raise Broken(*self._fault)
+            raise BrokenError(*self._fault)
         if self.is_closing:
-            raise Error(EMPTY, said="the run was closed")
+            raise Error(Code.EMPTY, said="the run was closed")
 
     def newest(self) -> Part:
         part = self._oldest
@@ -160,8 +160,8 @@ class Chain(Locked):
         try:
             agent._come()
         except Error as error:
-            if error.code == NUMBER:
-                raise Error(NUMBER, said=f"agent {own} was abandoned") from None
+            if error.code == Code.NUMBER:
+                raise Error(Code.NUMBER, said=f"agent {own} was abandoned") from None
             raise
         return agent
 
@@ -215,7 +215,7 @@ class Chain(Locked):
         if self._is_left(part):
             try:
                 self._end_at_rest(part)
-            except TooLong:
+            except TooLongError:
                 # It goes on until it is full.
                 part.go_on()
                 if is_flush:
@@ -260,7 +260,7 @@ class Chain(Locked):
     def _is_flushed(self, part: Part, is_empty: bool) -> bool:
         with self._lock:
             if self._fault is not None:
-                raise Broken(*self._fault)
+                raise BrokenError(*self._fault)
             if self.saved[0] >= part.number + (not is_empty):
                 return True
             if not is_empty and not part.has_ended() and not self._is_over:
@@ -320,7 +320,7 @@ class Chain(Locked):
         """The journal of a part, and how many moves it tells."""
         try:
             journal = memoryview(part.storage.close_journal())
-        except Missing as missing:
+        except MissingError as missing:
             raise part.missing(missing.numbers[0]) from None
         expect_lines(journal)
         return journal, part.moves()
@@ -356,15 +356,15 @@ class Chain(Locked):
             self._changed.notify_all()
         self._writer.join()
         if self._fault is not None:
-            raise Broken(*self._fault)
+            raise BrokenError(*self._fault)
 
 
 def _close_all() -> None:
-    told: list[Broken] = []
+    told: list[BrokenError] = []
     for chain in list(_chains):
         try:
             chain.close()
-        except Broken as broken:
+        except BrokenError as broken:
             told.append(broken)
     if told:
         raise told[0]

@@ -7,7 +7,7 @@ from typing import BinaryIO, Protocol
 
 from ._auditor import Auditor, Counts
 from ._database import is_database, is_server
-from ._errors import BadJournal, Damaged
+from ._errors import BadJournalError, DamagedError
 from ._folder import CHUNK, START, RunFolder, Segment
 from ._log import Behind, Log
 from ._replica import rest
@@ -31,7 +31,7 @@ class Store(Protocol):
         """Return the segments that are there now."""
 
     def text(self, segment: Segment, previous: str) -> Iterator[bytes]:
-        """Yield the text of a segment; `Damaged` where it isn't the one that was saved."""
+        """Yield the text of a segment; `DamagedError` where it isn't the one that was saved."""
 
     def rest(self, last: Segment) -> list[bytes]:
         """Return the journals of what is behind a segment, and isn't saved as one; `Behind` where further ones were saved."""
@@ -78,8 +78,8 @@ class Reading:
         """Audit the segments behind those that were audited.
 
         Raises:
-            Damaged: a text isn't the one that was saved, or tells other numbers than its segment.
-            BadJournal: a text isn't legal.
+            DamagedError: a text isn't the one that was saved, or tells other numbers than its segment.
+            BadJournalError: a text isn't legal.
         """
         for segment in segments[self.last.number + 1 :]:
             self._audit(segment)
@@ -122,11 +122,11 @@ class Reading:
                 if self._progress is not None:
                     self._progress(self._fed)
             calls, moves, parts = self._auditor.end()
-        except BadJournal as bad:
+        except BadJournalError as bad:
             bad.part = segment.number
             raise
         if (calls - before.calls, moves - before.moves, parts - before.parts) != (segment.events, segment.moves, 1):
-            raise Damaged(segment.number, "its text has other numbers of moves or events than its name")
+            raise DamagedError(segment.number, "its text has other numbers of moves or events than its name")
         self.last = segment
 
 
@@ -137,8 +137,8 @@ def audit(run: str | os.PathLike[str] | Readable, progress: Callable[[int], None
     that is called with the number of bytes now and then.
 
     Raises:
-        BadJournal: it isn't legal, or isn't complete, as soon as that is read.
-        Damaged: a segment of a folder isn't the one that was saved.
+        BadJournalError: it isn't legal, or isn't complete, as soon as that is read.
+        DamagedError: a segment of a folder isn't the one that was saved.
     """
     if isinstance(run, (str, os.PathLike)):
         if is_stored(run):
@@ -167,7 +167,7 @@ def verify(target: str | os.PathLike[str]) -> Segment:
     """Check the digests of all segments of a run: return the last segment, which has the digest of all.
 
     Raises:
-        Damaged: a text isn't the one that was saved.
+        DamagedError: a text isn't the one that was saved.
     """
     last = START
     with contextlib.closing(opened(target)) as store:

@@ -3,19 +3,20 @@ import json
 import operator
 import pathlib
 import sys
-import time
 from typing import TYPE_CHECKING, Any, NoReturn
 
 from . import _core
-from ._errors import INSTRUCTIONS, READS, Busy, Error, Missing, Over, ahead, exact, expect, expect_part, expect_read
-from ._errors import expect_scans, explain, refusal
-from ._held import Forked
-from ._library import BUSY, CLASH, EMPTY, INC, LARGE, LIST, LOCATIONS, MISSING, MOVE, NONE, NOT_JSON, NUMBER, RANGE, SHAPE, STALE
-from ._library import TEXT
-from ._texts import decoded, not_a_value
+from ._errors import INSTRUCTIONS, READS, BusyError, ClashError, CommitClashError, Error, MissingError, OverError, ahead, expect
+from ._errors import expect_part, expect_read, expect_scans, explain, refusal
+from ._held import ForkedError
+from ._library import Code, INC, TEXT, TextForm
+from ._play import back_off, no_rule, play
+from ._texts import expect_name, not_a_value
 
 if TYPE_CHECKING:
     from ._core import Agent, Step, Storage
+
+__all__ = ["back_off", "no_rule", "play"]
 
 _WORDS = (b"put", b"add", b"remove", b"bagadd", b"bagremove", b"inc")
 _RANGES = {
@@ -24,18 +25,10 @@ _RANGES = {
     "agent": "agent {value}: numbers are below 256",
     "capacity": "a capacity is 1 to {most:,}, not {value}",
 }
-# After so many tries in vain an agent sleeps between them, for at most so many seconds.
-_TRIES_WITHOUT_SLEEP, _LONGEST_SLEEP = 4, 0.001
-
-
-def back_off(tries: int) -> None:
-    """Lets others run after so many tries in vain."""
-    more = tries - _TRIES_WITHOUT_SLEEP
-    time.sleep(0 if more < 0 else min(_LONGEST_SLEEP, 1e-6 * 2 ** min(more, 10)))
 
 
 def out_of_range(what: str, value: int, least: int, most: int) -> NoReturn:
-    raise Error(RANGE, said=_RANGES[what].format(value=int.__index__(value), most=most))
+    raise Error(Code.RANGE, said=_RANGES[what].format(value=int.__index__(value), most=most))
 
 
 def number_of(what: str, value: int, least: int, most: int) -> int:
@@ -55,26 +48,15 @@ def capacity_of(capacity: int) -> int:
 
 
 def forked() -> NoReturn:
-    raise Forked("this was made in the parent of this process, and a fork's child has a copy of it alone")
+    raise ForkedError("this was made in the parent of this process, and a fork's child has a copy of it alone")
 
 
 def freed(what: str) -> NoReturn:
-    raise Error(EMPTY, said=f"the {what} was freed")
+    raise Error(Code.EMPTY, said=f"the {what} was freed")
 
 
 def odd(name: str, path: str, value: Any) -> NoReturn:
     not_a_value(value, name + path)
-
-
-def operand(value: Any) -> NoReturn:
-    raise TypeError(
-        'a gathered instruction takes None, a bool, an int, a str, {"list": [..]}, {"set": [..]} or {"bag": [..]}, and not '
-        f"{value!r:.40}"
-    )
-
-
-def not_location(it: Any) -> NoReturn:
-    raise TypeError(f"a gathered instruction is at a Location, as Location(['n']), and not at {type(it).__name__!r}")
 
 
 def no_agent(said: str, it: Any) -> NoReturn:
@@ -82,7 +64,8 @@ def no_agent(said: str, it: Any) -> NoReturn:
 
 
 def name(it: Any) -> NoReturn:
-    exact(it, "a name")
+    if isinstance(it, str):
+        expect_name(it, "a name")
     raise TypeError(f"a name is a str, and not {type(it).__name__!r}")
 
 
@@ -92,11 +75,11 @@ def name(it: Any) -> NoReturn:
 def gone(agent: "Agent") -> NoReturn:
     """An agent that isn't held; one of a run may tell why."""
     getattr(agent, "_expect_held", lambda: None)()
-    raise Error(EMPTY, said="the agent was given back")
+    raise Error(Code.EMPTY, said="the agent was given back")
 
 
 def no_such_agent(code: int, own: int) -> NoReturn:
-    raise Error(code, said=f"agent {own}" if code == NUMBER else f"agent {own} was not given back")
+    raise Error(code, said=f"agent {own}" if code == Code.NUMBER else f"agent {own} was not given back")
 
 
 def missing(move: int, agents: bytes, is_abandoned: bool) -> NoReturn:
@@ -106,47 +89,55 @@ def missing(move: int, agents: bytes, is_abandoned: bool) -> NoReturn:
         said = f"agents {', '.join(map(str, at_work))} were not given back"
     elif at_work and not is_abandoned:
         said += f": it fired move {move}"
-    raise Missing(MISSING, (move,), said)
+    raise MissingError(Code.MISSING, (move,), said)
 
 
 def fired_behind(fired: int, closed: int) -> NoReturn:
-    raise Error(NONE, said=f"{fired} moves were fired, and the journal tells {closed}: close it again")
+    raise Error(Code.NONE, said=f"{fired} moves were fired, and the journal tells {closed}: close it again")
 
 
 def not_full(seen: int) -> NoReturn:
-    raise Error(NONE, said=f"the agent's own state stands at {seen} moves, and its storage has room for more")
+    raise Error(Code.NONE, said=f"the agent's own state stands at {seen} moves, and its storage has room for more")
 
 
 def leave(storage: "Storage", path: str, error: BaseException | None) -> None:
     """Writes the journal at the end of a `with`."""
     try:
         pathlib.Path(path).write_bytes(storage.close_journal())
-    except Missing as missing:
+    except MissingError as missing:
         if error is None:
             raise
         error.add_note(f"the journal wasn't written: {missing}")
 
 
 def read(code: int, form: int, text: bytes) -> None:
+    if code == Code.MANY:
+        expect(code, said=f"{len(json.loads(text)):,} locations: a read, or a step, depends on at most 256 locations and functions")
     expect_read(code, form, text)
 
 
 def stands(code: int, agent: "Agent", reads: bytes) -> None:
-    if code == RANGE:
+    if code == Code.RANGE:
         raise ahead(json.loads(reads), agent.seen)
+    if code == Code.MANY:
+        expect(code, said=f"{len(json.loads(reads)):,} reads: at most 256")
     expect_part(code, READS, reads)
 
 
 def fired(code: int, agent: "Agent", told: bytes, from_: int, to: int, call: bytes, scans: bytes) -> None:
-    if code == RANGE:
+    if code == Code.RANGE:
         raise ahead(json.loads(call)["reads"], agent.seen, json.loads(scans))
-    if code == SHAPE and not explain(MOVE, call):
+    if code == Code.SHAPE and not explain(TextForm.MOVE, call):
         expect_scans(code, json.loads(scans))
-    committed(code, told, from_, to) if code in (STALE, CLASH, BUSY) else expect_read(code, MOVE, call)
+    if code == Code.MANY:
+        count = len(json.loads(call)["reads"]) + len(json.loads(scans))
+        expect(code, said=f"{count:,} reads and scans: a fire names at most 256")
+    answered(code, told, from_, to, ClashError)
+    expect_read(code, TextForm.MOVE, call)
 
 
 def no_part(code: int) -> None:
-    expect(code, said="no part has begun" if code == NONE else "the audit was freed")
+    expect(code, said="no part has begun" if code == Code.NONE else "the audit was freed")
 
 
 # Of steps, locations and moves.
@@ -155,40 +146,58 @@ def no_part(code: int) -> None:
 def over(code: int, step: "Step") -> NoReturn:
     """A step that is over, or whose agent isn't held; one of a shared run may tell why."""
     if not step._is_full:
-        raise Over(code)
+        raise OverError(code)
     getattr(step, "_expect_held", lambda: None)()
     gone(step._agent)
 
 
 def step(code: int, it: "Step") -> None:
-    expect(code)
+    agent, said = it._agent, ""
+    if code == Code.MOVED and it._thread != agent._thread:
+        said = f"agent {agent.number} is used by two threads"
+    expect(code, said="a step depends on at most 256 locations and functions" if code == Code.MANY else said)
+
+
+def answered(code: int, told: bytes, from_: int, to: int, clash: type[ClashError]) -> None:
+    if code in (Code.STALE, Code.CLASH):
+        raise refusal(code, told, clash)
+    if code == Code.BUSY:
+        raise BusyError(code, (from_, to))
 
 
 def committed(code: int, told: bytes, from_: int, to: int) -> None:
-    if code in (STALE, CLASH):
-        raise refusal(code, decoded(told))
-    if code == BUSY:
-        raise Busy(code, (from_, to))
+    answered(code, told, from_, to, CommitClashError)
     expect(code)
 
 
-def pushed(code: int, move: bytes, told: bytes) -> None:
-    if code in (CLASH, LARGE):
-        raise refusal(code, decoded(told))
+def pushed(code: int, move: bytes, told: bytes, step: "Step") -> None:
+    if code in (Code.CLASH, Code.LARGE):
+        raised = refusal(code, told)
+        if isinstance(raised, ClashError) and raised.cause == "Kind":
+            (value,) = step.see([raised.at])
+            raised.there = "nothing" if value is None else f"{value!r:.60}"
+        raise raised
+    if code == Code.MANY:
+        count = f"{len(json.loads(move)):,} more: " if move else ""
+        expect(code, said=f"{count}the moves of a step come to at most 4,096 instructions, and it depends on at most 256 locations")
     expect_part(code, INSTRUCTIONS, move)
 
 
+def united(code: int, own: int, others: int) -> None:
+    many = f"{own:,} instructions and {others:,} more: a move has at most 4,096"
+    expect(code, said=many if code == Code.MANY else "")
+
+
 def location(code: int, text: bytes) -> None:
-    # Where it isn't JSON, the byte is told, counted from its own beginning.
-    expect(code, said=explain(LOCATIONS, b"[%b]" % text if code == SHAPE else text))
+    expect_read(code, TextForm.LOCATIONS, b"[%b]" % text if code == Code.SHAPE else text)
 
 
-def instructed(code: int, place: bytes, verb: int, kind: int, text: bytes | None, amount: int) -> None:
-    if kind > TEXT and code in (NOT_JSON, SHAPE):
+def instructed(code: int, place: bytes, verb: int, kind: int, number: int, text: bytes | None, amount: int) -> None:
+    if kind > TEXT and code in (Code.NOT_JSON, Code.SHAPE):
         expect_part(code, INSTRUCTIONS, b'[["%b",%b,%b%b]]' % (_WORDS[verb], place, text or b"", b",%d" % amount if amount else b""))
-    if kind > LIST and code == RANGE and verb != INC:
-        raise Error(code, said="a set or a bag can be put, and is no element")
-    expect(code)
+    if code == Code.RANGE:
+        expect(code, said="inc takes a whole number" if verb == INC else "a set or a bag can be put, and is no element")
+    expect(code, said="a move has at most 4,096 instructions" if code == Code.MANY else "")
 
 
 _core.use(sys.modules[__name__])

@@ -4,9 +4,9 @@ from typing import NamedTuple
 
 from ._auditor import Auditor
 from ._core import Agent, Storage
-from ._errors import Error, Many, TooLong
+from ._errors import Error, ManyError, TooLongError
 from ._folder import Segment
-from ._library import CLASH, MANY, STALE
+from ._library import Code
 from ._lines import expect_state
 from ._log import Call, Log
 
@@ -47,7 +47,7 @@ class Era:
     def agent(self) -> Agent:
         """An agent of this process, to begin steps with; it fires nothing."""
         if not self._free:
-            raise Many(MANY, said=f"one process has at most {_AGENTS - 1} agents of a shared run")
+            raise ManyError(Code.MANY, said=f"one process has at most {_AGENTS - 1} agents of a shared run")
         number = self._free.pop()
         if number in self._used:
             agent = self.storage.take(number)
@@ -110,7 +110,7 @@ class Replica:
             except Error as refused:
                 error = refused
             break
-        if error is None or error.code in (STALE, CLASH):
+        if error is None or error.code in (Code.STALE, Code.CLASH):
             era.agents.append(call.agent)
         if error is None:
             self._fired = fired
@@ -146,6 +146,6 @@ def rest(log: Log, last: Segment) -> list[bytes]:
                 _, ended = replica.apply(place, call)
                 if ended is not None:
                     journals.append(ended.text)
-    except TooLong:
+    except TooLongError:
         pass  # it is the last one
     return [*journals, replica.era.journal()] if replica.era.agents else journals

@@ -10,16 +10,16 @@ from types import FrameType, TracebackType
 from typing import Any, Literal, NoReturn, Self
 
 from ._core import Storage
-from ._errors import Broken, Error
+from ._errors import BrokenError, Error
 from ._folder import RunWriter
-from ._held import Forked, is_in_call, one_call
-from ._library import NUMBER
+from ._held import ForkedError, is_in_call, one_call
+from ._library import Code
 from ._lines import expect_state
 from ._parts import Chain
 from ._reading import Reading
 from ._refusals import capacity_of, own_number
 from ._run_agent import RunAgent
-from ._texts import Form, decoded
+from ._texts import Form, owned
 
 # The runs whose `with` goes on, which SIGTERM ends.
 _entered: list[Chain] = []
@@ -49,14 +49,14 @@ class Run:
     SIGTERM itself.
 
     Where a part can't be saved, as the disk is full or a move is missing, the run ends, and each further call on it and its
-    agents raises `Broken` with the part. What was saved before is complete.
+    agents raises `BrokenError` with the part. What was saved before is complete.
 
     Numbers of moves are those of the run: they go on from part to part.
 
     Raises:
         FileExistsError: there is a run already, or something else than an empty folder.
         BlockingIOError: another process creates a run there.
-        TooLong: the opening state is too long for a line.
+        TooLongError: the opening state is too long for a line.
     """
 
     def __init__(
@@ -81,8 +81,8 @@ class Run:
         Raises:
             FileNotFoundError: there is no run.
             BlockingIOError: another run is at work in the folder.
-            Damaged: a segment is missing, or isn't the one that was saved.
-            BadJournal: a segment isn't legal.
+            DamagedError: a segment is missing, or isn't the one that was saved.
+            BadJournalError: a segment isn't legal.
             NotADirectoryError: it is a file, as version 0.2 wrote runs, which `import_run` imports.
         """
         if check not in ("all", "last"):
@@ -127,32 +127,32 @@ class Run:
             self._chain.expect_going()
             one = self._agents.get(own)
             if one is not None and not one._is_gone:
-                raise Error(NUMBER, said=f"agent {own}")
+                raise Error(Code.NUMBER, said=f"agent {own}")
             agent = self._agents[own] = RunAgent(self, own)
         return agent
 
     def flush(self) -> None:
         """Save all moves up to now: they are on the disk when this returns.
 
-        It ends the part, which makes a segment, and waits for steps for 0.1 s: one that lasts longer raises `Past`, and `play`
+        It ends the part, which makes a segment, and waits for steps for 0.1 s: one that lasts longer raises `PastError`, and `play`
         begins again.
 
         Raises:
-            Broken: a part couldn't be saved.
-            TooLong: the state is too long for a line, so the part goes on until it is full.
+            BrokenError: a part couldn't be saved.
+            TooLongError: the state is too long for a line, so the part goes on until it is full.
         """
         self._chain.flush()
 
     def state(self) -> tuple[int, list[Any]]:
         """Return the number of moves by now and the state after them: pairs of a location and its value, ascending."""
         number, text = self._chain.state()
-        return number, decoded(text)
+        return number, owned(text)
 
     def close(self) -> None:
         """Ends the run: gives all agents back, and waits until the last part is on the disk; it may be called again.
 
         It waits for no step: one that is under way fires nothing once this has returned, and its next call raises an `Error`,
-        as those of all agents do. `Broken` where a part couldn't be written.
+        as those of all agents do. `BrokenError` where a part couldn't be written.
         """
         self._chain.close()
 
@@ -185,10 +185,10 @@ class Run:
             return
         try:
             self.close()
-        except (Broken, Forked) as told:
+        except (BrokenError, ForkedError) as told:
             if error is None:
                 raise
-            if not isinstance(error, Broken):
+            if not isinstance(error, BrokenError):
                 error.add_note(str(told))
         finally:
             if self._chain in _entered:

@@ -4,13 +4,13 @@ from collections.abc import Callable, Iterable, Sequence
 from types import TracebackType
 from typing import TYPE_CHECKING, Any, NoReturn, Self, TypeVar, overload
 
-from ._core import Location, Step
-from ._errors import Error, Full, Past, ahead
+from ._core import Location, Played, Step
+from ._errors import Error, FullError, PastError, ahead
 from ._held import is_in_call
-from ._library import EMPTY, RANGE
+from ._library import Code
 from ._lines import LINE_LIMIT, SHORT, expect_call, too_long
 from ._part import PartAgent, PartStep
-from ._refusals import back_off
+from ._play import play
 from ._texts import Form, encoded
 
 if TYPE_CHECKING:
@@ -23,10 +23,10 @@ class RunAgent:
     """An agent of a run, for one thread, which goes on from part to part by itself. It is given back at the end of a `with`.
 
     It works in steps as the agent of a storage does. Where a part has ended, the next step begins in the newest part; a step
-    that was begun before goes on seeing its state, but fires no more: its `fire` raises `Past`, which is a `Retry`, `try_fire`
+    that was begun before goes on seeing its state, but fires no more: its `commit` raises `PastError`, which is a `ConflictError`, `try_commit`
     answers 0, and `play` begins anew.
 
-    Numbers of moves are those of the run. What was read or scanned in a part that has ended can't be named in a fire: `Past`.
+    Numbers of moves are those of the run. What was read or scanned in a part that has ended can't be named in a fire: `PastError`.
     """
 
     def __init__(self, run: "Run", own: int) -> None:
@@ -52,32 +52,19 @@ class RunAgent:
                     step.free()
             self._go_on()
 
-    def play(self, rule: Callable[[Step], _R]) -> tuple[int, _R]:
-        """Begins a step, plays the rule on it and fires it, and begins anew where other agents were quicker, or its part had
-        ended. The number of the fired move, and what the rule returned.
+    def play(
+        self, rule: Callable[[Step], _R], /, *, tries: int | None = None, timeout: float | None = None
+    ) -> Played[_R]:
+        """Play a rule as the agent of a storage does, and begin again too where the part of the run has ended.
 
-        What the rule raises ends it, and nothing is fired; but `Past`, where the step was given back. Between tries in vain
-        other threads run.
+        What the rule raises ends it, and nothing is fired; but `PastError`, where the step was given back.
         """
-        tries = 0
-        while True:
-            step = self.step()
-            try:
-                with step:
-                    told = rule(step)
-                    number = step.try_fire()
-                if number:
-                    return number, told
-            except Past:
-                if not step.is_taken:
-                    raise
-            back_off(tries)
-            tries += 1
+        return play(self, rule, tries=tries, timeout=timeout)
 
     def read(self, places: Sequence[Form]) -> tuple[int, list[Any]]:
-        """The number of moves, and the values of the locations after them; at most 256 locations, else `Many`.
+        """The number of moves, and the values of the locations after them; at most 256 locations, else `ManyError`.
 
-        `TooLong`: the values have more than 8,388,608 bytes as text, half of what a line of the journal may have.
+        `TooLongError`: the values have more than 8,388,608 bytes as text, half of what a line of the journal may have.
         """
         def look(agent: PartAgent) -> tuple[int, list[Any]]:
             agent.tried()
@@ -90,8 +77,8 @@ class RunAgent:
         return self._looked(look)
 
     def fire(self, instructions: Sequence[Form], reads: Iterable[Form] = (), scans: Iterable[Form] = ()) -> int:
-        """Fires a move that rests on these reads and scans, as the agent of a storage does. `Past`, which is a `Retry`, where one
-        of them is named at a number of a part that has ended, and `TooLong` where the line of the move would be too long."""
+        """Fires a move that rests on these reads and scans, as the agent of a storage does. `PastError`, which is a `ConflictError`, where one
+        of them is named at a number of a part that has ended, and `TooLongError` where the line of the move would be too long."""
         named, functions = list(reads), list(scans)
         if len(call := b'{"fire":%b,"reads":%b}' % (encoded(instructions, "instructions"), encoded(named, "reads"))) > SHORT:
             expect_call(call)
@@ -102,7 +89,7 @@ class RunAgent:
                 agent.tried()
                 try:
                     return agent.part.base + agent.fire(instructions, own, over)
-                except Full:
+                except FullError:
                     pass
                 except Error as error:
                     self._expect_seen(named, error, functions)
@@ -113,11 +100,11 @@ class RunAgent:
         """Looks on until nothing more is found, and its own state follows. How many moves it has seen then."""
         return self._looked(lambda agent: (agent.follow(), None))[0]
 
-    def stands(self, reads: Iterable[Form]) -> list[Any] | None:
-        """Looks on: the least of the named locations that was written since its number of moves, or None. `Past` as by `fire`."""
+    def stands(self, reads: Iterable[Form]) -> tuple[Any, ...] | None:
+        """Looks on: the least of the named locations that was written since its number of moves, or None. `PastError` as by `fire`."""
         named = list(reads)
 
-        def look(agent: PartAgent) -> tuple[int, list[Any] | None]:
+        def look(agent: PartAgent) -> tuple[int, tuple[Any, ...] | None]:
             try:
                 told = agent.stands(self._of_part(named, agent))
             except Error as error:
@@ -180,13 +167,13 @@ class RunAgent:
 
     def _expect_seen(self, named: list[Form], error: Error, functions: Iterable[Form] = ()) -> None:
         """Tells the numbers of the run, where a read or a scan is named at one that is yet to come."""
-        if type(error) is Error and error.code == RANGE:
+        if type(error) is Error and error.code == Code.RANGE:
             raise ahead(named, self.seen, functions) from None
 
     @staticmethod
     def _expect_given(agent: PartAgent, error: Error) -> None:
         """Raises an error that doesn't come of a part's end, when another thread has given the agent back."""
-        if error.code != EMPTY or agent._is_full:
+        if error.code != Code.EMPTY or agent._is_full:
             raise error
 
     @staticmethod
@@ -201,13 +188,13 @@ class RunAgent:
                 own.append([read[0], number - agent.part.base])
             else:
                 said = f"{kind} {place} names {json.dumps(read[0])} at {number}, and that part has ended at {agent.part.base}"
-                raise Past(RANGE, said=f"{said}, so read again")
+                raise PastError(Code.RANGE, said=f"{said}, so read again")
         return own
 
     def _go_on(self) -> None:
         """Comes into the newest part."""
         if self._is_gone:
-            raise Error(EMPTY, said="the agent was given back")
+            raise Error(Code.EMPTY, said="the agent was given back")
         was, now = self._in, self._chain.come(self._own, self._in)
         if now is not was:
             before = self._before + (was._counts()[1] if was is not None else 0) - now._counts()[1]

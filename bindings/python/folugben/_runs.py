@@ -1,4 +1,5 @@
 """The states of a run, move by move."""
+import functools
 import os
 from collections.abc import Iterator
 from typing import TYPE_CHECKING, Any
@@ -7,7 +8,7 @@ from ._errors import Text
 from ._functions import trace
 from ._reading import texts
 from ._shared import SharedRun
-from ._texts import encoded
+from ._texts import encoded, owned
 
 if TYPE_CHECKING:
     from ._run import Run
@@ -38,34 +39,50 @@ def _changed(old: Any, change: list[Any]) -> Any:
     return {"set": sorted(members.values(), key=_ordered)}
 
 
-def states(run: "Text | os.PathLike[str] | Run | SharedRun") -> Iterator[tuple[int, dict[str, Any]]]:
+def states(run: "Text | os.PathLike[str] | Run | SharedRun") -> Iterator[tuple[int, dict[tuple[Any, ...], Any]]]:
     """Yield the number and the values of each state of a run, the opening state first, as number 0.
 
     The run is a journal, a stored run by a path that is no str, or a `Run` or a `SharedRun`, of which it is what is saved. The values are those
-    of the locations that have one, by the location's JSON, such as '["count"]'. It is one dict, which each further move
-    changes: copy what you keep.
+    of the locations that have one, by the location, such as ("count",), in a dict of their own for each state.
 
     Raises:
-        BadJournal: it is no journal.
+        BadJournalError: it is no journal.
+        ValueError: Python takes two of the locations for one, as ("f", True) and ("f", 1).
     """
     if isinstance(run, (bytes, bytearray, memoryview, str)):
-        return _states(run)
-    return _states_of(texts(run if isinstance(run, os.PathLike) else run.target if isinstance(run, SharedRun) else run.path))
-
-
-def _states_of(journals: Iterator[bytes]) -> Iterator[tuple[int, dict[str, Any]]]:
+        journals: Iterator[Text] = iter([run])
+    else:
+        journals = texts(run if isinstance(run, os.PathLike) else run.target if isinstance(run, SharedRun) else run.path)
     base = number = 0
     for place, journal in enumerate(journals):
-        for number, values in _states(journal):
+        for number, values in states_by_text(journal):
             # What opens a later segment was yielded before.
             if number > 0 or place == 0:
-                yield base + number, values
+                yield base + number, by_place(values)
         base += number
 
 
-def _states(journal: Text) -> Iterator[tuple[int, dict[str, Any]]]:
+def by_place(values: dict[str, Any]) -> dict[tuple[Any, ...], Any]:
+    """The same values by the locations, of whose texts they are."""
+    told = {_place(at): value for at, value in values.items()}
+    if len(told) < len(values):
+        seen = dict[tuple[Any, ...], str]()
+        other, at = next((was, at) for at in values if (was := seen.setdefault(_place(at), at)) != at)
+        raise ValueError(f"{other} and {at} are two locations, and one key in Python, where True == 1: read the trace")
+    return told
+
+
+@functools.lru_cache(65536)
+def _place(text: str) -> tuple[Any, ...]:
+    place: tuple[Any, ...] = owned(text.encode(), True)
+    return place
+
+
+def states_by_text(journal: Text) -> Iterator[tuple[int, dict[str, Any]]]:
+    """Yield the states of a journal by the locations' texts, in one dict, which each further move changes."""
     lines = trace(journal)
-    values = {encoded(at, "at").decode(): value for at, value in next(lines)["init"] if value is not None}
+    told = {encoded(at, "at").decode(): value for at, value in next(lines)["init"] if value is not None}
+    values = {at: _own(value) for at, value in told.items()}
     yield 0, values
     number = 0
     for event in lines:
@@ -74,9 +91,12 @@ def _states(journal: Text) -> Iterator[tuple[int, dict[str, Any]]]:
         number += 1
         for change in event["updates"]:
             at = encoded(change[0], "at").decode()
-            value = _changed(values.get(at), change)
-            if value is None:
-                values.pop(at, None)
-            else:
-                values[at] = value
+            told[at] = _changed(told.get(at), change)
+            values[at] = _own(told[at])
+            if told[at] is None:
+                del told[at], values[at]
         yield number, values
+
+
+def _own(value: Any) -> Any:
+    return owned(encoded(value, "value")) if isinstance(value, dict) else value

@@ -5,15 +5,16 @@ from collections.abc import Callable, Iterable, Sequence
 from types import TracebackType
 from typing import Any, NoReturn, Self, TypeVar, overload
 
-from ._core import Agent, Location, Step, Storage
-from ._errors import Broken, Error, Past
-from ._held import Forked, is_in_call
-from ._library import CLASH, EMPTY, NUMBER, STALE
+from ._core import Agent, Location, Played, Step, Storage
+from ._errors import BrokenError, Error, PastError, as_conflict
+from ._held import ForkedError, is_in_call
+from ._library import Code
 from ._lines import expect_call, expect_state
 from ._log import Log
-from ._refusals import back_off, capacity_of, own_number
+from ._play import play
+from ._refusals import capacity_of, own_number
 from ._replica import Era
-from ._texts import Form, decoded, encoded
+from ._texts import Form, encoded, owned
 from ._worker import Worker
 
 _R = TypeVar("_R")
@@ -30,7 +31,7 @@ class SharedStep(Step):
         # The functions that it has scanned.
         self._scans: dict[str, None] = {}
 
-    def scan(self, name: str) -> list[list[Any]]:
+    def scan(self, name: str) -> list[tuple[tuple[Any, ...], Any]]:
         """The same as of any step."""
         found = super().scan(name)
         self._scans[name] = None
@@ -39,25 +40,25 @@ class SharedStep(Step):
     def offer(self) -> dict[str, Any]:
         """The same, with numbers of the run."""
         offer, base = super().offer(), self._era.base
-        return {"fire": offer["fire"], "reads": [[at, base + number] for at, number in offer["reads"]]}
+        return offer | {"reads": tuple((at, base + number) for at, number in offer["reads"])}
 
-    def fire(self) -> int:
+    def commit(self) -> int:
         """Fire one move that does what the pushed moves do in turn. Return its number, once the move is durable.
 
         Raises:
-            Stale, Clash, Many: as of any step.
-            Past: its segment had ended when the call came into the log.
-            TooLong: the move's line would be longer than an audit reads.
-            Broken: the run has ended; whether the move was fired may not be known.
-            Unknown: whether the move was fired isn't known.
+            StaleError, ClashError, ManyError: as of any step.
+            PastError: its segment had ended when the call came into the log.
+            TooLongError: the move's line would be longer than an audit reads.
+            BrokenError: the run has ended; whether the move was fired may not be known.
+            UnknownError: whether the move was fired isn't known.
         """
         return self._era.base + self._fire(())
 
-    def try_fire(self) -> int:
-        """The same, but 0 where the step is to be begun again, for `Stale`, `Clash` or `Past`."""
+    def try_commit(self) -> int:
+        """The same, but 0 where the step is to be begun again, for `StaleError`, `ClashError` or `PastError`."""
         try:
-            fired = self._fire((STALE, CLASH))
-        except Past:
+            fired = self._fire((Code.STALE, Code.CLASH))
+        except PastError:
             self._is_tried = True
             return 0
         return fired and self._era.base + fired
@@ -65,11 +66,11 @@ class SharedStep(Step):
     def _fire(self, vain: tuple[int, ...]) -> int:
         if self._shared._is_gone:
             self._is_tried = True
-            raise Error(EMPTY, said="the agent was given back")
+            raise Error(Code.EMPTY, said="the agent was given back")
         call, scans = self._call()
         answer = self._shared._worker.answer(self._era.number, self._shared.number, call, scans)
         if answer is None:
-            raise Past(EMPTY, said="the segment of the run has ended, so begin another step")
+            raise PastError(Code.EMPTY, said="the segment of the run has ended, so begin another step")
         if answer.error is None:
             self._shared._won, self._shared._fired = self._shared._won + 1, answer.fired
             self._end(answer.fired - self._era.base)
@@ -77,11 +78,11 @@ class SharedStep(Step):
         self._is_tried = True
         if answer.error.code in vain:
             return 0
-        raise answer.error
+        raise as_conflict(answer.error)
 
     def _expect_held(self) -> None:
         if not self._shared._is_gone:
-            raise Past(EMPTY, said="the agent has gone on to another segment, so begin another step")
+            raise PastError(Code.EMPTY, said="the agent has gone on to another segment, so begin another step")
 
     def _call(self) -> tuple[bytes, bytes]:
         """What the fire offers, and the scans that it rests on."""
@@ -105,15 +106,15 @@ class SharedRun:
 
     Raises:
         FileNotFoundError: there is no run, and no `init`.
-        Mismatch: the run has another opening state, or tables of another version.
+        MismatchError: the run has another opening state, or tables of another version.
         ConnectionError: the server doesn't answer.
         OSError: the file can't be opened, or not be written.
-        Damaged: there is something else than a run.
+        DamagedError: there is something else than a run.
     """
 
     def __init__(self, target: str | os.PathLike[str], init: Iterable[Form] | None = None, moves: int = 10_000) -> None:
         self._target, capacity = os.fspath(target), capacity_of(moves)
-        state = None if init is None else list(init)
+        state = init if init is None or isinstance(init, dict) else list(init)
 
         def opening(moves: int) -> bytes:
             with Storage(state or (), moves) as storage:
@@ -141,9 +142,9 @@ class SharedRun:
         self._worker.expect_going()
         one = self._agents.get(own)
         if one is not None and not one._is_gone:
-            raise Error(NUMBER, said=f"agent {own}")
+            raise Error(Code.NUMBER, said=f"agent {own}")
         if not self._worker.hold(own):
-            raise Error(NUMBER, said=f"agent {own} is in use by another process")
+            raise Error(Code.NUMBER, said=f"agent {own} is in use by another process")
         agent = self._agents[own] = SharedAgent(self, own)
         return agent
 
@@ -151,12 +152,12 @@ class SharedRun:
         """Return the number of moves by now, of all processes, and the state after them: pairs of a location and its value."""
         self._worker.follow()
         number, text = self._worker.state_text()
-        return number, decoded(text)
+        return number, owned(text)
 
     def close(self) -> None:
         """Leave the run, which goes on in other processes; it may be called again.
 
-        `Broken` where the run has ended for this process by a fault.
+        `BrokenError` where the run has ended for this process by a fault.
         """
         self._worker.close()
 
@@ -166,7 +167,7 @@ class SharedRun:
     def __exit__(self, kind: type[BaseException] | None, error: BaseException | None, traced: TracebackType | None) -> None:
         try:
             self.close()
-        except (Broken, Forked):
+        except (BrokenError, ForkedError):
             if error is None:
                 raise
 
@@ -194,21 +195,11 @@ class SharedAgent:
         era, agent = self._now()
         return SharedStep(self, agent, era)
 
-    def play(self, rule: Callable[[Step], _R]) -> tuple[int, _R]:
-        """Begin a step, play the rule on it and fire it, and begin again where other agents were quicker.
-
-        Return the number of the move, once that is durable, and what the rule returned. What the rule raises ends it, and nothing
-        is fired.
-        """
-        tries = 0
-        while True:
-            with self.step() as step:
-                told = rule(step)
-                number = step.try_fire()
-            if number:
-                return number, told
-            back_off(tries)
-            tries += 1
+    def play(
+        self, rule: Callable[[Step], _R], /, *, tries: int | None = None, timeout: float | None = None
+    ) -> Played[_R]:
+        """Play a rule as the agent of a storage does, and return once its move is durable."""
+        return play(self, rule, tries=tries, timeout=timeout)
 
     def follow(self) -> int:
         """Wait until the replica has all that is in the log now, and follow it. Return the number of moves seen."""
@@ -266,7 +257,7 @@ class SharedAgent:
     def _now(self) -> tuple[Era, Agent]:
         """The newest segment, and its agent there."""
         if self._is_gone:
-            raise Error(EMPTY, said="the agent was given back")
+            raise Error(Code.EMPTY, said="the agent was given back")
         self._worker.expect_going()
         if self._in is None or self._in[0] is not self._worker.replica.era:
             self._leave()

@@ -1,16 +1,17 @@
 """The texts that calls take and write, as JSON."""
-from collections import Counter
+import numbers
 from collections.abc import Sequence
+from enum import Enum
 from typing import Any, NoReturn, TypeAlias
 
-from ._core import decoded, encoded
+from ._core import decoded, encoded, owned
 from ._errors import Error, exact
-from ._library import SHAPE
+from ._library import Code
 
-# A location, an instruction, or a pair, of a location and its value or number, or of a name and a number, as JSON has it.
+# A location, an instruction, or a pair, of a location and its value or number, or of a name and a number.
 Form: TypeAlias = Sequence[Any]
 
-__all__ = ["Form", "decoded", "encoded", "not_a_value", "utf_8"]
+__all__ = ["Form", "decoded", "encoded", "not_a_value", "owned", "utf_8"]
 
 
 def utf_8(text: str) -> bytes:
@@ -18,15 +19,25 @@ def utf_8(text: str) -> bytes:
     return exact(text, "a text")
 
 
+def expect_name(text: str, path: str) -> NoReturn:
+    """Raises why a text is no value, or no name where one is wanted."""
+    exact(text, path)
+    raise Error(Code.SHAPE, said=f"{path} is {text!r:.60}: a name has 1 to 64 letters, digits and _, and begins with no digit")
+
+
 def not_a_value(value: object, path: str) -> NoReturn:
     """Raises why something at a path is no value."""
     if isinstance(value, str):
-        exact(value, path)
-    if isinstance(value, float):
-        raise Error(SHAPE, said=f"{path} is {value}, and a number is whole")
-    if isinstance(value, (set, frozenset, Counter)):
-        kind, word = ("Counter", "bag") if isinstance(value, Counter) else ("set", "set")
-        raise TypeError(f"{path}: True and 1 are one in a Python {kind}, so a {word} with other members than None, whole numbers "
-                        f'and texts is written {{"{word}": [..]}}')
-    raise TypeError(f"{path}: {type(value).__name__!r} is no value: values are None, True, False, whole numbers, texts, "
-                    '{"list": [..]}, {"set": [..]} and {"bag": [[element, count], ..]}')
+        expect_name(value, path)
+    whole = "is no whole number" if isinstance(value, numbers.Number) and not hasattr(value, "__index__") else ""
+    way = next((way for is_so, way in (
+        (isinstance(value, Enum), "pass its .value or its .name"),
+        (hasattr(value, "item") and hasattr(value, "dtype"), "pass .item() of it"),
+        (isinstance(value, list), "pass a list as a tuple"),
+        (bool(whole), "pass int(..) of it, or str(..)"),
+        (hasattr(value, "__index__"), "pass int(..) of it"),
+        (isinstance(value, (bytes, bytearray)), "pass .decode() or .hex() of it"),
+    ) if is_so), "")
+    said = f"{path} is {value!r:.60}, which {whole or 'is no value'}: " + (way or "values are None, True, False, whole numbers, "
+           "texts, tuples of these, and sets and Counters of all that")
+    raise Error(Code.SHAPE, said=said) if isinstance(value, float) else TypeError(said)

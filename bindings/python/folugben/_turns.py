@@ -5,21 +5,23 @@ from collections.abc import Callable, Sequence
 from types import TracebackType
 from typing import Any, Self, TypeVar
 
-from ._errors import Past
+from ._core import Played as CorePlayed
+from ._play import play
 
 _A = TypeVar("_A")
 _R = TypeVar("_R")
 
-# The calls of agents and of steps that take a turn.
-CALLS = frozenset({
-    "step", "read", "fire", "try_fire", "follow", "stands", "peek", "state", "scan", "learn", "answer", "give", "get", "see",
+# The calls of a step that write one location, and all calls of agents and of steps that take a turn.
+WRITES = frozenset({"put", "add", "remove", "bag_add", "bag_remove", "inc"})
+CALLS = WRITES | {
+    "step", "read", "fire", "try_fire", "commit", "try_commit", "follow", "stands", "peek", "state", "scan", "learn", "answer", "give", "get", "see",
     "push", "extend", "pop", "pop_move", "offer",
-})
+}
 # How long those that play are waited for after Ctrl-C.
 _GRACE = 5.0
 
 
-class Endless(RuntimeError):
+class EndlessError(RuntimeError):
     """A schedule has not ended after as many turns as it may take, as where an agent waits for another one for ever."""
 
 
@@ -112,9 +114,9 @@ class Turns:
         self._taken += 1
         return self._choice(alive) if alive else None
 
-    def _endless(self, alive: list[int]) -> Endless:
+    def _endless(self, alive: list[int]) -> EndlessError:
         who = f"agent {alive[0]} is" if len(alive) == 1 else f"agents {', '.join(map(str, alive))} are"
-        return Endless(f"{who} still at work after {self._most:,} turns: does one wait for another?")
+        return EndlessError(f"{who} still at work after {self._most:,} turns: does one wait for another?")
 
 
 class Player:
@@ -156,6 +158,9 @@ class Played:
             return found
         return lambda *words, **named: self.player.call(self, name, tuple(map(_bare, words)), named)
 
+    def __getitem__(self, place: Any) -> Any:
+        return self.player.call(self, "__getitem__", (place,), {})
+
     def __enter__(self) -> Self:
         self.own.__enter__()
         return self
@@ -175,18 +180,10 @@ class PlayedAgent(Played):
         step: Played = self.player.call(self, "step", (), {})
         return step
 
-    def play(self, rule: Callable[[Any], _R]) -> tuple[int, _R]:
-        while True:
-            step = self.step()
-            try:
-                with step:
-                    told = rule(step)
-                    number = step.try_fire()
-                if number:
-                    return number, told
-            except Past:
-                if not getattr(step.own, "is_taken", False):
-                    raise
+    def play(
+        self, rule: Callable[[Any], _R], /, *, tries: int | None = None, timeout: float | None = None
+    ) -> CorePlayed[_R]:
+        return play(self, rule, tries=tries, timeout=timeout)
 
 
 def _bare(word: Any) -> Any:
@@ -264,7 +261,7 @@ def interleave(
     Ctrl-C ends each work at its next call.
 
     Raises:
-        Endless: the works haven't ended after so many turns (`most`).
+        EndlessError: the works haven't ended after so many turns (`most`).
         the first error of a work, by the number of its place, once all have ended.
     """
     if len(agents) != len(works):

@@ -1,16 +1,13 @@
-"""What states and moves are made of, for annotations: each is JSON as docs/FORMATS.md has it."""
+"""What states and moves are made of, for annotations: Python's own values, or JSON as docs/FORMATS.md has it."""
 from collections import Counter
 from collections.abc import Mapping, Sequence, Set
-from typing import TypeAlias, Union
+from typing import Any, TypeAlias, Union
 
-# None, a truth, a whole number, a text, or {"list": [..]} of such.
-Element: TypeAlias = Union[None, bool, int, str, Mapping[str, Sequence["Element"]]]
-# An element; {"set": [..]} or a Python set of elements; {"bag": [[element, count], ..]} or a Counter of elements.
-Value: TypeAlias = Union[
-    Element, Mapping[str, Sequence["Element"]], Mapping[str, Sequence[Sequence["Element"]]], Set[Union[None, int, str]],
-    "Counter[int]", "Counter[str]", "Counter[int | str | None]",
-]
-# ["name", argument, ..]; a Location is one that is prepared.
-Place: TypeAlias = Sequence[Element]
-# An instruction: ["put", place, value], ["add", place, element], ["bagadd", place, element, amount], ["inc", place, number] ..
+# None, a truth, a whole number, a text, or a list, which is a tuple or {"list": [..]} of such.
+Element: TypeAlias = Union[None, bool, int, str, tuple["Element", ...], Mapping[str, Sequence["Element"]]]
+# An element; a set, which is a frozenset, a set or {"set": [..]} of elements; a bag, which is a Counter or {"bag": [[element, count], ..]}.
+Value: TypeAlias = Union[Element, Set[Element], "Counter[Any]", Mapping[str, Sequence[Sequence["Element"]]]]
+# ("name", argument, ..), or a list of these; where one location is wanted, also the name alone.
+Place: TypeAlias = Union[str, Sequence[Element]]
+# An instruction: ("put", place, value), ("add", place, element), ("bagadd", place, element, amount), ("inc", place, number) ..
 Update: TypeAlias = Sequence[Union[str, int, Place, Value]]

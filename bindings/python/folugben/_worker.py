@@ -10,9 +10,9 @@ from typing import TypeVar
 
 from ._core import Agent
 from ._database import Lost, reaching
-from ._errors import Broken, Error, Unknown
+from ._errors import BrokenError, Error, UnknownError
 from ._held import Locked
-from ._library import EMPTY
+from ._library import Code
 from ._log import BATCH, READ, Behind, Call, Log, Placed
 from ._replica import Answer, Ended, Era, Replica
 
@@ -92,9 +92,9 @@ class Worker(Locked):
     def expect_going(self) -> None:
         """Expect that the run goes on."""
         if self._fault is not None:
-            raise Broken(self.replica.era.number, self._fault)
+            raise BrokenError(self.replica.era.number, self._fault)
         if self._is_closing:
-            raise Error(EMPTY, said="the run was closed")
+            raise Error(Code.EMPTY, said="the run was closed")
 
     # What agents do.
 
@@ -158,7 +158,7 @@ class Worker(Locked):
             self._changed.notify_all()
         self._thread.join()
         if self._fault is not None:
-            raise Broken(self.replica.era.number, self._fault)
+            raise BrokenError(self.replica.era.number, self._fault)
 
     # What the thread does.
 
@@ -265,7 +265,7 @@ class Worker(Locked):
             try:
                 self._log.reconnect()
                 if not all(map(self._log.database.hold, self._held)):
-                    raise Error(EMPTY, said="another process has taken an agent's number while the server was away")
+                    raise Error(Code.EMPTY, said="another process has taken an agent's number while the server was away")
                 return
             except (ConnectionError, Lost):
                 if time.monotonic() > end:
@@ -283,7 +283,7 @@ class Worker(Locked):
         for waiter in list(self._sent.values()):
             if waiter.is_sent:
                 del self._sent[waiter.call.token]
-                waiter.end(None, Unknown())
+                waiter.end(None, UnknownError())
         _note_sent(self._sent.values())
 
     def _end(self) -> None:
@@ -291,7 +291,7 @@ class Worker(Locked):
             self._is_over = True
             fault = self._fault
             for waiter in [*self._waiting, *self._sent.values()]:
-                waiter.end(None, Broken(self.replica.era.number, fault) if fault else Error(EMPTY, said="the run was closed"))
+                waiter.end(None, BrokenError(self.replica.era.number, fault) if fault else Error(Code.EMPTY, said="the run was closed"))
             self._waiting, self._sent = [], {}
             self._changed.notify_all()
         with self._using:

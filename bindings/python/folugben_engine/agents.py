@@ -7,7 +7,7 @@ from contextlib import suppress
 from threading import Event
 from typing import Any
 
-from folugben import Agent, Past, Run, SharedRun, Storage
+from folugben import Agent, PastError, Run, SharedRun, Storage
 
 from .rules import Program
 
@@ -16,9 +16,9 @@ def live(storage: Storage | Run | SharedRun, number: int, program: Program, stop
     rule, is_over = program
     with storage.agent(number) as agent:
         while not (stop.is_set() or is_over(agent)):
-            with suppress(Past), agent.step() as step:
-                if any(rule.play(step)):
-                    step.try_fire()  # or others were quicker, and the next step sees what they did
+            with suppress(PastError), agent.step() as step:
+                if rule.play(step):
+                    step.try_commit()  # or others were quicker, and the next step sees what they did
                 else:
                     time.sleep(0.001)  # nothing to do until others have fired
 
@@ -39,14 +39,14 @@ def live_all(
         life.result()
 
 
-def run(init: list[Any], programs: list[Program]) -> bytes:
+def run(init: Any, programs: list[Program]) -> bytes:
     """The journal of a run of all programs."""
     with Storage(init, 10_000) as storage:
         live_all(storage, programs)
         return storage.close_journal()
 
 
-def run_on(path: str, init: list[Any], programs: list[Program], seconds: float, moves: int = 100_000) -> None:
+def run_on(path: str, init: Any, programs: list[Program], seconds: float, moves: int = 100_000) -> None:
     """Plays the rules for so many seconds, in parts of so many moves; where the folder has a run, that goes on."""
     endless: list[Program] = [(rule, lambda agent: False) for rule, _ in programs]
     try:

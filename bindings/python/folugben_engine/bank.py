@@ -1,14 +1,14 @@
 """A bank: who needs money collects it from other accounts, one after the other and all in one step."""
-from folugben import Agent
+from folugben import Agent, Location
 
 from .rules import Choose, If, Iterate, Let, Par, Program, Seq, Update
 
 CUSTOMERS, OPENING, NEED, TIMES = 8, 100, 150, 10
-INIT = [[["account", own], OPENING] for own in range(CUSTOMERS)]
+INIT = {("account", own): OPENING for own in range(CUSTOMERS)}
 
 
 def customer(own: int) -> Program:
-    account, due = ["account", own], ["due", own]
+    account, due = ("account", own), Location(("due", own))
     collect = Let(lambda see: see(due), lambda rest: If(rest > 0, Choose(
         "account", lambda at, money: at != account and money > 0,
         lambda at, money: Par(Update(at, max(money - rest, 0)), Update(due, max(rest - money, 0))),

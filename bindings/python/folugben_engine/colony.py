@@ -1,19 +1,21 @@
 """A colony: in each round every cell that can divides, so the universe of cells grows by what a forall adds."""
-from folugben import Agent
+from typing import Any
 
-from .rules import Forall, Let, Location, Par, Program, Rule, Seq, Update, While
+from folugben import Agent, Location
 
-GROWERS, ROUNDS, AGE = 3, 7, ["age"]
-INIT = [[["cell", 0], ROUNDS], [AGE, 0]]
+from .rules import Forall, Let, Par, Program, Rule, Seq, Update, While
+
+GROWERS, ROUNDS, AGE = 3, 7, ("age",)
+INIT = {("cell", 0): ROUNDS, AGE: 0}
 
 
-def divided(at: Location, left: int) -> Rule:
+def divided(at: tuple[Any, ...], left: int) -> Rule:
     """Half of what it can still come to is the new cell's."""
-    return Par(Update(at, left - 1), Update(["cell", at[1] + 2 ** (left - 1)], left - 1))
+    return Par(Update(at, left - 1), Update(("cell", at[1] + 2 ** (left - 1)), left - 1))
 
 
 def grower(own: int) -> Program:
-    work = ["work", own]
+    work = Location(("work", own))
     # The first rounds take thousands of rounds of a while, of which no other agent sees anything.
     effort = While(lambda see: see(work) > 0, Update(work, lambda see: see(work) - 1))
     divide = Forall("cell", lambda _, left: left > 0, divided)

@@ -3,12 +3,12 @@ from folugben import Agent
 
 from .rules import Choose, If, Let, Program, Update
 
-TRAINS, PASSES, GATE = 3, 20, ["gate"]
-INIT = [[GATE, "open"], *([["train", own], "away"] for own in range(TRAINS))]
+TRAINS, PASSES, GATE = 3, 20, ("gate",)
+INIT = {GATE: "open"} | {("train", own): "away" for own in range(TRAINS)}
 
 
 def train(own: int) -> Program:
-    place = ["train", own]
+    place = ("train", own)
     enter = If(lambda see: see(GATE) == "closed", Update(place, "crossing"))
     turns = {"away": Update(place, "near"), "near": enter, "crossing": Update(place, "away")}
     return Let(lambda see: see(place), turns.__getitem__), lambda agent: agent.won == 3 * PASSES

@@ -1,14 +1,16 @@
 """Dining philosophers: each takes both forks at once, eats, and puts them back."""
+from typing import Any
+
 from folugben import Agent
 
-from .rules import Add, Forall, If, Location, Par, Program, Remove, Update
+from .rules import Add, Forall, If, Par, Program, Remove, Update
 
-SEATS, MEALS, EATING = 5, 20, ["eating"]
-INIT = [[EATING, {"set": []}]]
+SEATS, MEALS, EATING = 5, 20, ("eating",)
+INIT: dict[Any, Any] = {EATING: set()}
 
 
-def forks(own: int) -> list[Location]:
-    return [["fork", own], ["fork", (own + 1) % SEATS]]
+def forks(own: int) -> list[tuple[str, int]]:
+    return [("fork", own), ("fork", (own + 1) % SEATS)]
 
 
 def philosopher(own: int) -> Program:
@@ -24,5 +26,5 @@ PROGRAMS = [philosopher(own) for own in range(SEATS)]
 
 def holds(agent: Agent) -> bool:
     """no fork is used twice"""
-    used = [fork for own in agent.peek([EATING])[1][0]["set"] for fork in forks(own)]
+    used = [fork for own in agent.peek([EATING])[1][0] for fork in forks(own)]
     return all(used.count(fork) == 1 for fork in used)

@@ -1,6 +1,6 @@
 """The rules of an abstract state machine, as objects that are played on a step.
 
-A location is a list ["name", argument, ..]. A term is a value, or a function of `see`, which tells a location's value.
+A location is a tuple ("name", argument, ..), or prepared. A term is a value, or a function of `see`, which tells a location's value.
 """
 import random
 from collections.abc import Callable
@@ -8,14 +8,13 @@ from dataclasses import dataclass
 from functools import partial, reduce
 from typing import Any
 
-from folugben import Agent, RunAgent, SharedAgent, Step, compose
+from folugben import Agent, Location, Move, RunAgent, SharedAgent, Step
 
-Location = list[Any]
-Move = list[list[Any]]
+At = Location | tuple[Any, ...]
 
 
 def value_of(term: Any, step: Step) -> Any:
-    return term(lambda at: step.get([at])[0]) if callable(term) else term
+    return term(step.__getitem__) if callable(term) else term
 
 
 class Rule:
@@ -26,26 +25,24 @@ class Rule:
 
     def updates(self, step: Step) -> Move:
         """All its updates, gathered into one move. A rule in sequence is played for that as a dry run."""
-        depth, moves = step.depth, self.play(step)
-        while step.depth > depth:
-            step.pop()
-        return reduce(compose, moves, [])
+        step.push(Move())
+        is_any, move = self.play(step), step.pop_move()
+        return move if is_any else Move()
 
-    def play(self, step: Step) -> list[Move]:
-        """Pushes what it does, so that what is played next sees it. The moves that it pushed."""
+    def play(self, step: Step) -> bool:
+        """Does what it updates, so that what is played next sees it. Whether that is anything."""
         move = self.updates(step)
-        step.push(move)
-        return [move]
+        step.extend(move)  # of what was pushed last: a sequence is one move deep
+        return len(move) > 0
 
 
-@dataclass
 class Instruction(Rule):
-    word: str
-    at: Location
-    term: Any
+    def __init__(self, word: str, at: At, term: Any) -> None:
+        self.word, self.at, self.term = word, at if isinstance(at, Location) else Location(at), term
 
     def updates(self, step: Step) -> Move:
-        return [[self.word, self.at, value_of(self.term, step)]]
+        move: Move = getattr(Move(), self.word)(self.at, value_of(self.term, step))
+        return move
 
 
 Update, Add, Remove = (partial(Instruction, word) for word in ("put", "add", "remove"))
@@ -53,22 +50,18 @@ Update, Add, Remove = (partial(Instruction, word) for word in ("put", "add", "re
 
 class Par(Rule):
     def updates(self, step: Step) -> Move:
-        return [update for part in self.parts for update in part.updates(step)]
+        return reduce(Move.unite, [part.updates(step) for part in self.parts], Move())
 
 
 class Seq(Rule):
-    def play(self, step: Step) -> list[Move]:
-        return [move for part in self.parts for move in part.play(step)]
+    def play(self, step: Step) -> bool:
+        return any([part.play(step) for part in self.parts])
 
 
 class Iterate(Rule):
-    def play(self, step: Step) -> list[Move]:
-        moves: list[Move] = [[]]
-        step.push([])  # each round extends it: a loop is one move deep
-        while move := Par(*self.parts).updates(step):
-            step.extend(move)
-            moves.append(move)
-        return moves
+    def play(self, step: Step) -> bool:
+        rounds = iter(partial(Par(*self.parts).play, step), False)  # up to one that does nothing
+        return any(list(rounds))
 
 
 @dataclass
@@ -78,7 +71,7 @@ class Derived(Rule):
     def updates(self, step: Step) -> Move:
         return self.comes_to(step).updates(step)
 
-    def play(self, step: Step) -> list[Move]:
+    def play(self, step: Step) -> bool:
         return self.comes_to(step).play(step)
 
 

@@ -12,11 +12,11 @@ def play(program: Program, agent: Agent) -> None:
     rule, is_over = program
     while not is_over(agent):
         with agent.step() as step:
-            if any(rule.play(step)):
-                step.try_fire()
+            if rule.play(step):
+                step.try_commit()
 
 
-def run_by_turns(init: list[Any], programs: list[Program], seed: int) -> bytes:
+def run_by_turns(init: Any, programs: list[Program], seed: int) -> bytes:
     """The journal of a run of all programs, the same for the same seed."""
     random.seed(seed)  # by which the rules choose
     with Storage(init, 10_000) as storage:

@@ -48,14 +48,14 @@ class World:
 
     def fire(self, step: folugben.Step) -> None:
         step.push(self.move.clear().put(self.at, step.get(self.at) + 1))
-        step.fire()
+        step.commit()
 
     def be_stale(self, step: folugben.Step) -> None:
         step.get(self.at)
         self.other.play(lambda it: it.push(Move().put(self.at, 7)))
         step.push(self.move.clear().put(self.at, 8))
-        refused(step.fire)
-        step.try_fire()
+        refused(step.commit)
+        step.try_commit()
 
     def open(self) -> None:
         with Storage([[["x"], 0]], 10) as storage:
@@ -167,7 +167,7 @@ def _threads(seconds: float) -> None:
     def shared() -> None:
         try:
             steps[0].get(at), steps[0].push(move), steps[0].get([["n"]]), move.inc(at, 1) if len(move) < 9 else move.clear()
-            steps[0].try_fire()
+            steps[0].try_commit()
         except Error:
             steps[0] = agents[0].step()
 
@@ -242,7 +242,7 @@ def _signals(seconds: float) -> None:
                 move.inc(n, 1)
             step.push(move)
             step.get([["n"]])
-            step.fire()
+            step.commit()
         except (Alarm, Error):
             pass
         is_ready = False
@@ -270,7 +270,7 @@ def _forks() -> None:
             status = 1
             try:
                 for call in (agents[0].state, agents[1].step, storage.close_journal, agents[0].give, lambda: agents[0].seen):
-                    with contextlib.suppress(folugben.Forked):
+                    with contextlib.suppress(folugben.ForkedError):
                         call()
                         os._exit(2)
                 with Storage([[["n"], 0]], 10) as own, own.agent(0) as agent:

@@ -11,13 +11,14 @@ import time
 import unittest
 
 import folugben
+import own
 from folugben import Location, Run, audit, part
 from folugben._folder import RunFolder
 from folugben._reading import Reading
 from threads import in_threads
 
-COUNT, AT = ["count"], Location(["count"])
-INIT = [[COUNT, 0]]
+COUNT, AT = ("count",), Location("count")
+INIT = [(COUNT, 0)]
 ACCOUNTS, MONEY = 6, 100
 BANK = [[["account", own], MONEY] for own in range(ACCOUNTS)]
 
@@ -79,7 +80,7 @@ class Rooms(unittest.TestCase):
     def last_state(self):
         with contextlib.closing(RunFolder(self.path)) as folder, Reading(folder) as reading:
             reading.audit(folder.segments())
-            return json.loads(reading.state())
+            return own.pairs(json.loads(reading.state()))
 
 
 def live_in_bank(path):

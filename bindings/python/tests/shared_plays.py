@@ -10,8 +10,8 @@ import threading
 import time
 from unittest import mock
 
-from folugben import Broken, Clash, Damaged, Error, Forked, Mismatch, Move, Over, Past, SharedRun, Stale, TooLong
-from folugben import Unknown, _lines, audit, check, states
+from folugben import BrokenError, ClashError, DamagedError, Error, ForkedError, MismatchError, Move, OverError, PastError, SharedRun, StaleError, TooLongError
+from folugben import UnknownError, _lines, audit, check, states
 from folugben._reading import save, texts, verify
 from folugben_engine import bank
 from folugben_engine.agents import live_all
@@ -37,7 +37,7 @@ class Shared(Rooms):
         """The run is legal and has so many moves, each of which raised the count."""
         self.assertEqual(audit(self.target).moves, moves)
         self.assertEqual(audit(io.BytesIO(self.whole())), audit(self.target))
-        counts = [values['["count"]'] for _, values in states(_Target(self.target))]
+        counts = [values[("count",)] for _, values in states(_Target(self.target))]
         self.assertEqual(counts, list(range(moves + 1)))
         verify(self.target)
 
@@ -53,7 +53,7 @@ class Plays(Shared):
         told = [[] for _ in range(4)]
         with SharedRun(self.target, INIT, 25) as run:
             self.assertEqual(in_threads(work, 4), ([], True))
-            self.assertEqual(run.state(), (120, [[COUNT, 120]]))
+            self.assertEqual(run.state(), (120, [(COUNT, 120)]))
         self.assertEqual(sorted(sum(told, [])), list(range(1, 121)))
         self.assertTrue(all(it == sorted(it) for it in told))
         self.assert_is_run(120)
@@ -67,9 +67,9 @@ class Plays(Shared):
                     self.assertEqual((ben.peek(AT), ben.peek([COUNT])), ((number, number), (number, [number])))
                     self.assertEqual(ben.play(raised), (number + 1, None))
                     self.assertEqual(anna.follow(), number + 1)
-                    self.assertEqual((anna.state(), anna.scan("count")), 2 * ((number + 1, [[COUNT, number + 1]]),))
+                    self.assertEqual((anna.state(), anna.scan("count")), 2 * ((number + 1, [(COUNT, number + 1)]),))
             with SharedRun(self.target) as late:
-                self.assertEqual([it.state() for it in (one, other, late)], 3 * [(20, [[COUNT, 20]])])
+                self.assertEqual([it.state() for it in (one, other, late)], 3 * [(20, [(COUNT, 20)])])
         self.assert_is_run(20)
         agents = [json.loads(line)["agent"] for line in self.whole().splitlines() if b'"call"' in line]
         self.assertEqual(agents, 10 * [0, 1])
@@ -88,20 +88,20 @@ class Plays(Shared):
                         step.push([["put", ["own"], 1]])
                         if is_changed:
                             other.play(lambda step: step.push(change))
-                            self.assertRaises(Stale, step.fire)
-                            self.assertEqual((step.try_fire(), step.fired), (0, 0))
+                            self.assertRaises(StaleError, step.commit)
+                            self.assertEqual((step.try_commit(), step.fired), (0, 0))
                         else:
-                            self.assertEqual(step.fire(), step.fired)
-                            self.assertRaises(Over, step.get, [COUNT])
+                            self.assertEqual(step.commit(), step.fired)
+                            self.assertRaises(OverError, step.get, [COUNT])
             agent.play(lambda step: step.push([["put", ["s"], {"set": []}]]))
             with agent.step() as step:
                 step.push([["add", ["s"], 1]])
                 other.play(lambda step: step.push([["put", ["s"], 3]]))
-                with self.assertRaises(Clash) as caught:
-                    step.fire()
-                self.assertEqual(caught.exception.at, ["s"])
+                with self.assertRaises(ClashError) as caught:
+                    step.commit()
+                self.assertEqual(caught.exception.at, ("s",))
             number = run.state()[0]
-            agent.play(lambda step: step.push(Move().put(AT, 1)))
+            agent.play(lambda step: step.push(Move().put(COUNT, 1)))
             self.assertEqual(run.state()[0], number + 1)
 
     def test_partial_updates_of_two_agents_are_both_fired(self):
@@ -109,9 +109,9 @@ class Plays(Shared):
             with agent.step() as one, other.step() as two:
                 one.push([["inc", COUNT, 2]])
                 two.push([["inc", COUNT, 3]])
-                self.assertEqual((one.offer(), one.number), ({"fire": [["inc", COUNT, 2]], "reads": []}, 0))
-                self.assertEqual((one.fire(), two.fire()), (1, 2))
-            self.assertEqual(run.state(), (2, [[COUNT, 5]]))
+                self.assertEqual((one.offer(), one.number), ({"fire": (("inc", COUNT, 2),), "reads": ()}, 0))
+                self.assertEqual((one.commit(), two.commit()), (1, 2))
+            self.assertEqual(run.state(), (2, [(COUNT, 5)]))
 
     def test_a_step_of_a_segment_that_has_ended(self):
         with SharedRun(self.target, INIT, 3) as run, run.agent(0) as slow, run.agent(1) as quick:
@@ -120,8 +120,8 @@ class Plays(Shared):
             for _ in range(4):
                 quick.play(raised)
             self.assertEqual((step.get(AT), step.number), (1, 0))
-            self.assertEqual(step.try_fire(), 0)
-            self.assertRaises(Past, step.fire)
+            self.assertEqual(step.try_commit(), 0)
+            self.assertRaises(PastError, step.commit)
             step.free()
             self.assertEqual(slow.play(raised), (5, None))
             self.assertEqual(slow.seen, 5)
@@ -133,7 +133,7 @@ class Plays(Shared):
                 with agent.step() as step:
                     raised(step)
                     other.play(raised)
-                    self.assertEqual(step.try_fire(), 0)
+                    self.assertEqual(step.try_commit(), 0)
         calls, moves, parts = audit(self.target)
         self.assertEqual((moves, parts), (30, 4))
         self.assertTrue(all(check(text)[0] <= 20 for text in texts(self.target)))
@@ -162,30 +162,30 @@ class Plays(Shared):
         self.assertRaises(FileNotFoundError, SharedRun, self.target)
         SharedRun(self.target, INIT, 7).close()
         SharedRun(self.target, INIT, 100).close()
-        self.assertRaises(Mismatch, SharedRun, self.target, BANK)
+        self.assertRaises(MismatchError, SharedRun, self.target, BANK)
         with SharedRun(self.target) as run, run.agent(0) as agent:
             for _ in range(10):
                 agent.play(raised)
         self.assertEqual(audit(self.target), (10, 10, 3))
         self.alter("update run set format = 9")
         for call in (SharedRun, audit, verify):
-            with self.assertRaisesRegex(Mismatch, "of version 9"):
+            with self.assertRaisesRegex(MismatchError, "of version 9"):
                 call(self.target)
 
     def test_lines_that_are_too_long(self):
         with mock.patch.object(_lines, "LINE_LIMIT", 3_000):
-            with self.assertRaises(TooLong):
+            with self.assertRaises(TooLongError):
                 SharedRun(self.target, [[["x"], "x" * 5_000]])
             with SharedRun(self.target, INIT, 3) as run, run.agent(0) as agent:
-                with self.assertRaises(TooLong):
+                with self.assertRaises(TooLongError):
                     agent.play(lambda step: step.push([["put", ["x"], "x" * 3_000]]))
                 agent.play(lambda step: step.push([["put", ["x"], "x" * 2_500]]))
                 agent.play(lambda step: step.push([["put", ["y"], "x" * 2_500]]))
-        with self.assertRaises(Broken) as caught, mock.patch.object(_lines, "LINE_LIMIT", 3_000), SharedRun(self.target) as run:
+        with self.assertRaises(BrokenError) as caught, mock.patch.object(_lines, "LINE_LIMIT", 3_000), SharedRun(self.target) as run:
             with run.agent(0) as agent:
                 agent.play(raised)
                 agent.play(raised)
-        self.assertIsInstance(caught.exception.__cause__, TooLong)
+        self.assertIsInstance(caught.exception.__cause__, TooLongError)
         self.assertEqual(audit(self.target).moves, 3)
 
     def test_what_was_altered_is_found(self):
@@ -194,12 +194,12 @@ class Plays(Shared):
                 agent.play(raised)
         self.alter("update segment set digest = replace(digest, substr(digest, 1, 4), '0000') where number = 2")
         for call in audit, verify:
-            with self.assertRaises(Damaged) as caught:
+            with self.assertRaises(DamagedError) as caught:
                 call(self.target)
             self.assertEqual(caught.exception.segment, 2)
 
     def test_replicas_that_differ_are_found(self):
-        with self.assertRaises(Broken) as caught, SharedRun(self.target, INIT, 3) as run, SharedRun(self.target) as other:
+        with self.assertRaises(BrokenError) as caught, SharedRun(self.target, INIT, 3) as run, SharedRun(self.target) as other:
             with run.agent(0) as agent, other.agent(1) as ben:
                 era = other._worker.replica.era
                 agent.play(raised)
@@ -224,7 +224,7 @@ class Plays(Shared):
                     def play():
                         try:
                             told.append(ben.play(raised))
-                        except Unknown as unknown:
+                        except UnknownError as unknown:
                             told.append(unknown)
 
                     def exchanged(batch):
@@ -244,7 +244,7 @@ class Plays(Shared):
                             agent.play(raised)
                         is_behind.set()
                         thread.join(60)
-                    self.assertEqual(type(told[0]), Unknown if is_sent else tuple)
+                    self.assertIsInstance(told[0], UnknownError if is_sent else tuple)
                     self.assertEqual(ben.follow(), other.state()[0])
                     self.assertGreater(ben.play(raised)[0], 21)
                 self.assertEqual(run.state(), other.state())
@@ -262,7 +262,7 @@ class Plays(Shared):
             self.assertFalse(any(life.is_alive() for life in lives))
             self.assertEqual(one.state(), other.state())
         for _, values in states(one):
-            accounts = [money for at, money in values.items() if at.startswith('["account"')]
+            accounts = [money for at, money in values.items() if at[0] == "account"]
             self.assertEqual(sum(accounts), bank.CUSTOMERS * bank.OPENING)
 
     def test_an_engine_in_two_processes(self):
@@ -280,7 +280,7 @@ with SharedRun(sys.argv[1], bank.INIT, 50) as run:
         self.assertEqual([(child.communicate(timeout=120)[1], child.returncode) for child in children], [(b"", 0)] * 2)
         self.assertEqual(audit(self.target).moves, bank.CUSTOMERS * bank.TIMES)
         for _, values in states(_Target(self.target)):
-            accounts = [money for at, money in values.items() if at.startswith('["account"')]
+            accounts = [money for at, money in values.items() if at[0] == "account"]
             self.assertEqual(sum(accounts), bank.CUSTOMERS * bank.OPENING)
 
     def test_a_fork_is_refused_and_harms_nothing(self):
@@ -291,7 +291,7 @@ with SharedRun(sys.argv[1], bank.INIT, 50) as run:
                 status = 1
                 try:
                     agent.play(raised)
-                except Forked:
+                except ForkedError:
                     status = 0
                 finally:
                     os._exit(status)
@@ -336,8 +336,8 @@ with SharedRun(sys.argv[1], bank.INIT, 50) as run:
         """Each answered move is in the run once, with its number, and each state has the sum."""
         marks = []
         for _, values in states(_Target(self.target)):
-            self.assertEqual(sum(values[f'["account",{own}]'] for own in range(ACCOUNTS)), ACCOUNTS * MONEY)
-            marks.append(values.get('["mark"]'))
+            self.assertEqual(sum(values["account", own] for own in range(ACCOUNTS)), ACCOUNTS * MONEY)
+            marks.append(values.get(("mark",)))
         self.assertEqual(len(set(marks)), len(marks))
         self.assertEqual({number: marks[number] for number, _ in told}, dict(told))
         self.assertEqual(audit(self.target).moves, len(marks) - 1)

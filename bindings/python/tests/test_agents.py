@@ -7,7 +7,8 @@ import unittest
 from unittest import mock
 
 import folugben
-from folugben import Agent, BadJournal, Busy, Clash, Error, Full, Missing, Stale, Storage, check, replay
+import own
+from folugben import Agent, BadJournalError, BusyError, ClashError, Error, FullError, MissingError, StaleError, Storage, check, replay
 from folugben import _library
 from threads import in_threads
 
@@ -20,7 +21,7 @@ def add_one(agent: Agent) -> int:
         number, (count,) = agent.read(COUNT)
         try:
             return agent.fire([["put", ["count"], count + 1]], [[["count"], number]])
-        except (Stale, Busy):
+        except (StaleError, BusyError):
             pass
 
 
@@ -37,50 +38,50 @@ class Agents(unittest.TestCase):
     def test_a_read_and_a_fire(self):
         agent = self.storage.agent(0)
         self.assertEqual(agent.read(COUNT), (0, [0]))
-        self.assertEqual(agent.fire([["put", ["count"], 1]], [[["count"], 0]]), 1)
+        self.assertEqual(agent.fire([["put", ["count"], 1]], [(("count",), 0)]), 1)
         self.assertEqual(agent.answer(), {"fired": 1})
         self.assertEqual((agent.seen, agent.won), (1, 1))
 
     def test_a_stale_fire_fires_nothing(self):
         first, second = self.storage.agent(0), self.storage.agent(1)
         first.fire([["put", ["count"], 1]])
-        with self.assertRaises(Stale) as caught:
-            second.fire([["put", ["count"], 9]], [[["count"], 0]])
-        self.assertEqual(caught.exception.at, ["count"])
-        self.assertEqual(str(caught.exception), folugben.error_text(folugben.STALE) + ': ["count"]')
+        with self.assertRaises(StaleError) as caught:
+            second.fire([["put", ["count"], 9]], [(("count",), 0)])
+        self.assertEqual(caught.exception.at, ("count",))
+        self.assertEqual(str(caught.exception), folugben.error_text(folugben.Code.STALE) + ': ["count"]')
         self.assertEqual(second.read(COUNT), (1, [1]))
 
     def test_a_clash_has_a_cause(self):
-        with self.assertRaises(Clash) as caught:
+        with self.assertRaises(ClashError) as caught:
             self.storage.agent(0).fire([["put", ["x"], 1], ["put", ["x"], 2]])
         for clash in (caught.exception, pickle.loads(pickle.dumps(caught.exception))):
-            self.assertEqual((clash.at, clash.cause), (["x"], "Two"))
-            self.assertEqual(str(clash), folugben.error_text(folugben.CLASH) + ': ["x"], Two')
+            self.assertEqual((clash.at, clash.cause), (("x",), "Two"))
+            self.assertEqual(str(clash), folugben.error_text(folugben.Code.CLASH) + ': ["x"], Two: two different values are put')
 
     def test_a_full_storage(self):
         agent = self.storage.agent(0)
         agent.fire([])
         agent.fire([])
-        self.assertRaises(Full, agent.fire, [])
+        self.assertRaises(FullError, agent.fire, [])
 
     def test_a_missing_agent(self):
         first, second = self.storage.agent(0), self.storage.agent(1)
         first.fire([])
         second.read(COUNT)
         second.give()
-        with self.assertRaises(Missing) as caught:
+        with self.assertRaises(MissingError) as caught:
             self.storage.close_journal()
         self.assertEqual(caught.exception.numbers, (1,))
-        self.assertEqual(str(caught.exception), folugben.error_text(folugben.MISSING) + ": agent 0 was not given back: it fired move 1")
+        self.assertEqual(str(caught.exception), folugben.error_text(folugben.Code.MISSING) + ": agent 0 was not given back: it fired move 1")
         first.give()
         journal = self.storage.close_journal()
         self.assertEqual(check(journal), (2, 1))
-        self.assertEqual(replay(journal), [[["count"], 0]])
+        self.assertEqual(replay(journal), [(("count",), 0)])
 
     def test_a_with_gives_the_agent_back(self):
         with self.storage.agent(3) as agent:
             agent.fire([["put", ["count"], "ü"]])
-        self.assertEqual(replay(self.storage.close_journal()), [[["count"], "ü"]])
+        self.assertEqual(replay(self.storage.close_journal()), [(("count",), "ü")])
 
     def test_a_with_that_an_exception_ends_gives_the_agent_back(self):
         reader = self.storage.agent(1)
@@ -96,7 +97,7 @@ class Agents(unittest.TestCase):
         self.storage.free()
         with self.assertRaises(Error) as caught, agent:
             raise KeyError
-        self.assertEqual(caught.exception.code, folugben.EMPTY)
+        self.assertEqual(caught.exception.code, folugben.Code.EMPTY)
         self.assertIsInstance(caught.exception.__context__, KeyError)
         self.assertEqual(agent.read(COUNT), (0, [0]))
         agent.free()
@@ -107,7 +108,7 @@ class Agents(unittest.TestCase):
         self.storage.agent(0).give()
         self.storage.agent(1).free()
         for number in (0, 1):
-            self.assertEqual(self.code_of(self.storage.agent, number), folugben.NUMBER)
+            self.assertEqual(self.code_of(self.storage.agent, number), folugben.Code.NUMBER)
         self.assertEqual(self.storage.agent(2).read(COUNT), (0, [0]))
 
     def test_the_moves_of_an_agent_that_was_freed_are_missing(self):
@@ -118,13 +119,13 @@ class Agents(unittest.TestCase):
         lost.free()
         self.assertEqual(self.storage.moves(), 2)
         for wanted in (1, 2):
-            with self.assertRaises(Missing) as caught:
+            with self.assertRaises(MissingError) as caught:
                 self.storage.close_journal()
             self.assertEqual(caught.exception.numbers, (wanted,))
             if first._is_full:
                 first.give()
         self.storage.free()
-        self.assertEqual(self.code_of(self.storage.moves), folugben.EMPTY)
+        self.assertEqual(self.code_of(self.storage.moves), folugben.Code.EMPTY)
 
     def test_no_copy_shares_a_slot(self):
         agent = self.storage.agent(0)
@@ -149,7 +150,7 @@ class Agents(unittest.TestCase):
         self.assertEqual(agent.read(COUNT), (1, ["x" * 5000]))
         self.assertEqual(agent.read([["y"]]), (1, [None]))
         agent.give()
-        self.assertEqual(replay(self.storage.close_journal()), [[["count"], "x" * 5000]])
+        self.assertEqual(replay(self.storage.close_journal()), [(("count",), "x" * 5000)])
 
     def test_threads_that_make_and_give_agents_of_one_storage(self):
         # A large state makes the calls that close long, so that others begin meanwhile.
@@ -161,14 +162,14 @@ class Agents(unittest.TestCase):
                     add_one(agent)
                 try:
                     storage.close_journal()
-                except Missing:
+                except MissingError:
                     pass
 
         with Storage(state, 240) as storage:
             self.assertEqual(in_threads(work, 8), ([], True))
             journal = storage.close_journal()
         self.assertEqual(check(journal)[1], 240)
-        self.assertEqual(replay(journal), [[["count"], 240]] + state[1:])
+        self.assertEqual(replay(journal), [(("count",), 240)] + own.pairs(state[1:]))
 
     def test_agents_that_learn_of_each_other_at_once(self):
         agents = [self.storage.agent(0), self.storage.agent(1)]
@@ -181,25 +182,25 @@ class Agents(unittest.TestCase):
 
     def test_numbers_that_have_no_32_bits(self):
         for number in (2**32, 2**32 + 1, 2**64 + 1, -1):
-            self.assertEqual(self.code_of(self.storage.agent, number), folugben.RANGE)
-            self.assertEqual(self.code_of(Storage, (), number), folugben.RANGE)
+            self.assertEqual(self.code_of(self.storage.agent, number), folugben.Code.RANGE)
+            self.assertEqual(self.code_of(Storage, (), number), folugben.Code.RANGE)
         self.assertRaises(TypeError, self.storage.agent, 0.5)
         self.assertEqual(folugben.error_text(2**32), folugben.error_text(24))
 
     def test_codes(self):
         agent, other = self.storage.agent(0), Storage()
         self.addCleanup(other.free)
-        self.assertEqual(self.code_of(Storage, (), 0), folugben.RANGE)
-        self.assertEqual(self.code_of(Storage, [1]), folugben.SHAPE)
-        self.assertEqual(self.code_of(self.storage.agent, 256), folugben.RANGE)
-        self.assertEqual(self.code_of(agent.read, COUNT * 257), folugben.MANY)
-        self.assertEqual(self.code_of(agent.read, [["1"]]), folugben.SHAPE)
-        self.assertEqual(self.code_of(agent.answer), folugben.NONE)
-        self.assertEqual(self.code_of(other.give, agent), folugben.OTHER)
-        self.assertEqual(self.code_of(agent.learn, other.agent(1)), folugben.OTHER)
-        self.assertEqual(self.code_of(agent.learn, agent), folugben.EMPTY)
+        self.assertEqual(self.code_of(Storage, (), 0), folugben.Code.RANGE)
+        self.assertEqual(self.code_of(Storage, [1]), folugben.Code.SHAPE)
+        self.assertEqual(self.code_of(self.storage.agent, 256), folugben.Code.RANGE)
+        self.assertEqual(self.code_of(agent.read, COUNT * 257), folugben.Code.MANY)
+        self.assertEqual(self.code_of(agent.read, [["1"]]), folugben.Code.SHAPE)
+        self.assertEqual(self.code_of(agent.answer), folugben.Code.NONE)
+        self.assertEqual(self.code_of(other.give, agent), folugben.Code.OTHER)
+        self.assertEqual(self.code_of(agent.learn, other.agent(1)), folugben.Code.OTHER)
+        self.assertEqual(self.code_of(agent.learn, agent), folugben.Code.EMPTY)
         agent.give()
-        self.assertEqual(self.code_of(agent.read, COUNT), folugben.EMPTY)
+        self.assertEqual(self.code_of(agent.read, COUNT), folugben.Code.EMPTY)
 
     def test_journals(self):
         with self.storage.agent(0) as agent:
@@ -208,29 +209,29 @@ class Agents(unittest.TestCase):
         event = "an event is an object with the members agent, call and reply"
         instruction = "instruction 1: an instruction is an array of a word, a location and operands"
         for text, code, numbers, behind in [
-            (b"", folugben.CUT, (), ""),
-            (b"{\n", folugben.NOT_JSON, (1,), " (line 1)"),
-            (b"{}\n", folugben.SHAPE, (1,), " (line 1)"),
-            (journal + b"7\n", folugben.SHAPE, (3,), f": {event} (line 3)"),
-            (journal + journal.split(b"\n")[1] + b"\n", folugben.SHAPE, (3,), " (line 3)"),
-            (journal.replace(b'"agent"', b'"Agent"'), folugben.SHAPE, (2,), f": {event} (line 2)"),
-            (journal.replace(b'"fire":[]', b'"fire":[7]'), folugben.SHAPE, (2,), f": {instruction} (line 2)"),
-            (journal[:-1], folugben.CUT, (), ""),
-            (journal.replace(b'"version":2', b'"version":3'), folugben.VERSION, (), ""),
-            (journal.replace(b'"fired":1', b'"fired":2'), folugben.ILLEGAL, (0,), " (call 0, counted from 0)"),
+            (b"", folugben.Code.CUT, (), ""),
+            (b"{\n", folugben.Code.NOT_JSON, (1,), " (line 1)"),
+            (b"{}\n", folugben.Code.SHAPE, (1,), " (line 1)"),
+            (journal + b"7\n", folugben.Code.SHAPE, (3,), f": {event} (line 3)"),
+            (journal + journal.split(b"\n")[1] + b"\n", folugben.Code.SHAPE, (3,), " (line 3)"),
+            (journal.replace(b'"agent"', b'"Agent"'), folugben.Code.SHAPE, (2,), f": {event} (line 2)"),
+            (journal.replace(b'"fire":[]', b'"fire":[7]'), folugben.Code.SHAPE, (2,), f": {instruction} (line 2)"),
+            (journal[:-1], folugben.Code.CUT, (), ""),
+            (journal.replace(b'"version":2', b'"version":3'), folugben.Code.VERSION, (), ""),
+            (journal.replace(b'"fired":1', b'"fired":2'), folugben.Code.ILLEGAL, (0,), " (call 0, counted from 0)"),
         ]:
-            with self.assertRaises(BadJournal) as caught:
+            with self.assertRaises(BadJournalError) as caught:
                 check(text)
             error = caught.exception
             self.assertEqual((error.code, error.numbers), (code, numbers), text)
             self.assertEqual(str(error), folugben.error_text(code) + behind)
 
     def test_an_error_is_told_in_words(self):
-        busy = Busy(folugben.BUSY, (3, 67))
+        busy = BusyError(folugben.Code.BUSY, (3, 67))
         told = "64 offers were lost (the agent had seen 3 moves at the start of the call and 67 at its end)"
         self.assertEqual(str(busy), told)
         self.assertEqual(str(pickle.loads(pickle.dumps(busy))), told)
-        self.assertEqual(str(Error(folugben.NOT_JSON)), "not JSON")
+        self.assertEqual(str(Error(folugben.Code.NOT_JSON)), "not JSON")
 
     def test_a_refused_text_says_where(self):
         agent = self.storage.agent(0)
@@ -238,7 +239,7 @@ class Agents(unittest.TestCase):
         shape = "JSON of another shape: "
         for said, call, *arguments in [
             (shape + "pair 1: a pair is an array of a location and its value", Storage, [1]),
-            (shape + "init[0][1] is nan, and a number is whole", Storage, [[["x"], float("nan")]]),
+            (shape + "init[0][1] is nan, which is no whole number: pass int(..) of it, or str(..)", Storage, [[["x"], float("nan")]]),
             (shape + "location 2: a location can't hold a bag", agent.read, [["x"], ["y", {"bag": []}]]),
             (shape + "instruction 3: a set can't hold a set", agent.fire, nested),
             (shape + "4,097 instructions, at most 4,096", agent.fire, [["put", ["x"], 1]] * 4097),
@@ -250,16 +251,16 @@ class Agents(unittest.TestCase):
             self.assertEqual(str(pickle.loads(pickle.dumps(caught.exception))), said)
 
     def test_texts_are_explained(self):
-        self.assertEqual(folugben.explain(folugben.LOCATIONS, b'[["x"]]'), "")
-        self.assertEqual(folugben.explain(folugben.MOVE, b'[["x"]'), "not JSON: cut off after byte 6")
+        self.assertEqual(folugben.explain(folugben.TextForm.LOCATIONS, b'[["x"]]'), "")
+        self.assertEqual(folugben.explain(folugben.TextForm.MOVE, b'[["x"]'), "not JSON: cut off after byte 6")
         script = b'{"agents":[[[[["inc",["x"],1],["putt",["x"],1]]]]],"init":[]}'
-        self.assertEqual(folugben.explain(folugben.SCRIPT, script.replace(b"putt", b"put")), "")
+        self.assertEqual(folugben.explain(folugben.TextForm.SCRIPT, script.replace(b"putt", b"put")), "")
         self.assertEqual(
-            folugben.explain(folugben.SCRIPT, script),
+            folugben.explain(folugben.TextForm.SCRIPT, script),
             'agent 0 step 0 block 0 instruction 1: unknown word "putt"',
         )
         for form in (-1, 5, 2**32):
-            self.assertEqual(self.code_of(folugben.explain, form, b"[]"), folugben.RANGE)
+            self.assertEqual(self.code_of(folugben.explain, form, b"[]"), folugben.Code.RANGE)
 
     def test_texts_of_codes(self):
         texts = [folugben.error_text(code) for code in range(25)]

@@ -12,12 +12,15 @@ import unittest
 from unittest import mock
 
 import folugben
-from folugben import APART, CUT, EMPTY, ILLEGAL, LARGE, NONE, NOT_JSON, SHAPE, VERSION
-from folugben import Auditor, BadJournal, Clash, Counts, Error, Stale, Storage, audit, check, part, replay
+import own
+from folugben import Auditor, BadJournalError, ClashError, Code, Counts, Error, StaleError, Storage, audit, check, part, replay
 from folugben import __main__ as main
 from folugben import _auditor
 from random_moves import INIT, move
 from threads import in_threads
+
+APART, CUT, EMPTY, ILLEGAL, LARGE, NONE, NOT_JSON, SHAPE, VERSION = map(
+    Code.__getitem__, "APART CUT EMPTY ILLEGAL LARGE NONE NOT_JSON SHAPE VERSION".split())
 
 
 def parts_of_a_run(seed: int, count: int = 4) -> list[bytes]:
@@ -31,7 +34,7 @@ def parts_of_a_run(seed: int, count: int = 4) -> list[bytes]:
             number, _ = agent.read([["set"], ["number"]])
             try:
                 rng.choice([first, second]).fire(move(rng), [[["set"], rng.randrange(min(number, first.seen, second.seen) + 1)]])
-            except (Stale, Clash):
+            except (StaleError, ClashError):
                 pass
         first.give()
         second.give()
@@ -47,7 +50,7 @@ def fed(text: bytes, size: int) -> tuple[object, ...]:
         for start in range(0, len(text), size):
             auditor.feed(text[start : start + size])
         return (*auditor.end(), auditor.state())
-    except BadJournal as bad:
+    except BadJournalError as bad:
         return bad.code, bad.part, bad.numbers, bad.call, bad.line, str(bad)
 
 
@@ -106,7 +109,7 @@ class Audits(unittest.TestCase):
     def test_a_line_above_the_limit_is_told(self):
         auditor = Auditor()
         auditor.feed(self.text)
-        with self.assertRaises(BadJournal) as caught:
+        with self.assertRaises(BadJournalError) as caught:
             for _ in range(17):
                 auditor.feed(b" " * (1 << 20))
         self.assertEqual((caught.exception.code, caught.exception.part), (LARGE, 4))
@@ -118,11 +121,11 @@ class Audits(unittest.TestCase):
         for line in lines[:4]:
             auditor.feed(line.decode())
         self.assertEqual(auditor.counts[::2], (3, 0))
-        with self.assertRaises(BadJournal) as caught:
+        with self.assertRaises(BadJournalError) as caught:
             auditor.feed(lines[4])
         feeds = lambda: auditor.feed(lines[5]), lambda: auditor.feed(b"")
         for call in (*feeds, auditor.end, auditor.state, lambda: auditor.counts):
-            with self.assertRaises(BadJournal) as again:
+            with self.assertRaises(BadJournalError) as again:
                 call()
             self.assertEqual(str(again.exception), str(caught.exception))
             self.assertEqual((again.exception.part, again.exception.call), (0, 3))
@@ -138,8 +141,8 @@ class Audits(unittest.TestCase):
         for number, journal in enumerate(self.journals, 1):
             header, *events = journal.splitlines(keepends=True)
             self.assertEqual(auditor.feed(header), (*total[:2], number - 1))
-            self.assertEqual(auditor.state(), json.loads(header)["init"])
-            with self.assertRaises(BadJournal) as caught:
+            self.assertEqual(auditor.state(), own.pairs(json.loads(header)["init"]))
+            with self.assertRaises(BadJournalError) as caught:
                 auditor.end()
             self.assertEqual((caught.exception.code, caught.exception.part), (CUT, number - 1))
             auditor.feed(b"".join(events))
@@ -190,7 +193,7 @@ class Files(unittest.TestCase):
         lines = self.run_file.read_bytes().splitlines(True)
         with open(read_end, "rb") as pipe, open(write_end, "wb", buffering=0) as out:
             out.write(b"".join(lines[:3]) + b"{}\n")  # and the pipe stays open
-            with self.assertRaises(BadJournal) as caught:
+            with self.assertRaises(BadJournalError) as caught:
                 audit(pipe)
         self.assertEqual((caught.exception.part, caught.exception.line), (0, 4))
 

@@ -3,8 +3,9 @@ import json
 import unittest
 
 import folugben
+import own
 from checkout import ROOT
-from folugben import Auditor, BadJournal, Clash, Error, Large, Stale, Storage
+from folugben import Auditor, BadJournalError, ClashError, Error, LargeError, StaleError, Storage
 
 TABLES = ROOT / "bindings" / "conformance"
 FORMS = ["LOCATIONS", "MOVE", "STATE", "EVENT", "SCRIPT"]
@@ -90,7 +91,7 @@ class Replayer:
         return self.steps[own].depth
 
     def commit(self, own):
-        return {"fired": self.steps[own].fire()}
+        return {"fired": self.steps[own].commit()}
 
     def get_all(self, own, name):
         return self.steps[own].scan(name)
@@ -118,11 +119,11 @@ class Replayer:
             if name in ("get", "see", "push", "extend", "pop", "offer"):
                 return self.on_step(name, *words)
             return getattr(self if hasattr(self, name) else folugben, name)(*words)
-        except Stale as stale:
+        except StaleError as stale:
             return {"stale": stale.at}
-        except Clash as clash:
+        except ClashError as clash:
             return {"clash": [clash.at, clash.cause]}
-        except Large as large:
+        except LargeError as large:
             return {"large": large.at}
         except Error as error:
             return refused(error)
@@ -130,17 +131,34 @@ class Replayer:
 
 def refused(error):
     """What the table has of an error: its code, and where and why, and its numbers, with that of the part in an audit."""
-    (name,) = (it for it in dir(folugben) if it.isupper() and it not in FORMS and getattr(folugben, it) == error.code)
-    part = [error.part] if isinstance(error, BadJournal) and error.part is not None else []
-    return {"error": name, "said": error.said, "numbers": [*error.numbers, *part]}
+    part = [error.part] if isinstance(error, BadJournalError) and error.part is not None else []
+    return {"error": error.code.name, "said": error.said, "numbers": [*error.numbers, *part]}
+
+
+def in_python(call, wanted):
+    """An answer of the table in Python's own values."""
+    if isinstance(wanted, dict):
+        wanted = wanted | {kind: own.place(wanted[kind]) for kind in ("stale", "large") if kind in wanted}
+        if "clash" in wanted:
+            return {"clash": [own.place(wanted["clash"][0]), wanted["clash"][1]]}
+        if "values" in wanted:
+            return wanted | {"values": list(map(own.value, wanted["values"]))}
+        return own.call(wanted) if "fire" in wanted else wanted
+    if call in ("get", "see"):
+        return list(map(own.value, wanted))
+    if call in ("state", "scan", "get_all", "aggregate", "replay"):
+        return own.pairs(wanted)
+    return list(own.call({"fire": wanted, "reads": []})["fire"]) if call == "compose" else wanted
 
 
 class Conformance(unittest.TestCase):
-    def assert_answered(self, told, wanted, where):
+    def assert_answered(self, call, told, wanted, where):
         if isinstance(wanted, dict) and "error" in wanted and isinstance(told, dict) and "error" in told:
             told = {key: value for key, value in told.items() if key in wanted}
+        wanted = in_python(call, wanted)
+        told, wanted = (sorted(it.items()) if isinstance(it, dict) else it for it in (told, wanted))
         # True is another value than 1.
-        self.assertEqual(json.dumps(told, sort_keys=True), json.dumps(wanted, sort_keys=True), where)
+        self.assertEqual(repr(told), repr(wanted), where)
 
     def test_each_line_is_answered_so(self):
         for name in ("moves", "calls", "steps", "journals"):
@@ -152,7 +170,7 @@ class Conformance(unittest.TestCase):
                     replayer.case(case)
                     continue
                 *words, wanted = [*words, None] if call == "end" else words
-                self.assert_answered(replayer.answer(call, *words), wanted, f"{name}.jsonl:{number}, {case}: {line[:200]}")
+                self.assert_answered(call, replayer.answer(call, *words), wanted, f"{name}.jsonl:{number}, {case}: {line[:200]}")
                 count += 1
             self.assertGreater(count, 20, name)
 

@@ -6,7 +6,7 @@ import unittest
 from unittest import mock
 
 import crashes
-from folugben import BadJournal, Broken, Damaged, Location, Move, Run, TooLong, _lines, _part, _run_agent, audit, part, states
+from folugben import BadJournalError, BrokenError, DamagedError, Location, Move, Run, TooLongError, _lines, _part, _run_agent, audit, part, states
 from folugben._folder import RunWriter
 from folugben._reading import save, verify
 from rooms import COUNT, INIT, Rooms, raised, segments, text_of, until
@@ -23,7 +23,7 @@ class Folders(Rooms):
         """All that read refuse the run, and nothing in it is changed."""
         before = {it.name: it.read_bytes() for it in self.path.iterdir()}
         for call in (audit, verify, Run.resume, *[lambda path: Run.resume(path, check="last")] * is_last):
-            with self.assertRaises(Damaged) as caught:
+            with self.assertRaises(DamagedError) as caught:
                 call(self.path)
             self.assertEqual(caught.exception.segment, number)
             self.assertIn(f"segment {number}: ", str(caught.exception))
@@ -95,14 +95,14 @@ class Folders(Rooms):
         for text, moves, events in [(text, 1, 2), (text, 2, 3), (2 * text, 4, 4)]:
             self.replace_last(text, moves, events)
             for check in "all", "last":
-                with self.assertRaises((Damaged, BadJournal)) as caught:
+                with self.assertRaises((DamagedError, BadJournalError)) as caught:
                     Run.resume(self.path, check=check)
                 self.assertRegex(str(caught.exception), "segment 4: its text has other numbers|part 4: ")
 
     def test_an_illegal_segment_is_told_with_its_number(self):
         self.replace_last(part(self.path, 4).replace(b'{"fired":1}', b'{"fired":9}'), 2, 2)
         for check in "all", "last":
-            with self.assertRaises(BadJournal) as caught:
+            with self.assertRaises(BadJournalError) as caught:
                 Run.resume(self.path, check=check)
             self.assertEqual((caught.exception.part, caught.exception.call), (4, 0))
 
@@ -115,20 +115,20 @@ class Folders(Rooms):
         for number in (-1, 5):
             self.assertRaises(IndexError, part, self.path, number)
         self.assertEqual([(number, dict(values)) for number, values in states(self.path)],
-                         [(number, {'["count"]': number}) for number in range(15)])
+                         [(number, {("count",): number}) for number in range(15)])
 
 
 class AtWork(Rooms):
     def assert_noticed(self, alter, said):
-        with contextlib.suppress(Broken), Run(self.path, INIT, 4) as run, run.agent(0) as agent:
+        with contextlib.suppress(BrokenError), Run(self.path, INIT, 4) as run, run.agent(0) as agent:
             for _ in range(6):
                 agent.play(raised)
             until(lambda: run.saved == 4)
             alter()
-            with self.assertRaises(Broken) as caught:
+            with self.assertRaises(BrokenError) as caught:
                 run.flush()
             self.assertRegex(str(caught.exception), said)
-            self.assertIsInstance(caught.exception.__cause__, Damaged)
+            self.assertIsInstance(caught.exception.__cause__, DamagedError)
             self.assertEqual((run.saved, caught.exception.part), (4, 2))
 
     def test_a_folder_that_is_moved_removed_or_replaced(self):
@@ -215,24 +215,24 @@ class Lines(Rooms):
                     self.enterContext(mock.patch.object(module, name, value))
 
     def test_a_state_that_is_too_long(self):
-        with self.assertRaisesRegex(TooLong, "the state would make a line"):
+        with self.assertRaisesRegex(TooLongError, "the state would make a line"):
             Run(self.path, [[["x", i], i] for i in range(2_000)])
         self.assertFalse(self.path.exists())
         with Run(self.path, [], 10) as run, run.agent(0) as agent:
             for own in range(10):
                 agent.play(lambda step: step.push([["put", ["x", own], "x" * 2_500]]))
             for _ in range(3):
-                with self.assertRaisesRegex(TooLong, "the state would make a line"):
+                with self.assertRaisesRegex(TooLongError, "the state would make a line"):
                     agent.play(lambda step: step.push([["put", ["x", 0], None]]))
         self.assertEqual(audit(self.path), (10, 10, 2))
-        with self.assertRaises(TooLong):
+        with self.assertRaises(TooLongError):
             Run.resume(self.path)
 
     def test_a_flush_of_a_state_that_is_too_long(self):
         with Run(self.path, [], 100, every=0.01) as run, run.agent(0) as agent:
             for own in range(10):
                 agent.play(lambda step: step.push([["put", ["x", own], "x" * 2_500]]))
-            with self.assertRaises(TooLong):
+            with self.assertRaises(TooLongError):
                 run.flush()
             agent.play(lambda step: step.push([["put", ["x", 0], None], ["put", ["x", 1], None], ["put", ["x", 2], None]]))
             run.flush()
@@ -250,23 +250,23 @@ class Lines(Rooms):
                 lambda step: (step.get([["y", "z" * 10_000]]), step.push([["put", ["x"], 1]])),
                 lambda step: (step.get(Location(["y", "z" * 10_000])), step.push([["put", ["x"], 1]])),
             ):
-                with self.assertRaisesRegex(TooLong, "the move would make a line"):
+                with self.assertRaisesRegex(TooLongError, "the move would make a line"):
                     agent.play(rule)
-            with self.assertRaises(TooLong):
+            with self.assertRaises(TooLongError):
                 agent.fire([["put", ["x"], "x" * 20_000]])
             self.assertEqual(run.state(), (0, []))
             agent.play(lambda step: step.push([["put", ["x"], "x" * 19_000]]))
             agent.fire([["put", ["y"], "x" * 9_000]])
-            with self.assertRaisesRegex(TooLong, "the read would make a line"):
+            with self.assertRaisesRegex(TooLongError, "the read would make a line"):
                 agent.read([["x"], ["y"]])
         self.assertEqual(audit(self.path), (2, 2, 2))
 
     def test_what_the_checks_let_pass_is_not_written(self):
         """The writer looks at what it writes."""
-        with mock.patch("folugben._run_agent.SHORT", 10**9), self.assertRaises(Broken) as caught:
+        with mock.patch("folugben._run_agent.SHORT", 10**9), self.assertRaises(BrokenError) as caught:
             with Run(self.path, [], 100) as run, run.agent(0) as agent:
                 agent.fire([["put", ["x"], "x" * 20_000]])
-        self.assertIsInstance(caught.exception.__cause__, TooLong)
+        self.assertIsInstance(caught.exception.__cause__, TooLongError)
         self.assertEqual(audit(self.path), (0, 0, 1))
 
 

@@ -9,14 +9,14 @@ from threading import Event
 
 import folugben_engine
 from checkout import ROOT
-from folugben import Clash, Run, Stale, Storage, audit, check
+from folugben import ClashError, Run, StaleError, Storage, audit, check
 from folugben_engine import bank, colony, crossing, philosophers
 from folugben_engine.agents import live, live_all, run, run_on, states
 from folugben_engine.rules import Add, Choose, Forall, If, Instruction, Iterate, Let, Par, Remove, Rule, Seq, Update, While
 from rooms import Rooms, environment
 from threads import in_threads
 
-COUNT = ["count"]
+COUNT = ("count",)
 INIT = [[COUNT, 3], [["s"], {"set": [1]}], [["f", 1], "a"], [["f", 2], "b"], [["f", 3], "a"]]
 
 
@@ -38,14 +38,14 @@ class Rules(unittest.TestCase):
         """The values at the locations once the rule has fired."""
         with self.agent.step() as step:
             rule.play(step)
-            step.fire()
+            step.commit()
         self.agent.follow()
         return self.agent.peek(places)[1]
 
     def test_par_sees_one_state(self):
         swap = Par(Update(["f", 1], lambda see: see(["f", 2])), Update(["f", 2], lambda see: see(["f", 1])))
         self.assertEqual(self.played(Par(swap, Add(["s"], count), Remove(["s"], 1)), ["f", 1], ["f", 2], ["s"]),
-                         ["b", "a", {"set": [3]}])
+                         ["b", "a", {3}])
 
     def test_seq_sees_what_was_done(self):
         rule = Seq(raised(), raised(), Update(["g"], count))
@@ -93,12 +93,12 @@ class Rules(unittest.TestCase):
         self.assertEqual(self.played(rule, ["all", 1], ["all", 2], ["all", 3], ["otherwise"]), [True, None, True, 1])
         self.assertEqual(self.agent.scan("none")[1], [])
         ((chosen, _),) = self.agent.scan("chosen")[1]
-        self.assertIn(chosen, [["chosen", 1], ["chosen", 3]])
+        self.assertIn(chosen, [("chosen", 1), ("chosen", 3)])
 
     def test_rules_in_sequence_beside_others_are_dry_runs(self):
         inner = Seq(raised(), Iterate(If(lambda see: see(COUNT) < 9, raised(2))), Update(["inner"], count))
         rule = Par(inner, Update(["beside"], count), Seq(raised(0), Update(["beside", 2], count)))
-        with self.assertRaises(Clash) as caught, self.agent.step() as step:
+        with self.assertRaises(ClashError) as caught, self.agent.step() as step:
             rule.play(step)
         self.assertEqual((caught.exception.at, caught.exception.cause), (COUNT, "Two"))
         rule = Par(inner, Update(["beside"], count))
@@ -110,8 +110,8 @@ class Rules(unittest.TestCase):
         with self.agent.step() as step:
             rule.play(step)
             self.rival.fire([["put", COUNT, "no number"]])
-            with self.assertRaises(Stale) as caught:
-                step.fire()
+            with self.assertRaises(StaleError) as caught:
+                step.commit()
         self.assertEqual(caught.exception.at, COUNT)
 
     def test_a_step_that_clashes_with_what_a_rival_wrote_is_begun_anew(self):
@@ -135,11 +135,11 @@ class Rules(unittest.TestCase):
         rival.give()
         events = map(json.loads, self.storage.close_journal().splitlines()[1:])
         replies = [event["reply"] for event in events if event["agent"] == 2]
-        self.assertEqual(replies, [{"clash": [COUNT, "Kind"]}] * 2 + [{"fired": 6}])
+        self.assertEqual(replies, [{"clash": [list(COUNT), "Kind"]}] * 2 + [{"fired": 6}])
 
     def test_a_clash_in_a_sequence_is_told(self):
         for rule in (Seq(Par(raised(), Update(COUNT, 9)), raised()), Par(Seq(Update(["s"], 1), Add(["s"], 2)))):
-            with self.assertRaises(Clash), self.agent.step() as step:
+            with self.assertRaises(ClashError), self.agent.step() as step:
                 rule.play(step)
 
 
@@ -157,7 +157,7 @@ class Machines(unittest.TestCase):
         for machine, state in [
             (philosophers, [[["eating"], {"set": [0, 1]}]]),
             (philosophers, [[["eating"], {"set": [0, 4]}]]),
-            (bank, [*bank.INIT[1:], [["account", 0], 101]]),
+            (bank, bank.INIT | {("account", 0): 101}),
             (crossing, [[["gate"], "open"], [["train", 2], "crossing"], [["train", 0], "away"]]),
             (colony, [[["cell", 0], 7], [["cell", 64], 6], [["age"], 1]]),
             (colony, [[["cell", 0], 6], [["cell", 64], 6], [["age"], 2]]),
@@ -172,7 +172,7 @@ class Machines(unittest.TestCase):
     def test_an_error_of_one_program_ends_all(self):
         def work(_):
             waits = If(False, raised()), lambda agent: False
-            with self.assertRaises(Clash):
+            with self.assertRaises(ClashError):
                 run([], [waits, (Par(Update(COUNT, 1), Update(COUNT, 2)), lambda agent: False), waits])
 
         self.assertEqual(in_threads(work, 1), ([], True))
@@ -199,9 +199,9 @@ class Endless(Rooms):
 
     def test_an_error_of_one_program_ends_the_run(self):
         wrong = Par(Update(COUNT, 1), Update(COUNT, 2)), None
-        with self.assertRaises(Clash):
+        with self.assertRaises(ClashError):
             run_on(self.path, INIT, [(raised(), None), wrong, (raised(), None)], 60)
-        self.assertEqual(self.last_state()[0], [COUNT, 3 + audit(self.path).moves])
+        self.assertEqual(self.last_state()[0], (COUNT, 3 + audit(self.path).moves))
 
     def test_the_command_line(self):
         for times in (1, 2):

@@ -60,7 +60,7 @@ class Folders(Rooms):
                 self.assertEqual((number, agent.won), (10 * times, 10))
                 self.assertEqual(agent.peek(AT), (10 * times - 1, 10 * times - 1))
                 self.assertEqual(agent.follow(), 10 * times)
-                self.assertEqual(agent.state(), (10 * times, [[COUNT, 10 * times]]))
+                self.assertEqual(agent.state(), (10 * times, [(COUNT, 10 * times)]))
         self.assertEqual(audit(self.path)[1:], (30, 10))
 
     def test_a_folder_that_holds_something_else_is_left(self):

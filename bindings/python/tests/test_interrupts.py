@@ -6,7 +6,7 @@ import time
 import unittest
 from collections.abc import Callable
 
-from folugben import Error, Full, Location, Move, Storage
+from folugben import Error, FullError, Location, Move, Storage
 from threads import in_threads
 
 
@@ -91,8 +91,8 @@ class Interrupts(unittest.TestCase):
             with agent.step() as step:
                 step.push(move.clear().put(at, step.get(at)).put(at, agent.peek(at)[1]))
                 try:
-                    step.try_fire()
-                except Full:
+                    step.try_commit()
+                except FullError:
                     return 1
             return 0
 
@@ -155,7 +155,7 @@ class Interrupts(unittest.TestCase):
                 step.push(move.clear().put(y, {"list": [1, {"list": [2]}]}).put(own, step.get(own) + 1))
                 step.get([["own"], ["other"]])
                 step.push([["put", ["x"], ["a"][0]]])
-                return step.try_fire() and done[0] > 500 and done[1] > 50
+                return step.try_commit() and done[0] > 500 and done[1] > 50
 
         storage, move, mine, y = self.storage, Move(), Move(), Location(["y"])
         self.addCleanup(gc.set_threshold, *gc.get_threshold())

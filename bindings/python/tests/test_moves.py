@@ -2,8 +2,9 @@
 import random
 import unittest
 
+import own
 import random_moves
-from folugben import Clash, Error, Large, Many, aggregate, compose
+from folugben import ClashError, Error, LargeError, ManyError, aggregate, compose
 
 X = ["x"]
 
@@ -11,15 +12,15 @@ X = ["x"]
 class Moves(unittest.TestCase):
     def test_too_many_instructions(self):
         half = [["put", ["x", k], k] for k in range(4096)]
-        self.assertEqual(compose(half, []), sorted(half))
-        self.assertRaises(Many, compose, half, [["put", ["y"], 1]])
+        self.assertTrue(compose(half, []) == sorted((word, tuple(at), value) for word, at, value in half))
+        self.assertRaises(ManyError, compose, half, [["put", ["y"], 1]])
         self.assertEqual(len(aggregate([], half)), 4096)
 
     def test_a_refused_text_says_where(self):
         shape = "JSON of another shape: "
         for said, call, *arguments in [
             (shape + "4,097 instructions, at most 4,096", aggregate, [], [["put", X, 1]] * 4097),
-            (shape + "instructions[0][2] is nan, and a number is whole", aggregate, [], [["put", ["x"], float("nan")]]),
+            (shape + "instructions[0][2] is nan, which is no whole number: pass int(..) of it, or str(..)", aggregate, [], [["put", ["x"], float("nan")]]),
         ]:
             with self.subTest(said), self.assertRaises(Error) as caught:
                 call(*arguments)
@@ -32,18 +33,19 @@ class Moves(unittest.TestCase):
         def told(call, *arguments):
             try:
                 return call(*arguments)
-            except (Clash, moves.Clash) as clash:
-                at = clash.at if isinstance(clash, Clash) else values.location_json(clash.at)
-                return "clash", at, clash.cause
-            except (Large, moves.LargeAmount) as large:
-                return "large", large.at if isinstance(large, Large) else values.location_json(large.at)
+            except (ClashError, moves.Clash) as clash:
+                at = clash.at if isinstance(clash, ClashError) else values.location_json(clash.at)
+                return "clash", own.place(at), clash.cause
+            except (LargeError, moves.LargeAmount) as large:
+                return "large", large.at if isinstance(large, LargeError) else own.place(values.location_json(large.at))
 
         def composed(*two):
-            return list(map(moves.instruction_json, moves.composed(*(list(map(moves.read_instruction, it)) for it in two))))
+            told = moves.composed(*(list(map(moves.read_instruction, it)) for it in two))
+            return list(own.call({"fire": map(moves.instruction_json, told), "reads": []})["fire"])
 
         def updates(state, move):
             written = moves.updates_on(values.read_state(state), list(map(moves.read_instruction, move)))
-            return [[values.location_json(at), values.value_json(it)] for at, it in sorted(written.items())]
+            return own.pairs([[values.location_json(at), values.value_json(it)] for at, it in sorted(written.items())])
 
         for _ in range(4000):
             first, second = random_moves.move(rng), random_moves.move(rng)

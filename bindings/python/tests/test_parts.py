@@ -7,7 +7,7 @@ import time
 import unittest
 from unittest import mock
 
-from folugben import Broken, Clash, Error, Move, Past, Retry, Run, Stale
+from folugben import BrokenError, ClashError, Error, Move, PastError, ConflictError, Run, StaleError
 from folugben import _folder, audit, check, interleave, states
 from rooms import AT, BANK, COUNT, INIT, Rooms, raised, text_of, transfer, until
 from threads import in_threads
@@ -31,12 +31,12 @@ class Parts(Rooms):
         calls, moves, parts = audit(self.path)
         self.assertEqual((moves, parts, run.saved, run.parts), (1200, 25, 1200, 25))
         self.assertGreaterEqual(calls, moves)
-        self.assertEqual(self.last_state(), [[COUNT, 1200]])
+        self.assertEqual(self.last_state(), [(COUNT, 1200)])
         journals = self.journals()
         self.assertEqual(check(journals[0]), (0, 0))
         self.assertEqual([check(journal)[1] for journal in journals[1:]], [50] * 24)
         self.assertEqual([next(states(journal))[1] for journal in journals],
-                         [{'["count"]': 0}, *({'["count"]': 50 * number} for number in range(24))])
+                         [{("count",): 0}, *({("count",): 50 * number} for number in range(24))])
 
     def test_a_part_of_one_move(self):
         with Run(self.path, INIT, 1) as run, run.agent(7) as agent:
@@ -53,17 +53,17 @@ class Parts(Rooms):
                 self.assertEqual((step.number, step.get([COUNT]), step.get(AT)), (0, [0], 0))
                 step.push([["inc", COUNT, 1]])
                 # It is stale too.
-                self.assertEqual((step.get(AT), step.try_fire(), step.fired), (1, 0, 0))
-                self.assertRaises(Stale, step.fire)
+                self.assertEqual((step.get(AT), step.try_commit(), step.fired), (1, 0, 0))
+                self.assertRaises(StaleError, step.commit)
             self.assertEqual(slow.play(raised), (13, None))
             with slow.step() as step:
                 step.push([["inc", COUNT, 1]])
                 for _ in range(12):
                     quick.play(raised)
-                self.assertEqual((step.get([["x"]]), step.try_fire(), step.fired), ([None], 0, 0))
-                with self.assertRaisesRegex(Past, "begin another step") as caught:
-                    step.fire()
-                self.assertIsInstance(caught.exception, Retry)
+                self.assertEqual((step.get([["x"]]), step.try_commit(), step.fired), ([None], 0, 0))
+                with self.assertRaisesRegex(PastError, "begin another step") as caught:
+                    step.commit()
+                self.assertIsInstance(caught.exception, ConflictError)
             with slow.step() as step:
                 self.assertEqual((step.number, step.get(AT)), (25, 25))
         self.assertEqual(audit(self.path)[1:], (25, 6))
@@ -74,10 +74,10 @@ class Parts(Rooms):
                 for _ in range(7):
                     quick.play(raised)
                 self.assertEqual(slow.follow(), 7)
-                for call in (step.fire, lambda: step.get(AT), lambda: step.push([]), lambda: step.scan("count")):
-                    with self.assertRaisesRegex(Past, "begin another step"):
+                for call in (step.commit, lambda: step.get(AT), lambda: step.push([]), lambda: step.scan("count")):
+                    with self.assertRaisesRegex(PastError, "begin another step"):
                         call()
-                self.assertEqual(step.try_fire(), 0)
+                self.assertEqual(step.try_commit(), 0)
             with slow.step() as step:
                 slow.give()
                 with self.assertRaisesRegex(Error, "the agent was given back"):
@@ -102,26 +102,26 @@ class Parts(Rooms):
                 seen, (count,) = agent.read([COUNT])
                 self.assertEqual((seen, count), (number - 1, number - 1))
                 self.assertIsNone(agent.stands([[COUNT, seen]]))
-                self.assertEqual(agent.fire([["put", COUNT, count + 1]], [[COUNT, seen]]), number)
-            for call in (lambda: agent.fire([], [[COUNT, old[0]]]), lambda: agent.stands([[COUNT, 3]])):
-                with self.assertRaisesRegex(Past, "read again"):
+                self.assertEqual(agent.fire([["put", COUNT, count + 1]], [(COUNT, seen)]), number)
+            for call in (lambda: agent.fire([], [(COUNT, old[0])]), lambda: agent.stands([(COUNT, 3)])):
+                with self.assertRaisesRegex(PastError, "read again"):
                     call()
             with self.assertRaisesRegex(Error, r'\["count"\] is named at 8, and the agent has seen 7'):
                 agent.follow()
-                agent.fire([], [[COUNT, 8]])
+                agent.fire([], [(COUNT, 8)])
             self.assertEqual(agent.follow(), 7)
-            with self.assertRaises(Stale):
-                agent.fire([["put", COUNT, 0]], [[COUNT, 5]])
+            with self.assertRaises(StaleError):
+                agent.fire([["put", COUNT, 0]], [(COUNT, 5)])
             self.assertEqual(agent.stands([[COUNT, 4]]), COUNT)
-            with self.assertRaises(Clash):
+            with self.assertRaises(ClashError):
                 agent.fire([["put", COUNT, 0], ["put", COUNT, 1]])
             with self.assertRaisesRegex(Error, "read"):
                 agent.fire([], [[COUNT]])
             self.assertEqual((agent.peek([COUNT]), agent.peek(AT)), ((7, [7]), (7, 7)))
-            self.assertEqual((agent.state(), agent.scan("count")), ((7, [[COUNT, 7]]), (7, [[COUNT, 7]])))
-            with self.assertRaises(Stale):
+            self.assertEqual((agent.state(), agent.scan("count")), ((7, [(COUNT, 7)]), (7, [(COUNT, 7)])))
+            with self.assertRaises(StaleError):
                 agent.fire([["put", COUNT, 0]], scans=[("count", 5)])
-            with self.assertRaisesRegex(Past, 'scan 1 names "count" at 0'):
+            with self.assertRaisesRegex(PastError, 'scan 1 names "count" at 0'):
                 agent.fire([], scans=[("count", 0)])
             with self.assertRaisesRegex(Error, 'scan 1: "count" is named at 8, and the agent has seen 7'):
                 agent.fire([], scans=[("count", 8)])
@@ -130,7 +130,7 @@ class Parts(Rooms):
             other.fire([["put", ["else"], 1]])
             self.assertEqual((seen, agent.follow()), (7, 8))
             self.assertEqual(agent.read([COUNT]), (8, [7]))
-            self.assertEqual(agent.fire([["put", COUNT, 9]], [[COUNT, 8]]), 9)
+            self.assertEqual(agent.fire([["put", COUNT, 9]], [(COUNT, 8)]), 9)
             # A fire that names nothing goes on by itself.
             self.assertEqual([agent.fire([["inc", COUNT, 1]]) for _ in range(10)], list(range(10, 20)))
         self.assertEqual(audit(self.path).moves, 19)
@@ -190,10 +190,10 @@ class Parts(Rooms):
         with Run(self.path, INIT, 3) as run, run.agent(0) as agent:
             for number in range(1, 11):
                 with agent.step() as step:
-                    step.push(move.clear().inc(AT, 1))
-                    step.extend(move.clear().inc(AT, 1))
-                    self.assertEqual((step.fire(), step.fired), (number, number))
-        self.assertEqual(self.last_state(), [[COUNT, 20]])
+                    step.push(move.clear().inc(COUNT, 1))
+                    step.extend(move.clear().inc(COUNT, 1))
+                    self.assertEqual((step.commit(), step.fired), (number, number))
+        self.assertEqual(self.last_state(), [(COUNT, 20)])
 
     def test_offers_have_numbers_of_the_run_and_popped_moves_go_on(self):
         with Run(self.path, INIT, 3) as run, run.agent(0) as agent:
@@ -204,9 +204,9 @@ class Parts(Rooms):
                         step.push([["inc", COUNT, 1]])
                         popped = step.pop_move()
                     step.push(popped)
-                    self.assertEqual(step.offer(), {"fire": [["inc", COUNT, 1]], "reads": [[COUNT, step.number]]})
-                    self.assertEqual((step.number, step.fire()), (number, number + 1))
-        self.assertEqual(self.last_state(), [[COUNT, 10]])
+                    self.assertEqual(step.offer(), {"fire": (("inc", COUNT, 1),), "reads": ((COUNT, step.number),)})
+                    self.assertEqual((step.number, step.commit()), (number, number + 1))
+        self.assertEqual(self.last_state(), [(COUNT, 10)])
 
     def test_the_writer_limits_how_many_parts_are_in_memory(self):
         chain = None
@@ -261,7 +261,7 @@ class Parts(Rooms):
                         for _ in range(100):
                             try:
                                 told.append(step.get(AT))
-                            except Past:
+                            except PastError:
                                 return
 
                 def raises(agent):
@@ -300,15 +300,15 @@ class Random(Rooms):
 
     def fires(self, agent, rng, told):
         number, (count,) = agent.read([COUNT])
-        with contextlib.suppress(Retry):
-            told.append(agent.fire([["put", COUNT, count + 1]], [[COUNT, number]]))
+        with contextlib.suppress(ConflictError):
+            told.append(agent.fire([["put", COUNT, count + 1]], [(COUNT, number)]))
 
     def holds(self, agent, rng, told):
         with agent.step() as step:
             step.push([["put", COUNT, step.get(AT) + 1]])
             time.sleep(rng.choice([0, 0.001, 0.005]))
             self.assertEqual(step.get(AT), step.number + 1)
-            if number := step.try_fire():
+            if number := step.try_commit():
                 told.append(number)
 
     def looks(self, agent, rng, told):
@@ -330,7 +330,7 @@ class Random(Rooms):
                 self.assertEqual(in_threads(work, 5), ([], True))
             numbers = sorted(itertools.chain(*told))
             self.assertEqual(numbers, list(range(1, len(numbers) + 1)))
-            self.assertEqual((audit(self.path).moves, self.last_state()), (len(numbers), [[COUNT, len(numbers)]]))
+            self.assertEqual((audit(self.path).moves, self.last_state()), (len(numbers), [(COUNT, len(numbers))]))
             self.assertTrue(all(it == sorted(it) for it in told))
 
 
@@ -343,7 +343,7 @@ class Receipts(Rooms):
                 step.get([COUNT])
                 other.fire([["put", COUNT, 0]])
                 step.push([["inc", COUNT, 1]])
-                self.assertEqual(step.try_fire(), 0)
+                self.assertEqual(step.try_commit(), 0)
 
     def test_a_part_that_keeps_too_much_ends_at_rest(self):
         with Run(self.path, INIT, 10_000, receipts=100) as run, run.agent(0) as agent, run.agent(1) as other:
@@ -359,7 +359,7 @@ class Receipts(Rooms):
         # A read that looked on to a part that was to end is read again.
         self.assertEqual((calls >= 630, moves), (True, 30))
         self.assertLessEqual(max(check(journal)[0] for journal in self.journals()), 200)
-        self.assertEqual(self.last_state(), [[COUNT, 30]])
+        self.assertEqual(self.last_state(), [(COUNT, 30)])
 
     def test_stale_fires_in_threads_end_parts(self):
         def work(own):
@@ -370,7 +370,7 @@ class Receipts(Rooms):
         with Run(self.path, INIT, 10_000, receipts=150) as run:
             self.assertEqual(in_threads(work, 4), ([], True))
         calls, moves, parts = audit(self.path)
-        self.assertEqual((moves, self.last_state()), (800, [[COUNT, 800]]))
+        self.assertEqual((moves, self.last_state()), (800, [(COUNT, 800)]))
         self.assertGreaterEqual(parts, 4)
 
     def test_a_step_that_lasts_is_given_back(self):
@@ -383,9 +383,9 @@ class Receipts(Rooms):
             with run.agent(9) as slow, slow.step() as step:
                 self.assertEqual((step.get(AT), in_threads(work, 2)), (0, ([], True)))
                 self.assertGreaterEqual(run.parts, 3)
-                with self.assertRaisesRegex(Past, "begin another step"):
+                with self.assertRaisesRegex(PastError, "begin another step"):
                     step.get(AT)
-                self.assertEqual(step.try_fire(), 0)
+                self.assertEqual(step.try_commit(), 0)
             self.assertEqual(slow.won, 0)
         self.assertEqual(audit(self.path).moves, 600)
 
@@ -397,7 +397,7 @@ class Receipts(Rooms):
                     quick.play(raised)
                     self.assertLess(number - run.saved, 40)
                 self.assertLess(time.monotonic() - begun, 5)
-                with self.assertRaises(Past):
+                with self.assertRaises(PastError):
                     step.get(AT)
 
             def lasts(step):
@@ -410,14 +410,14 @@ class Receipts(Rooms):
             tries = []
             self.assertEqual(slow.play(lasts), (280, None))
             self.assertEqual(tries, [199, 239, 279])
-        self.assertEqual(self.last_state(), [[COUNT, 280]])
+        self.assertEqual(self.last_state(), [(COUNT, 280)])
 
     def test_an_agent_that_was_abandoned_is_told_at_rest_too(self):
-        with contextlib.suppress(Broken), Run(self.path, INIT, 10_000, receipts=64) as run, run.agent(0) as agent:
+        with contextlib.suppress(BrokenError), Run(self.path, INIT, 10_000, receipts=64) as run, run.agent(0) as agent:
             with run.agent(1) as lost:
                 lost.play(raised)
                 lost.abandon()
-            with self.assertRaises(Broken) as caught:
+            with self.assertRaises(BrokenError) as caught:
                 for _ in range(1_000):
                     agent.read([COUNT])
             self.assertRegex(str(caught.exception), "part 1 couldn't be written: .*: agent 1 was abandoned .move 1.")

@@ -5,9 +5,13 @@ import pickle
 import random
 import unittest
 from collections import Counter
+from collections.abc import Hashable
+from decimal import Decimal
+from enum import Enum
 
 import folugben
-from folugben import Clash, Deep, Error, Full, Location, Many, Move, Moved, Over, Stale, Storage, check
+import own
+from folugben import ClashError, DeepError, Error, FullError, Location, ManyError, Move, MovedError, OverError, StaleError, Storage, check
 from threads import in_threads
 
 VALUES = [
@@ -45,10 +49,10 @@ class Plain(unittest.TestCase):
         with self.agent.step() as step:
             for k, value in enumerate(VALUES):
                 with Location(["v", k]) as at:
-                    self.assertEqual((at.place, repr(at)), (["v", k], f"Location(['v', {k}])"))
+                    self.assertEqual((at.place, repr(at)), (("v", k), f"Location(('v', {k}))"))
                     (wanted,) = step.get([["v", k]])
                     for told in (step.get(at), self.agent.peek(at)[1], wanted):
-                        self.assertEqual(repr(told), repr(value))
+                        self.assertEqual(repr(told), repr(own.value(value)))
                     self.assertEqual(self.agent.peek(at)[0], 1)
             self.assertIsNone(step.get(Location(["none", {"list": ["ä"]}])))
 
@@ -76,7 +80,7 @@ class Plain(unittest.TestCase):
                 for call, pushed in zip(calls, (move, instructions)):
                     try:
                         told.append(call(pushed))
-                    except Clash as error:
+                    except ClashError as error:
                         told.append((error.at, error.cause))
                 self.assertEqual(*told)
                 clashes += told[0] is not None
@@ -84,7 +88,7 @@ class Plain(unittest.TestCase):
                 for name in "sbnp":
                     self.assertEqual(repr(step.scan(name)), repr(wanted.scan(name)))
                 move.clear()
-            step.fire()
+            step.commit()
             agent.give()
             other.give()
             self.assertEqual(check(storage.close_journal()), (1, 1))
@@ -101,22 +105,88 @@ class Plain(unittest.TestCase):
             step.push(move)
             self.assertEqual((len(move), step.depth, step.get(count)), (2, 3, 11))
             step.pop()
-            self.assertEqual((step.get(count), step.fire()), (6, 1))
+            self.assertEqual((step.get(count), step.commit()), (6, 1))
             with self.rival.step() as later:
                 later.push(move)
-                self.assertEqual((later.get(count), later.try_fire()), (11, 2))
+                self.assertEqual((later.get(count), later.try_commit()), (11, 2))
 
     def test_sets_and_counters_of_python_are_put(self):
         at, move = Location(["v", 0]), Move()
         for value, told in [
-            ({2, 1}, {"set": [1, 2]}), (frozenset({"a", None}), {"set": [None, "a"]}), (set(), {"set": []}),
-            (Counter("abba"), {"bag": [["a", 2], ["b", 2]]}), (Counter(), {"bag": []}), ({"list": (1, {"list": []})},
-             {"list": [1, {"list": []}]}),
+            ({2, 1}, {1, 2}), (frozenset({"a", None}), {"a", None}), (set(), set()), ({True}, {True}), ({(1, ("a",))}, {(1, ("a",))}),
+            (Counter("abba"), Counter("abba")), (Counter(), Counter()), ({"list": (1, {"list": []})}, (1, ())), ((), ()),
+            ({"set": [1, True]}, {"set": [True, 1]}), ({"bag": [[1, 2], [True, 1]]}, {"bag": [(True, 1), (1, 2)]}),
         ]:
             with self.agent.step() as step:
                 step.push(move.clear().put(at, value))
-                self.assertEqual(repr(step.get(at)), repr(told))
+                self.assertEqual((step.get(at), type(step.get(at)).__name__), (told, type(told).__name__.replace("set", "frozenset")))
+                self.assertIsInstance(step.get(at), Hashable if isinstance(value, (set, tuple)) else object)
+                step.push(Move().put(["v", 1], step.get(at)).put(("v", 2), value))
+                self.assertEqual(step["v", 1], step["v", 2])
                 step.pop()
+                step.pop()
+
+    def test_a_step_reads_and_writes_single_locations(self):
+        init = {"count": 1, ("s", 1): {1}, ("b", "x"): Counter("a"), "l": (1, (2,))}
+        with Storage(init, 9) as storage, storage.agent(0) as agent:
+            with agent.step() as step:
+                for key in init:
+                    self.assertEqual(step[key], init[key])
+                    self.assertEqual(step[Location(key)], init[key])
+                self.assertIsNone(step["none"])
+                step.inc("count", 2)
+                step.inc(["count"], step["count"])
+                step.add(("s", 1), (1, True))
+                step.remove(Location(("s", 1)), 1)
+                step.bag_add(("b", "x"), "c", 3)
+                step.bag_add(("b", "x"), None)
+                step.bag_remove(("b", "x"), "a")
+                step.put("l", None)
+                self.assertEqual((step.depth, step["count"], step["s", 1]), (1, 6, {(1, True)}))
+                self.assertEqual((step["b", "x"], step["l"]), (Counter(["c", "c", "c", None]), None))
+                with self.assertRaises(ClashError) as caught:
+                    step.add("count", 1)
+                self.assertEqual((caught.exception.at, caught.exception.cause), (("count",), "Kind"))
+                self.assertEqual(self.code_of(step.put, "1", 1)[0], folugben.Code.SHAPE)
+                self.assertEqual(self.code_of(step.inc, "count", "1")[0], folugben.Code.RANGE)
+                self.assertEqual(self.code_of(lambda: step[()])[0], folugben.Code.SHAPE)
+                self.assertEqual(self.code_of(step.bag_add, "b", 1, 0)[0], folugben.Code.RANGE)
+                self.assertRaises(TypeError, step.put, "x")
+                self.assertRaises(TypeError, step.put, "x", [1])
+                self.assertEqual((step.commit(), step.depth), (1, 0))
+                self.assertRaises(OverError, step.put, "x", 1)
+                self.assertRaises(OverError, lambda: step["x"])
+            told = dict(agent.state()[1]) if agent.follow() else {}
+            self.assertEqual(told, {("count",): 6, ("s", 1): {(1, True)}, ("b", "x"): Counter(["c", "c", "c", None])})
+            with agent.step() as step:
+                self.assertEqual(step["count"], 6)
+                step.put("count", 7)
+                agent.fire([("put", "count", 8)])
+                self.assertRaises(StaleError, step.commit)
+
+    def test_what_is_no_value_has_a_way_round(self):
+        class Number:
+            dtype = None
+
+            def item(self):
+                return 1
+
+            def __index__(self):
+                return 1
+
+        with self.agent.step() as step:
+            for value, way in [(Enum("Kind", "A").A, "pass its .value or its .name"), (Decimal(1), "pass int"), ([1], "a tuple"),
+                               (Number(), r"pass \.item\(\)"), (b"a", "decode"), (object(), "values are None")]:
+                for call in (lambda: step.put("x", value), lambda: step.push([("put", "x", (1, value))])):
+                    with self.subTest(way), self.assertRaisesRegex((TypeError, Error), way if value != [1] else "a tuple|a list is written"):
+                        call()
+            self.assertEqual(step.depth, 0)
+
+    def test_locations_that_are_one_in_python(self):
+        with Storage([[["f", True], 1], [["f", 1], 2]], 2) as storage:
+            journal = storage.close_journal()
+        with self.assertRaisesRegex(ValueError, r'\["f",true\] and \["f",1\] are two locations, and one key'):
+            list(folugben.states(journal))
 
     def test_a_popped_move_is_pushed_as_it_was(self):
         count, total = Location(["count"]), Location(["total"])
@@ -129,22 +199,22 @@ class Plain(unittest.TestCase):
             self.assertEqual((len(popped), repr(popped)), (1, "<Move, popped, and 0 instructions more>"))
             # More is gathered behind it, and it is pushed any number of times.
             step.push(popped)
-            self.assertEqual((step.depth, step.get(count), step.get(total)), (2, 6, {"set": [1, 2]}))
+            self.assertEqual((step.depth, step.get(count), step.get(total)), (2, 6, {1, 2}))
             step.extend(popped.inc(count, 10))
             self.assertEqual((len(popped), step.get(count)), (2, 21))
             again = step.pop_move()
             step.push(again)
-            self.assertEqual((step.get(count), step.fire()), (21, 1))
-            self.assertRaises(Over, step.pop_move)
+            self.assertEqual((step.get(count), step.commit()), (21, 1))
+            self.assertRaises(OverError, step.pop_move)
         with self.rival.step() as step:
             step.push(again)
-            self.assertEqual((step.get(count), step.fire()), (41, 2))
+            self.assertEqual((step.get(count), step.commit()), (41, 2))
         self.assertEqual((len(popped.clear()), repr(popped)), (0, "<Move of 0 instructions>"))
 
     def test_what_cannot_be_popped_stays(self):
         at = Location(["s"])
         with self.agent.step() as step:
-            self.assertEqual(self.code_of(step.pop_move)[0], folugben.NONE)
+            self.assertEqual(self.code_of(step.pop_move)[0], folugben.Code.NONE)
             step.push([])
             nothing = step.pop_move()
             step.push(nothing)
@@ -152,10 +222,10 @@ class Plain(unittest.TestCase):
             step.push(Move().put(at, {"set": []}))
             for half in (0, 1):
                 (step.extend if half else step.push)([["add", ["s"], k] for k in range(3000 * half, 3000 * half + 3000)])
-            self.assertRaises(Many, step.pop_move)
-            self.assertEqual((step.depth, len(step.get(at)["set"])), (3, 6000))
+            self.assertRaises(ManyError, step.pop_move)
+            self.assertEqual((step.depth, len(step.get(at))), (3, 6000))
             step.pop()
-            self.assertEqual((step.get(at), step.fire()), ({"set": []}, 1))
+            self.assertEqual((step.get(at), step.commit()), (set(), 1))
 
     def test_limits(self):
         at = Location(["count"])
@@ -163,61 +233,62 @@ class Plain(unittest.TestCase):
             move = Move()
             for _ in range(64):
                 step.push(move)
-            self.assertRaises(Deep, step.push, move)
-            self.assertRaises(Deep, step.push, move.put(at, 1))
+            self.assertRaises(DeepError, step.push, move)
+            self.assertRaises(DeepError, step.push, move.put(at, 1))
             step.extend(move)
             self.assertEqual((step.get(at), step.depth), (1, 64))
             for k in range(256):
                 step.get(Location(["w", k]))
-            self.assertRaises(Many, step.get, Location(["w"]))
+            self.assertRaises(ManyError, step.get, Location(["w"]))
             self.assertEqual(self.agent.peek(Location(["w"])), (0, None))
             move.clear()
             for _ in range(4096):
                 move.put(at, 1)
-            self.assertRaises(Many, move.put, at, 1)
+            self.assertRaises(ManyError, move.put, at, 1)
             self.assertEqual(len(move), 4096)
             step.extend(move)
 
     def test_operands_that_are_none(self):
         at, move = Location(["count"]), Move()
         move.put(at, 1)
-        for value in (1.5, [], {}, {"lists": []}, b"", object()):
+        for value in (Decimal(1), Enum("Kind", "A").A, [], {}, {"lists": []}, b"", object()):
             for call in (move.put, move.add, move.remove, move.inc):
                 self.assertRaises(TypeError, call, at, value)
             self.assertRaises(TypeError, move.bagadd, at, value, 1)
         for value in ({"set": []}, {"bag": []}, {1}, Counter("a")):
             for call in (move.add, move.remove, lambda *words: move.bagadd(*words, 1)):
                 told = self.code_of(call, at, value)
-                self.assertEqual(told, (folugben.RANGE, "a set or a bag can be put, and is no element"))
-            self.assertEqual(self.code_of(move.inc, at, value)[0], folugben.RANGE)
-        self.assertEqual(self.code_of(move.inc, at, {"list": []})[0], folugben.RANGE)
+                self.assertEqual(told, (folugben.Code.RANGE, "a set or a bag can be put, and is no element"))
+            self.assertEqual(self.code_of(move.inc, at, value)[0], folugben.Code.RANGE)
+        self.assertEqual(self.code_of(move.inc, at, {"list": []})[0], folugben.Code.RANGE)
         said = "instruction 1: a set can't hold a set"
-        self.assertEqual(self.code_of(move.put, at, {"set": [{"set": []}]}), (folugben.SHAPE, said))
+        self.assertEqual(self.code_of(move.put, at, {"set": [{"set": []}]}), (folugben.Code.SHAPE, said))
         for value in ({"list": [1.5]}, {"set": [1, 1]}, {"bag": [["a", 0]]}, {"bag": [["a", 2**32]]}, {"list": [], "x": 1},
                       {"list": [2**63]}, {"list": [{"set": []}]}, {"list": 1}):
-            self.assertEqual(self.code_of(move.put, at, value)[0], folugben.SHAPE)
+            self.assertEqual(self.code_of(move.put, at, value)[0], folugben.Code.SHAPE)
             if "list" in value:
-                self.assertEqual(self.code_of(move.bagadd, at, value, 2)[0], folugben.SHAPE)
-        self.assertEqual(self.code_of(move.put, at, "\ud83d")[0], folugben.SHAPE)
+                self.assertEqual(self.code_of(move.bagadd, at, value, 2)[0], folugben.Code.SHAPE)
+        self.assertEqual(self.code_of(move.put, at, "\ud83d")[0], folugben.Code.SHAPE)
         for number in (2**63, -(2**63) - 1, 10**30):
             for call in (move.put, move.add, move.inc):
-                self.assertEqual(self.code_of(call, at, number)[0], folugben.RANGE)
+                self.assertEqual(self.code_of(call, at, number)[0], folugben.Code.RANGE)
         for amount in (0, -1, 2**32, 2**40):
             for call in (move.bagadd, move.bagremove):
-                self.assertEqual(self.code_of(call, at, 1, amount)[0], folugben.RANGE)
+                self.assertEqual(self.code_of(call, at, 1, amount)[0], folugben.Code.RANGE)
         self.assertRaises(TypeError, move.bagadd, at, 1, "1")
         for value in (True, None, "1"):
-            self.assertEqual(self.code_of(move.inc, at, value)[0], folugben.RANGE)
-        self.assertRaises(TypeError, move.put, ["count"], 1)
-        self.assertEqual(len(move), 1)
+            self.assertEqual(self.code_of(move.inc, at, value)[0], folugben.Code.RANGE)
+        self.assertEqual(len(move.put(["count"], 1).inc("count", 1)), 3)
+        for words in ((), (at,), (at, 1, 2)):
+            self.assertRaises(TypeError, move.put, *words)
 
     def test_a_text_that_is_no_location_says_why(self):
         code, said = self.code_of(Location, 7)
-        self.assertEqual(code, folugben.SHAPE)
+        self.assertEqual(code, folugben.Code.SHAPE)
         self.assertEqual(said, "location 1: a location is an array of a name and at most 8 arguments")
-        self.assertEqual(self.code_of(Location, ["1x"])[0], folugben.SHAPE)
-        self.assertEqual(self.code_of(Location, ["x", 2**63])[0], folugben.SHAPE)
-        self.assertEqual(self.code_of(Location, ["x", float("nan")])[0], folugben.SHAPE)
+        self.assertEqual(self.code_of(Location, ["1x"])[0], folugben.Code.SHAPE)
+        self.assertEqual(self.code_of(Location, ["x", 2**63])[0], folugben.Code.SHAPE)
+        self.assertEqual(self.code_of(Location, ["x", float("nan")])[0], folugben.Code.SHAPE)
 
     def test_what_is_over_or_freed_or_moved_on(self):
         at, move = Location(["count"]), Move()
@@ -226,47 +297,47 @@ class Plain(unittest.TestCase):
         self.rival.fire([])
         self.agent.follow()
         for call, argument in ((step.get, at), (step.push, move), (step.extend, move)):
-            self.assertRaises(Moved, call, argument)
-        self.assertEqual(step.fire(), 2)
+            self.assertRaises(MovedError, call, argument)
+        self.assertEqual(step.commit(), 2)
         for call, argument in ((step.get, at), (step.push, move), (step.extend, move)):
-            self.assertRaises(Over, call, argument)
-        self.assertRaises(Over, step.try_fire)
+            self.assertRaises(OverError, call, argument)
+        self.assertRaises(OverError, step.try_commit)
         step = self.agent.step()
         at.free()
         at.free()
         for call, *arguments in ((step.get, at), (self.agent.peek, at), (move.put, at, 1), (move.inc, at, 1)):
-            self.assertEqual(self.code_of(call, *arguments), (folugben.EMPTY, "the location was freed"))
+            self.assertEqual(self.code_of(call, *arguments), (folugben.Code.EMPTY, "the location was freed"))
         self.assertEqual(len(move), 1)
         step.push(move)
         self.assertEqual(step.get([["count"]]), [1])
         move.free()
         move.free()
         for call, *arguments in ((step.push, move), (step.extend, move), (move.clear,), (move.put, Location(["x"]), 1)):
-            self.assertEqual(self.code_of(call, *arguments), (folugben.EMPTY, "the move was freed"))
+            self.assertEqual(self.code_of(call, *arguments), (folugben.Code.EMPTY, "the move was freed"))
         self.assertEqual(step.depth, 1)
         self.agent.give()
-        for call, *arguments in ((step.get, Location(["x"])), (self.agent.peek, Location(["x"])), (step.try_fire,)):
-            self.assertEqual(self.code_of(call, *arguments), (folugben.EMPTY, "the agent was given back"))
+        for call, *arguments in ((step.get, Location(["x"])), (self.agent.peek, Location(["x"])), (step.try_commit,)):
+            self.assertEqual(self.code_of(call, *arguments), (folugben.Code.EMPTY, "the agent was given back"))
 
     def test_a_fire_that_may_be_in_vain(self):
         count, move = Location(["count"]), Move()
         with self.agent.step() as step:
             step.get(count)
             self.rival.fire([["put", ["count"], 5]])
-            self.assertEqual((step.try_fire(), self.agent.answer()), (0, {"stale": ["count"]}))
-            self.assertRaises(Stale, step.fire)
+            self.assertEqual((step.try_commit(), self.agent.answer()), (0, {"stale": ("count",)}))
+            self.assertRaises(StaleError, step.commit)
         move.inc(count, 1)
         while (fired := self.increased(move)) < 50:
             pass
         self.assertEqual(fired, 50)
         with self.agent.step() as step:
             self.assertEqual(step.get(count), 54)
-            self.assertRaises(Full, step.try_fire)
+            self.assertRaises(FullError, step.try_commit)
 
     def increased(self, move):
         with self.agent.step() as step:
             step.push(move)
-            return step.try_fire()
+            return step.try_commit()
 
     def test_no_copy_shares_a_slot(self):
         for held in (Location(["x"]), Move()):
@@ -286,7 +357,7 @@ class Plain(unittest.TestCase):
                     with agent.step() as step:
                         step.push(move.clear().put(at, step.get(at) + 1))
                         agent.peek(at)
-                        fired += step.try_fire() != 0
+                        fired += step.try_commit() != 0
                         shared.inc(other, 1)
                         if len(shared) > 1000:
                             shared.clear()
@@ -294,7 +365,7 @@ class Plain(unittest.TestCase):
         self.assertEqual(in_threads(work, 8), ([], True))
         with storage.agent(9) as agent, agent.step() as step:
             step.push(shared)
-            self.assertEqual((step.get(at), step.get(other), step.fire()), (800, len(shared), 801))
+            self.assertEqual((step.get(at), step.get(other), step.commit()), (800, len(shared), 801))
         self.assertEqual(check(storage.close_journal())[1], 801)
 
 if __name__ == "__main__":

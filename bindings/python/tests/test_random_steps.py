@@ -4,8 +4,10 @@ import random
 import unittest
 from collections import Counter
 
+import own
 import random_moves
-from folugben import Busy, Clash, Moved, Stale, Storage, check, replay
+from folugben._texts import encoded
+from folugben import BusyError, ClashError, MovedError, StaleError, Storage, check, replay
 from threads import in_threads
 
 moves, values = random_moves.model("moves"), random_moves.model("values")
@@ -15,7 +17,7 @@ class Twin:
     """What the model tells of a step: the state below, and the moves over it, each with those that extend it."""
 
     def __init__(self, pairs):
-        self.below, self.frames = values.read_state(pairs), []
+        self.below, self.frames = values.read_state(json.loads(encoded(pairs, "state"))), []
 
     def after(self, *further):
         """The pairs that are seen through the moves and further ones."""
@@ -23,7 +25,7 @@ class Twin:
         for move in [*sum(self.frames, []), *further]:
             for at, value in moves.updates_on(state, list(map(moves.read_instruction, move))).items():
                 values.write_to(state, at, value)
-        return values.pairs_json(state)
+        return own.pairs(values.pairs_json(state))
 
     def push(self, move):
         self.frames.append([move])
@@ -55,10 +57,10 @@ class RandomSteps(unittest.TestCase):
         try:
             expected = twin.after(move)
         except moves.Clash as clash:
-            expected = values.location_json(clash.at), clash.cause
+            expected = own.place(values.location_json(clash.at)), clash.cause
         try:
             getattr(step, word)(move)
-        except Clash as clash:
+        except ClashError as clash:
             self.assertEqual(repr((clash.at, clash.cause)), repr(expected))
             self.assertEqual(repr(self.fired_in_turn(twin, move)), repr(expected))
             return False
@@ -72,7 +74,7 @@ class RandomSteps(unittest.TestCase):
             try:
                 for move in [*sum(twin.frames, []), *further]:
                     agent.fire(move)
-            except Clash as clash:
+            except ClashError as clash:
                 return clash.at, clash.cause
             agent.follow()
             return agent.state()[1]
@@ -82,7 +84,7 @@ class RandomSteps(unittest.TestCase):
         pairs = twin.after()
         found = {repr(at): value for at, value in pairs}
         places = rng.sample(random_moves.PLACES, rng.randrange(4))
-        self.assertEqual(repr(step.get(places)), repr([found.get(repr(at)) for at in places]))
+        self.assertEqual(repr(step.get(places)), repr([found.get(repr(own.place(at))) for at in places]))
         name = rng.choice(["free", "set", "number", "none"])
         self.assertEqual(repr(step.scan(name)), repr([pair for pair in pairs if pair[0][0] == name]))
 
@@ -101,7 +103,7 @@ class RandomSteps(unittest.TestCase):
                     self.done[word, True] += 1
                 self.assertEqual(step.depth, len(twin.frames))
                 self.assert_seen(rng, step, twin)
-            self.assertEqual(step.fire(), number)
+            self.assertEqual(step.commit(), number)
         state = repr(twin.after())
         self.assertEqual(agent.follow(), number)
         self.assertEqual(repr(agent.state()), f"({number}, {state})")
@@ -144,8 +146,8 @@ class Threads(unittest.TestCase):
                         if rng.random() < 0.2:
                             agent.stands([])
                         try:
-                            done += step.fire() > 0
-                        except (Stale, Busy) as error:
+                            done += step.commit() > 0
+                        except (StaleError, BusyError) as error:
                             refused.append(error)
                     looks.append(agent.state())
 
@@ -153,7 +155,7 @@ class Threads(unittest.TestCase):
             self.assertEqual(in_threads(work, 8), ([], True))
             journal = storage.close_journal()
         calls, fired = check(journal)
-        self.assertEqual((fired, calls), (160, 160 + sum(isinstance(error, Stale) for error in refused)))
+        self.assertEqual((fired, calls), (160, 160 + sum(isinstance(error, StaleError) for error in refused)))
         states = {number: up_to(journal, number) for number, _ in looks}
         for number, pairs in looks:
             expected = states[number]
@@ -171,9 +173,9 @@ class Threads(unittest.TestCase):
                     try:
                         (count,) = step.get([["count"]])
                         step.push([["put", ["count"], count + 1]])
-                        step.fire()
+                        step.commit()
                         fired[own] += 1
-                    except (Moved, Stale):
+                    except (MovedError, StaleError):
                         pass
 
         with Storage([[["count"], 0]], 400) as storage:

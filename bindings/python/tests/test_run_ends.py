@@ -10,7 +10,7 @@ import time
 import unittest
 from unittest import mock
 
-from folugben import Agent, Broken, Error, Forked, Missing, Nested, Run, Storage, audit
+from folugben import Agent, BrokenError, Error, ForkedError, MissingError, NestedError, Run, Storage, audit
 from rooms import AT, COUNT, INIT, Rooms, called, raised, until
 from threads import in_threads
 
@@ -27,7 +27,7 @@ class Ends(Rooms):
         run.close()
         run.close()
         for call in (
-            step.fire, step.try_fire, lambda: step.get(AT), lambda: step.push([]), agents[0].step, agents[1].follow,
+            step.commit, step.try_commit, lambda: step.get(AT), lambda: step.push([]), agents[0].step, agents[1].follow,
             lambda: agents[2].play(raised), lambda: run.agent(5), lambda: agents[0].peek(AT), lambda: agents[0].fire([]),
         ):
             with self.assertRaisesRegex(Error, "the run was closed"):
@@ -56,7 +56,7 @@ class Ends(Rooms):
         with Run(self.path, INIT, 20) as run:
             self.assertEqual(in_threads(work, 5), ([], True))
         self.assertGreaterEqual(audit(self.path).moves, max(last))
-        self.assertEqual(self.last_state(), [[COUNT, audit(self.path).moves]])
+        self.assertEqual(self.last_state(), [(COUNT, audit(self.path).moves)])
 
     def test_what_the_body_raises_closes_the_run(self):
         with self.assertRaises(KeyError), Run(self.path, INIT, 5) as run, run.agent(0) as agent:
@@ -83,16 +83,16 @@ class Ends(Rooms):
                         if own == 2 and run.parts > 3:
                             agent.play(raised)
                             return agent.abandon()
-                except Broken as broken:
+                except BrokenError as broken:
                     told.append(broken)
 
         told, start = [], threading.Barrier(4)
-        with self.assertRaises(Broken) as caught, Run(self.path, INIT, 20) as run:
+        with self.assertRaises(BrokenError) as caught, Run(self.path, INIT, 20) as run:
             self.assertEqual(in_threads(work, 4), ([], True))
         self.assertEqual(len(told), 3)
         parts = audit(self.path).parts
         for broken in (*told, caught.exception):
-            self.assertEqual((broken.part, type(broken.__cause__)), (parts, Missing))
+            self.assertEqual((broken.part, type(broken.__cause__)), (parts, MissingError))
             self.assertRegex(str(broken), f"part {parts} couldn't be written: .*agent 2 was abandoned")
         self.assertEqual(audit(self.path).moves, 20 * (parts - 1))
         # What was whole goes on.
@@ -103,16 +103,16 @@ class Ends(Rooms):
         def work(own):
             with run.agent(own) as agent:
                 start.wait()
-                with self.assertRaises(Broken) as caught:
+                with self.assertRaises(BrokenError) as caught:
                     while True:
                         agent.play(raised)
             told.append(caught.exception)
 
         told, start = [], threading.Barrier(3)
-        with self.assertRaises(Broken), Run(self.path, INIT, 20) as run, run.agent(9) as other, fault:
+        with self.assertRaises(BrokenError), Run(self.path, INIT, 20) as run, run.agent(9) as other, fault:
             self.assertEqual(in_threads(work, 3), ([], True))
             for call in (other.step, other.follow, lambda: run.agent(8), run.close, lambda: other.play(raised)):
-                with self.assertRaises(Broken):
+                with self.assertRaises(BrokenError):
                     call()
         counts = audit(self.path)
         self.assertEqual({(it.part, type(it.__cause__)) for it in told}, {(run.parts, kind)})
@@ -185,14 +185,14 @@ class Ends(Rooms):
         """A limit of the process stands for the disk."""
         code = """
 import resource, sys
-from folugben import Broken, Run
+from folugben import BrokenError, Run
 resource.setrlimit(resource.RLIMIT_FSIZE, (3_000, 3_000))
 try:
     with Run(sys.argv[1], [[["count"], 0]], 30) as run, run.agent(0) as agent:
         while True:
             text = "x" * (run.parts * 20)
             agent.play(lambda step: step.push([["put", ["count"], text]]))
-except Broken as broken:
+except BrokenError as broken:
     print(broken.part, broken.__cause__.errno, broken)
 """
         told = called(code, self.path)
@@ -229,12 +229,12 @@ class Processes(Rooms):
         said = []
         for call in (
             agent.step, lambda: agent.play(raised), other.step, lambda: other.play(raised), lambda: run.agent(3), run.close,
-            step.fire, lambda: step.get([COUNT]), agent.follow, lambda: agent.fire([]), agent.give, agent.abandon,
+            step.commit, lambda: step.get([COUNT]), agent.follow, lambda: agent.fire([]), agent.give, agent.abandon,
         ):
             try:
                 call()
                 said.append("done")
-            except Forked:
+            except ForkedError:
                 said.append("forked")
             except BaseException as error:
                 said.append(repr(error))
@@ -258,7 +258,7 @@ class Processes(Rooms):
                 os._exit(1)
         with open(told[0], "rb") as pipe:
             said = json.loads(pipe.readline())
-        self.assertEqual(said, ["forked"] * 12 + ["(1, None)"])
+        self.assertEqual(said, ["forked"] * 12 + ["folugben.Played(number=1, result=None)"])
         step.free()
         for _ in range(10):
             agent.play(raised)
@@ -337,7 +337,7 @@ class Signals(Rooms):
             self.assertFalse(thread.is_alive())
             before = agent.follow()
             self.assertEqual(agent.play(raised), (before + 1, None))
-        self.assertEqual(self.last_state(), [[COUNT, before + 1]])
+        self.assertEqual(self.last_state(), [(COUNT, before + 1)])
         self.assertEqual(audit(self.path).moves, before + 1)
 
     def test_no_call_comes_between_two_lines_of_another(self):
@@ -351,7 +351,7 @@ class Signals(Rooms):
                 try:
                     call()
                     told.append("done")
-                except Nested:
+                except NestedError:
                     told.append("nested")
             return real(*words)
 

@@ -11,7 +11,7 @@ import time
 import unittest
 from unittest import mock
 
-from folugben import BadJournal, Error, Past, Run, Storage, __main__, audit, import_run, interleave, states
+from folugben import BadJournalError, Error, PastError, Run, Storage, __main__, audit, import_run, interleave, states
 from rooms import AT, BANK, COUNT, INIT, Rooms, called, environment, raised, segments, text_of, transfer, until
 from threads import in_threads
 
@@ -25,12 +25,12 @@ class Races(Rooms):
             step = agent.step()
             self.assertFalse(agent._in._leave(False))
             step.push([["inc", COUNT, 1]])
-            self.assertEqual((step.fire(), step.number, step.fired), (2, 1, 2))
+            self.assertEqual((step.commit(), step.number, step.fired), (2, 1, 2))
             self.assertTrue(agent._in._leave(False))
             self.assertEqual(agent.play(raised), (3, None))
             with agent.step() as step:
                 self.assertTrue(agent._in._leave(True))
-                with self.assertRaises(Past):
+                with self.assertRaises(PastError):
                     step.get([COUNT])
             self.assertEqual(agent.play(raised), (4, None))
         self.assertEqual(audit(self.path).moves, 4)
@@ -76,12 +76,12 @@ class Saving(Rooms):
             agent.play(raised)
             begun = time.monotonic()
             run.flush()
-            self.assertEqual((run.saved, step.try_fire()), (1, 0))
+            self.assertEqual((run.saved, step.try_commit()), (1, 0))
             self.assertTrue(0.05 < time.monotonic() - begun < 5)
-            self.assertRaises(Past, step.fire)
+            self.assertRaises(PastError, step.commit)
             with slow.step() as step:
                 step.push([["inc", COUNT, 1]])
-                self.assertEqual(step.fire(), 2)
+                self.assertEqual(step.commit(), 2)
 
     def test_flushes_while_threads_are_at_work(self):
         def work(own):
@@ -172,13 +172,13 @@ with Run(sys.argv[1], [[["count"], 0]]) as run, ThreadPoolExecutor() as pool:
             with run.agent(0) as agent, run.agent(1) as other:
                 for number in range(1, 10):
                     agent.play(raised)
-                    self.assertEqual(run.state(), (number, [[COUNT, number]]))
+                    self.assertEqual(run.state(), (number, [(COUNT, number)]))
                     other.follow()
-            self.assertEqual(run.state(), (9, [[COUNT, 9]]))
+            self.assertEqual(run.state(), (9, [(COUNT, 9)]))
             agents = [run.agent(own) for own in range(5)]
             for agent in agents:
                 agent.play(raised)
-            self.assertEqual(run.state(), (14, [[COUNT, 14]]))
+            self.assertEqual(run.state(), (14, [(COUNT, 14)]))
         self.assertEqual(audit(self.path)[1], 14)
         with self.assertRaisesRegex(Error, "the run was closed"):
             run.state()
@@ -275,7 +275,7 @@ class Imports(Rooms):
         for text in (b"", b"{", self.whole[:30], self.whole[:middle] + self.whole[middle + 1 :],
                      self.whole.replace(b'{"fired":3}', b'{"fired":7}', 1), self.whole[:-4] + b"7}}\n"):
             self.file.write_bytes(text)
-            with self.assertRaises(BadJournal):
+            with self.assertRaises(BadJournalError):
                 import_run(self.file, self.path)
             self.assertEqual(sorted(it.name for it in self.room.iterdir()), ["file", "made"])
 

@@ -9,7 +9,7 @@ import warnings
 from collections.abc import Iterator
 
 import folugben
-from folugben import Agent, Error, Forked, Location, Missing, Move, Retry, Stale, Storage, check
+from folugben import Agent, Error, ForkedError, Location, MissingError, Move, ConflictError, StaleError, Storage, check
 from folugben._held import one_call
 
 COUNT = ["count"]
@@ -48,7 +48,7 @@ class Scopes(unittest.TestCase):
         with self.assertRaises(ZeroDivisionError):
             agent.play(lambda step: (step.push([["put", COUNT, 1]]), 1 // 0))
         self.assertEqual(self.storage.moves(), 0)
-        self.assertTrue(issubclass(Stale, Retry) and issubclass(folugben.Busy, Retry))
+        self.assertTrue(issubclass(StaleError, ConflictError) and issubclass(folugben.BusyError, ConflictError))
 
     def test_a_step_that_was_forgotten_is_told(self):
         agent = self.storage.agent(0)
@@ -62,12 +62,12 @@ class Scopes(unittest.TestCase):
                 step.pop()
             with agent.step() as step:
                 step.push([["inc", COUNT, 1]])
-                step.fire()
+                step.commit()
             with agent.step() as step:
                 step.get([COUNT])
                 put(agent, 3)
                 step.push([["inc", COUNT, 1]]) if step.number == 2 else None
-                self.assertEqual(step.try_fire(), 0)
+                self.assertEqual(step.try_commit(), 0)
             with self.assertRaises(KeyError), agent.step() as step:
                 step.push([])
                 raise KeyError
@@ -84,7 +84,7 @@ class Scopes(unittest.TestCase):
         self.assertEqual(check(self.path.read_bytes()), (2, 2))
 
     def test_a_journal_that_lacks_a_move_is_told_beside_another_error(self):
-        with self.assertRaises(Missing), Storage([], 10, journal=self.path) as storage:
+        with self.assertRaises(MissingError), Storage([], 10, journal=self.path) as storage:
             put(storage.agent(3), 1)
             kept = list(gc.get_referrers())  # nothing holds the agent: it comes back by itself
             storage.agent(4).abandon()
@@ -103,15 +103,15 @@ class Scopes(unittest.TestCase):
         put(agents[0], 1)
         put(agents[1], 2)
         self.storage.agent(9)  # it fired nothing that could be missing
-        with self.assertRaises(Missing) as caught:
+        with self.assertRaises(MissingError) as caught:
             self.storage.close_journal()
         self.assertIn("agents 3, 7 were not given back", str(caught.exception))
         agents.pop().give()
-        with self.assertRaises(Missing) as caught:
+        with self.assertRaises(MissingError) as caught:
             self.storage.close_journal()
         self.assertTrue(str(caught.exception).endswith("given back: agent 3 was not given back: it fired move 1"))
         self.storage.agent(10).abandon()  # which may have fired it
-        with self.assertRaises(Missing) as caught:
+        with self.assertRaises(MissingError) as caught:
             self.storage.close_journal()
         self.assertTrue(str(caught.exception).endswith(": agent 3 was not given back (move 1)"))
         self.assertEqual(caught.exception.numbers, (1,))
@@ -143,14 +143,14 @@ class Scopes(unittest.TestCase):
         if child == 0:
             told = []
             calls = [
-                lambda: put(agent, 1), agent.step, lambda: agent.peek(place), lambda: step.get([COUNT]), step.fire,
+                lambda: put(agent, 1), agent.step, lambda: agent.peek(place), lambda: step.get([COUNT]), step.commit,
                 self.storage.moves, lambda: self.storage.agent(1), lambda: move.put(place, 1), self.storage.close_journal,
             ]
             for call in calls:
                 try:
                     call()
                     told.append("done")
-                except Forked:
+                except ForkedError:
                     told.append("forked")
                 except BaseException as error:
                     told.append(repr(error))
@@ -177,7 +177,7 @@ class Scopes(unittest.TestCase):
                 self.storage.take(number)
         with self.assertRaises(Error) as caught:
             self.storage.next()  # which needs another journal
-        self.assertEqual(caught.exception.code, folugben.NONE)
+        self.assertEqual(caught.exception.code, folugben.Code.NONE)
         again.give()
         with self.storage.take(3) as third:
             put(third, 3)
@@ -190,7 +190,7 @@ class Scopes(unittest.TestCase):
                 put(first, value)
             with self.assertRaisesRegex(Error, "stands at 0 moves") as caught:
                 second.go_on(5)
-            self.assertEqual(caught.exception.code, folugben.NONE)
+            self.assertEqual(caught.exception.code, folugben.Code.NONE)
             second.follow()
             with second.go_on(5) as further, further.agent(0) as agent:
                 self.assertEqual(agent.read([COUNT]), (0, [3]))
@@ -239,14 +239,12 @@ class Scopes(unittest.TestCase):
             with self.subTest(regex), self.assertRaisesRegex(Error, regex):
                 call()
         for regex, call in [
-            ("is at a Location", lambda: move.put(["n"], 1)),
-            ("is at a Location", lambda: move.put(agent.step(), 8)),
-            (r'\{"bag": \[\.\.\]\}, and not \[1\]', lambda: move.put(place, [1])),
+            ("place is <Step", lambda: move.put(agent.step(), 8)),
+            (r"value is \[1\], which is no value: pass a list as a tuple", lambda: move.put(place, [1])),
             ("learns from an agent", lambda: agent.learn(self.storage)),
             ("takes back an agent", lambda: self.storage.give(None)),
             ("made before", lambda: self.storage.__init__([], 5)),
             ("no value: values are", lambda: put(agent, object())),
-            ("True and 1 are one in a Python set", lambda: put(agent, {True})),
             ("a journal is bytes or a str", lambda: check(7)),
         ]:
             with self.subTest(regex), self.assertRaisesRegex(TypeError, regex):
@@ -266,7 +264,7 @@ class Scopes(unittest.TestCase):
         put(agent, frozenset())
         put(agent, {3, -1})
         agent.follow()
-        self.assertEqual(agent.peek([COUNT])[1], [{"set": [-1, 3]}])
+        self.assertEqual(agent.peek([COUNT])[1], [{-1, 3}])
         self.assertTrue(Move())
 
     def test_what_is_shown_says_what_it_is(self):
@@ -274,7 +272,7 @@ class Scopes(unittest.TestCase):
         with agent.step() as step:
             step.push([["put", COUNT, 1]])
             self.assertEqual(repr(step), "<Step at 0 of agent 4, 1 pushed>")
-            step.fire()
+            step.commit()
             self.assertEqual(repr(step), "<Step, over>")
         agent.follow()
         self.assertEqual((repr(agent), agent.number), ("<Agent 4, 1 moves seen>", 4))

@@ -8,7 +8,7 @@ import unittest
 
 import servers
 import shared_plays
-from folugben import Broken, Damaged, Error, SharedRun, _log, audit
+from folugben import BrokenError, DamagedError, Error, SharedRun, _log, audit
 from rooms import COUNT, INIT, raised
 from threads import in_threads
 
@@ -26,7 +26,7 @@ class OnSqlite(shared_plays.Plays):
         with self.assertRaisesRegex(IsADirectoryError, "a folder may be a Run: .*" + self.room.name):
             SharedRun(self.room, init=[])
         (self.room / "text").write_text("text")
-        with self.assertRaisesRegex(Damaged, "file is not a database: .*text"):
+        with self.assertRaisesRegex(DamagedError, "file is not a database: .*text"):
             SharedRun(self.room / "text")
 
     def test_a_step_of_an_agent_that_was_given_back(self):
@@ -36,7 +36,7 @@ class OnSqlite(shared_plays.Plays):
                 step.push([["put", COUNT, 1]])
                 agent.give()
                 with self.assertRaisesRegex(Error, "the agent was given back"):
-                    step.fire()
+                    step.commit()
             self.assertEqual(run.state()[0], 0)
 
     def test_files_that_are_no_run(self):
@@ -48,7 +48,7 @@ class OnSqlite(shared_plays.Plays):
         text.write_bytes(b"no database at all" * 100)
         for path in other, text:
             for init in None, INIT:
-                self.assertRaises(Damaged, SharedRun, path, init)
+                self.assertRaises(DamagedError, SharedRun, path, init)
         self.assertEqual((other.read_bytes(), text.stat().st_size), (before, 1800))
         for path in self.room / "absent" / "x.db", self.room:
             self.assertRaises(OSError, SharedRun, path, INIT)
@@ -62,7 +62,7 @@ class OnSqlite(shared_plays.Plays):
         self.assertEqual(os.stat(self.target).st_mode & 0o777, 0o600)
 
     def test_a_full_disk(self):
-        with self.assertRaises(Broken) as caught, SharedRun(self.target, INIT) as run, run.agent(0) as agent:
+        with self.assertRaises(BrokenError) as caught, SharedRun(self.target, INIT) as run, run.agent(0) as agent:
             agent.play(raised)
             run._worker._log.database.run("pragma max_page_count = 20")
             while True:
@@ -76,7 +76,7 @@ class OnSqlite(shared_plays.Plays):
         for alter in (lambda: os.unlink(self.target), lambda: os.replace(self.target + "2", self.target)):
             SharedRun(self.target, INIT).close()
             SharedRun(self.target + "2", INIT).close()
-            with self.assertRaises(Broken) as caught, SharedRun(self.target) as run, run.agent(0) as agent:
+            with self.assertRaises(BrokenError) as caught, SharedRun(self.target) as run, run.agent(0) as agent:
                 agent.play(raised)
                 alter()
                 agent.play(raised)

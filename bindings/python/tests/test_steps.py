@@ -4,9 +4,10 @@ import json
 import pathlib
 import pickle
 import unittest
+from collections import Counter
 
 import folugben
-from folugben import Clash, Deep, Error, Full, Location, Many, Moved, Over, Stale, Storage, _refusals, check
+from folugben import ClashError, DeepError, Error, FullError, Location, ManyError, MovedError, OverError, StaleError, Storage, _refusals, check
 
 COUNT = [["count"]]
 
@@ -30,11 +31,11 @@ class Steps(unittest.TestCase):
     def assert_over(self, step):
         for call, *arguments in [
             (step.get, COUNT), (step.see, COUNT), (step.scan, "f"), (step.push, []), (step.extend, []), (step.pop,),
-            (step.pop_move,), (step.offer,), (step.fire,),
+            (step.pop_move,), (step.offer,), (step.commit,),
         ]:
-            with self.assertRaises(Over) as caught:
+            with self.assertRaises(OverError) as caught:
                 call(*arguments)
-            self.assertEqual(caught.exception.code, folugben.EMPTY)
+            self.assertEqual(caught.exception.code, folugben.Code.EMPTY)
             self.assertEqual(str(caught.exception), "the step is over: it was fired, or freed as at the end of its `with`")
         self.assertEqual(step.depth, 0)
         step.free()
@@ -47,12 +48,12 @@ class Steps(unittest.TestCase):
             step.push(put(7))
             step.push([["inc", ["count"], 1], ["put", ["f", 3], True]])
             self.assertEqual((step.get(COUNT), step.depth), ([8], 2))
-            self.assertEqual(repr(step.scan("f")), repr([[["f", 1], 1], [["f", 2], 2], [["f", 3], True]]))
+            self.assertEqual(repr(step.scan("f")), repr([(("f", 1), 1), (("f", 2), 2), (("f", 3), True)]))
             step.extend([["inc", ["count"], 1], ["put", ["f", 1], None]])
             self.assertEqual((step.get(COUNT), step.depth), ([9], 2))
-            self.assertEqual(step.scan("f"), [[["f", 2], 2], [["f", 3], True]])
+            self.assertEqual(step.scan("f"), [(("f", 2), 2), (("f", 3), True)])
             self.assertEqual(self.agent.peek(COUNT), (1, [0]))
-            self.assertEqual(step.fire(), 2)
+            self.assertEqual(step.commit(), 2)
             self.assertEqual(self.agent.answer(), {"fired": 2})
             self.assertEqual(step.number, 1)
             self.assert_over(step)
@@ -74,7 +75,7 @@ class Steps(unittest.TestCase):
             for at in (["count"], ["bag"], ["f", 1], ["f", 2], ["none"]):
                 step.get([at])
             step.push(put(1))
-            step.fire()
+            step.commit()
         self.agent.give()
         self.rival.give()
         journal = self.storage.close_journal()
@@ -90,18 +91,18 @@ class Steps(unittest.TestCase):
         self.rival.fire(put(5))
         # The own state stands still until the fire.
         self.assertEqual(step.get(COUNT), [1])
-        with self.assertRaises(Stale) as caught:
-            step.fire()
-        self.assertEqual(caught.exception.at, ["count"])
-        self.assertEqual(self.agent.answer(), {"stale": ["count"]})
+        with self.assertRaises(StaleError) as caught:
+            step.commit()
+        self.assertEqual(caught.exception.at, ("count",))
+        self.assertEqual(self.agent.answer(), {"stale": ("count",)})
         for call, *arguments in [(step.get, COUNT), (step.scan, "f"), (step.push, []), (step.extend, [])]:
-            self.assertRaises(Moved, call, *arguments)
-        self.assertRaises(Stale, step.fire)
+            self.assertRaises(MovedError, call, *arguments)
+        self.assertRaises(StaleError, step.commit)
         self.assertEqual(step.depth, 1)
         with self.agent.step() as again:
             self.assertEqual((again.number, again.get(COUNT)), (1, [5]))
             again.push(put(6))
-            self.assertEqual(again.fire(), 2)
+            self.assertEqual(again.commit(), 2)
         step.free()
         self.assert_over(step)
 
@@ -109,24 +110,24 @@ class Steps(unittest.TestCase):
         with self.agent.step() as step:
             self.assertEqual((step.see(COUNT), step.see(Location(["f", 1])), step.see([])), ([0], 1, []))
             step.push(put(1, "g"))
-            self.assertEqual(step.see([["g"], ["none"], ["bag"]]), [1, None, {"bag": [["e", 1]]}])
+            self.assertEqual(step.see([["g"], ["none"], ["bag"]]), [1, None, Counter("e")])
             self.assertEqual(step.see([["x", k] for k in range(300)]), [None] * 300)
             self.rival.fire(put(5) + put(7, "f", 1))
-            self.assertEqual((step.see(COUNT), step.offer()["reads"]), ([0], []))
-            self.assertEqual(step.fire(), 2)
+            self.assertEqual((step.see(COUNT), step.offer()["reads"]), ([0], ()))
+            self.assertEqual(step.commit(), 2)
         with self.agent.step() as step:
             step.see(COUNT)
             step.get(COUNT)
             self.rival.fire(put(6))
-            self.assertRaises(Stale, step.fire)
-            self.assertRaises(Moved, step.see, COUNT)
+            self.assertRaises(StaleError, step.commit)
+            self.assertRaises(MovedError, step.see, COUNT)
             with self.assertRaises(Error) as caught:
                 step.see([["1"]])
-            self.assertEqual(caught.exception.code, folugben.SHAPE)
+            self.assertEqual(caught.exception.code, folugben.Code.SHAPE)
 
     def test_an_offer_tells_what_would_be_fired(self):
         with self.agent.step() as step:
-            self.assertEqual(step.offer(), {"fire": [], "reads": []})
+            self.assertEqual(step.offer(), {"fire": (), "reads": ()})
             step.get([["f", 2]])
             step.push([["inc", ["count"], 1], ["put", ["g"], "a"]])
             step.push([["inc", ["count"], 2]])
@@ -135,54 +136,54 @@ class Steps(unittest.TestCase):
             step.pop()
             step.pop()
             # That both were taken told that there is a number.
-            self.assertEqual(step.offer(), {"fire": [], "reads": [[["count"], 0], [["f", 2], 0]]})
-        self.assertEqual(sorted(map(repr, offer["fire"])), sorted(map(repr, put("a", "g") + [["inc", ["count"], 3]])))
-        self.assertEqual(offer["reads"], [[["count"], 0], [["f", 2], 0]])
+            self.assertEqual(step.offer(), {"fire": (), "reads": ((("count",), 0), (("f", 2), 0))})
+        self.assertEqual(sorted(map(repr, offer["fire"])), sorted(map(repr, [("put", ("g",), "a"), ("inc", ("count",), 3)])))
+        self.assertEqual(offer["reads"], ((("count",), 0), (("f", 2), 0)))
         self.assertEqual(self.agent.fire(offer["fire"], offer["reads"]), 1)
-        self.assertRaises(Stale, self.agent.fire, offer["fire"], offer["reads"])
+        self.assertRaises(StaleError, self.agent.fire, offer["fire"], offer["reads"])
 
     def test_a_fire_that_clashes_is_begun_anew(self):
         remove = [["bagremove", ["bag"], "e", 1]]
         with self.agent.step() as step:
             step.push(remove)
             self.rival.fire(remove)
-            with self.assertRaises(Clash) as caught:
-                step.fire()
-            self.assertEqual((caught.exception.at, caught.exception.cause), (["bag"], "Short"))
-            self.assertEqual((step.try_fire(), step.depth), (0, 1))
-            self.assertEqual(self.agent.answer(), {"clash": [["bag"], "Short"]})
-            self.assertRaises(Moved, step.get, COUNT)
+            with self.assertRaises(ClashError) as caught:
+                step.commit()
+            self.assertEqual((caught.exception.at, caught.exception.cause), (("bag",), "Short"))
+            self.assertEqual((step.try_commit(), step.depth), (0, 1))
+            self.assertEqual(self.agent.answer(), {"clash": (("bag",), "Short")})
+            self.assertRaises(MovedError, step.get, COUNT)
         with self.agent.step() as step:
-            self.assertRaises(Clash, step.push, remove)
+            self.assertRaises(ClashError, step.push, remove)
 
     def test_64_moves_are_pushed_and_any_number_extends(self):
         with self.agent.step() as step:
             for k in range(64):
                 step.push(put(k))
-            self.assertRaises(Deep, step.push, put(64))
+            self.assertRaises(DeepError, step.push, put(64))
             for k in range(1000):
                 step.extend([["inc", ["count"], 1]])
             self.assertEqual((step.depth, step.get(COUNT)), (64, [1063]))
-            self.assertEqual(step.fire(), 1)
+            self.assertEqual(step.commit(), 1)
         self.assertEqual(self.rival.read(COUNT), (1, [1063]))
 
     def test_limits(self):
         with self.agent.step() as step:
             step.get([["x", k] for k in range(256)])
             step.get([["x", 7]] * 300)
-            self.assertRaises(Many, step.get, [["y"]])
-            self.assertRaises(Many, step.scan, "f")
-            self.assertRaises(Many, step.scan, "none")
+            self.assertRaises(ManyError, step.get, [["y"]])
+            self.assertRaises(ManyError, step.scan, "f")
+            self.assertRaises(ManyError, step.scan, "none")
             step.push([["inc", ["count"], 1]])
             step.extend([["inc", ["count"], 1]])
-            self.assertRaises(Many, step.fire)
-            self.assertRaises(Many, step.pop)
+            self.assertRaises(ManyError, step.commit)
+            self.assertRaises(ManyError, step.pop)
         with self.agent.step() as step:
             step.push([["put", ["y", k], k] for k in range(4096)])
             for grow in (step.push, step.extend):
-                self.assertRaises(Many, grow, put(1, "z"))
+                self.assertRaises(ManyError, grow, put(1, "z"))
             step.extend(put(1, "y", 5))
-            self.assertEqual(step.fire(), 1)
+            self.assertEqual(step.commit(), 1)
 
     def test_refused_texts(self):
         shape = "JSON of another shape: "
@@ -191,7 +192,7 @@ class Steps(unittest.TestCase):
                 (shape + "location 2: a location can't hold a bag", step.get, [["x"], ["y", {"bag": []}]]),
                 (shape + "instruction 2: a set can't hold a set", step.push, put(1) + put({"set": [{"set": []}]})),
                 (shape + "4,097 instructions, at most 4,096", step.extend, put(1) * 4097),
-                (shape + "instructions[0][2] is nan, and a number is whole", step.push, put(float("nan"))),
+                (shape + "instructions[0][2] is nan, which is no whole number: pass int(..) of it, or str(..)", step.push, put(float("nan"))),
             ]:
                 with self.subTest(said), self.assertRaises(Error) as caught:
                     call(*arguments)
@@ -204,33 +205,33 @@ class Steps(unittest.TestCase):
         with self.agent.step() as step:
             step.push(put(long) + put(least, "g") + put(True, "h", 1) + put(1, "h", True))
             self.assertEqual(step.get([["count"], ["g"]]), [long, least])
-            self.assertEqual(repr(step.scan("h")), repr([[["h", True], 1], [["h", 1], True]]))
-            self.assertEqual(step.scan("count"), [[["count"], long]])
-            step.fire()
+            self.assertEqual(repr(step.scan("h")), repr([(("h", True), 1), (("h", 1), True)]))
+            self.assertEqual(step.scan("count"), [(("count",), long)])
+            step.commit()
         with self.agent.step() as step:
             step.get([["count"]])
             step.push(put(long, "g"))
             self.rival.fire(put(0))
-            self.assertRaises(Stale, step.fire)
+            self.assertRaises(StaleError, step.commit)
 
     def test_two_steps_of_one_agent(self):
         first, second = self.agent.step(), self.agent.step()
         first.push(put(1))
         second.push([["put", ["g"], first.get(COUNT)[0]]])
         self.assertEqual(second.get([["count"], ["g"]]), [0, 1])
-        self.assertEqual(second.fire(), 1)
+        self.assertEqual(second.commit(), 1)
         self.assertEqual(self.agent.follow(), 1)
-        self.assertRaises(Moved, first.get, COUNT)
-        self.assertEqual(first.fire(), 2)
+        self.assertRaises(MovedError, first.get, COUNT)
+        self.assertEqual(first.commit(), 2)
         self.assertEqual(self.rival.read([["count"], ["g"]]), (2, [1, 1]))
 
     def test_an_agent_that_was_given_back_has_no_step(self):
         step = self.agent.step()
         self.agent.give()
-        for call, *arguments in [(step.get, COUNT), (step.push, []), (step.fire,), (self.agent.step,)]:
+        for call, *arguments in [(step.get, COUNT), (step.push, []), (step.commit,), (self.agent.step,)]:
             with self.assertRaises(Error) as caught:
                 call(*arguments)
-            self.assertEqual((type(caught.exception), caught.exception.code), (Error, folugben.EMPTY))
+            self.assertEqual((type(caught.exception), caught.exception.code), (Error, folugben.Code.EMPTY))
         self.assertEqual(step.depth, 0)
         step.free()
 
@@ -251,9 +252,9 @@ class Steps(unittest.TestCase):
 
     def test_an_amount_that_is_too_large_has_a_location(self):
         # No step of the agent's own storage leads to it, so the library's answer is made up.
-        with self.assertRaises(folugben.Large) as caught:
-            _refusals.pushed(folugben.LARGE, b"[]", b'{"large":["bag"]}')
-        self.assertEqual(caught.exception.at, ["bag"])
+        with self.assertRaises(folugben.LargeError) as caught:
+            _refusals.pushed(folugben.Code.LARGE, b"[]", b'{"large":["bag"]}', self.agent.step())
+        self.assertEqual(caught.exception.at, ("bag",))
 
     def test_gets_take_no_memory(self):
         places = [["f", 1], ["f", 2], ["count"], ["bag"], ["x" * 64, "y" * 64]]

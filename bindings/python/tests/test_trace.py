@@ -3,7 +3,7 @@ import json
 import unittest
 
 import random_moves
-from folugben import BadJournal, Stale, Storage, trace
+from folugben import BadJournalError, StaleError, Storage, trace
 
 tracing, journals = random_moves.model("tracing"), random_moves.model("journal")
 INIT = [[["s"], {"set": [1, 2]}], [["b"], {"bag": [["e", 2]]}], [["x"], 7]]
@@ -17,7 +17,7 @@ def journal_of_two() -> bytes:
             first.fire([["add", ["s"], 3], ["remove", ["s"], 1], ["bagadd", ["b"], "f", 1], ["put", ["x"], None]])
             try:
                 second.fire([["put", ["x"], 8]], [[["x"], number]])
-            except Stale:
+            except StaleError:
                 pass
         return storage.close_journal()
 
@@ -48,7 +48,7 @@ class Traces(unittest.TestCase):
 
     def test_what_is_no_journal_is_refused_at_once(self):
         for bad, line in [(b"", ()), (b"[]\n", (1,)), (self.journal + b"[]\n", (5,))]:
-            with self.subTest(bad[-9:]), self.assertRaises(BadJournal) as caught:
+            with self.subTest(bad[-9:]), self.assertRaises(BadJournalError) as caught:
                 trace(bad)
             self.assertEqual(tuple(caught.exception.numbers), line)
 

@@ -12,9 +12,9 @@ import threading
 import time
 from typing import NamedTuple, Protocol
 
-from folugben import Agent, Busy, Move, Stale, Storage
+from folugben import Agent, BusyError, Move, StaleError, Storage
 from folugben import Location as Prepared
-from twin import Location, Moved, Twin
+from twin import Location, MovedError, Twin
 
 THREADS, LOCATIONS, LEAST, MOST = 16, 64, 5, 9
 # The twin's rounds have so many times as many steps, so that they are as long.
@@ -43,8 +43,8 @@ class Ours:
             (value,) = step.get([["x", location]])
             step.push([["put", ["x", location], value + 1]])
             try:
-                step.fire()
-            except (Stale, Busy):
+                step.commit()
+            except (StaleError, BusyError):
                 return False
         return True
 
@@ -69,7 +69,7 @@ class Plain(Ours):
         at = self._places[thread][location]
         with self._agents[thread].step() as step:
             step.push(self._moves[thread].clear().put(at, step.get(at) + 1))
-            return step.try_fire() != 0
+            return step.try_commit() != 0
 
 
 class Theirs:
@@ -80,10 +80,10 @@ class Theirs:
         step, place = self._twin.step(thread), ("x", location)
         try:
             (value,) = step.get([place])
-        except Moved:
+        except MovedError:
             return False
         step.push({place: value + 1})
-        return step.fire()
+        return step.commit()
 
     def close(self) -> int:
         places: list[Location] = [("x", k) for k in range(LOCATIONS)]

@@ -5,7 +5,7 @@ from typing import NamedTuple
 Location = tuple[str, int]
 
 
-class Moved(Exception):
+class MovedError(Exception):
     """Something was written since the step began."""
 
 
@@ -52,7 +52,7 @@ class Step:
         with self._twin.lock:
             value, written = self._twin.state.get(place, (0, 0))
         if written > self._number:
-            raise Moved
+            raise MovedError
         return value
 
     def push(self, puts: dict[Location, int]) -> None:

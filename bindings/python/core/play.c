@@ -1,0 +1,97 @@
+/* Rules that agents play, and agents that one thread plays by turns. */
+#include "core.h"
+
+void agent_saw(Agent *self)
+{
+    self->seen = asm_seen(SLOT(self));
+    self->is_behind = 0;
+}
+
+/* Is about to look, by a call that names no numbers. Where the last look of this thread was another agent's that is in no step, and has come further, it takes
+ * the state of that one, so that it follows the newest moves alone. That one is behind then, and catches up before it tells of
+ * its own state. The interpreter's lock is held, so nobody else is at work with either, unless its slot is busy. */
+void agent_turn(Agent *self)
+{
+    unsigned long thread = PyThread_get_thread_ident();
+    Turn *turn = &self->storage->turns[(thread >> 12) % TURNS];
+    Agent *other = turn->thread == thread ? turn->agent : NULL;
+    int is_free = other && other != self && other->thread == thread && !other->steps && !other->held.is_busy;
+    if (is_free && other->seen > self->seen && asm_take_state(SLOT(self), SLOT(other)) == ASM_DONE) {
+        other->seen = self->seen;
+        other->is_behind = 1;
+        self->seen = asm_seen(SLOT(self));
+    }
+    turn->thread = self->thread = thread;
+    turn->agent = self;
+}
+
+/* Follows where another agent has taken its state; in the course of calls. */
+int32_t agent_catches_up(Agent *self)
+{
+    uint32_t number;
+    int32_t code = self->is_behind ? asm_follow(SLOT(self), &number) : ASM_DONE;
+    self->is_behind = code != ASM_DONE;
+    return code;
+}
+
+static PyObject *played(Core *core, int64_t number, PyObject *told, long tries)
+{
+    PyObject *its = PyStructSequence_New(core->played), *one = PyLong_FromLongLong(number), *retries = PyLong_FromLong(tries);
+    if (its && one && retries) {
+        PyStructSequence_SetItem(its, 0, one);
+        PyStructSequence_SetItem(its, 1, told);
+        PyStructSequence_SetItem(its, 2, retries);
+        return its;
+    }
+    Py_XDECREF(its);
+    Py_XDECREF(one);
+    Py_XDECREF(retries);
+    Py_DECREF(told);
+    return NULL;
+}
+
+/* What follows a try: what was played, or null, without an exception to try again. */
+static PyObject *tried(Step *step, PyObject *told, long tries)
+{
+    Core *core = step->held.core;
+    if (told && ODD(PyObject_IsInstance(told, core->no_rules))) {
+        refuse(core, ASM_SHAPE, "no_rule", "(O)", told);
+        Py_CLEAR(told);
+    }
+    int is_idle = told && !step->is_pushed && IS_FULL(step);
+    int64_t number = !told ? -1 : is_idle ? 0 : step_fires(step, 1);
+    if (IS_FULL(step) && !(ODD(step->agent->held.is_busy) && unready(&step->agent->held)))
+        step_drop(step);
+    Py_DECREF((PyObject *)step);
+    if (is_idle || number > 0)
+        return played(core, number, told, tries);
+    Py_XDECREF(told);
+    return NULL;
+}
+
+PyObject *agent_play(Agent *self, PyObject *words, PyObject *named)
+{
+    Core *core = self->held.core;
+    PyObject *rule, *its = NULL;
+    if (named) {
+        PyObject *call = PyObject_GetAttrString(core->refusals, "play"), *before = call ? PyTuple_Pack(1, (PyObject *)self) : NULL;
+        PyObject *all = before ? PySequence_Concat(before, words) : NULL;
+        its = all ? PyObject_Call(call, all, named) : NULL;
+        Py_XDECREF(all);
+        Py_XDECREF(before);
+        Py_XDECREF(call);
+        return its;
+    }
+    if (!PyArg_ParseTuple(words, "O:play", &rule))
+        return NULL;
+    for (long tries = 0;; tries++) {
+        Step *step = step_begun(self, core->step);
+        its = step ? tried(step, PyObject_CallFunctionObjArgs(rule, (PyObject *)step, NULL), tries) : NULL;
+        if (its || PyErr_Occurred())
+            return its;
+        PyObject *waited = PyErr_CheckSignals() ? NULL : PyObject_CallMethod(core->refusals, "back_off", "l", tries);
+        if (!waited)
+            return NULL;
+        Py_DECREF(waited);
+    }
+}

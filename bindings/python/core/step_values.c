@@ -1,0 +1,225 @@
+/* Steps: what they read and write. */
+#include "core.h"
+
+typedef int32_t (*TextCall)(struct asm_agent *agent, struct asm_step *step, const uint8_t *text, size_t len, uint8_t *out, size_t room, size_t *written);
+typedef int32_t (*MoveCall)(struct asm_agent *agent, struct asm_step *step, struct asm_move *move, uint8_t *out, size_t room, size_t *written);
+
+/* Makes a call that takes a text. */
+static int32_t told(Step *self, TextCall call, const uint8_t *text, size_t len, Room *room)
+{
+    Agent *agent = self->agent;
+    int32_t code;
+    RUN(&agent->held, len > LONG_TEXT, TOLD(code, room, call(SLOT(agent), SLOT(self), text, len, ROOM(room))));
+    return code;
+}
+
+static PyObject *values_of(Step *self, TextCall call, PyObject *places)
+{
+    Core *core = self->held.core;
+    Text text;
+    Room room;
+    PyObject *values = NULL;
+    uint32_t number;
+    if (write_named(core, &text, places, "places"))
+        return NULL;
+    room_begin(&room);
+    if (!UNREADY(&self->agent->held)) {
+        int32_t code = told(self, call, BYTES(&text), &room);
+        self->size += text.len;
+        if (code == ASM_DONE)
+            values = read_values(core, &room, &number);
+        else if (code == ASM_EMPTY || code == ASM_MOVED)
+            step_refused(self, code);
+        else
+            refuse(core, code, "read", "(iiy#)", (int)code, ASM_FORM_LOCATIONS, text.at, (Py_ssize_t)text.len);
+    }
+    room_end(&room);
+    text_end(&text);
+    return values;
+}
+
+/* The value at one location, prepared or not. */
+PyObject *step_at(Step *self, PyObject *place)
+{
+    Core *core = self->held.core;
+    Agent *agent = self->agent;
+    Place at;
+    PyObject *one = NULL;
+    if (place_begin(core, &at, place))
+        return NULL;
+    if (!UNREADY(&agent->held) && !PLACE_UNREADY(&at)) {
+        asm_value value;
+        Room room;
+        room_begin(&room);
+        int32_t code = place_made(&at);
+        int is_placed = code == ASM_DONE;
+        if (is_placed)
+            TOLD(code, &room, asm_get_at(SLOT(agent), SLOT(self), AT(&at), &value, ROOM(&room)));
+        self->size += at.held ? (uint64_t)PyBytes_Size(at.held->text) : at.text.len;
+        if (!ODD(code != ASM_DONE))
+            one = value_of(core, &value, &room);
+        else if (!is_placed || (code == ASM_EMPTY && IS_FULL(self) && IS_FULL(agent)))
+            place_refused(core, &at, code);
+        else
+            step_refused(self, code);
+        room_end(&room);
+    }
+    place_end(&at);
+    return one;
+}
+
+PyObject *step_get(Step *self, PyObject *places)
+{
+    return is_location(self->held.core, places) ? step_at(self, places) : values_of(self, asm_get, places);
+}
+
+PyObject *step_see(Step *self, PyObject *place)
+{
+    if (!is_location(self->held.core, place))
+        return values_of(self, asm_see, place);
+    PyObject *places = PyTuple_Pack(1, place), *values = places ? values_of(self, asm_see, places) : NULL;
+    PyObject *one = values ? Py_XNewRef(PyList_GetItem(values, 0)) : NULL;
+    Py_XDECREF(values);
+    Py_XDECREF(places);
+    return one;
+}
+
+PyObject *step_scan(Step *self, PyObject *name)
+{
+    Py_ssize_t len;
+    Room room;
+    const uint8_t *text = name_of(self->held.core, name, 1, &len);
+    if (!text || UNREADY(&self->agent->held))
+        return NULL;
+    room_begin(&room);
+    int32_t code = told(self, asm_get_all, text, (size_t)len, &room);
+    PyObject *pairs = code == ASM_DONE ? read_own_text(self->held.core, room.at, room.written, 0) : step_refused(self, code);
+    room_end(&room);
+    return pairs;
+}
+
+/* Raises why a move isn't pushed. */
+static PyObject *not_pushed(Step *self, int32_t code, const char *move, size_t len, Room *room)
+{
+    if (code == ASM_EMPTY || code == ASM_MOVED)
+        return step_refused(self, code);
+    return refuse(self->held.core, code, "pushed", "(iy#y#O)", (int)code, move, (Py_ssize_t)len, room->at,
+        (Py_ssize_t)(code == ASM_CLASH || code == ASM_LARGE ? room->written : 0), (PyObject *)self);
+}
+
+static PyObject *grow_by_text(Step *self, TextCall call, PyObject *move)
+{
+    Text text;
+    Room room;
+    PyObject *done = NULL;
+    if (write_named(self->held.core, &text, move, "instructions"))
+        return NULL;
+    room_begin(&room);
+    if (!UNREADY(&self->agent->held)) {
+        int32_t code = told(self, call, BYTES(&text), &room);
+        self->size += text.len;
+        /* A move of no instructions is none that is missed. */
+        self->is_pushed |= code == ASM_DONE && text.len > 2;
+        done = code == ASM_DONE ? Py_NewRef(Py_None) : not_pushed(self, code, text.at, text.len, &room);
+    }
+    room_end(&room);
+    text_end(&text);
+    return done;
+}
+
+static PyObject *grow(Step *self, TextCall text_call, MoveCall call, PyObject *it)
+{
+    Agent *agent = self->agent;
+    Move *move = (Move *)it;
+    Room room;
+    int32_t code;
+    if (Py_TYPE(it) != self->held.core->move)
+        return grow_by_text(self, text_call, it);
+    if (UNREADY(&agent->held) || UNREADY(&move->held))
+        return NULL;
+    if (ODD(move->is_freed))
+        return refuse(self->held.core, ASM_EMPTY, "freed", "(s)", "move");
+    room_begin(&room);
+    /* A slot holds no move of no instructions. */
+    if (IS_FULL(move))
+        TOLD(code, &room, call(SLOT(agent), SLOT(self), SLOT(move), ROOM(&room)));
+    else
+        code = told(self, text_call, (const uint8_t *)"[]", 2, &room);
+    self->size += move->size;
+    self->is_pushed |= code == ASM_DONE && IS_FULL(move);
+    PyObject *done = ODD(code != ASM_DONE) ? not_pushed(self, code, "", 0, &room) : Py_NewRef(Py_None);
+    room_end(&room);
+    return done;
+}
+
+PyObject *step_push(Step *self, PyObject *move)
+{
+    return grow(self, asm_push, asm_push_move, move);
+}
+
+PyObject *step_extend(Step *self, PyObject *move)
+{
+    return grow(self, asm_extend, asm_extend_move, move);
+}
+
+/* Has one instruction join the move that was pushed last. */
+static PyObject *change(Step *self, PyObject *const *words, Py_ssize_t count, int verb)
+{
+    Core *core = self->held.core;
+    Agent *agent = self->agent;
+    struct asm_move move = {0};
+    Change its;
+    PyObject *done = NULL;
+    if (change_begin(core, &its, words, count, verb))
+        return NULL;
+    if (!UNREADY(&agent->held) && !PLACE_UNREADY(&its.place)) {
+        Room room;
+        room_begin(&room);
+        int32_t code = change_put(&its, &move);
+        if (code == ASM_DONE)
+            TOLD(code, &room, asm_extend_move(SLOT(agent), SLOT(self), &move, ROOM(&room)));
+        asm_free(&move.slot);
+        self->size += change_size(&its);
+        self->is_pushed |= code == ASM_DONE;
+        if (code == ASM_DONE)
+            done = Py_NewRef(Py_None);
+        else if (its.code != ASM_DONE)
+            change_refused(core, &its);
+        else
+            not_pushed(self, code, "", 0, &room);
+        room_end(&room);
+    }
+    change_end(&its);
+    return done;
+}
+
+CHANGES(, Step, step, change)
+
+PyObject *step_pop(Step *self, PyObject *Py_UNUSED(none))
+{
+    if (UNREADY(&self->agent->held))
+        return NULL;
+    int32_t code = asm_pop(SLOT(self));
+    self->is_pushed &= asm_depth(SLOT(self)) > 0;
+    return code == ASM_DONE ? Py_NewRef(Py_None) : step_refused(self, code);
+}
+
+PyObject *step_pop_move(Step *self, PyObject *Py_UNUSED(none))
+{
+    Core *core = self->held.core;
+    Move *move = held_new(core->move, core);
+    if (!move || UNREADY(&self->agent->held)) {
+        Py_XDECREF((PyObject *)move);
+        return NULL;
+    }
+    int32_t code = asm_pop_move(SLOT(self), SLOT(move));
+    self->is_pushed &= asm_depth(SLOT(self)) > 0;
+    if (code == ASM_DONE) {
+        move->is_popped = 1;
+        /* Of its instructions nothing is known. */
+        move->size = LINE_LIMIT;
+        return (PyObject *)move;
+    }
+    Py_DECREF((PyObject *)move);
+    return step_refused(self, code);
+}

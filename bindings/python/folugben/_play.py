@@ -1,0 +1,66 @@
+"""Rules that are played until they fire."""
+import time
+from collections.abc import Callable
+from types import AsyncGeneratorType, CoroutineType, GeneratorType
+from typing import Any, Protocol, TypeVar
+
+from ._core import Played, Step
+from ._errors import ConflictError, PastError
+
+_R = TypeVar("_R")
+# After so many tries in vain an agent sleeps between them, for at most so many seconds.
+_TRIES_WITHOUT_SLEEP, _LONGEST_SLEEP = 4, 0.001
+
+
+class Player(Protocol):
+    """What begins steps."""
+
+    def step(self) -> Any:
+        """Begin a step."""
+
+
+def back_off(tries: int) -> None:
+    """Lets others run after so many tries in vain."""
+    more = tries - _TRIES_WITHOUT_SLEEP
+    time.sleep(0 if more < 0 else min(_LONGEST_SLEEP, 1e-6 * 2 ** min(more, 10)))
+
+
+def no_rule(told: Any) -> None:
+    """Refuse what a function has returned that does nothing before it is awaited or iterated."""
+    if isinstance(told, (CoroutineType, GeneratorType, AsyncGeneratorType)):
+        getattr(told, "close", lambda: None)()
+        raise TypeError(f"a rule is a plain function, and {told.__qualname__} is an async def or a generator: it wrote nothing")
+
+
+def play(
+    agent: Player, rule: Callable[[Step], _R], *, tries: int | None = None, timeout: float | None = None
+) -> Played[_R]:
+    """Play a rule with an agent, as `Agent.play` does."""
+    if tries is not None and tries < 1:
+        raise ValueError(f"tries is 1 or more, and not {tries}")
+    end, retries, is_bounded = time.monotonic() + (timeout or 0), 0, tries is not None or timeout is not None
+    while True:
+        conflict: ConflictError | None = None
+        with agent.step() as step:
+            try:
+                told = rule(step)
+            except PastError as past:
+                # Another thread has given its agent back, as the part of its run has ended.
+                if not getattr(step, "is_taken", False):
+                    raise
+                conflict = past
+            else:
+                no_rule(told)
+                if not step._is_pushed:
+                    return Played((0, told, retries))
+                try:
+                    number = step.commit() if is_bounded else step.try_commit()
+                except ConflictError as error:
+                    number, conflict = 0, error
+                if number:
+                    return Played((number, told, retries))
+            step._is_tried = True
+        retries += 1
+        if conflict is not None and is_bounded and (retries == tries or timeout is not None and time.monotonic() >= end):
+            raise conflict
+        back_off(retries - 1)
