@@ -1,5 +1,6 @@
 /* Measures steps that collect into one set, bag or counter: the milliseconds that so many extensions
- * take, each with one partial update, and the microseconds of one more beside many elements.
+ * take, each with one partial update, also where each element goes again, and the microseconds of one
+ * more beside many elements.
  *
  *     cc -std=c11 -O2 -D_POSIX_C_SOURCE=200809L -Ibindings/out -o collect tools/bench/collect.c \
  *         bindings/out/libfolugben.a && ./collect */
@@ -15,14 +16,14 @@
 enum { MANY = 4000, LATER = 200, ROOM = 64 };
 
 typedef struct kind {
-    const char *name, *first, *one;
+    const char *name, *first, *one, *back;
 } kind;
 
-/* What is below, and the move of one extension. */
+/* What is below, the move of one extension, and one that takes it back, but for counters. */
 static const kind kinds[] = {
-    {"set", "{\"set\":[]}", "[[\"add\",[\"x\"],%u]]"},
-    {"bag", "{\"bag\":[]}", "[[\"bagadd\",[\"x\"],%u,1]]"},
-    {"counter", "0", "[[\"inc\",[\"x\"],%u]]"},
+    {"set", "{\"set\":[]}", "[[\"add\",[\"x\"],%u]]", "[[\"remove\",[\"x\"],%u]]"},
+    {"bag", "{\"bag\":[]}", "[[\"bagadd\",[\"x\"],%u,1]]", "[[\"bagremove\",[\"x\"],%u,1]]"},
+    {"counter", "0", "[[\"inc\",[\"x\"],%u]]", NULL},
 };
 
 static struct asm_storage storage;
@@ -68,6 +69,26 @@ static void extend_by(const kind *k, unsigned n) {
     char text[ROOM];
     snprintf(text, sizeof text, k->one, n);
     extend(text);
+}
+
+static void take_back(const kind *k, unsigned n) {
+    char text[ROOM];
+    snprintf(text, sizeof text, k->back, n);
+    extend(text);
+}
+
+/* The milliseconds of so many extensions, each second of which takes the one before the last back. */
+static double taken_back(const kind *k, unsigned times) {
+    begin(k->first);
+    double from = now();
+    extend_by(k, 0);
+    for (unsigned i = 1; i < times / 2; i++) {
+        extend_by(k, i);
+        take_back(k, i - 1);
+    }
+    double took = now() - from;
+    end();
+    return took;
 }
 
 /* The milliseconds of so many extensions, over what is below or after a put. */
@@ -121,6 +142,12 @@ int main(void) {
                 printf(" %9.2f", collected(k, times, put));
             puts("");
         }
+    for (const kind *k = kinds; k < kinds + 2; k++) {
+        printf("%-8s taken back: ", k->name);
+        for (unsigned times = MANY / 8; times <= MANY; times *= 2)
+            printf(" %9.2f", taken_back(k, times));
+        puts("");
+    }
     puts("microseconds of one more beside 10 and 100,000 elements");
     for (const kind *k = kinds; k < kinds + 2; k++)
         printf("%-8s %9.2f %9.2f\n", k->name, beside(k, 10), beside(k, 100000));

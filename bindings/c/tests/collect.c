@@ -1,8 +1,9 @@
 /* Steps that collect into a set, a bag and a counter, beside a model that keeps counts in arrays: what
- * is seen after each push, extension, refusal and pop, and what the step fires in the end. */
+ * is seen after each push, extension, refusal and pop, and what the step fires in the end. One more
+ * step collects into a bag of many elements that it hasn't put. */
 #include "tests.h"
 
-enum { ELEMENTS = 6, LEVELS = 5, ROUNDS = 60, STEPS = 120 };
+enum { ELEMENTS = 6, LEVELS = 5, ROUNDS = 60, STEPS = 120, WIDE = 200, TIMES = 400 };
 
 /* What the locations s, b and c have. */
 typedef struct model {
@@ -118,6 +119,69 @@ static void one_round(uint32_t number) {
     top = 0;
 }
 
+/* The counts that aren't 0, as a bag. */
+static void told_bag(const unsigned *counts, char *text) {
+    int at = add(text, 0, "{'bag':[", 0, 0);
+    const char *comma = "";
+    for (unsigned e = 0; e < WIDE; e++)
+        if (counts[e]) {
+            at += snprintf(text + at, (size_t)(LONGEST - at), "%s[%u,%u]", comma, e, counts[e]);
+            comma = ",";
+        }
+    add(text, at, "]}", 0, 0);
+}
+
+/* One extension of the bag, by an addition or a removal, which is refused where there is too little. */
+static void extend_bag(unsigned *counts) {
+    unsigned e = any(WIDE), n = 1 + any(3);
+    bool adds = any(2) == 0, has = adds || counts[e] >= n;
+    char text[LONGEST];
+    uint8_t out[LONGEST];
+    size_t written;
+    snprintf(text, sizeof text, "[['bag%s',['b'],%u,%u]]", adds ? "add" : "remove", e, n);
+    REQUIRE(asm_extend(&agent, &step, TEXT(text), out, sizeof out, &written) == (has ? ASM_DONE : ASM_CLASH));
+    if (has)
+        counts[e] += adds ? n : 0 - n;
+}
+
+static void is_bag(const unsigned *counts, uint32_t number, bool fired) {
+    char bag[LONGEST], text[LONGEST + 64];
+    told_bag(counts, bag);
+    snprintf(text, sizeof text, "{'number':%" PRIu32 ",'values':[%s]}", number, bag);
+    if (fired)
+        TELLS(ASM_DONE, text, asm_peek(&agent, TEXT("[['b']]"), OUT));
+    else
+        TELLS(ASM_DONE, text, asm_see(&agent, &step, TEXT("[['b']]"), OUT));
+}
+
+/* A bag of many elements, below each second of those that the step adds or removes. */
+static void collect_into_a_bag(void) {
+    unsigned counts[WIDE] = {0};
+    char bag[LONGEST], init[LONGEST + 64];
+    uint32_t began, follows;
+    asm_numbers numbers;
+    for (unsigned e = 0; e < WIDE; e += 2)
+        counts[e] = 2;
+    told_bag(counts, bag);
+    snprintf(init, sizeof init, "[[['b'],%s]]", bag);
+    open_with(init, 1, &storage);
+    REQUIRE(asm_agent(&storage, 0, &agent) == ASM_DONE);
+    REQUIRE(asm_begin(&agent, &step, &began) == ASM_DONE && began == 0);
+    for (unsigned i = 0; i < TIMES; i++) {
+        extend_bag(counts);
+        if (i % 16 == 0)
+            is_bag(counts, 0, false);
+    }
+    REQUIRE(asm_commit(&agent, &step, &numbers) == ASM_DONE && numbers.fired == 1);
+    REQUIRE(asm_follow(&agent, &follows) == ASM_DONE && follows == 1);
+    is_bag(counts, 1, true);
+    REQUIRE(asm_give(&storage, &agent) == ASM_DONE);
+    char *journal = journal_of(&storage);
+    is_legal(journal, 1, 1);
+    free(journal);
+    asm_free_storage(&storage);
+}
+
 int main(void) {
     open_with("[[['b'],{'bag':[[0,2]]}],[['c'],5],[['s'],{'set':[1,3]}]]", ROUNDS, &storage);
     REQUIRE(asm_agent(&storage, 0, &agent) == ASM_DONE);
@@ -137,6 +201,7 @@ int main(void) {
     is_legal(journal, ROUNDS, ROUNDS);
     free(journal);
     asm_free_storage(&storage);
+    collect_into_a_bag();
     puts("collect: what a step collects is what the model has");
     return 0;
 }

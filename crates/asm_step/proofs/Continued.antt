@@ -2,7 +2,6 @@
 use Rattle.std.proofs.Common.{◌≡◌, ◌≢◌, ◌≤◌, Bool, true, false, cond, ◌&&◌, ◌||◌, List, [], ◌∷◌, ◌++◌, length, filter, map, All, Option, Some, None, is_some, IsSomeAnd, Result, Ok, Err, IsOk, IsErr, refl, sym, ap, subst, ◌∙◌, append-nil}
 use Rattle.std.proofs.lemmas.Bool.{false≢true}
 use Rattle.std.proofs.lemmas.List.Folds.{list_any-append}
-use Rattle.std.specs.FinMap as finite
 use Rattle.std.specs.Option.{option_map, option_map_or, option_or}
 use Rattle.std.specs.Ordering.{eq_by_cmp}
 use Rattle.asm_element.specs.Place.{Place, location_cmp}
@@ -22,15 +21,14 @@ use Rattle.asm_aggregate.specs.Compose.{composed, composed_at, composition, give
 use Rattle.asm_aggregate.proofs.Bundles.{no_actions}
 use Rattle.asm_aggregate.proofs.Composed.{composed_is_sequence, refused_is_clash}
 use Rattle.asm_aggregate.proofs.Grouped.{actions_at-append, unwritten}
-use Rattle.asm_aggregate.proofs.Sequence.{all_apart, fired_stored, given}
-use Rattle.asm_aggregate.proofs.Sequence.{given_fired, in_turn_lists, in_turn_refusal, outs, proper_actions}
-use Rattle.asm_aggregate.proofs.Sequence.{proper_stored, proper_value, same_fire, some_action}
-use Rattle.asm_step.specs.Column.{IsSequenceAt}
-use Rattle.asm_step.specs.Continued.{continued, continued_at}
+use Rattle.asm_aggregate.proofs.Sequence.{all_apart, fired_stored, given, given_fired, in_turn_lists, in_turn_refusal, outs, proper_actions, proper_stored, proper_value, same_fire, some_action}
+use Rattle.asm_step.specs.InTurn.{IsSequenceAt}
+use Rattle.asm_step.specs.Answer.{continued, continued_at}
 use Rattle.asm_step.specs.Next.{AreNext, next_at}
 use Rattle.asm_step.specs.Outcomes.{Outcome, Outcomes, acts, actions_in, laid, listed}
 use Rattle.asm_step.proofs.Laid.{get-laid, kept_at}
 use Rattle.asm_step.proofs.Placed.{at_kept, each_placed, listed_at, locations_passed, some_few, turn_all, turn_refused}
+use Rattle.std.specs.FinMap as finite
 
 -- an update set has the locations of its move
 pub has_updates : (part : Part) (old : Place → Value) (M : Move) (U : Updates) → IsUpdateSet part old M U → (l : Place) →

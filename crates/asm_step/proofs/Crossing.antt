@@ -3,11 +3,12 @@ use denote.Param.Send.{IsSend, sendable}
 use denote.Param.SendFields.{declared_send, variants_send}
 use Rattle.std.proofs.Crossing.{Vec-send}
 use Rattle.std.proofs.MapsCrossing.{BTreeMap-send}
-use Rattle.asm_element.proofs.Crossing.{location_is_sent, set_is_sent, value_is_sent}
+use Rattle.asm_element.proofs.Crossing.{bag_is_sent, location_is_sent, set_is_sent, value_is_sent}
 use Rattle.asm_update.proofs.Crossing.{instructions_is_sent}
 use Rattle.asm_update.proofs.Crossing.{action_is_sent}
+use Rattle.asm_step.specs.contracts.amounts.Amounts as Amounts
 use Rattle.asm_step.specs.contracts.front.Front as Front
-use Rattle.asm_step.specs.contracts.front.Sides as Sides
+use Rattle.asm_step.specs.contracts.sides.Sides as Sides
 use Rattle.asm_step.specs.contracts.layer.OwnLayer as Layer
 use Rattle.asm_step.specs.contracts.outcomes.Outcome as Outcome
 use Rattle.asm_step.specs.contracts.outcomes.Outcome.TheInside as InsideOutcome
@@ -23,8 +24,11 @@ use Rattle.asm_step.specs.contracts.step.Step.TheInside as InsideStep
 sides_is_sent : IsSend Sides.the_row
 sides_is_sent = declared_send Sides.the_type (set_is_sent, (set_is_sent, tt))
 
+amounts_is_sent : IsSend Amounts.the_row
+amounts_is_sent = declared_send Amounts.the_type (bag_is_sent, (bag_is_sent, tt))
+
 front_is_sent : IsSend Front.the_row
-front_is_sent = variants_send Front.enum (tt, (tt, ((sides_is_sent, tt), tt)))
+front_is_sent = variants_send Front.enum (tt, (tt, ((sides_is_sent, tt), ((amounts_is_sent, tt), tt))))
 
 inside_outcome_is_sent : IsSend InsideOutcome.the_row
 inside_outcome_is_sent =

@@ -1,14 +1,12 @@
 -- A move of one partial update that a layer takes in, as the layer of a next move.
-use Rattle.std.proofs.Common.{◌≡◌, ◌≤◌, ◌<◌, ◌+◌, ◌-◌, ◌||◌, ◌&&◌, ℕ, Bool, true, false, cond, not, List, [], ◌∷◌, ◌++◌, length, map, All, Option, Some, None, is_some, unwrap_or, Ok, refl, sym, ap, subst, ◌∙◌, arith, append-nil}
-use Rattle.std.specs.Prelude.{is_none, IsSomeAnd}
-use Rattle.std.specs.FinMap as finite
+use Rattle.std.proofs.Common.{◌≡◌, ◌≤◌, ◌<◌, ◌+◌, ◌-◌, ◌||◌, ◌&&◌, Bool, true, false, cond, not, List, [], ◌∷◌, ◌++◌, length, map, All, Option, Some, None, is_some, unwrap_or, Ok, refl, sym, ap, subst, ◌∙◌, arith, append-nil, Result, Err}
+use Rattle.std.specs.Prelude.{is_none, IsSomeAnd, IfOk, OnErr}
 use Rattle.std.specs.List.{flat_map, list_all, list_any}
 use Rattle.std.specs.Option.{option_map, option_map_or, option_or}
 use Rattle.std.specs.Ordering.{eq_by_cmp}
 use Rattle.std.proofs.lemmas.List.Elements.{All-cons, All-head, All-nil, All-tail}
 use Rattle.std.proofs.lemmas.List.Folds.{list_any-append}
 use Rattle.asm_element.proofs.Ordered.{no_entries}
-use Rattle.asm_element.specs.Place as place
 use Rattle.asm_element.specs.Place.{Place, location_cmp, location_cmp_total, same_location}
 use Rattle.asm_element.specs.Tests.{flipped, itself, or_false}
 use Rattle.asm_element.specs.declared.value.Value.{Value}
@@ -22,19 +20,24 @@ use Rattle.asm_update.specs.declared.action.Family.{Family}
 use Rattle.asm_update.proofs.FireLemmas.{places}
 use Rattle.asm_overlay.specs.Frames.{seen_through}
 use Rattle.asm_aggregate.specs.Bundle.{bundle_of}
-use Rattle.asm_aggregate.specs.Compose.{IsSequence, composed, composed_at, composition, in_turn, placed}
+use Rattle.asm_aggregate.specs.Compose.{composed, composed_at, composition, in_turn, placed}
 use Rattle.asm_aggregate.proofs.Composing.{keeps_sequence, same_places}
 use Rattle.asm_aggregate.proofs.Sequence.{actions_placed}
 use Rattle.asm_step.specs.Front.{GoneOn}
-use Rattle.asm_step.specs.Layers.{Layer, IsSound, frames_of, laid_on, outcomes_of, top_of}
-use Rattle.asm_step.specs.Next.{AreNext, IsComposed, IsNextLayer, is_first, next_at, those}
+use Rattle.asm_step.specs.Layers.{Layer, IsSound, frames_of, laid_on, outcomes_of, top_of, behind, layers_on, moves_of}
+use Rattle.asm_step.specs.Next.{AreNext, IsComposed, IsNextLayer, is_first, next_at, those, IsLayerGoneOn, IsStepGoneOn, LayerGoneOn}
 use Rattle.asm_step.specs.Outcomes.{Outcome, Outcomes, acts, acts_at, actions_in, builds_at, listed, sees_at}
 use Rattle.asm_step.specs.declared.front.Grown.{Grown}
 use Rattle.asm_step.specs.declared.layer.OwnLayer.{OwnLayer}
-use Rattle.asm_step.proofs.Alone.{res_partial}
+use Rattle.asm_step.proofs.Joined.{res_partial}
 use Rattle.asm_step.proofs.Laid.{kept_at, kept_within, placed_length}
 use Rattle.asm_step.proofs.Nexts.{next_ok, topmost_is}
-use Rattle.asm_step.proofs.Prefixes.{top_sound}
+use Rattle.asm_step.proofs.Prefixes.{top_sound, all_laid, all_push, extended_top, held-push, layers-push, sound_behind, sound_items}
+use Rattle.std.specs.declared.alloc.AllocError.{AllocError}
+use Rattle.asm_step.specs.InTurn.{all_but_last}
+use Rattle.asm_step.proofs.Layered.{top_of-push}
+use Rattle.std.specs.FinMap as finite
+use Rattle.asm_element.specs.Place as place
 
 -- one value at a location, and nothing elsewhere
 abbrev pub only : {X : Type 0} → Place → X → finite.FinMap location_cmp X
@@ -239,3 +242,78 @@ module _ {a : Meaning} (laws : AggregatorLaws a) (old : Old) (s : List Layer) (s
   goes_on =
       next_ok laws old s M E M [] U sound set kept shared apart proper_here proper (omega arith) F composed_is z.count count
       going next counted few refl first
+
+module _ {a : Meaning} (laws : AggregatorLaws a) (old : Old) (t items : List OwnLayer) (now : List Layer) (x new : OwnLayer) (M : Move)
+    (seen : layers_on finite.empty items ≡ now) (is : items ≡ t ++ x ∷ []) (sound : All IsSound now)
+    (gone : LayerGoneOn a M x new) where
+  abbrev z : Layer
+  z = laid_on (all_laid finite.empty t) x
+
+  all : layers_on finite.empty t ++ z ∷ [] ≡ now
+  all = sym (layers-push finite.empty t x) ∙ ap (λ (s : List OwnLayer). layers_on finite.empty s) (sym is) ∙ seen
+
+  top : top_of now ≡ Some z
+  top = ap top_of (sym all) ∙ top_of-push (layers_on finite.empty t) z
+
+  here : finite.get (outcomes_of now) gone.at ≡ Some gone.own.before
+  here =
+      ap (λ (s : List Layer). finite.get (outcomes_of s) gone.at)
+      (sym seen ∙ ap (λ (s : List OwnLayer). layers_on finite.empty s) is)
+      ∙ held-push t x gone.at
+      ∙ ap (λ o. option_or o (finite.get (outcomes_of (layers_on finite.empty t)) gone.at)) gone.own.there
+
+  proper : All IsProperInstruction (record { at = gone.at; action = gone.action } ∷ [])
+  proper = subst (All IsProperInstruction) gone.one gone.proper
+
+  abbrev next_one : OwnLayer
+  next_one =
+      going laws old now sound z top gone.few gone.at gone.action gone.own.before gone.own.after gone.grown here gone.own.goes_on proper
+
+  written : (q : Place) → finite.get new.own q ≡ option_or (finite.get next_one.own q) (finite.get x.own q)
+  written q =
+      ap (λ m. finite.get m q) gone.own.written
+      ∙ finite.get-insert location_cmp_total x.own gone.at gone.own.after q
+      ∙ by_test (eq_by_cmp location_cmp q gone.at)
+      ∙ ap (λ o. option_or o (finite.get x.own q)) (sym (get-only gone.at gone.own.after q)) where
+        by_test : (b : Bool) →
+            cond b (Some gone.own.after) (finite.get x.own q) ≡ option_or (cond b (Some gone.own.after) None) (finite.get x.own q)
+        by_test true = refl
+        by_test false = refl
+
+  -- the layers are those with the layer of the next move taken in
+  pub taken_in : (y : Layer) × IsNextLayer a old now M y
+      × (layers_on finite.empty (t ++ new ∷ []) ≡ all_but_last now ++ behind (moves_of now) y ∷ [])
+  taken_in =
+      subst (λ (N : Move). (y : Layer) × IsNextLayer a old now N y
+      × (layers_on finite.empty (t ++ new ∷ []) ≡ all_but_last now ++ behind (moves_of now) y ∷ []))
+      (sym gone.one) (
+        laid_on (outcomes_of now) next_one,
+        goes_on laws old now sound z top gone.few gone.at gone.action gone.own.before gone.own.after gone.grown here gone.own.goes_on proper,
+        extended_top t items now x new next_one seen is written (gone.moves ∙ ap (λ (N : Move). x.moves ++ N ∷ []) gone.one) gone.alone refl gone.count,
+      )
+
+-- so it is, or nothing is changed
+module _ {a : Meaning} (laws : AggregatorLaws a) (t items : List OwnLayer) (now : List Layer) (x new : OwnLayer) (M : Move)
+    (seen : layers_on finite.empty items ≡ now) (is : items ≡ t ++ x ∷ []) (sound : All IsSound now) where
+  back : new ≡ x → layers_on finite.empty (t ++ new ∷ []) ≡ now
+  back same = ap (λ (y : OwnLayer). layers_on finite.empty (t ++ y ∷ [])) same ∙ ap (λ (s : List OwnLayer). layers_on finite.empty s) (sym is) ∙ seen
+
+  pub step_gone_on : (r : Result Bool AllocError) → IfOk r (IsLayerGoneOn a M x new) →
+      IfOk r (λ done. (old : Old) → IsStepGoneOn a old now (layers_on finite.empty (t ++ new ∷ [])) M done)
+  step_gone_on (Ok true) gone = λ old. taken_in laws old t items now x new M seen is sound gone
+  step_gone_on (Ok false) same = λ old. back same
+  step_gone_on (Err e) same = tt
+
+  pub step_kept : (r : Result Bool AllocError) → OnErr r (new ≡ x) → OnErr r (layers_on finite.empty (t ++ new ∷ []) ≡ now)
+  step_kept (Ok _) same = tt
+  step_kept (Err e) same = back same
+
+  pub step_sound : (old : Old) (r : Result Bool AllocError) → IfOk r (IsLayerGoneOn a M x new) → OnErr r (new ≡ x) →
+      All IsSound (layers_on finite.empty (t ++ new ∷ []))
+  step_sound old (Ok true) gone same =
+      let taken = taken_in laws old t items now x new M seen is sound gone in
+      subst (λ (s : List Layer). All IsSound s) (sym taken.2)
+      (all_push IsSound (all_but_last now) (behind (moves_of now) taken.0) (sound_items now sound)
+      (sound_behind (moves_of now) taken.0 taken.1.sound))
+  step_sound old (Ok false) gone same = subst (λ (s : List Layer). All IsSound s) (sym (back gone)) sound
+  step_sound old (Err e) gone same = subst (λ (s : List Layer). All IsSound s) (sym (back same)) sound

@@ -1,21 +1,20 @@
 -- The one move of a step, by whether it is of one move alone.
 use Rattle.std.proofs.Common.{◌≡◌, List, [], map, filter, Option, Some, None, unwrap_or, refl, sym, ap, subst, ◌∙◌}
-use Rattle.std.specs.FinMap as finite
 use Rattle.std.specs.Option.{option_map, option_map_or}
 use Rattle.asm_element.proofs.Ordered.{no_entries}
 use Rattle.asm_element.specs.Place.{Place, location_cmp}
 use Rattle.asm_update.specs.Fire.{Part, Old}
 use Rattle.asm_update.specs.Move.{Move}
-use Rattle.asm_step.specs.Column.{DoesEach}
-use Rattle.asm_step.specs.InTurn.{DoesAll}
+use Rattle.asm_step.specs.InTurn.{DoesEach, DoesAll}
 use Rattle.asm_step.specs.Layers.{Layer, IsStepOf, all_moves, one_move, one_move_of, outcomes_of, resting_of, top_of}
 use Rattle.asm_step.specs.Next.{alone_of}
 use Rattle.asm_step.specs.Outcomes.{Outcome, listed, resting_in}
 use Rattle.asm_step.specs.Resting.{KeepsGroups}
-use Rattle.asm_step.proofs.Columns.{each_none}
+use Rattle.asm_step.proofs.Standing.{each_none}
 use Rattle.asm_step.proofs.Layered.{does_nothing, no_groups, top_does, top_is}
 use Rattle.asm_step.proofs.Prefixes.{none_of_empty}
 use Rattle.asm_step.proofs.Pushed.{keeps_none}
+use Rattle.std.specs.FinMap as finite
 
 pub one_alone : (s : List Layer) (M : Move) → Some M ≡ alone_of s → M ≡ unwrap_or (one_move s) []
 one_alone s M = by_top (top_of s) where

@@ -1,5 +1,5 @@
 -- Partial updates of sets by what they add and what they remove, and one more of them.
-use Rattle.std.proofs.Common.{◌≡◌, ◌≢◌, ◌↔◌, ℕ, zero, suc, ◌+◌, ◌-◌, ◌≤◌, Bool, true, false, cond, not, ◌&&◌, ◌||◌, List, [], ◌∷◌, ◌++◌, map, length, refl, sym, ap, subst, ◌∙◌, arith, length-append}
+use Rattle.std.proofs.Common.{◌≡◌, ◌≢◌, ◌↔◌, ℕ, zero, suc, ◌+◌, ◌-◌, ◌≤◌, Bool, true, false, cond, not, ◌&&◌, ◌||◌, List, [], ◌∷◌, map, length, refl, sym, ap, ◌∙◌, arith, length-append}
 use Rattle.std.specs.Prelude.{Option, None, Some, Ok, All, IsTrue}
 use Rattle.std.specs.Bool.{OnTrue}
 use Rattle.std.specs.FinMap as finite
@@ -21,7 +21,7 @@ use Rattle.asm_update.specs.declared.action.Action.TheVariants.{SetAdd, SetRemov
 use Rattle.asm_update.specs.declared.action.Family.TheVariants.{Set}
 use Rattle.asm_aggregate.specs.PairMeaning.{refused}
 use Rattle.asm_aggregate.specs.SetMeaning.{adds_and_removes, joined_elements, set_actions, set_joins}
-use Rattle.asm_aggregate.specs.Sets.{union, difference, meets, is_the, with_element, elements_by}
+use Rattle.asm_aggregate.specs.Sets.{union, difference, meets, is_the, elements_by}
 use Rattle.asm_aggregate.specs.laws.SetAlgebra.{apart, contains-difference, contains-elements, contains-elements_by, contains-empty, contains-union, elements-empty, not_meeting, same_element}
 use Rattle.asm_step.specs.Front.{set_list, set_update, set_updates}
 use Rattle.asm_step.specs.Outcomes.{acts}

@@ -1,17 +1,37 @@
 -- What a push or an extension answers.
-use Rattle.std.specs.Prelude.{◌≡◌, ◌≤◌, ◌<◌, ◌⊎◌, List, length, Option, None, Some, Result, Ok, Err, IsErr}
+use Rattle.std.specs.Prelude.{◌++◌, map, Option, None, Some, Result, Ok, if◌then◌else◌, ◌≡◌, ◌≤◌, ◌<◌, ◌⊎◌, List, length, Err, IsErr}
 use Rattle.asm_element.specs.Place.{Place}
-use Rattle.asm_update.specs.Aggregator.{Meaning, NoJoin, Refused, TooLarge}
-use Rattle.asm_update.specs.Fire.{Part, Old, fire, IsUpdateSet, IsLeastClash}
+use Rattle.asm_update.specs.Aggregator.{Meaning, Joined, NoJoin, Refused, TooLarge}
+use Rattle.asm_update.specs.Fire.{locations, Part, Old, fire, IsUpdateSet, IsLeastClash}
+use Rattle.asm_update.specs.Move.{Move, actions_at, writes}
+use Rattle.asm_aggregate.specs.Compose.{composed_at, composition, in_turn}
 use Rattle.asm_update.specs.Limits.{instructions_limit}
-use Rattle.asm_update.specs.Move.{Move}
 use Rattle.asm_update.specs.State.{State, Updates}
 use Rattle.asm_overlay.specs.Frames.{under, seen_through}
 use Rattle.asm_overlay.specs.Limits.{frames_limit}
-use Rattle.asm_step.specs.Continued.{composed_after, continued_after}
 use Rattle.asm_step.specs.Layers.{Layer, frames_of, one_move}
 use Rattle.asm_step.specs.declared.error.StepError.{StepError}
 use Rattle.asm_step.specs.declared.error.StepError.TheVariants.{Clash, Large, Many, Deep, Memory}
+
+-- what does at a location what two moves in turn do: what they compose to where both write it, and else what the one that
+-- writes it does there, as it is
+abbrev pub continued_at : Meaning → Move → Move → Place → Joined
+continued_at a M N l =
+    if writes N l then (if writes M l then composed_at a M N l else Ok (actions_at N l)) else Ok (actions_at M l)
+
+-- one move that does what two in turn do: that at each location that one of them writes, in ascending order
+abbrev pub continued : Meaning → Move → Move → Result Move (Place × NoJoin)
+continued a M N = in_turn (map (λ l. (l, continued_at a M N l)) (locations (M ++ N)))
+
+-- the one move of those before, if there are any, and then the next one; a first one is as it is
+abbrev pub continued_after : Meaning → Option Move → Move → Result Move (Place × NoJoin)
+continued_after a None M = Ok M
+continued_after a (Some D) M = continued a D M
+
+-- what the one move of those before, if there are any, and then the next one compose to
+abbrev pub composed_after : Meaning → Option Move → Move → Result Move (Place × NoJoin)
+composed_after a None M = Ok M
+composed_after a (Some C) M = composition a C M
 
 -- the move has an update set on what is seen through the layers
 abbrev pub HasUpdates : Part → Old → List Layer → Move → Type 0

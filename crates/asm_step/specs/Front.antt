@@ -1,22 +1,28 @@
 -- What is done at a location, kept so that one more partial update joins it.
-use Rattle.std.specs.Prelude.{◌≡◌, ◌≤◌, ◌+◌, ◌++◌, ℕ, Bool, true, false, List, [], ◌∷◌, length, map, Option, Some, None, Ok}
-use Rattle.std.specs.FinMap as finite
+use Rattle.std.specs.Prelude.{◌≡◌, ◌≤◌, ◌+◌, ◌++◌, ℕ, Bool, true, false, List, [], ◌∷◌, length, map, nat_lt, if◌then◌else◌, Option, Some, None, Ok, ◌≢◌}
+use Rattle.std.specs.List.{flat_map, list_all}
 use Rattle.asm_aggregate.specs.Bundle.{bundle_of}
 use Rattle.asm_aggregate.specs.Compose.{composed}
 use Rattle.asm_aggregate.specs.Sets.{meets}
+use Rattle.asm_element.specs.Bag.{ElementBag, entries}
 use Rattle.asm_element.specs.Place.{Place}
 use Rattle.asm_element.specs.declared.element.Element.{Element}
 use Rattle.asm_element.specs.Set.{ElementSet, elements}
 use Rattle.asm_element.specs.declared.value.Value.{Value}
-use Rattle.asm_update.specs.Action.{is_partial, AllProper}
-use Rattle.asm_update.specs.Aggregator.{Meaning}
+use Rattle.asm_update.specs.Action.{is_partial, AllProper, is_of}
+use Rattle.asm_update.specs.Aggregator.{Meaning, Joined}
 use Rattle.asm_update.specs.declared.action.Action.{Action}
-use Rattle.asm_update.specs.declared.action.Action.TheVariants.{Regular, SetAdd, SetRemove}
+use Rattle.asm_update.specs.declared.action.Action.TheVariants.{Regular, SetAdd, SetRemove, BagAdd, BagRemove}
 use Rattle.asm_step.specs.Outcomes.{Outcome, Outcomes, acts}
+use Rattle.asm_step.specs.declared.amounts.Amounts.{Amounts}
 use Rattle.asm_step.specs.declared.front.Front.{Front}
-use Rattle.asm_step.specs.declared.front.Front.TheVariants.{Nothing, Put, Sets}
+use Rattle.asm_step.specs.declared.front.Front.TheVariants.{Nothing, Put, Sets, Bags}
 use Rattle.asm_step.specs.declared.front.Grown.{Grown}
-use Rattle.asm_step.specs.declared.front.Sides.{Sides}
+use Rattle.asm_step.specs.declared.sides.Sides.{Sides}
+use Rattle.asm_update.specs.declared.action.Family.{Family}
+use Rattle.asm_step.specs.declared.in_place.Known.{Known}
+use Rattle.asm_step.specs.declared.in_place.Known.TheVariants.{Own, Other, Unknown}
+use Rattle.std.specs.FinMap as finite
 
 -- the addition of an element to a set, or its removal
 abbrev pub set_update : Bool → Element → Action
@@ -34,11 +40,32 @@ set_list added removed = set_updates true added ++ set_updates false removed
 abbrev pub sides_list : Sides → List Action
 sides_list s = set_list s.added s.removed
 
+-- the addition of so many of an element to a bag, or their removal
+abbrev pub bag_update : Bool → Element → ℕ → Action
+bag_update true e n = BagAdd e n
+bag_update false e n = BagRemove e n
+
+-- the same, or nothing where there are none of it
+abbrev pub so_many : Bool → Element → ℕ → List Action
+so_many adds e n = if nat_lt 0 n then bag_update adds e n ∷ [] else []
+
+-- the additions of the bag's elements, or their removals, in ascending order
+abbrev pub bag_updates : Bool → ElementBag → List Action
+bag_updates adds b = flat_map (λ e. so_many adds e.0 e.1) (entries b)
+
+-- additions by element, then removals by element
+abbrev pub bag_list : ElementBag → ElementBag → List Action
+bag_list added removed = bag_updates true added ++ bag_updates false removed
+
+abbrev pub amounts_list : Amounts → List Action
+amounts_list b = bag_list b.added b.removed
+
 -- the actions that a front stands for, which leave this value
 abbrev pub front_list : Value → Front → List Action
 front_list v Nothing = []
 front_list v Put = Regular v ∷ []
 front_list v (Sets s) = sides_list s
+front_list v (Bags b) = amounts_list b
 
 -- what it adds to a set and what it removes have nothing in common
 abbrev pub IsFront : Front → Type 0
@@ -50,8 +77,8 @@ abbrev pub IsChanged : Meaning → Action → Value → Value → Bool → Type 
 IsChanged a x v w true = a.part v None (x ∷ []) ≡ Ok w
 IsChanged a x v w false = w ≡ v
 
--- the set is the one that is wanted; or nothing is changed
-abbrev pub IsExchanged : ElementSet → ElementSet → ElementSet → Option Grown → Type 0
+-- the set, or the bag, is the one that is wanted; or nothing is changed
+abbrev pub IsExchanged : {X : Type 0} → X → X → X → Option Grown → Type 0
 IsExchanged old new wanted (Some grown) = new ≡ wanted
 IsExchanged old new wanted None = new ≡ old
 
@@ -97,3 +124,15 @@ pub record GoneOnAt (a : Meaning) (l : Place) (x : Action) (old new : Outcomes) 
 abbrev pub IsGoneOnAt : Meaning → Place → Action → Outcomes → Outcomes → Option Grown → Type 0
 IsGoneOnAt a l x old new (Some grown) = GoneOnAt a l x old new grown
 IsGoneOnAt a l x old new None = new ≡ old
+
+-- the aggregator owns the family, and joins lists of its partial updates by this function
+pub record Joins (a : Meaning) (f : Family) (joins : List Action → List Action → Joined) : Type 0 where
+  pub owns : a.owns f ≡ true
+  pub same : (first second : List Action) → first ≢ [] → list_all (is_of f) first ≡ true →
+      list_all (is_of f) second ≡ true → a.joins first second ≡ joins first second
+
+-- so it is where `Own` is answered; where `Other` is, it doesn't own the family
+abbrev pub IsKnown : Meaning → Family → (List Action → List Action → Joined) → Known → Type 0
+IsKnown a f joins Own = Joins a f joins
+IsKnown a f joins Other = a.owns f ≡ false
+IsKnown a f joins Unknown = Unit {0}

@@ -1,18 +1,19 @@
 -- What contracts see of a step, and of which moves it is one.
-use Rattle.std.specs.Prelude.{◌≡◌, ◌≤◌, ℕ, Bool, List, [], ◌∷◌, ◌++◌, length, Option, None, Some, unwrap_or, refl, if◌then◌else◌}
+use Rattle.std.specs.Prelude.{◌≡◌, ◌≤◌, ℕ, Bool, List, [], ◌∷◌, ◌++◌, length, Option, None, Some, unwrap_or, refl, if◌then◌else◌, nat_eq}
 use Rattle.std.specs.Coded.{Coded, code_by, coded×, coded_list, coded_ℕ, coded_option}
-use Rattle.std.specs.FinMap as finite
 use Rattle.std.specs.Option.{option_map, option_map_or}
 use Rattle.asm_element.specs.Place.{Place}
 use Rattle.asm_update.specs.Fire.{Part, Old}
 use Rattle.asm_update.specs.Limits.{instructions_limit}
 use Rattle.asm_update.specs.Move.{Move, actions_at}
-use Rattle.asm_overlay.specs.Frames.{Frames}
-use Rattle.asm_step.specs.Column.{DoesEach}
-use Rattle.asm_step.specs.InTurn.{DoesAll, IsWrittenInTurn}
+use Rattle.asm_overlay.specs.Frames.{Frames, seen_through}
+use Rattle.asm_step.specs.InTurn.{DoesEach, DoesAll, IsWrittenInTurn}
 use Rattle.asm_step.specs.Outcomes.{Outcomes, actions_in, builds_at, frame, laid, listed, resting_in, rests_at, sees_at}
 use Rattle.asm_step.specs.Resting.{builds, rests, KeepsGroups}
 use Rattle.asm_step.specs.declared.layer.OwnLayer.{OwnLayer}
+use Rattle.std.specs.Cmp.Lexicographic.{pointwise}
+use Rattle.asm_element.specs.declared.value.Value.{Value}
+use Rattle.std.specs.FinMap as finite
 
 -- what all moves up to a layer come to at each location that one of them writes; the moves of the layer itself, the pushed
 -- one and those that extend it; the step's one move, where it is one alone; and how many instructions the outcomes have
@@ -123,3 +124,7 @@ abbrev pub extended : List (List Move) → Move → List (List Move)
 extended [] M = (M ∷ []) ∷ []
 extended (group ∷ []) M = (group ++ M ∷ []) ∷ []
 extended (group ∷ next ∷ groups) M = group ∷ extended (next ∷ groups) M
+
+-- what is seen through the frames at a location with this function name, and what is below at another
+abbrev pub scanned : Frames → Old → List ℕ → Place → Value
+scanned frames below name l = if pointwise nat_eq l.name name then seen_through frames below l else below l

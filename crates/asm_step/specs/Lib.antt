@@ -1,9 +1,5 @@
 pub mod Answer
-pub mod Column
-pub mod Continued
 pub mod Front
-pub mod GoneOn
-pub mod InPlace
 pub mod InTurn
 pub mod Layers
 pub mod Next
@@ -11,4 +7,3 @@ pub mod Outcomes
 pub mod Places
 pub mod Popped
 pub mod Resting
-pub mod Scan

@@ -1,11 +1,10 @@
 -- What comes to the layer of a move that is next.
-use Rattle.std.specs.Prelude.{◌≡◌, ◌⊎◌, ◌≤◌, ◌<◌, ◌+◌, ℕ, Bool, true, false, not, filter, if◌then◌else◌, List, [], ◌∷◌, ◌++◌, length, Option, None, Some, Result, Ok, Err}
-use Rattle.std.specs.FinMap as map
+use Rattle.std.specs.Prelude.{◌≡◌, ◌⊎◌, ◌≤◌, ◌<◌, ◌+◌, ℕ, Bool, true, false, not, filter, if◌then◌else◌, List, [], ◌∷◌, ◌++◌, length, Option, None, Some, Result, Ok, Err, ◌-◌, All}
 use Rattle.std.specs.List.{list_any}
 use Rattle.std.specs.Option.{option_or, option_map, option_map_or}
 use Rattle.asm_element.specs.Place.{Place}
 use Rattle.asm_element.specs.declared.value.Value.{Value}
-use Rattle.asm_update.specs.Action.{is_regular}
+use Rattle.asm_update.specs.Action.{is_regular, IsProperInstruction}
 use Rattle.asm_update.specs.Aggregator.{Meaning}
 use Rattle.asm_update.specs.Fire.{Part, Old, IsUpdateSet, IsLeastClash}
 use Rattle.asm_update.specs.Limits.{instructions_limit}
@@ -16,13 +15,16 @@ use Rattle.asm_update.specs.declared.action.Instruction.{Instruction}
 use Rattle.asm_aggregate.specs.Compose.{IsSequence, NeverFires}
 use Rattle.asm_overlay.specs.Frames.{topmost, seen_through}
 use Rattle.asm_step.specs.Answer.{HasUpdates, IsContinuedBy, IsFollowedBy}
-use Rattle.asm_step.specs.Column.{IsSequenceAt}
-use Rattle.asm_step.specs.Layers.{Layer, IsSound, frames_of, laid_on, one_move, one_move_of, outcomes_of, top_of}
+use Rattle.asm_step.specs.InTurn.{IsSequenceAt, all_but_last}
+use Rattle.asm_step.specs.Layers.{Layer, IsSound, frames_of, laid_on, one_move, one_move_of, outcomes_of, top_of, behind, moves_of}
 use Rattle.asm_step.specs.Outcomes.{Outcome, Outcomes, acts_at, builds_at, frame, listed, rests_at, sees_at}
 use Rattle.asm_step.specs.Resting.{puts}
 use Rattle.asm_step.specs.declared.error.StepError.{StepError}
 use Rattle.asm_step.specs.declared.error.StepError.TheVariants.{Clash, Large, Many, Deep, Memory}
 use Rattle.asm_step.specs.declared.layer.OwnLayer.{OwnLayer}
+use Rattle.asm_step.specs.Front.{GoneOnAt}
+use Rattle.asm_step.specs.declared.front.Grown.{Grown}
+use Rattle.std.specs.FinMap as map
 
 -- the answer is the update set of the move on what is seen, or its clash
 abbrev pub IsFrame : Part → Old → Move → Result Updates StepError → Type 0
@@ -173,3 +175,32 @@ IsLayerFrom s U others C M (Err (Clash clash)) = ⊥
 IsLayerFrom s U others C M (Err (Large l)) = ⊥
 IsLayerFrom s U others C M (Err Deep) = ⊥
 IsLayerFrom s U others C M (Err Memory) = Unit {0}
+
+-- a layer that takes in a move of one partial update
+pub record LayerGoneOn (a : Meaning) (M : Move) (old new : OwnLayer) : Type 0 where
+  pub at : Place
+  pub action : Action
+  pub grown : Grown
+  pub one : M ≡ record { at = at; action = action } ∷ []
+  pub proper : All IsProperInstruction M
+  pub own : GoneOnAt a at action old.own new.own grown
+  pub moves : new.moves ≡ old.moves ++ M ∷ []
+  pub alone : new.is_alone ≡ false
+  pub count : new.count ≡ (old.count + grown.more) - grown.less
+  pub few : old.count < instructions_limit
+
+-- so it is; or nothing is changed
+abbrev pub IsLayerGoneOn : Meaning → Move → OwnLayer → OwnLayer → Bool → Type 0
+IsLayerGoneOn a M old new true = LayerGoneOn a M old new
+IsLayerGoneOn a M old new false = new ≡ old
+
+-- the topmost layer takes in the layer of the move that is next; or nothing is changed
+abbrev pub IsStepGoneOn : Meaning → Old → List Layer → List Layer → Move → Bool → Type 0
+IsStepGoneOn a old s new M true =
+    (next : Layer) × IsNextLayer a old s M next × (new ≡ all_but_last s ++ behind (moves_of s) next ∷ [])
+IsStepGoneOn a old s new M false = new ≡ s
+
+-- the answer to an extension, and the layers after it
+abbrev pub IsTakenIn : Meaning → Old → List Layer → List Layer → Move → Result (Unit {0}) StepError → Type 0
+IsTakenIn a old s new M (Ok _) = (y : Layer) × IsNextLayer a old s M y × (new ≡ all_but_last s ++ behind (moves_of s) y ∷ [])
+IsTakenIn a old s new M (Err e) = IsNext a old s M (Err e) × (new ≡ s)

@@ -1,7 +1,8 @@
 //! Which partial updates a step can apply in place.
+ghost use Rattle.asm_aggregate.specs.BagMeaning.{bag_joins};
 ghost use Rattle.asm_aggregate.specs.SetMeaning.{set_joins};
 ghost use Rattle.asm_update.specs.declared.action.Family.TheVariants as family;
-ghost use Rattle.asm_step.specs.InPlace.{IsKnown};
+ghost use Rattle.asm_step.specs.Front.{IsKnown};
 
 use asm_aggregate::{BagAgg, CountAgg, Pair, SetAgg};
 use asm_update::Aggregator;
@@ -28,11 +29,22 @@ pub trait InPlace: Aggregator {
     {
         Known::Unknown
     }
+
+    /// What is known of partial updates of bags.
+    fn bags() -> Known
+        ensures { (a : Self) → IsKnown (Self.meaning a) family.Bag bag_joins result }
+    {
+        Known::Unknown
+    }
 }
 
 impl InPlace for SetAgg {
     fn sets() -> Known {
         Known::Own
+    }
+
+    fn bags() -> Known {
+        Known::Other
     }
 }
 
@@ -40,10 +52,18 @@ impl InPlace for BagAgg {
     fn sets() -> Known {
         Known::Other
     }
+
+    fn bags() -> Known {
+        Known::Own
+    }
 }
 
 impl InPlace for CountAgg {
     fn sets() -> Known {
+        Known::Other
+    }
+
+    fn bags() -> Known {
         Known::Other
     }
 }
@@ -53,6 +73,14 @@ impl<A: InPlace, B: InPlace> InPlace for Pair<A, B> {
         match A::sets() {
             Known::Own => Known::Own,
             Known::Other => B::sets(),
+            Known::Unknown => Known::Unknown,
+        }
+    }
+
+    fn bags() -> Known {
+        match A::bags() {
+            Known::Own => Known::Own,
+            Known::Other => B::bags(),
             Known::Unknown => Known::Unknown,
         }
     }

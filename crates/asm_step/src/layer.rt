@@ -5,7 +5,7 @@ ghost use Rattle.asm_element.specs.Place.{Place};
 ghost use Rattle.asm_update.specs.Aggregator.{Meaning};
 ghost use Rattle.asm_update.specs.Move.{Move};
 ghost use Rattle.std.specs.Option.{option_copied, option_or};
-ghost use Rattle.asm_step.specs.GoneOn.{IsLayerGoneOn};
+ghost use Rattle.asm_step.specs.Next.{IsLayerGoneOn};
 ghost use Rattle.asm_step.specs.Layers.{alone_in};
 ghost use Rattle.asm_step.specs.Next.{IsComposed, IsFrame};
 

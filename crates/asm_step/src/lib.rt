@@ -5,9 +5,9 @@
 //! (CoreASM's pushed and popped states).
 #![tactic(auto)]
 
+mod amounts;
 mod error;
 mod front;
-mod gathered;
 mod held;
 mod in_place;
 mod layer;
@@ -18,6 +18,7 @@ mod over;
 mod own;
 mod popped;
 mod scan;
+mod sides;
 mod step;
 
 pub use error::StepError;

@@ -5,7 +5,7 @@ ghost use Rattle.asm_update.specs.Limits.{instructions_limit};
 ghost use Rattle.asm_update.specs.declared.action.Action.TheVariants.{Regular};
 ghost use Rattle.asm_step.specs.Outcomes.{listed, resting_in};
 
-use crate::gathered::Gathered;
+use crate::held::Gathered;
 use asm_element::{Location, Value};
 use asm_update::{Action, Instruction, Instructions};
 use std::alloc::{AllocError, Global};

@@ -4,12 +4,14 @@ ghost use Rattle.std.specs.List.{flat_map};
 ghost use Rattle.std.specs.Option.{option_copied, option_map};
 ghost use Rattle.std.specs.FinMap as finite;
 ghost use Rattle.asm_aggregate.specs.Compose.{placed};
-ghost use Rattle.asm_update.specs.Fire.{Old};
-ghost use Rattle.asm_step.specs.GoneOn.{IsStepGoneOn};
-ghost use Rattle.asm_update.specs.Limits.{instructions_limit};
-ghost use Rattle.asm_step.specs.Layers.{outcomes_of, top_of};
-ghost use Rattle.asm_step.specs.Next.{IsNext, AreFilled, AreMarked, AreOpened, IsLayerFrom, count_of, is_first, on_top, opened_at, those};
 ghost use Rattle.asm_update.specs.Action.{is_regular};
+ghost use Rattle.asm_update.specs.Fire.{Old};
+ghost use Rattle.asm_update.specs.Limits.{instructions_limit};
+ghost use Rattle.asm_update.specs.Move.{Move};
+ghost use Rattle.asm_step.specs.InTurn.{all_but_last};
+ghost use Rattle.asm_step.specs.Layers.{Layer, IsSound, alone_in, behind, laid_on, moves_of, outcomes_of, top_of};
+ghost use Rattle.asm_step.specs.Next.{IsNext, AreFilled, AreMarked, AreOpened, IsLayerFrom, count_of, is_first, on_top, opened_at, those};
+ghost use Rattle.asm_step.specs.Next.{IsStepGoneOn, IsTakenIn};
 ghost use Rattle.asm_step.specs.Outcomes.{acts_at, actions_in, listed, own_of, with_put};
 
 use crate::error::StepError;
@@ -74,8 +76,8 @@ fn put_layer(alloc: Global, put: &Instructions) -> Result<OwnLayer, AllocError>
 }
 
 impl Step {
-    /// Extends the topmost layer by a move in place; whether that is done here. After an error nothing is changed.
-    pub(crate) fn go_on<A: InPlace>(
+    // Extends the topmost layer by a move in place; whether that is done here. After an error nothing is changed.
+    fn go_on<A: InPlace>(
         &mut self,
         alloc: Global,
         aggregator: &A,
@@ -167,6 +169,7 @@ impl Step {
     }
 
     // Whether there are no moves so far.
+    #[tactic(auto, using(crate::proofs::Prefixes::first_by))]
     fn is_first(&self) -> bool
         ensures { result ≡ is_first self.now }
     {
@@ -177,6 +180,7 @@ impl Step {
     }
 
     // Whether the moves so far do anything at the location.
+    #[tactic(auto, using(crate::proofs::Insertions::acting_nowhere, crate::proofs::Insertions::acting_there))]
     fn acts_at(&self, at: &Location) -> bool
         ensures { result ≡ acts_at (outcomes_of self.now) at.now }
     {
@@ -311,7 +315,9 @@ impl Step {
         let others = self.count() - earlier.len();
         self.layer_of(alloc, frame, others, &composed, &apart, instructions)
     }
+
     /// The layer of a move that is next.
+    #[tactic(auto, using(crate::proofs::Prefixes::without_top))]
     pub(crate) fn next_layer<A: Aggregator, L: Lookup>(
         &self,
         alloc: Global,
@@ -326,5 +332,40 @@ impl Step {
             Some(_) => self.later_layer(alloc, aggregator, below, instructions),
             None => self.first_layer(alloc, aggregator, below, instructions),
         }
+    }
+
+    // Lets the topmost layer take in the layer of a move that extends it. After an error nothing is changed.
+    fn extend_top(&mut self, alloc: Global, next: OwnLayer) -> Result<(), AllocError>
+        requires some { self.old ≢ [] }
+        requires sound { IsSound (laid_on (outcomes_of self.old) next) }
+        requires one { (M : Move) × (next.moves ≡ M ∷ []) }
+        requires later { alone_in next ≡ None }
+        ensures ok { OnOk result (self.new ≡ all_but_last self.old
+            ++ behind (moves_of self.old) (laid_on (outcomes_of self.old) next) ∷ []) }
+        ensures err { OnErr result (self.new ≡ self.old) }
+    {
+        let last = self.layers.len() - 1;
+        self.layers[last].extend(alloc, next)?;
+        Ok(())
+    }
+
+    /// Extends the topmost layer by a move, in place where that is done.
+    pub(crate) fn take_in<A: InPlace, L: Lookup>(
+        &mut self,
+        alloc: Global,
+        aggregator: &A,
+        below: &L,
+        instructions: &Instructions,
+    ) -> Result<(), StepError>
+        requires { (z : Layer) × (top_of self.old ≡ Some z) }
+        ensures { IsTakenIn (A.meaning aggregator.now) (L.value_at below.now) self.old self.new instructions.now result }
+    {
+        let done = self.go_on(alloc, aggregator, instructions)?;
+        if done {
+            return Ok(());
+        }
+        let next = self.next_layer(alloc, aggregator, below, instructions)?;
+        self.extend_top(alloc, next)?;
+        Ok(())
     }
 }

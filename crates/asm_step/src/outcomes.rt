@@ -204,6 +204,7 @@ impl Outcomes {
         }
     }
 
+    #[tactic(auto, using(crate::proofs::Insertions::walked))]
     pub(crate) fn iter(&self) -> Iter<'_, Location, Outcome>
         ensures { result ≡ map.entries self.now }
     {
@@ -223,12 +224,14 @@ impl Outcomes {
     }
 
     /// How many locations there are.
+    #[tactic(auto, using(crate::proofs::Insertions::so_many_in))]
     fn len(&self) -> usize
         ensures { result ≡ map.len self.now }
     {
         self.tree.len()
     }
 
+    #[tactic(auto, using(crate::proofs::Insertions::walked))]
     fn into_entries(self) -> IntoIter<Location, Outcome>
         ensures { result ≡ map.entries self }
     {
@@ -236,6 +239,7 @@ impl Outcomes {
     }
 
     /// Gives the location this outcome. After an error nothing is changed.
+    #[tactic(auto, using(crate::proofs::Insertions::inserted_in))]
     pub(crate) fn put(&mut self, at: Location, outcome: Outcome) -> Result<(), AllocError>
         ensures ok { OnOk result (self.new ≡ map.insert self.old at outcome) }
         ensures err { OnErr result (self.new ≡ self.old) }
@@ -321,6 +325,7 @@ impl Outcomes {
         }
     }
 
+    #[tactic(auto, using(crate::proofs::Insertions::removed_in))]
     fn take_out(&mut self, at: &Location)
         ensures { self.new ≡ map.remove self.old at.now }
     {
@@ -328,6 +333,7 @@ impl Outcomes {
     }
 
     /// Takes the last write of a location back, which takes no memory.
+    #[tactic(auto, using(crate::proofs::Insertions::exchanged, crate::proofs::Insertions::none_again))]
     fn take_back(&mut self, at: &Location, before: Option<Outcome>)
         ensures { (old : Outcomes) (w : Outcome) → before ≡ map.get old at.now →
             self.old ≡ map.insert old at.now w → self.new ≡ old }

@@ -8,8 +8,7 @@ ghost use Rattle.asm_step.specs.Front.{IsGoneOnAt};
 ghost use Rattle.asm_step.specs.Outcomes.{own_of, put_alone, resting_in};
 
 use crate::front::Grown;
-use crate::gathered::Gathered;
-use crate::held::Held;
+use crate::held::{Gathered, Held};
 use crate::in_place::InPlace;
 use crate::outcomes::{Outcome, Outcomes};
 use asm_aggregate::only_put;
@@ -84,6 +83,7 @@ impl Own {
     }
 
     /// Whether one of the outcomes rests on what is below.
+    #[tactic(auto, using(crate::proofs::Rested::put_rests))]
     pub(crate) fn rests_somewhere(&self) -> bool
         ensures { OnFalse result (resting_in self.now ≡ []) }
     {
@@ -105,6 +105,7 @@ impl Own {
 
     /// Goes on at the location with one partial update of a later move, in place; None where that isn't done here.
     /// After an error nothing is changed.
+    #[tactic(auto, using(crate::proofs::Rested::each_gone_on_err, crate::proofs::Rested::each_gone_on_ok))]
     pub(crate) fn go_on<A: InPlace>(
         &mut self,
         alloc: Global,

@@ -5,7 +5,7 @@ ghost use Rattle.asm_element.specs.Place.{Place};
 ghost use Rattle.asm_update.specs.State.{val, write};
 ghost use Rattle.asm_step.specs.Layers.{frames_of};
 ghost use Rattle.asm_step.specs.Outcomes.{frame};
-ghost use Rattle.asm_step.specs.Scan.{scanned};
+ghost use Rattle.asm_step.specs.Layers.{scanned};
 
 use crate::outcomes::Outcomes;
 use crate::own::Own;

@@ -12,17 +12,15 @@ ghost use Rattle.asm_update.specs.State.{State, IsProper, val};
 ghost use Rattle.asm_overlay.specs.Frames.{under, seen_through, topmost};
 ghost use Rattle.asm_overlay.specs.Limits.{frames_limit};
 ghost use Rattle.asm_step.specs.Answer.{IsPushAnswer, IsPushAnswerOn, IsFollowedBy, IsLastOn};
-ghost use Rattle.asm_step.specs.Column.{IsClashOfOne};
-ghost use Rattle.asm_step.specs.GoneOn.{IsTakenIn};
+ghost use Rattle.asm_step.specs.InTurn.{IsClashOfOne};
 ghost use Rattle.asm_step.specs.InTurn.{fire_all, all_but_last, Agrees, DoesAll};
 ghost use Rattle.asm_step.specs.Layers.{Layer, frames_of, outcomes_of, one_move, all_moves, resting_of, shows_below};
-ghost use Rattle.asm_step.specs.Layers.{alone_in, behind, extended, laid_on, moves_of, top_of, IsSound, IsStepOf};
+ghost use Rattle.asm_step.specs.Layers.{alone_in, extended, top_of, IsSound, IsStepOf};
 ghost use Rattle.asm_step.specs.Next.{alone_of};
 ghost use Rattle.asm_step.specs.Resting.{left_by, rests, sees_below, AgreesAtRests, AgreesIfSeen, AreThose};
 
 use crate::error::StepError;
-use crate::gathered::Gathered;
-use crate::held::Held;
+use crate::held::{Gathered, Held};
 use crate::in_place::InPlace;
 use crate::layer::{OwnLayer, move_after};
 use crate::listing::{listing, resting_places};
@@ -91,41 +89,6 @@ impl Step {
         self.layers.as_slice().last()
     }
 
-    // Lets the topmost layer take in the layer of a move that extends it. After an error nothing is changed.
-    fn extend_top(&mut self, alloc: Global, next: OwnLayer) -> Result<(), AllocError>
-        requires some { self.old ≢ [] }
-        requires sound { IsSound (laid_on (outcomes_of self.old) next) }
-        requires one { (M : Move) × (next.moves ≡ M ∷ []) }
-        requires later { alone_in next ≡ None }
-        ensures ok { OnOk result (self.new ≡ all_but_last self.old
-            ++ behind (moves_of self.old) (laid_on (outcomes_of self.old) next) ∷ []) }
-        ensures err { OnErr result (self.new ≡ self.old) }
-    {
-        let last = self.layers.len() - 1;
-        self.layers[last].extend(alloc, next)?;
-        Ok(())
-    }
-
-    // Extends the topmost layer by a move, in place where that is done.
-    fn take_in<A: InPlace, L: Lookup>(
-        &mut self,
-        alloc: Global,
-        aggregator: &A,
-        below: &L,
-        instructions: &Instructions,
-    ) -> Result<(), StepError>
-        requires { (z : Layer) × (top_of self.old ≡ Some z) }
-        ensures { IsTakenIn (A.meaning aggregator.now) (L.value_at below.now) self.old self.new instructions.now result }
-    {
-        let done = self.go_on(alloc, aggregator, instructions)?;
-        if done {
-            return Ok(());
-        }
-        let next = self.next_layer(alloc, aggregator, below, instructions)?;
-        self.extend_top(alloc, next)?;
-        Ok(())
-    }
-
     /// Pushes a move: its instructions are aggregated on what is seen through the step's moves, and the one move goes
     /// on with it. At a location that both write the two are composed; elsewhere each stays as it is. The step's first
     /// move is its one move, as it was pushed.
@@ -167,8 +130,8 @@ impl Step {
     /// Extends the move that was pushed last: what the instructions write goes into its layer, and the step is
     /// no deeper. A step without moves has one after it, as after a push.
     ///
-    /// It costs as a push does; but one partial update of a set that the topmost layer has changed already, or of any value
-    /// that it has put, is applied in place. The errors come where a push would answer them, but never `Deep`. After an
+    /// It costs as a push does; but one partial update of a set or a bag that the topmost layer has changed already, or of
+    /// any value that it has put, is applied in place. The errors come where a push would answer them, but never `Deep`. After an
     /// error nothing is changed.
     pub fn extend<A: InPlace, L: Lookup>(
         &mut self,
@@ -198,6 +161,7 @@ impl Step {
     }
 
     /// The move that was pushed last, with those that extend it, as a pop would hand them back.
+    #[tactic(auto, using(crate::proofs::Layered::last_group))]
     pub fn last(&self) -> Option<&Popped>
         ensures moves { option_copied result ≡ option_map (λ y. y.moves) (top_of self.now) }
         ensures step { (part : Part) (old : Old) (groups : List (List Move)) (group : List Move) →
@@ -296,6 +260,7 @@ impl Step {
     }
 
     // The move, if it is one that was pushed alone.
+    #[tactic(auto, using(crate::proofs::OneMove::alone_by))]
     fn alone_move(&self) -> Option<&Instructions>
         ensures { option_copied result ≡ alone_of self.now }
     {

@@ -1,4 +1,4 @@
-use Rattle.std.proofs.Common.{sym, ap, ◌∙◌}
+use Rattle.std.proofs.Common.{sym, ◌∙◌}
 use Rattle.asm_element.proofs.Same.{same_list}
 use Rattle.asm_update.specs.Action.{action_eq}
 use Rattle.asm_update.specs.Equal.{action_eq-same}

@@ -1,10 +1,10 @@
 use Rattle.std.proofs.Common.{◌≡◌, List, ap, cond, subst, ◌∙◌, rules}
-use Rattle.std.specs.FinMap as finite
 use Rattle.asm_element.specs.Place.{Place}
 use Rattle.asm_element.specs.declared.value.Value.{Value}
 use Rattle.asm_update.specs.State.{write}
 use Rattle.asm_step.specs.Outcomes.{Outcome}
-use Rattle.asm_step.proofs.Scanned.{IsComing, none_in, one_in, all_in, has_name, values_in}
+use Rattle.asm_step.proofs.Insertions.{IsComing, none_in, one_in, all_in, has_name, values_in}
+use Rattle.std.specs.FinMap as finite
 use Rattle.asm_step.proofs.scan.put_each.Goals as goal
 
 pub loop-at-init : goal.loop-at-init

@@ -1,4 +1,4 @@
-use Rattle.asm_step.proofs.Scanned.{IsComing, values_in}
+use Rattle.asm_step.proofs.Insertions.{IsComing, values_in}
 use Rattle.asm_step.proofs.scan.put_each.Given as goal
 
 -- the values of the outcomes so far came in

@@ -3,7 +3,7 @@ use Rattle.std.specs.Prelude.{Option}
 use Rattle.asm_update.specs.Move.{Move}
 use Rattle.asm_step.specs.Front.{IsGoneOnAt}
 use Rattle.asm_step.specs.declared.front.Grown.{Grown}
-use Rattle.asm_step.proofs.Found.{single_move}
+use Rattle.asm_step.proofs.Insertions.{single_move}
 use Rattle.asm_step.proofs.layer.OwnLayer.go_on.Goals as goal
 
 pub returns-in-Ok-Some-clause-ok : goal.returns-in-Ok-Some-clause-ok

@@ -2,7 +2,7 @@ use Rattle.std.proofs.Common.{◌++◌, ◌∷◌, [], IsSome, is_some, ap, sym,
 use Rattle.std.specs.BTreeMap.{get_by}
 use Rattle.asm_element.specs.Place.{location_cmp}
 use Rattle.asm_update.specs.declared.action.Action.{Action}
-use Rattle.asm_step.proofs.Found.{changed_there, held_there, not_there}
+use Rattle.asm_step.proofs.Insertions.{changed_there, held_there, not_there}
 use Rattle.asm_step.proofs.outcomes.Outcomes.add.Goals as goal
 
 pub returns : goal.returns

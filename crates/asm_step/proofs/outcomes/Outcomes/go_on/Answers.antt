@@ -1,10 +1,10 @@
-use Rattle.std.proofs.Common.{◌≡◌, Some, IsSome, ap, subst, refl, ◌∙◌}
+use Rattle.std.proofs.Common.{Some, IsSome, ap, subst, refl, ◌∙◌}
 use Rattle.std.specs.FinMap as map
 use Rattle.std.specs.BTreeMap.{get_by}
 use Rattle.asm_element.specs.Place.{location_cmp, location_cmp_total, location_cmp-IsAntisymmetric}
 use Rattle.asm_element.proofs.Ordered.{insert-from_tree}
 use Rattle.asm_step.specs.Outcomes.{Outcomes}
-use Rattle.asm_step.proofs.Found.{gone_on_there, held_there}
+use Rattle.asm_step.proofs.Insertions.{gone_on_there, held_there}
 use Rattle.asm_step.proofs.outcomes.Outcomes.go_on.Goals as goal
 
 pub returns-clause-ok : goal.returns-clause-ok

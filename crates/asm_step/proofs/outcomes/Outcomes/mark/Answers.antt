@@ -1,7 +1,7 @@
 use Rattle.std.proofs.Common.{IsSome, subst, refl}
 use Rattle.std.specs.BTreeMap.{get_by}
 use Rattle.asm_element.specs.Place.{location_cmp}
-use Rattle.asm_step.proofs.Found.{changed_there, not_there}
+use Rattle.asm_step.proofs.Insertions.{changed_there, not_there}
 use Rattle.asm_step.proofs.outcomes.Outcomes.mark.Goals as goal
 
 pub returns : goal.returns

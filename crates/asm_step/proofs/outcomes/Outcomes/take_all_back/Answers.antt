@@ -1,7 +1,7 @@
 use Rattle.std.proofs.Common.{List, Option, sym, subst, rules}
 use Rattle.asm_element.specs.Place.{Place}
 use Rattle.asm_step.specs.Outcomes.{Outcome, AreReplaced}
-use Rattle.asm_step.proofs.TakenBack.{replaced_last, all_back}
+use Rattle.asm_step.proofs.Insertions.{replaced_last, all_back}
 use Rattle.asm_step.proofs.outcomes.Outcomes.take_all_back.Goals as goal
 
 pub loop-at-init : goal.loop-at-init

@@ -5,7 +5,7 @@ use Rattle.asm_element.specs.Ascending.{rising_rest}
 use Rattle.asm_element.specs.Place.{Place, location_cmp}
 use Rattle.asm_step.specs.Outcomes.{Outcome, AreReplaced}
 use Rattle.asm_step.proofs.Insertions.{insert_step, or_itself, over_start, rising_start}
-use Rattle.asm_step.proofs.TakenBack.{replaced_more}
+use Rattle.asm_step.proofs.Insertions.{replaced_more}
 use Rattle.asm_step.proofs.outcomes.Outcomes.take_in.Goals as goal
 
 pub loop-at-init : goal.loop-at-init

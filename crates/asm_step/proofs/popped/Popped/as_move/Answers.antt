@@ -2,11 +2,11 @@ use Rattle.std.proofs.Common.{◌∷◌, ◌+◌, List, Err, drop, take, inl, sy
 use Rattle.std.proofs.lemmas.Result.{err_from_is_err_and}
 use Rattle.asm_update.specs.Move.{Move}
 use Rattle.asm_aggregate.proofs.Exits.{handed_on}
-use Rattle.asm_aggregate.specs.declared.composition.ComposeError.TheVariants as compose_error
 use Rattle.asm_step.specs.InTurn.{DoesAll}
 use Rattle.asm_step.specs.Popped.{IsComposedOf, IsOneOf, KeepsTurns}
-use Rattle.asm_step.proofs.Popping.{is_at, keeps_err, more_composed, none_told}
-use Rattle.asm_step.proofs.Turns.{does_next}
+use Rattle.asm_step.proofs.Layered.{is_at, keeps_err, more_composed, none_told}
+use Rattle.asm_step.proofs.Agreeing.{does_next}
+use Rattle.asm_aggregate.specs.declared.composition.ComposeError.TheVariants as compose_error
 use Rattle.asm_step.proofs.popped.Popped.as_move.Goals as goal
 
 pub returns-in_err-one-clause-one : goal.returns-in_err-one-clause-one

@@ -1,5 +1,5 @@
 use Rattle.std.proofs.Common.{◌-◌, take, ap, ◌∙◌}
-use Rattle.asm_step.proofs.Popping.{without_last}
+use Rattle.asm_step.proofs.Layered.{without_last}
 use Rattle.asm_step.proofs.popped.Popped.take_back.Goals as goal
 
 pub returns : goal.returns

@@ -1,5 +1,5 @@
 use Rattle.asm_step.proofs.Layered.{fires_as}
-use Rattle.asm_step.proofs.OkWeaker.{if_ok_weaker}
+use Rattle.asm_step.proofs.Insertions.{if_ok_weaker}
 use Rattle.asm_step.proofs.OneMove.{one_does, one_each, one_keeps}
 use Rattle.asm_step.proofs.Standing.{clash_stands, stands}
 use Rattle.asm_step.proofs.step.Step.as_move.Goals as goal

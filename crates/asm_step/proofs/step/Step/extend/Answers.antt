@@ -1,9 +1,8 @@
-use Rattle.std.proofs.Common.{◌≡◌, List, [], ◌∷◌, ◌++◌, length, sym, ap, ◌∙◌, arith}
+use Rattle.std.proofs.Common.{List, [], ◌∷◌, ◌++◌, length, sym, ap, ◌∙◌, arith}
 use Rattle.std.proofs.lemmas.Result.{on_ok_weaker}
 use Rattle.asm_step.specs.InTurn.{all_but_last}
 use Rattle.asm_step.specs.Layers.{Layer}
-use Rattle.asm_step.proofs.Answered.{extend_first, not_deep}
-use Rattle.asm_step.proofs.Extended.{taken_answer, taken_deep, taken_err, taken_instead, taken_on, taken_step}
+use Rattle.asm_step.proofs.Answered.{extend_first, not_deep, taken_answer, taken_deep, taken_err, taken_instead, taken_on, taken_step}
 use Rattle.asm_step.proofs.Prefixes.{no_top_by_test, top_by_test, without_layers}
 use Rattle.asm_step.proofs.step.Step.extend.Goals as goal
 

@@ -4,7 +4,7 @@ use Rattle.asm_update.specs.Move.{Move}
 use Rattle.asm_overlay.specs.Frames.{OverView, seen_through}
 use Rattle.asm_step.specs.Layers.{Layer, IsSound}
 use Rattle.asm_step.specs.Next.{IsLayerFrom}
-use Rattle.asm_step.proofs.FirstLayers.{first_answer, put_answer}
+use Rattle.asm_step.proofs.Nexts.{first_answer, put_answer}
 use Rattle.asm_step.proofs.step.Step.first_layer.Goals as goal
 
 pub returns-in-Some : goal.returns-in-Some

@@ -1,14 +1,14 @@
-use Rattle.std.proofs.Common.{◌≡◌, ◌≢◌, ◌≤◌, ◌++◌, ◌∷◌, [], All, List, length, length-append, rules, sym, ap, subst, ◌∙◌, arith}
+use Rattle.std.proofs.Common.{◌≡◌, ◌≢◌, ◌∷◌, [], All, List, length, length-append, rules, sym, ap, subst, ◌∙◌, arith}
 use Rattle.std.specs.Prelude.{IfOk, OnErr}
-use Rattle.std.specs.FinMap as finite
 use Rattle.asm_element.specs.Value.{undef}
 use Rattle.asm_update.specs.Fire.{Old}
-use Rattle.asm_step.specs.GoneOn.{IsStepGoneOn}
+use Rattle.asm_step.specs.Next.{IsStepGoneOn}
 use Rattle.asm_step.specs.InTurn.{all_but_last}
 use Rattle.asm_step.specs.Layers.{Layer, IsSound, layers_on}
 use Rattle.asm_step.specs.declared.layer.OwnLayer.{OwnLayer}
 use Rattle.asm_step.proofs.Prefixes.{last_is, set_last}
-use Rattle.asm_step.proofs.TakenIn.{step_gone_on, step_kept, step_sound}
+use Rattle.asm_step.proofs.GoingOn.{step_gone_on, step_kept, step_sound}
+use Rattle.std.specs.FinMap as finite
 use Rattle.asm_step.proofs.step.Step.go_on.Goals as goal
 
 pub returns-clause-ok : goal.returns-clause-ok

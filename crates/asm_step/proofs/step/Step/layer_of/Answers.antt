@@ -3,7 +3,7 @@ use Rattle.asm_update.specs.Move.{Move}
 use Rattle.asm_step.specs.Layers.{outcomes_of}
 use Rattle.asm_step.specs.Next.{AreNext}
 use Rattle.asm_step.specs.Outcomes.{Outcomes, listed}
-use Rattle.asm_step.proofs.Opened.{filled_both, next_from, none_so_far}
+use Rattle.asm_step.proofs.Filled.{filled_both, next_from, none_so_far}
 use Rattle.asm_step.proofs.step.Step.layer_of.Goals as goal
 
 pub returns : goal.returns

@@ -1,6 +1,6 @@
 use Rattle.std.proofs.Common.{length, ap, ◌∙◌, arith}
 use Rattle.asm_step.specs.Outcomes.{Outcomes, listed}
-use Rattle.asm_step.proofs.OkWeaker.{if_ok_weaker}
+use Rattle.asm_step.proofs.Insertions.{if_ok_weaker}
 use Rattle.asm_step.proofs.OneMove.{one_alone, one_listed}
 use Rattle.asm_step.proofs.step.Step.one.Goals as goal
 

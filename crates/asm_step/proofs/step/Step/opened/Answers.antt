@@ -1,5 +1,4 @@
 use Rattle.std.proofs.Common.{T, List, refl, ap, sym, ◌∙◌, subst}
-use Rattle.std.specs.FinMap as finite
 use Rattle.std.specs.Option.{option_map, option_or}
 use Rattle.asm_element.specs.Ascending.{rising_rest}
 use Rattle.asm_element.specs.Place.{Place, location_cmp}
@@ -7,7 +6,8 @@ use Rattle.asm_element.specs.declared.value.Value.{Value}
 use Rattle.asm_step.specs.Layers.{outcomes_of}
 use Rattle.asm_step.proofs.Insertions.{insert_step, over_start, rising_start}
 use Rattle.asm_step.specs.Next.{opened_at}
-use Rattle.asm_step.proofs.Opened.{over_nothing}
+use Rattle.asm_step.proofs.Filled.{over_nothing}
+use Rattle.std.specs.FinMap as finite
 use Rattle.asm_step.proofs.step.Step.opened.Goals as goal
 
 pub loop-at-init : goal.loop-at-init

@@ -1,10 +1,9 @@
 use Rattle.std.proofs.Common.{◌≡◌, rules, All, List, [], ◌∷◌, ◌++◌, length, length-append, refl, sym, ap, ◌∙◌, subst, arith, Ok, Some}
-use Rattle.std.specs.FinMap as finite
 use Rattle.asm_overlay.specs.Frames.{under}
 use Rattle.asm_step.specs.Layers.{Layer, IsSound, IsStepOf, frames_of, laid_on, layers_on, outcomes_of}
-use Rattle.asm_step.proofs.Layered.{layers_last, layers_split, no_last}
-use Rattle.asm_step.proofs.Popping.{last_fires}
+use Rattle.asm_step.proofs.Layered.{layers_last, layers_split, no_last, last_fires}
 use Rattle.asm_step.proofs.Prefixes.{all_before, on_layers}
+use Rattle.std.specs.FinMap as finite
 use Rattle.asm_step.proofs.step.Step.pop.Goals as goal
 
 pub returns-clause-less : goal.returns-clause-less

@@ -1,14 +1,13 @@
 use Rattle.std.proofs.Common.{All, List, [], ◌∷◌, ◌++◌, Ok, length, length-append, sym, ap, ◌∙◌, subst, arith}
 use Rattle.std.proofs.lemmas.Result.{err_from_is_err_and}
-use Rattle.std.specs.FinMap as finite
 use Rattle.std.specs.Option.{option_map}
 use Rattle.asm_aggregate.proofs.Exits.{handed_on}
 use Rattle.asm_step.specs.Answer.{IsPushAnswerOn}
 use Rattle.asm_step.specs.Layers.{Layer, IsSound, laid_on, layers_on, one_move, one_move_of, outcomes_of, IsStepOf}
-use Rattle.asm_step.proofs.Answered.{answered_ok, answered_on_err, answered_on_ok, step_push}
+use Rattle.asm_step.proofs.Answered.{answered_ok, answered_on_err, answered_on_ok, step_push, shown_on_top}
 use Rattle.asm_step.proofs.Layered.{top_of-push}
 use Rattle.asm_step.proofs.Prefixes.{all_push, length-layers, on_layers}
-use Rattle.asm_step.proofs.Shown.{shown_on_top}
+use Rattle.std.specs.FinMap as finite
 use Rattle.asm_step.proofs.step.Step.push.Goals as goal
 
 pub returns-in_err-layer-clause-answer_on : goal.returns-in_err-layer-clause-answer_on

@@ -4,7 +4,7 @@ use Rattle.asm_step.specs.Layers.{all_moves}
 use Rattle.asm_step.specs.Outcomes.{Outcomes, resting_in}
 use Rattle.asm_step.specs.Resting.{rests, AreThose}
 use Rattle.asm_step.proofs.Built.{resting_those}
-use Rattle.asm_step.proofs.OkWeaker.{if_ok_weaker}
+use Rattle.asm_step.proofs.Insertions.{if_ok_weaker}
 use Rattle.asm_step.proofs.OneMove.{resting_are}
 use Rattle.asm_step.proofs.step.Step.resting_locations.Goals as goal
 

@@ -1,11 +1,10 @@
 use Rattle.std.proofs.Common.{◌≡◌, ◌∷◌, [], ◌++◌, ◌+◌, List, take, ap, sym, ◌∙◌}
 use Rattle.std.proofs.lemmas.List.{take_all, take_more}
-use Rattle.std.specs.FinMap as finite
 use Rattle.asm_update.specs.State.{val}
-use Rattle.asm_step.specs.Layers.{Layer, frames_of, layers_on}
-use Rattle.asm_step.specs.Scan.{scanned}
+use Rattle.asm_step.specs.Layers.{Layer, frames_of, layers_on, scanned}
 use Rattle.asm_step.specs.declared.layer.OwnLayer.{OwnLayer}
-use Rattle.asm_step.proofs.Scanned.{frame_in}
+use Rattle.asm_step.proofs.Insertions.{frame_in}
+use Rattle.std.specs.FinMap as finite
 use Rattle.asm_step.proofs.step.Step.scan.Goals as goal
 
 pub loop-layer-preserved : goal.loop-layer-preserved

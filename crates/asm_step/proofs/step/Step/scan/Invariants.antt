@@ -1,9 +1,8 @@
 use Rattle.std.proofs.Common.{◌≡◌, take}
-use Rattle.std.specs.FinMap as finite
 use Rattle.asm_element.specs.Place.{Place}
 use Rattle.asm_update.specs.State.{val}
-use Rattle.asm_step.specs.Layers.{frames_of, layers_on}
-use Rattle.asm_step.specs.Scan.{scanned}
+use Rattle.asm_step.specs.Layers.{frames_of, layers_on, scanned}
+use Rattle.std.specs.FinMap as finite
 use Rattle.asm_step.proofs.step.Step.scan.Given as goal
 
 -- the layers so far came in

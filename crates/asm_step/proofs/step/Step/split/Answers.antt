@@ -1,8 +1,7 @@
 use Rattle.std.proofs.Common.{◌<◌, true, false, take, length, ap, ◌∙◌, arith}
 use Rattle.asm_step.specs.Layers.{outcomes_of}
 use Rattle.asm_step.specs.Next.{those}
-use Rattle.asm_step.proofs.Filled.{taken_all, taken_one}
-use Rattle.asm_step.proofs.Split.{one_fits, one_more}
+use Rattle.asm_step.proofs.Filled.{taken_all, taken_one, one_fits, one_more}
 use Rattle.asm_step.proofs.step.Step.split.Goals as goal
 
 pub loop-instruction-init : goal.loop-instruction-init

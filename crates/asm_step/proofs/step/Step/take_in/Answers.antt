@@ -1,14 +1,13 @@
-use Rattle.std.proofs.Common.{◌≡◌, List, [], ◌∷◌, ◌++◌, Option, Some, None, Ok, Err, inl, sym, ap, subst, ◌∙◌}
+use Rattle.std.proofs.Common.{◌≡◌, List, [], ◌∷◌, ◌++◌, Option, Some, None, Err, inl, sym, ap, subst, ◌∙◌}
 use Rattle.std.proofs.lemmas.Result.{err_from_is_err_and}
 use Rattle.std.specs.Option.{option_map_or}
 use Rattle.asm_aggregate.proofs.Exits.{handed_on}
 use Rattle.asm_update.specs.Move.{Move}
-use Rattle.asm_step.specs.GoneOn.{IsStepGoneOn, IsTakenIn}
+use Rattle.asm_step.specs.Next.{IsStepGoneOn, IsTakenIn, IsNext, IsNextLayer}
 use Rattle.asm_step.specs.InTurn.{all_but_last}
 use Rattle.asm_step.specs.Layers.{Layer, behind, laid_on, moves_of, outcomes_of, top_of}
-use Rattle.asm_step.specs.Next.{IsNext, IsNextLayer}
-use Rattle.asm_step.specs.declared.error.StepError.TheVariants as step_error
 use Rattle.asm_step.proofs.Prefixes.{some_layers}
+use Rattle.asm_step.specs.declared.error.StepError.TheVariants as step_error
 use Rattle.asm_step.proofs.step.Step.take_in.Goals as goal
 
 pub go_on-requires : goal.go_on-requires
