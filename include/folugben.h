@@ -612,9 +612,9 @@ typedef struct asm_audit_numbers {
  * that have ended is right, with the numbers so far. With any other code those before the one at
  * which it comes were taken; a line is judged at its line feed. ASM_ILLEGAL: the first wrong
  * answer, with its part and its call. ASM_NOT_JSON and ASM_SHAPE, with part and line, ASM_VERSION,
- * ASM_CUT and ASM_APART, with the part: the first fault. ASM_LARGE: a line of more than 16,777,216
- * bytes. ASM_MEMORY: pass the bytes that weren't taken again. ASM_TAKEN: `audit` holds something
- * else. */
+ * ASM_CUT and ASM_APART, with the part: the first fault. ASM_LARGE: a line of more than
+ * 1,073,741,824 bytes. ASM_MEMORY: pass the bytes that weren't taken again. ASM_TAKEN: `audit` holds
+ * something else. */
 FOLUGBEN_NODISCARD int32_t asm_audit(struct asm_audit *audit, const uint8_t *bytes, size_t len,
     size_t *taken, asm_audit_numbers *told);
 

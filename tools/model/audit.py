@@ -6,7 +6,7 @@ import jsontext
 from journal import BadJournal, Fired, Header, Storage, read_event, read_header
 from jsontext import Json
 
-MAX_LINE = 2**24
+MAX_LINE = 2**30
 
 
 class Ended(Exception):

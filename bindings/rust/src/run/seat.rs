@@ -1,7 +1,7 @@
 //! Where the agents of a run are.
 use crate::agent::Agent;
 use crate::error::{Conflict, Error};
-use crate::run::lines::{SHORT, expect_call};
+use crate::run::lines::{expect_call, short};
 use crate::run::parts::{Core, Part};
 use crate::step::{commit, offer_text};
 use std::cell::Cell;
@@ -192,7 +192,7 @@ impl<'a> Lent<'a> {
     pub(crate) fn fire(&self) -> Result<u32, Error> {
         let part = self.part();
         let told = self.with(|agent| {
-            if self.size.get() >= SHORT {
+            if self.size.get() >= short() {
                 expect_call(&offer_text(agent)?)?;
             }
             part.count_receipt();
