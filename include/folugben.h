@@ -186,7 +186,7 @@ enum asm_code {
     ASM_NOT_FULL = 32,   /* the agent's own state is at fewer moves than its storage has room for:
                             asm_go_on */
     ASM_MANY_CALLS = 33, /* more calls than the 4,294,967,295 that a journal holds: asm_close */
-    ASM_LONG_LINE = 34,  /* a line of more than 16,777,216 bytes: asm_audit */
+    ASM_LONG_LINE = 34,  /* a line of more than 1,073,741,824 bytes: asm_audit */
     ASM_LONG_MOVE = 35   /* a move of more than 4,096 instructions */
 };
 
@@ -635,9 +635,9 @@ typedef struct asm_audit_numbers {
  * that have ended is right, with the numbers so far. With any other code those before the one at
  * which it comes were taken; a line is judged at its line feed. ASM_ILLEGAL: the first wrong
  * answer, with its part and its call. ASM_NOT_JSON and ASM_SHAPE, with part and line, ASM_VERSION,
- * ASM_CUT and ASM_APART, with the part: the first fault. ASM_LONG_LINE: a line of more than 16,777,216
- * bytes. ASM_MEMORY: pass the bytes that weren't taken again. ASM_TAKEN: `audit` holds something
- * else. */
+ * ASM_CUT and ASM_APART, with the part: the first fault. ASM_LONG_LINE: a line of more than
+ * 1,073,741,824 bytes. ASM_MEMORY: pass the bytes that weren't taken again. ASM_TAKEN: `audit` holds
+ * something else. */
 FOLUGBEN_NODISCARD int32_t asm_audit(struct asm_audit *audit, const uint8_t *bytes, size_t len,
     size_t *taken, asm_audit_numbers *told);
 

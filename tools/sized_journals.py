@@ -139,12 +139,13 @@ def windows(n: int) -> Iterator[Case]:
 
 
 def lines() -> Iterator[Case]:
-    """A line that is as long as one may be, and lines with a byte more, which are refused before they end."""
+    """Lines of a run that are longer than a whole script or journal may be, with their line feed and without."""
     most = 16_777_216
-    yield Case(f"audit_a_line_of_{most}_bytes", ("audit",), b"x" * most + b"\n", b"part 0 journal line 1: not JSON\n", 2)
     for name, end in (("", b""), ("_and_its_line_feed", b"\n")):
         name = f"audit_a_line_of_{most + 1}_bytes{name}"
-        yield Case(name, ("audit",), b"x" * (most + 1) + end, b"input too large\n", 2)
+        yield Case(name, ("audit",), b"x" * (most + 1) + end, b"part 0 journal line 1: not JSON\n", 2)
+    fires = event(f'{{"fire":[["put",["x"],"{"y" * most}"]],"reads":[]}}', '{"fired":1}')
+    yield Case("audit_a_call_of_17_million_bytes", ("audit",), (header(1) + fires).encode(), b"legal 1 1 1\n")
 
 
 def cut() -> Iterator[Case]:

@@ -123,8 +123,8 @@ void the_first_fault_of_a_run_is_told_with_its_place() {
     WANTED(shape.code() == code::shape && shape.part() == 1 && shape.line() == 2 && shape.text() == "part 1 line 2");
     auto apart = fault(run + run);
     WANTED(apart.code() == code::apart && apart.part() == 2 && apart.text() == "part 2");
-    auto large = fault(run + std::string((1 << 24) + 1, ' '));
-    WANTED(large.code() == code::large && large.part() == 2 && large.text() == "part 2");
+    auto spaces = fault(run + std::string((1 << 24) + 1, ' '));
+    WANTED(spaces.code() == code::not_json && spaces.part() == 2 && spaces.line() == 1);
     WANTED(!folugben::meaning(code::apart).empty() && folugben::meaning(code::apart) != folugben::meaning(code{99}));
 
     folugben::auditor auditor;

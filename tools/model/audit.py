@@ -12,7 +12,7 @@ from jsontext import Json
 from tracing import event_line
 from values import pairs_json
 
-MAX_LINE = 2**24
+MAX_LINE = 2**30
 WINDOW_VERSION = 2
 
 

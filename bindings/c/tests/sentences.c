@@ -184,7 +184,7 @@ static const struct meaning {
     {ASM_NO_PART, "no part has begun"},
     {ASM_NOT_FULL, "the state of the agent is at fewer moves than the storage has room for"},
     {ASM_MANY_CALLS, "more than the 4,294,967,295 calls of a journal"},
-    {ASM_LONG_LINE, "a line of more than 16,777,216 bytes"},
+    {ASM_LONG_LINE, "a line of more than 1,073,741,824 bytes"},
     {ASM_LONG_MOVE, "a move of more than 4,096 instructions"},
     {36, "no code of this library"},
     {-1, "no code of this library"},

@@ -3,7 +3,7 @@ package folugben;
 /**
  * What an audit tells of a run that isn't legal, or isn't whole: the first wrong answer as ILLEGAL,
  * the first fault as NOT_JSON, SHAPE, VERSION, CUT or APART, and as LARGE a line of more than
- * 16,777,216 bytes.
+ * 1,073,741,824 bytes.
  */
 public final class AuditException extends FolugbenException {
     private static final long serialVersionUID = 1;
@@ -12,7 +12,7 @@ public final class AuditException extends FolugbenException {
     private final long part;
 
     AuditException(int code, long part, long number) {
-        super(code, number, code == LARGE ? "a line of more than 16,777,216 bytes" : "",
+        super(code, number, code == LARGE ? "a line of more than 1,073,741,824 bytes" : "",
                 "part " + part + place(code, number), null);
         this.part = part;
     }

@@ -7,7 +7,7 @@ import java.util.stream.Stream;
 /** How long the lines of a run's journals may be, so that an audit reads each of them. */
 final class Lines {
     /** How many bytes a line may have, its line feed apart: what an audit reads, and is written. */
-    static final int LIMIT = Integer.getInteger("folugben.line", 16_777_216);
+    static final int LIMIT = Integer.getInteger("folugben.line", 1_073_741_824);
     /** What a line has at most besides its call and the location of its reply, or its state. */
     private static final int ROOM = 120;
 

@@ -27,7 +27,7 @@
 /* An agent that is so many moves behind, and a text of so many bytes, release the interpreter's lock. */
 enum { FAR = 1024, LONG_TEXT = 16384 };
 /* How many agents a storage makes, and how many moves it has room for; how long a line of a journal may be. */
-enum { AGENTS = 256, CAPACITY = 1048576, LINE_LIMIT = 16777216 };
+enum { AGENTS = 256, CAPACITY = 1048576, LINE_LIMIT = 1073741824 };
 
 typedef struct {
     PyTypeObject *storage, *agent, *step, *location, *move, *audit;

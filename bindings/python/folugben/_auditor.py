@@ -39,7 +39,7 @@ class Auditor(Audit):
         """Takes the next bytes, or characters, any number of them. What the audit has counted so far.
 
         `BadJournalError` at the first wrong answer, the first fault, or the first part that opens with another state; a line of more
-        than 16,777,216 bytes is such a fault too. After a `MemoryError` what wasn't taken is kept, and the next call begins with
+        than 1,073,741,824 bytes is such a fault too. After a `MemoryError` what wasn't taken is kept, and the next call begins with
         it: `feed(b"")` tries again.
         """
         text = exact(chunk, "what an audit takes")

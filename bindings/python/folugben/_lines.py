@@ -6,7 +6,7 @@ from ._library import Code
 from ._texts import decoded, encoded
 
 # How many bytes a line may have, its line feed apart: what an audit reads, and what is written.
-LINE_LIMIT = 16_777_216
+LINE_LIMIT = 1_073_741_824
 # What a line has at most besides its call and the location of its reply, or besides its state.
 ROOM = 120
 # A call of fewer bytes is never written longer than a line may be, whatever its characters are escaped to.

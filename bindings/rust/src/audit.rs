@@ -66,7 +66,7 @@ pub enum AuditError {
         /// The part's number.
         part: u64,
     },
-    /// A line of the part has more than 16,777,216 bytes.
+    /// A line of the part has more than 1,073,741,824 bytes.
     LongLine {
         /// The part's number.
         part: u64,
@@ -100,7 +100,7 @@ impl fmt::Display for AuditError {
             AuditError::Apart { part } => {
                 write!(f, "part {part} opens with another state than the one before it leaves")
             }
-            AuditError::LongLine { part } => write!(f, "part {part}: a line of more than 16,777,216 bytes"),
+            AuditError::LongLine { part } => write!(f, "part {part}: a line of more than 1,073,741,824 bytes"),
             AuditError::Memory => f.write_str("out of memory"),
         }
     }

@@ -9,7 +9,7 @@ use crate::sys;
 use crate::value::Location;
 use std::{fmt, io};
 
-pub(crate) const TOO_LONG: &str = "a line would be longer than the 16,777,216 bytes that an audit reads";
+pub(crate) const TOO_LONG: &str = "a line would be longer than the 1,073,741,824 bytes that an audit reads";
 
 /// Why a call wasn't done. Nothing was fired or lost, but for [`Error::Ended`].
 #[derive(Clone, Debug, PartialEq, Eq)]
@@ -26,7 +26,7 @@ pub enum Error {
     },
     /// As many moves were fired as the storage's capacity.
     Full,
-    /// A move or a state would make a line of a run's journal longer than the 16,777,216 bytes that an audit reads.
+    /// A move or a state would make a line of a run's journal longer than the 1,073,741,824 bytes that an audit reads.
     TooLong,
     /// The agent hasn't looked on to the end of a full storage.
     NotFull,

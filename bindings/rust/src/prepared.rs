@@ -3,7 +3,7 @@ use crate::cause::{Limit, OutOfRange};
 use crate::error::{Error, answer, done, done_with};
 use crate::held::Held;
 use crate::json::{Json, ToJson};
-use crate::run::SHORT;
+use crate::run::short;
 use crate::sys;
 use crate::value::{Element, Location, Value};
 use std::fmt;
@@ -80,7 +80,7 @@ impl PreparedMove {
     pub(crate) fn put_by(call: impl FnOnce(*mut sys::Slot) -> Result<(), Error>) -> Result<PreparedMove, Error> {
         let slot = Held::empty();
         call(slot.at())?;
-        Ok(PreparedMove { len: 1, size: SHORT, slot })
+        Ok(PreparedMove { len: 1, size: short(), slot })
     }
 
     /// How many instructions it has; what was popped into it is one of them.

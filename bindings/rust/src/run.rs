@@ -34,7 +34,7 @@ mod writer;
 pub use agent::{RunAgent, RunStep};
 pub use ended::{EndCause, Ended};
 pub use import::import_run;
-pub(crate) use lines::SHORT;
+pub(crate) use lines::short;
 pub(crate) use seat::Lent;
 pub use segment::audit_run;
 

@@ -5,10 +5,10 @@ use common::{Room, add_one, count, fired, numbers, open};
 use folugben::{
     AuditError, Check, EndCause, Error, JournalError, Run, RunOptions, Storage, Value, audit_run, import_run,
 };
-use std::fs;
 use std::io::ErrorKind;
 use std::os::unix::fs::{MetadataExt, symlink};
 use std::process::Command;
+use std::{env, fs};
 
 /// A run of 3 segments, of which the last has 5 moves.
 fn played(room: &Room) -> Vec<u8> {
@@ -146,8 +146,19 @@ fn a_segment_that_is_illegal_is_told_with_its_number() {
     assert_eq!(resume_with(&room, &text, 5, 5), [None, None]);
 }
 
+/// In a process of its own, where a line may have 16 MiB, and not 1 GiB.
 #[test]
 fn too_long_lines_are_refused_and_nothing_is_lost() {
+    let mut command = Command::new(env::current_exe().unwrap());
+    let ran =
+        command.args(["--exact", "--ignored", "too_long_lines"]).env("FOLUGBEN_LINE", "16777216").output().unwrap();
+    let told = String::from_utf8_lossy(&ran.stdout);
+    assert!(ran.status.success() && told.contains("1 passed"), "{told}");
+}
+
+#[test]
+#[ignore = "the test above runs it, with a smaller limit"]
+fn too_long_lines() {
     let room = Room::new("long");
     let (half, long) = ("x".repeat(9_000_000), "x".repeat(16_777_216));
     assert_eq!(Run::open([(count(), long.as_str().into())], room.path(), 5).err(), Some(Error::TooLong));

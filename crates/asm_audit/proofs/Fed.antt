@@ -23,7 +23,7 @@ use Rattle.asm_audit.specs.Fault.{counted, HasLong, IsFaulty}
 use Rattle.asm_audit.specs.Opened.{history_of}
 use Rattle.asm_audit.specs.Audited.{IsRead, IsAudited, IsLineAnswer, IsEnd, IsFirstIllegal}
 use Rattle.asm_audit.specs.Fed.{IsFed, HasTaken, HasTakenSome, IsFedAnswer, IsFedEnd, LeavesLine, IsToldNext, HasTakenFirst}
-use Rattle.asm_audit.specs.Kept.{IsKept}
+use Rattle.asm_audit.specs.Step.{IsKept}
 use Rattle.asm_audit.proofs.Extended.{begun_more, ended}
 use Rattle.asm_audit.proofs.Steps.{legal_more}
 

@@ -8,7 +8,6 @@ pub mod Through
 pub mod OneJournal
 pub mod Endings
 pub mod OneVerdict
-pub mod OneRun
 pub mod SoFar
 pub mod Ended
 pub mod OneSoFar

@@ -13,7 +13,7 @@ use Rattle.asm_audit.specs.Fed.{IsFed}
 use Rattle.asm_audit.specs.Step.{whole_with, is_between, HasValues}
 use Rattle.asm_audit.specs.SoFar.{IsSoFar, HasCounts, HasState, AreSoFar, IsStateSoFar, HasEnded, AreFedSoFar, IsFedStateSoFar}
 use Rattle.asm_audit.proofs.Chains.{some_push}
-use Rattle.asm_audit.proofs.OneRun.{chain_leaves}
+use Rattle.asm_audit.proofs.Chains.{chain_leaves}
 use Rattle.asm_audit.proofs.Steps.{IsBetween, read_whole, read_of, with_read, read_calls, read_moves, read_legal, read_last, left_is}
 use Rattle.asm_audit.proofs.Telling.{opened_is}
 

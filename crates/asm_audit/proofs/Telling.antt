@@ -12,7 +12,7 @@ use Rattle.asm_audit.specs.Text.{IsLineBefore}
 use Rattle.asm_audit.specs.Fault.{IsFaulty}
 use Rattle.asm_audit.specs.Opened.{IsEventAnswer}
 use Rattle.asm_audit.specs.Audited.{IsRead, IsAudited, IsFirstIllegal, IsLineAnswer}
-use Rattle.asm_audit.specs.Kept.{IsKept}
+use Rattle.asm_audit.specs.Step.{IsKept}
 use Rattle.asm_audit.proofs.Extended.{event_fault}
 use Rattle.asm_audit.proofs.Steps.{event_wrong, event_right, event_broken}
 

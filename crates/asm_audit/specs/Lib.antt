@@ -4,7 +4,6 @@ pub mod Chain
 pub mod Opened
 pub mod Fault
 pub mod Audited
-pub mod Kept
 pub mod Step
 pub mod Fed
 pub mod Run

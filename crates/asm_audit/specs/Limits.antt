@@ -3,4 +3,4 @@ use Rattle.std.specs.Prelude.{ℕ}
 
 -- the most bytes of a line that an audit of bytes keeps, the line feed apart
 abbrev pub line_limit : ℕ
-line_limit = 16777216
+line_limit = 1073741824

@@ -1,11 +1,14 @@
 -- What the steps of an audit do.
-use Rattle.std.specs.Prelude.{◌≡◌, ◌≤◌, ◌+◌, ◌↔◌, Bool, IsTrue, Option, Some, None}
+use Rattle.std.specs.Prelude.{◌≡◌, ◌≤◌, ◌+◌, ◌↔◌, Bool, IsTrue, Option, Some, None, true, false, Result, Ok, Err}
 use Rattle.asm_element.specs.Place.{Place}
 use Rattle.asm_update.specs.State.{State, IsProper, val}
 use Rattle.asm_state.specs.View.{StateView, value_at}
 use Rattle.asm_audit.specs.declared.opened.Opened.{Opened}
 use Rattle.asm_audit.specs.declared.progress.Counts.{Counts}
 use Rattle.asm_audit.specs.Fault.{counted}
+use Rattle.asm_audit.specs.declared.error.AuditError.{AuditError}
+use Rattle.asm_audit.specs.declared.progress.Told.{Told}
+use Rattle.asm_audit.specs.declared.progress.Told.TheVariants.{Legal, Illegal}
 
 -- the numbers with those of the part that is read
 abbrev pub whole_with : Counts → Opened → Counts
@@ -38,3 +41,15 @@ IsNextTest s init b =
 abbrev pub IsOnTest : Option Opened → State → Bool → Type 0
 IsOnTest None init b = IsTrue b
 IsOnTest (Some o) init b = IsNextTest o.state init b
+
+-- unless all is told legal, it is as it was
+abbrev pub IsKept : {T : Type 0} → T → T → Result Told AuditError → Type 0
+IsKept old new (Ok Legal) = Unit {0}
+IsKept old new (Ok (Illegal j c)) = new ≡ old
+IsKept old new (Err e) = new ≡ old
+
+-- unless the answer is true, it is as it was
+abbrev pub StaysUnlessTrue : {T E : Type 0} → T → T → Result Bool E → Type 0
+StaysUnlessTrue old new (Ok true) = Unit {0}
+StaysUnlessTrue old new (Ok false) = new ≡ old
+StaysUnlessTrue old new (Err e) = new ≡ old

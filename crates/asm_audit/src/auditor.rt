@@ -2,7 +2,7 @@
 ghost use Rattle.std.specs.Prelude.{◌≡◌, [], OnOk, IfOk};
 ghost use Rattle.asm_audit.specs.Text.{IsLineBefore, HasLineFeed};
 ghost use Rattle.asm_audit.specs.Audited.{IsAudited, IsLineAnswer, IsEnd, IsCutEnd};
-ghost use Rattle.asm_audit.specs.Kept.{IsKept};
+ghost use Rattle.asm_audit.specs.Step.{IsKept};
 ghost use Rattle.asm_audit.specs.SoFar.{AreSoFar, IsStateSoFar};
 
 use crate::error::AuditError;

@@ -10,10 +10,10 @@ use asm_update::{Aggregator, PlainState};
 use std::alloc::{AllocError, Global};
 
 /// The most bytes of a line that an audit of bytes keeps, the line feed apart.
-pub const LINE_LIMIT: usize = 16_777_216;
+pub const LINE_LIMIT: usize = 1_073_741_824;
 
 /// Audits a run as its bytes come, in pieces that may begin and end anywhere. Beside an `Auditor` it holds the bytes of
-/// the line that hasn't ended, of which there are at most 16,777,216.
+/// the line that hasn't ended, of which there are at most 1,073,741,824.
 #[derive(Drop)]
 pub struct ByteAuditor<A: Aggregator + Drop> {
     auditor: Auditor<A>,
@@ -25,7 +25,7 @@ pub struct ByteAuditor<A: Aggregator + Drop> {
 impl<A: Aggregator + Drop> ByteAuditor<A> {
     ghost use Rattle.std.specs.Prelude.{◌++◌, ◌∷◌, []};
     ghost use Rattle.asm_audit.specs.Audited.{IsLineAnswer};
-    ghost use Rattle.asm_audit.specs.Kept.{IsKept};
+    ghost use Rattle.asm_audit.specs.Step.{IsKept};
     ghost use Rattle.asm_audit.specs.Fed.{IsFed, IsFedAnswer, HasTakenSome, HasTakenFirst, IsFedEnd, LeavesLine};
     ghost use Rattle.asm_audit.specs.SoFar.{AreFedSoFar, IsFedStateSoFar};
 
@@ -87,7 +87,7 @@ impl<A: Aggregator + Drop> ByteAuditor<A> {
     /// Takes the next bytes, and how many of them were taken.
     ///
     /// What is told is so whatever bytes come behind these, as `Auditor::line` tells it, at the line feed of the line;
-    /// `LongLine` comes at the byte that makes a line longer than 16,777,216 bytes. With `Legal` all bytes were taken,
+    /// `LongLine` comes at the byte that makes a line longer than 1,073,741,824 bytes. With `Legal` all bytes were taken,
     /// and after any other answer those before the byte at which it came, and no others: where memory was refused, which
     /// alone tells `Memory`, the rest may be passed again.
     pub fn feed_some(&mut self, alloc: Global, bytes: &[u8]) -> (usize, Result<Told, AuditError>)

@@ -17,7 +17,7 @@ pub enum AuditError {
     /// This part opens with another state than the part before it leaves.
     #[error("part {part} opens with another state")]
     Apart { part: u64 },
-    /// A line has more than 16,777,216 bytes.
+    /// A line has more than 1,073,741,824 bytes.
     #[error("a line is too long")]
     LongLine,
     /// The memory that the call asked for was refused.

@@ -3,7 +3,7 @@ ghost use Rattle.std.specs.Prelude.{◌≡◌, ◌<◌, ◌≤◌, ◌+◌, ◌�
 ghost use Rattle.asm_update.specs.Fire.{Part};
 ghost use Rattle.asm_state.specs.Stands.{Stands};
 ghost use Rattle.asm_journal.specs.Fault.{BreaksEvent};
-ghost use Rattle.asm_audit.specs.Kept.{StaysUnlessTrue};
+ghost use Rattle.asm_audit.specs.Step.{StaysUnlessTrue};
 ghost use Rattle.asm_audit.specs.Opened.{IsTaken};
 ghost use Rattle.asm_audit.specs.Step.{HasValues};
 

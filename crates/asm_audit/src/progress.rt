@@ -4,7 +4,7 @@ ghost use Rattle.asm_update.specs.Fire.{Part};
 ghost use Rattle.asm_audit.specs.Text.{IsLineBefore, HasLineFeed};
 ghost use Rattle.asm_audit.specs.Opened.{IsEventAnswer};
 ghost use Rattle.asm_audit.specs.Step.{whole_with, all_with, is_between, IsNextTest, IsOnTest};
-ghost use Rattle.asm_audit.specs.Kept.{IsKept};
+ghost use Rattle.asm_audit.specs.Step.{IsKept};
 ghost use Rattle.asm_audit.specs.Audited.{IsAudited, IsLineAnswer, IsEnd, IsCutEnd};
 ghost use Rattle.asm_audit.specs.SoFar.{AreSoFar, IsStateSoFar};
 

@@ -21,7 +21,7 @@ use std::alloc::Global;
 /// a line is told at its line feed. `ASM_ILLEGAL`: the first answer that is wrong, with the numbers of its part, from 0, and
 /// of its call in it, from 0. `ASM_NOT_JSON`, `ASM_SHAPE`, `ASM_VERSION`, `ASM_CUT`: the fault of the journal of a part,
 /// with its number, and with the first two that of the line in it, from 1. `ASM_APART`: the part with this number opens with
-/// another state than the one before it leaves. `ASM_LONG_LINE`: a line has more than 16,777,216 bytes. `ASM_MEMORY`: pass the
+/// another state than the one before it leaves. `ASM_LONG_LINE`: a line has more than 1,073,741,824 bytes. `ASM_MEMORY`: pass the
 /// bytes that weren't taken again. `ASM_TAKEN`: the slot holds something else, and is as it was. What a code doesn't set is 0.
 #[unsafe(no_mangle)]
 pub extern "C" fn asm_audit(

@@ -171,7 +171,7 @@ fn further_text(code: i32) -> &'static str
         NO_PART => "no part has begun",
         NOT_FULL => "the state of the agent is at fewer moves than the storage has room for",
         MANY_CALLS => "more than the 4,294,967,295 calls of a journal",
-        LONG_LINE => "a line of more than 16,777,216 bytes",
+        LONG_LINE => "a line of more than 1,073,741,824 bytes",
         LONG_MOVE => "a move of more than 4,096 instructions",
         _ => "no code of this library",
     }

@@ -123,8 +123,11 @@ final class AuditTests {
                 FolugbenException.VERSION, 1, -1, 0, " (part 1)");
         faultIs(first + parts.get(2), FolugbenException.APART, 1, -1, 0, " (part 1)");
         equal(fault(first + parts.get(2)).kind(), Code.APART);
-        faultIs(first + "x".repeat(16_777_217), FolugbenException.LARGE, 1, -1, 0,
-                ": a line of more than 16,777,216 bytes (part 1)");
+        faultIs(first + "x".repeat(16_777_217), FolugbenException.NOT_JSON, 1, -1, 1,
+                " (part 1, line 1)");
+        equal(new AuditException(FolugbenException.LARGE, 1, 0).getMessage(),
+                FolugbenException.errorText(FolugbenException.LARGE)
+                        + ": a line of more than 1,073,741,824 bytes (part 1)");
     }
 
     /** What comes before a fault is taken, and is told again for what isn't. */

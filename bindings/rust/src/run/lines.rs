@@ -3,13 +3,24 @@ use crate::error::{Error, answer};
 use crate::instruction::Instruction;
 use crate::json::{Json, ToJson};
 use crate::storage::Storage;
+use std::env;
+use std::sync::LazyLock;
 
 /// How many bytes a line may have, its line feed apart.
-const LINE: usize = 16_777_216;
+const LINE: usize = 1_073_741_824;
 /// What a line has at most besides its call and the location of its reply.
 const ROOM: usize = 120;
+
+/// How many bytes a line may have here: `LINE`, or the smaller number that a test sets by `FOLUGBEN_LINE`.
+static MOST: LazyLock<usize> = LazyLock::new(|| {
+    let set = env::var("FOLUGBEN_LINE").ok().and_then(|it| it.parse().ok());
+    set.map_or(LINE, |it: usize| it.min(LINE))
+});
+
 /// A call of fewer bytes is never written longer than a line may be, whatever its characters are escaped to.
-pub(crate) const SHORT: usize = LINE / 16;
+pub(crate) fn short() -> usize {
+    *MOST / 16
+}
 
 /// Expects that a segment may open with the state of the storage, in which nothing was done.
 pub(crate) fn expect_state(storage: &Storage) -> Result<(), Error> {
@@ -20,7 +31,7 @@ pub(crate) fn expect_state(storage: &Storage) -> Result<(), Error> {
 pub(crate) fn events(journal: &[u8]) -> Result<u64, Error> {
     let mut lines = 0;
     for line in journal.split_inclusive(|it| *it == b'\n') {
-        if line.len() > LINE + 1 {
+        if line.len() > *MOST + 1 {
             return Err(Error::TooLong);
         }
         lines += 1;
@@ -30,11 +41,11 @@ pub(crate) fn events(journal: &[u8]) -> Result<u64, Error> {
 
 /// Expects that the line of a fire of this offer is short enough, whatever its reply is.
 pub(crate) fn expect_call(offer: &[u8]) -> Result<(), Error> {
-    if 2 * offer.len() + ROOM <= LINE {
+    if 2 * offer.len() + ROOM <= *MOST {
         return Ok(());
     }
     let (instructions, reads) = answer(offer, Json::offer)?;
     let places = instructions.instructions().iter().map(Instruction::at).chain(reads.iter().map(|(at, _)| at));
     let longest = places.map(|it| it.json().len()).max().unwrap_or(0);
-    if offer.len() + longest + ROOM <= LINE { Ok(()) } else { Err(Error::TooLong) }
+    if offer.len() + longest + ROOM <= *MOST { Ok(()) } else { Err(Error::TooLong) }
 }

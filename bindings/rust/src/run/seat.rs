@@ -4,7 +4,7 @@ use crate::cause::Conflict;
 use crate::error::Error;
 use crate::holder::{commit, offer_text};
 use crate::number::AgentNumber;
-use crate::run::lines::{SHORT, expect_call};
+use crate::run::lines::{expect_call, short};
 use crate::run::part::Part;
 use crate::run::parts::Core;
 use std::cell::Cell;
@@ -195,7 +195,7 @@ impl<'a> Lent<'a> {
     pub(crate) fn commit(&self) -> Result<u32, Error> {
         let part = self.part();
         let told = self.with(|agent| {
-            if self.size.get() >= SHORT {
+            if self.size.get() >= short() {
                 expect_call(&offer_text(agent)?)?;
             }
             part.count_receipt();

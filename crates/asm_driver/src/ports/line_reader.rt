@@ -107,7 +107,7 @@ impl LineReader {
 
     /// Reads the next line. No read is tried again.
     ///
-    /// `TooLarge`: it has more than 16,777,216 bytes, the line feed apart. `Fault`: a read failed. `Memory` comes only
+    /// `TooLarge`: it has more than 1,073,741,824 bytes, the line feed apart. `Fault`: a read failed. `Memory` comes only
     /// where memory was refused.
     pub(crate) fn read<T: Wait, S: Source>(
         &mut self,

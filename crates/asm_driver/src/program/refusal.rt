@@ -20,7 +20,7 @@ use std::alloc::{AllocError, Global};
 pub enum Refusal {
     /// The program does not take these words.
     Words,
-    /// The input, or a line of a run, has more than 16,777,216 bytes.
+    /// The input has more than 16,777,216 bytes, or a line of a run more than 1,073,741,824.
     TooLarge,
     /// The input is not a script.
     BadScript(ScriptCause),

@@ -1,4 +1,4 @@
-use Rattle.asm_audit.proofs.OneRun as run
+use Rattle.asm_audit.proofs.Chains as run
 use Rattle.asm_audit.proofs.laws.one_run.Goals as goal
 
 pub returns : goal.returns
