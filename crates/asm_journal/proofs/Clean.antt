@@ -1,7 +1,11 @@
--- A value that was written is read back: of numbers in 64 bits, texts in UTF-8 and members in order.
-use Rattle.std.proofs.Common.{◌≡◌, ◌≢◌, ◌<◌, ◌≤◌, ◌^◌, ◌==◌, ◌&&◌, ℕ, zero, suc, pos, negsuc, List, [], ◌∷◌, ◌++◌}
-use Rattle.std.proofs.Common.{length, get_or, max, Bool, true, false, not, Some, IsUtf8, decimal, option_map}
-use Rattle.std.proofs.Common.{option_and_then, refl, sym, ap, ap₂, subst, ◌∙◌, arith, inl, inr, append-nil}
+-- Values in general: lists anywhere in one, how deep it nests, and that clean ones are read back from their compact text.
+use Rattle.std.proofs.Common.{◌≡◌, ◌<◌, ℕ, zero, suc, true, false, List, [], ◌∷◌, ◌++◌, length, get_or, refl, sym, ap, ◌∙◌, ◌≤◌, arith, ◌≢◌, ◌^◌, ◌==◌, ◌&&◌, pos, negsuc, max, Bool, not, Some, IsUtf8, decimal, option_map, option_and_then, ap₂}
+use Rattle.std.proofs.Common.{subst, inl, inr, append-nil}
+use Rattle.serde_json.specs.Data.{depth, items_depth, Num, unsigned, negative, float, Data, null, boolean, number, string, array, object, Items, no_items, item, Members, no_members, member, put, members_depth}
+use Rattle.serde_json.specs.View.{view, items_view}
+use Rattle.serde_json.specs.declared.value.Value.{Value as Json}
+use Rattle.asm_element.specs.Tests.{neither, or_right}
+use Rattle.asm_journal.specs.Shape.{has_list, items_have_list}
 use Rattle.std.specs.List.{AllByRecursion}
 use Rattle.std.proofs.lemmas.Bool.{and_parts, cases_lt, cases_eq, not-true, eqb-false}
 use Rattle.std.proofs.lemmas.List.Elements.{All-append, All-from_recursion}
@@ -19,16 +23,39 @@ use Rattle.json.proofs.Printed.Trees.{value-json_tokens, ArePrintable-json_token
 use Rattle.json.proofs.Printed.Decimals.{IsNumber-decimal, IsNumber-signed_decimal}
 use Rattle.json.proofs.Printed.Strings.{escape_byte_plain}
 use Rattle.json.proofs.Printed.Utf8.{IsUtf8-are_ascii, IsUtf8-quoted, IsUtf8-boolean}
-use Rattle.serde_json.specs.Data.{Num, unsigned, negative, float, Data, null, boolean, number, string, array, object}
-use Rattle.serde_json.specs.Data.{Items, no_items, item, Members, no_members, member, put, depth, items_depth}
-use Rattle.serde_json.specs.Data.{members_depth}
 use Rattle.serde_json.specs.Read.{number_of, of_json, of_items, of_members, max_depth, read}
-use Rattle.serde_json.specs.Written.{number_text, outline, items_outline, members_outline, comma_if, compact_text}
-use Rattle.serde_json.specs.Written.{items_text, members_text}
+use Rattle.serde_json.specs.Written.{number_text, outline, items_outline, members_outline, comma_if, compact_text, items_text, members_text}
 use Rattle.serde_json.proofs.Numbers.{number_of-decimal, number_of-negative}
 use Rattle.serde_json.proofs.Texts.{print-outline}
 use Rattle.asm_journal.specs.Reading.{IsJson, HasNoLineFeed}
-pub use Rattle.asm_journal.specs.readback.Clean.{put_all, IsCleanNumber, IsClean, AreCleanItems, AreCleanMembers}
+pub use Rattle.asm_journal.specs.readback.{put_all, IsCleanNumber, IsClean, AreCleanItems, AreCleanMembers}
+
+-- an item with a list
+pub item_tells : (vs : List Json) (k : ℕ) (v : Json) → k < length vs → v ≡ get_or vs k v → has_list (view v) ≡ true
+    → items_have_list (items_view vs) ≡ true
+item_tells vs k v below is has = at vs k below (ap (λ j. has_list (view j)) (sym is) ∙ has) where
+  at : (ws : List Json) (k : ℕ) → k < length ws → has_list (view (get_or ws k v)) ≡ true
+      → items_have_list (items_view ws) ≡ true
+  at [] k below has = absurd (omega (arith, below))
+  at (w ∷ ws) zero below has = rw has refl
+  at (w ∷ ws) (suc k) below has = or_right _ _ (at ws k (omega (arith, below)) has)
+
+-- one more item without one
+pub none_more : (vs : List Json) (v : Json) → items_have_list (items_view vs) ≡ false → has_list (view v) ≡ false
+    → items_have_list (items_view (vs ++ v ∷ [])) ≡ false
+none_more [] v none this = rw this refl
+none_more (w ∷ vs) v none this =
+    let parts = neither (has_list (view w)) (items_have_list (items_view vs)) none in
+    rw parts.0 (none_more vs v parts.1 this)
+
+-- ---- how deep JSON nests
+
+pub item_is_shallower : (vs : List Json) (k : ℕ) (v : Json) → k < length vs → v ≡ get_or vs k v → depth (view v) ≤ items_depth (items_view vs)
+item_is_shallower vs k v below is = omega (arith, item_depth vs k v below, ap (λ j. depth (view j)) is) where
+  item_depth : (vs : List Json) (k : ℕ) (v : Json) → k < length vs → depth (view (get_or vs k v)) ≤ items_depth (items_view vs)
+  item_depth [] k v below = absurd (omega (arith, below))
+  item_depth (w ∷ vs) zero v below = omega arith
+  item_depth (w ∷ vs) (suc k) v below = omega (arith, item_depth vs k v (omega (arith, below)))
 
 -- ---- the text is read as the value
 

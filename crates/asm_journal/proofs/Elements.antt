@@ -1,12 +1,14 @@
--- Elements and locations: what reading finds, and that JSON is the form of at most one.
-use Rattle.std.proofs.Common.{codes, ◌≡◌, ◌<◌, ◌≤◌, ℕ, ℤ, pos, negsuc, false, List, [], ◌∷◌, length, map, Result, Ok, Err, refl, sym, ap, ap₂, subst, ◌∙◌, arith}
+-- Elements, locations, sets and bags: what reading finds, and that JSON is the form of at most one.
+use Rattle.std.proofs.Common.{◌≡◌, List, [], ◌∷◌, map, Option, Some, None, sym, subst, codes, ◌<◌, ◌≤◌, ℕ, ℤ, pos, negsuc, false, length, Result, Ok, Err, refl, ap, ap₂, ◌∙◌, arith}
+use Rattle.serde_json.specs.Data.{Data, Items, no_items, item, null, boolean, number, string, array, object, Num, unsigned, negative, float, Members, no_members, member}
+use Rattle.asm_journal.specs.Shape.{IsParsed, AreForms, IsListForm, IsMadeForm, one_of, list_of}
+use Rattle.asm_journal.proofs.Arrays.{IsOnce, list_once, same_item, forms_back, same_array, same_items, same_number}
 use Rattle.std.specs.Prelude.{◌↔◌, IfOk, IsTrue, option_map}
 use Rattle.std.specs.Result.{result_ok}
 use Rattle.std.specs.declared.alloc.AllocError.{AllocError}
 use Rattle.std.specs.List.{AllByRecursion}
 use Rattle.std.proofs.lemmas.Bool.{true_from_ne_false}
 use Rattle.std.proofs.lemmas.List.Elements.{All-from_recursion, recursion_from_All}
-use Rattle.serde_json.specs.Data.{Data, null, boolean, number, string, array, object, Num, unsigned, negative, float, Items, no_items, item, Members, no_members, member}
 use Rattle.serde_json.specs.Find.{of_integer}
 use Rattle.serde_json.specs.View.{view, items_of}
 use Rattle.serde_json.specs.declared.value.Value.{Value as Json}
@@ -23,10 +25,35 @@ use Rattle.asm_element.specs.declared.elem_list.ListError.{ListError}
 use Rattle.asm_element.specs.declared.elem_list.ListError.TheVariants.{ManyItems, TooDeep}
 use Rattle.asm_element.specs.declared.location.LocationError.{LocationError}
 use Rattle.asm_element.specs.declared.location.LocationError.TheVariants.{BadName, ManyArgs}
-use Rattle.asm_journal.specs.Shape.{AreForms, IsParsed, one_of, list_of}
 use Rattle.asm_journal.specs.Element.{datum_json_of, items_json_of, element_json_of, location_json_of, IsIntegerForm, IsElementForm, IsLocationForm}
 use Rattle.asm_journal.proofs.Parsed.{true_and_false}
-use Rattle.asm_journal.proofs.Arrays.{IsOnce, same_item, forms_back}
+use Rattle.asm_element.specs.Set as set
+use Rattle.asm_journal.specs.declared.form.set.Counted.{Counted}
+use Rattle.asm_journal.specs.Set.{IsSetForm, IsAmountForm, IsCounted, IsCountForm, IsBagForm, bag_of}
+
+pub made_read : {X Y : Type 0} (F : X → Data → Type 0) (M : Y → List X → Type 0) → IsOnce F → (d : Data) (xs : List X) (o : Option Y) → IsListForm F xs d → IsParsed M xs o → IsParsed (IsMadeForm F M) d o
+made_read F M once d xs (Some y) form made = (xs, form, made)
+made_read F M once d xs None form made = λ y h. made y (subst (M y) (list_once F once h.0 xs d h.1 form) h.2)
+
+-- ---- lists of structs, as lists of what they are seen as
+
+forms_to : {S X : Type 0} (f : S → X) (F : X → Data → Type 0) (ss : List S) (ds : Items) → AreForms (λ s. F (f s)) ss ds → AreForms F (map f ss) ds
+forms_to f F [] no_items h = tt
+forms_to f F [] (item d ds) h = absurd h
+forms_to f F (s ∷ ss) no_items h = absurd h
+forms_to f F (s ∷ ss) (item d ds) h = (h.0, forms_to f F ss ds h.1)
+
+forms_from : {S X : Type 0} (f : S → X) (g : X → S) (F : X → Data → Type 0) → ((x : X) → f (g x) ≡ x) → (xs : List X) (ds : Items) → AreForms F xs ds → AreForms (λ s. F (f s)) (map g xs) ds
+forms_from f g F back [] no_items h = tt
+forms_from f g F back [] (item d ds) h = absurd h
+forms_from f g F back (x ∷ xs) no_items h = absurd h
+forms_from f g F back (x ∷ xs) (item d ds) h = (subst (λ y. F y d) (sym (back x)) h.0, forms_from f g F back xs ds h.1)
+
+pub list_seen : {S X : Type 0} (f : S → X) (F : X → Data → Type 0) (ss : List S) (d : Data) → IsListForm (λ s. F (f s)) ss d → IsListForm F (map f ss) d
+list_seen f F ss d h = (h.0, h.1, forms_to f F ss h.0 h.2)
+
+pub no_list_seen : {S X : Type 0} (f : S → X) (g : X → S) (F : X → Data → Type 0) → ((x : X) → f (g x) ≡ x) → (d : Data) → ((ss : List S) → IsListForm (λ s. F (f s)) ss d → ⊥) → (xs : List X) → IsListForm F xs d → ⊥
+no_list_seen f g F back d none xs h = none (map g xs) (h.0, h.1, forms_from f g F back xs h.0 h.2)
 
 -- ---- one at most
 
@@ -232,3 +259,37 @@ list_written (Ok o) items d es x is same whole h =
     ap items_of same ∙ sequence_json (elements_of es) ∙ ap items_json_of (sequence-elements es) in
     h ∙ ap (one_of (codes "list")) whole ∙ ap list_json parts ∙ ap element_json_of (sym is)
 list_written (Err e) items d es x is same whole h = tt
+
+pub counted_once : (p q : Element × ℕ) (ds : Items) → IsCounted p ds → IsCounted q ds → p ≡ q
+counted_once p q ds h k =
+    let parts = same_items _ _ _ _ (sym h.2 ∙ k.2) in
+    let element = element_once p.0 q.0 k.0 (subst (IsElementForm p.0) parts.0 h.3) k.3 in
+    let count = same_number p.1 q.1 (sym (subst (IsAmountForm p.1) parts.1 h.4).1 ∙ k.4.1) in
+    ap₂ (λ e n. (e, n)) element count
+
+pub count_once : IsOnce IsCountForm
+count_once p q d h k = counted_once p q k.0 (subst (IsCounted p) (same_array _ _ (sym h.1 ∙ k.1)) h.2) k.2
+
+pub set_once : IsOnce IsSetForm
+set_once s t d h k =
+    let same = list_once IsElementForm element_once h.0 k.0 d h.1 k.1 in
+    h.2.1 ∙ ap set.from_list same ∙ sym k.2.1
+
+pub bag_once : IsOnce IsBagForm
+bag_once b c d h k =
+    let same = list_once IsCountForm count_once h.0 k.0 d h.1 k.1 in
+    h.2.1 ∙ ap bag_of same ∙ sym k.2.1
+
+-- ---- counts that are read, as pairs
+
+abbrev pub count_of : Counted → Element × ℕ
+count_of = λ c. (c.0, c.1)
+
+abbrev pub counts_of : List Counted → List (Element × ℕ)
+counts_of = map count_of
+
+abbrev pub IsCountedForm : Counted → Data → Type 0
+IsCountedForm = λ c. IsCountForm (c.0, c.1)
+
+pub no_counts : (d : Data) → ((cs : List Counted) → IsListForm IsCountedForm cs d → ⊥) → (ps : List (Element × ℕ)) → IsListForm IsCountForm ps d → ⊥
+no_counts = no_list_seen count_of (λ p. record { 0 = p.0; 1 = p.1 }) IsCountForm (λ p. refl)

@@ -29,8 +29,7 @@ use Rattle.asm_journal.specs.Instruction.{AreOperands, IsActionForm, instruction
 use Rattle.asm_journal.specs.Event.{word_of_cause, IsNamedForm, IsMoveForm, IsCallForm, IsCauseForm, IsClashForm, IsReplyForm, IsAnswerForm, IsEventForm}
 use Rattle.asm_journal.proofs.Words.{measure}
 use Rattle.asm_journal.proofs.Arrays.{IsOnce, same_text, same_pair, same_one, same_key, same_number, list_once}
-use Rattle.asm_journal.proofs.Elements.{integer_once, element_once, location_once}
-use Rattle.asm_journal.proofs.Sets.{counted_once}
+use Rattle.asm_journal.proofs.Elements.{integer_once, element_once, location_once, counted_once}
 use Rattle.asm_journal.proofs.Values.{value_once}
 use Rattle.asm_journal.proofs.Actions.{kind_of_word, action_from, made_by}
 

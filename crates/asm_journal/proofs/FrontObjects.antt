@@ -1,9 +1,10 @@
--- Objects, pairs, calls, answers and events at the front of a text.
-use Rattle.std.proofs.Common.{◌≡◌, ℕ, List, [], ◌∷◌, ◌++◌, true, refl, sym, ap, ◌∙◌, append_assoc, codes, arith}
+-- Objects, pairs, counts, instructions, calls, answers and events at the front of a text, and texts that are one of them alone.
+use Rattle.std.proofs.Common.{◌≡◌, ℕ, List, [], ◌∷◌, ◌++◌, true, refl, sym, ap, ◌∙◌, append_assoc, codes, arith, ◌<◌, ◌≤◌, ◌^◌, false, true≢false, subst, ◌==◌, length, append-nil}
+use Rattle.std.specs.Prelude.{Option, Result, Ok, Some, IfOk}
 use Rattle.std.proofs.lemmas.Fmt.{decimal_digit}
 use Rattle.json.specs.Print.{quoted, escape_byte}
-use Rattle.serde_json.specs.Data.{Data, string, array, object, Members, no_members, member}
-use Rattle.serde_json.specs.Written.{compact_text, members_text}
+use Rattle.serde_json.specs.Data.{Data, string, array, object, Members, no_members, member, item}
+use Rattle.serde_json.specs.Written.{compact_text, members_text, items_text}
 use Rattle.asm_element.specs.Place.{Place}
 use Rattle.asm_element.specs.Set as set
 use Rattle.asm_element.specs.Bag as bag
@@ -20,14 +21,25 @@ use Rattle.asm_storage.specs.declared.call.Call.TheVariants as call
 use Rattle.asm_storage.specs.declared.call.Reply.TheVariants as reply
 use Rattle.asm_storage.specs.declared.call.Answer.{Answer}
 use Rattle.asm_storage.specs.declared.call.Answer.TheVariants as answer
-use Rattle.asm_journal.specs.Shape.{IsListForm, IsMadeForm, IsNumberForm, number_json_of, pair_of, one_of, two_of}
+use Rattle.asm_journal.specs.Shape.{IsParsed, IsListForm, IsMadeForm, IsNumberForm, number_json_of, pair_of, one_of, two_of, BeginsAs, BeginsItems, IsVersion}
 use Rattle.asm_journal.specs.Text.{header_with}
-use Rattle.asm_journal.specs.Element.{IsLocationForm}
+use Rattle.asm_journal.specs.Element.{IsLocationForm, IsElementForm}
 use Rattle.asm_journal.specs.Set.{IsCounted, IsCountForm, IsSetForm, IsBagForm}
 use Rattle.asm_journal.specs.Value.{IsValueForm, IsPairForm, IsStateForm}
-use Rattle.asm_journal.specs.Event.{IsNamedForm, IsMoveForm, IsCallForm, IsCauseForm, IsClashForm, IsReplyForm, IsAnswerForm, event_object, IsEventForm}
-use Rattle.asm_journal.specs.Front.{BeginsAs, BeginsItems}
-use Rattle.asm_journal.proofs.Compact.{not_later}
+use Rattle.asm_journal.specs.Event.{IsNamedForm, IsMoveForm, IsCallForm, IsCauseForm, IsClashForm, IsReplyForm, IsAnswerForm, event_object, IsEventForm, IsEventBelow}
+use Rattle.asm_journal.proofs.Compact.{not_later, named_array}
+use Rattle.serde_json.specs.View.{items_of}
+use Rattle.asm_update.specs.declared.action.Action.{Action}
+use Rattle.asm_journal.specs.Instruction.{IsActionForm, instruction_of, IsInstructionForm}
+use Rattle.std.proofs.lemmas.Bool.{eqb-true}
+use Rattle.serde_json.specs.Read.{max_depth}
+use Rattle.asm_storage.specs.History.{EventFits}
+use Rattle.asm_storage.specs.declared.history.Event.{Event}
+use Rattle.asm_row.specs.Limits.{capacity_limit}
+use Rattle.asm_storage.specs.Limits.{agents_limit}
+use Rattle.asm_journal.specs.Reading.{IsJson, HasLine, IsHeader}
+use Rattle.asm_journal.proofs.Clean.{IsJson-compact_text, HasNoLineFeed-compact_text}
+use Rattle.asm_journal.specs.readback.{IsCleanTo, deeper, object_clean, more_members, no_member, event_form_clean, number_form_clean, state_form_clean}
 
 -- ---- keys
 
@@ -142,6 +154,11 @@ pair_begins text inside left second end rest a b e h comma k bracket =
 pub made_begins : {X Y : Type 0} (F : X → Data → Type 0) (M : Y → List X → Type 0) (text rest : List ℕ) (xs : List X) (y : Y)
     → BeginsAs (IsListForm F) text xs rest → M y xs → BeginsAs (IsMadeForm F M) text y rest
 made_begins F M text rest xs y b made = (b.0, b.1, (xs, b.2, made))
+
+-- what was made of the items of a list
+pub made_of : {X Y Z E : Type 0} (M : Z → List Y → Type 0) (see : List X → List Y) (items xs : List X) (r : Result (Option Z) E) (z : Z)
+    → items ≡ xs → IfOk r (IsParsed M (see items)) → r ≡ Ok (Some z) → M z (see xs)
+made_of M see items xs r z same made is = subst (λ ys. M z (see ys)) same (subst (λ o. IfOk o (IsParsed M (see items))) is made)
 
 pub count_begins : (text inside rest : List ℕ) (p : Element × ℕ) → text ≡ 91 ∷ inside → BeginsItems true IsCounted (44 ∷ inside) p rest
     → BeginsAs IsCountForm text p rest
@@ -271,3 +288,96 @@ event_begins text inside left second next third end rest n c a e b h k i m brack
       (member_begins (codes "reply") _ next third end rest m.0 no_members reply_key i m.1 bracket)),
   (b.0, k.0, m.0, refl, b.2, k.2, m.2),
 )
+
+pub counted_begins : (text left second end rest : List ℕ) (x : Element) (n amount : ℕ) → BeginsAs IsElementForm text x left
+    → left ≡ 44 ∷ second → BeginsAs IsNumberForm second n end → end ≡ 93 ∷ rest → 1 ≤ amount → amount ≡ n
+    → BeginsItems true IsCounted (44 ∷ text) (x, amount) rest
+counted_begins text left second end rest x n amount b comma k bracket some is =
+    let e = compact_text b.0 in
+    let m = compact_text k.0 in
+    let below : amount < 2 ^ 32 = subst (λ i. i < 2 ^ 32) (sym is) k.2.0 in (
+      items_of (b.0 ∷ k.0 ∷ []),
+      ap (λ l. 44 ∷ l) (b.1 ∙ ap (λ l. e ++ l) (comma ∙ ap (λ l. 44 ∷ l) (k.1 ∙ ap (λ l. m ++ l) bracket)))
+          ∙ ap (λ l. 44 ∷ l) (sym (append_assoc e (44 ∷ (m ++ 93 ∷ [])) rest ∙ ap (λ l. e ++ 44 ∷ l) (append_assoc m (93 ∷ []) rest))),
+      (b.0, k.0, refl, b.2, ((some, below), subst (λ i. k.0 ≡ number_json_of i) (sym is) k.2.1)),
+    )
+
+pub instruction_begins : (text inside left place end operands rest word : List ℕ) (p : Place) (a : Action) → text ≡ 91 ∷ inside
+    → inside ≡ quoted word ++ left → left ≡ 44 ∷ place → BeginsAs IsLocationForm place p end → end ≡ 44 ∷ operands
+    → BeginsItems true (IsActionForm word) (44 ∷ operands) a rest
+    → BeginsAs IsInstructionForm text (record { at = p; action = a }) rest
+instruction_begins text inside left place end operands rest word p a e h comma at further b =
+    let l = compact_text at.0 in (
+      instruction_of word at.0 b.0,
+      named_array text inside left rest word (item at.0 b.0) e h
+          (comma ∙ ap (λ t. 44 ∷ t) (at.1 ∙ ap (λ t. l ++ t) (further ∙ b.1) ∙ sym (append_assoc l (items_text true b.0) rest))),
+      (word, at.0, b.0, refl, at.2, b.2),
+    )
+
+pub some_amount : (n amount : ℕ) → (n ≡ 0 → true ≡ false) → amount ≡ n → 1 ≤ amount
+some_amount n amount none is =
+    let some : n ≡ 0 → ⊥ = λ e. true≢false (none e) in
+    omega (arith, some, is)
+
+pub whole_text : {X : Type 0} (F : X → Data → Type 0) (n : ℕ) → ((x : X) (d : Data) → F x d → IsCleanTo n d) → n ≤ max_depth
+    → (bytes : List ℕ) (x : X) (rest : List ℕ) → BeginsAs F bytes x rest → rest ≡ [] → (d : Data) × IsJson bytes d × F x d
+whole_text F n clean below bytes x rest b none =
+    let same : bytes ≡ compact_text b.0 = b.1 ∙ ap (λ l. compact_text b.0 ++ l) none ∙ append-nil (compact_text b.0) in
+    let shallow = deeper n max_depth b.0 below (clean x b.0 b.2) in
+    (b.0, subst (λ l. IsJson l b.0) (sym same) (IsJson-compact_text b.0 shallow.clean shallow.shallow), b.2)
+
+pub no_rest : (rest : List ℕ) → true ≡ (length rest == 0) → rest ≡ []
+no_rest [] e = refl
+no_rest (x ∷ rest) e = let none : length (x ∷ rest) ≡ 0 = eqb-true _ 0 (sym e) in absurd (omega (arith, none))
+
+flat : (n : ℕ) (d : Data) → IsNumberForm n d → IsCleanTo 21 d
+flat n d h = deeper 0 21 d (omega arith) (number_form_clean n d h)
+
+-- a first line of version 2 in compact text
+pub compact_header_line : (text first second third fourth a c n i rest : List ℕ) (agents capacity events : ℕ) (init : State)
+    → text ≡ codes "{\"agents\":" ++ first → BeginsAs IsNumberForm first agents a
+    → a ≡ codes ",\"capacity\":" ++ second → BeginsAs IsNumberForm second capacity c
+    → c ≡ codes ",\"events\":" ++ third → BeginsAs IsNumberForm third events n
+    → n ≡ codes ",\"init\":" ++ fourth → BeginsAs IsStateForm fourth init i
+    → i ≡ codes ",\"version\":2}\n" ++ rest
+    → IsVersion 2 × (agents ≤ agents_limit) × (1 ≤ capacity) × (capacity ≤ capacity_limit)
+    → (d : Data) × HasLine text d rest × IsHeader 2 agents capacity events init d
+compact_header_line text first second third fourth a c n i rest agents capacity events init e1 b1 e2 b2 e3 b3 e4 b4 e5 within =
+    let h = header_begins text first second third fourth a c n i rest agents capacity events init e1 b1 e2 b2 e3 b3 e4 b4 e5 in
+    let d = header_with h.0 h.1 h.2 h.3 (number_json_of 2) in
+    let clean : IsCleanTo 22 d =
+    object_clean 21 _ (more_members 21 _ _ _ refl (flat agents h.0 h.5)
+    (more_members 21 _ _ _ refl (flat capacity h.1 h.6)
+    (more_members 21 _ _ _ refl (flat events h.2 h.7)
+    (more_members 21 _ _ _ refl (state_form_clean init h.3 h.8)
+    (more_members 21 _ _ _ refl (flat 2 _ (omega arith, refl)) (no_member 21)))))) refl in
+    let shallow = deeper 22 max_depth d (omega arith) clean in (
+      d,
+      (compact_text d, (h.4, HasNoLineFeed-compact_text d shallow.clean), IsJson-compact_text d shallow.clean shallow.shallow),
+      (
+        h.0,
+        h.1,
+        h.2,
+        h.3,
+        number_json_of 2,
+        refl,
+        (h.5.1, h.6.1, h.7.1, refl, within.0, (within.1, within.2, within.3, omega (arith, h.7.0))),
+        h.8,
+        λ one. absurd (omega (arith, one)),
+      ),
+    )
+
+-- a line of version 2 that begins with the compact text of an event
+pub compact_line : (text left rest : List ℕ) (v agents : ℕ) (e : Event) → BeginsAs IsEventForm text e left → left ≡ 10 ∷ rest → v ≡ 2
+    → EventFits agents e → (d : Data) × HasLine text d rest × IsEventBelow v agents e d
+compact_line text left rest v agents e b k two fits =
+    let c = compact_text b.0 in
+    let clean = deeper 23 max_depth b.0 (omega arith) (event_form_clean e b.0 b.2) in (
+      b.0,
+      (
+        c,
+        (b.1 ∙ ap (λ l. c ++ l) k, HasNoLineFeed-compact_text b.0 clean.clean),
+        IsJson-compact_text b.0 clean.clean clean.shallow,
+      ),
+      (b.2, fits, λ one. absurd (omega (arith, one, two))),
+    )

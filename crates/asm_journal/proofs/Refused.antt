@@ -11,12 +11,10 @@ use Rattle.asm_storage.specs.declared.history.History.{History}
 use Rattle.asm_journal.specs.declared.error.JournalError.{JournalError}
 use Rattle.asm_journal.specs.declared.error.JournalError.TheVariants.{NotJson, Shape, Version, Cut, Memory}
 use Rattle.asm_journal.specs.Event.{IsEventBelow}
+use Rattle.asm_journal.specs.Shape.{IsVersion, number_json_of}
 use Rattle.asm_journal.specs.Text.{header_with}
-use Rattle.asm_journal.specs.Shape.{number_json_of}
-use Rattle.asm_journal.specs.Version.{IsVersion}
 use Rattle.asm_journal.specs.Reading.{HasNoLineFeed, BeginsWithLine, HasLine, IsJson, IsHeader, HasEvents, ReadsAs}
-use Rattle.asm_journal.specs.Fault.{HasOtherVersion, BreaksLine, BreaksHeader, BreaksEvent, IsRefused}
-use Rattle.asm_journal.specs.Fault.{GivesHistory}
+use Rattle.asm_journal.specs.Fault.{HasOtherVersion, BreaksLine, BreaksHeader, BreaksEvent, IsRefused, GivesHistory}
 use Rattle.asm_journal.proofs.OneHistory.{NoFeed, same_split, line_once, header_once, history_once}
 
 no_feed_inside : (a r : List ℕ) → NoFeed (a ++ 10 ∷ r) → ⊥

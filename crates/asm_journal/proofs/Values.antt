@@ -16,9 +16,7 @@ use Rattle.asm_journal.specs.Set.{IsSetForm, IsBagForm}
 use Rattle.asm_journal.specs.Value.{IsValueForm, IsPairForm}
 use Rattle.asm_journal.proofs.Words.{measure}
 use Rattle.asm_journal.proofs.Arrays.{IsOnce, same_one, same_key, same_pair}
-use Rattle.asm_journal.proofs.Elements.{element_once, location_once}
-use Rattle.asm_journal.proofs.Sets.{set_once, bag_once}
-use Rattle.asm_journal.proofs.ItemsRead.{no_list_seen}
+use Rattle.asm_journal.proofs.Elements.{element_once, location_once, set_once, bag_once, no_list_seen}
 
 no_element : (x : Element) (key : List _) (a : Data) → (codes "list" ≡ key → ⊥) → element_json_of x ≡ one_of key a → ⊥
 no_element elements.Undef key a other e = absurd cc

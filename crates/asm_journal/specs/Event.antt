@@ -16,12 +16,10 @@ use Rattle.asm_storage.specs.declared.call.Answer.{Answer}
 use Rattle.asm_storage.specs.declared.call.Answer.TheVariants as answer
 use Rattle.asm_storage.specs.declared.history.Event.{Event}
 use Rattle.asm_storage.specs.History.{EventFits}
-use Rattle.asm_journal.specs.Shape.{list_of, pair_of, one_of, two_of, three_of, number_json_of}
-use Rattle.asm_journal.specs.Shape.{IsListForm, IsMadeForm, IsNumberForm}
+use Rattle.asm_journal.specs.Shape.{list_of, pair_of, one_of, two_of, three_of, number_json_of, IsListForm, IsMadeForm, IsNumberForm, IsOfVersion}
 use Rattle.asm_journal.specs.Element.{location_json_of, IsLocationForm}
 use Rattle.asm_journal.specs.Value.{value_json_of, IsValueForm}
 use Rattle.asm_journal.specs.Instruction.{instruction_json_of, IsInstructionForm}
-use Rattle.asm_journal.specs.Version.{IsOfVersion}
 
 -- ---- what is written
 

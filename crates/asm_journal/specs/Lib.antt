@@ -3,14 +3,10 @@ pub mod Element
 pub mod Set
 pub mod Value
 pub mod Instruction
-pub mod Version
 pub mod Event
 pub mod Check
 pub mod Text
 pub mod Reading
 pub mod Fault
-pub mod Laws
 pub mod Next
-pub mod Output
-pub mod Front
 pub mod readback

@@ -1,4 +1,4 @@
--- How a text reads as a history.
+-- How a text reads as a history, and the laws by which the texts that are written are those that are read.
 use Rattle.std.specs.Prelude.{◌≡◌, ◌≢◌, ◌≤◌, ◌⊎◌, ℕ, List, [], ◌∷◌, ◌++◌, length, All, Some, IsUtf8}
 use Rattle.serde_json.specs.Data.{Data}
 use Rattle.serde_json.specs.Read.{read}
@@ -8,10 +8,11 @@ use Rattle.asm_storage.specs.Limits.{agents_limit, events_limit}
 use Rattle.asm_storage.specs.declared.history.Event.{Event}
 use Rattle.asm_storage.specs.declared.history.History.{History}
 use Rattle.asm_journal.specs.Value.{IsStateForm}
-use Rattle.asm_journal.specs.Version.{IsVersion, IsOfVersion}
 use Rattle.asm_journal.specs.Event.{IsEventBelow}
-use Rattle.asm_journal.specs.Shape.{number_json_of}
-use Rattle.asm_journal.specs.Text.{header_with}
+use Rattle.asm_journal.specs.Shape.{IsVersion, IsOfVersion, number_json_of}
+use Rattle.asm_journal.specs.Text.{header_with, text_of}
+use Rattle.asm_storage.specs.History.{Fits}
+use Rattle.asm_storage.specs.Proper.{IsProper}
 
 -- the bytes are JSON of this value
 abbrev pub IsJson : List ℕ → Data → Type 0
@@ -63,3 +64,15 @@ abbrev pub ReadsAs : List ℕ → History → Type 0
 ReadsAs text h =
     (d : Data) × (rest : List ℕ) × (v : ℕ) × HasLine text d rest
     × IsHeader v h.agents h.capacity (length h.events) h.init d × HasEvents v h.agents rest h.events []
+
+-- The text of a history that is proper and fits a journal reads as that history.
+abbrev pub TextReadsBack : Type 0
+TextReadsBack = (h : History) → IsProper h → Fits h → ReadsAs (text_of h) h
+
+-- A text reads as at most one history.
+abbrev pub OneReading : Type 0
+OneReading = (text : List ℕ) (g h : History) → ReadsAs text g → ReadsAs text h → g ≡ h
+
+-- A text, of either version, reads as a history that a program can hold. Then the history's own text reads as it too.
+abbrev pub RewrittenReadsBack : Type 0
+RewrittenReadsBack = (text : List ℕ) (h : History) → IsProper h → ReadsAs text h → ReadsAs (text_of h) h

@@ -1,10 +1,14 @@
--- The shapes of arrays and objects, and what reading answers.
-use Rattle.std.specs.Prelude.{◌≡◌, ◌<◌, ◌^◌, ℕ, List, [], ◌∷◌, Option, Some, None}
+-- The shapes of arrays and objects, what reading answers, what a text begins with, and the versions of a journal: version 2
+-- has lists, and version 1 has none.
+use Rattle.std.specs.Prelude.{◌≡◌, ◌<◌, ◌^◌, ℕ, List, [], ◌∷◌, Option, Some, None, Bool, false, ◌++◌, ◌⊎◌, ◌||◌, codes}
 use Rattle.std.specs.List.{IsDistinct}
+use Rattle.std.specs.Str.{bytes_eq}
 use Rattle.std.specs.Ordering.{eq_by_cmp}
 use Rattle.std.specs.declared.cmp.Ordering.{Ordering}
-use Rattle.serde_json.specs.Data.{Data, number, array, object, unsigned, Items, no_items, item, member, no_members}
+use Rattle.serde_json.specs.Data.{Data, null, boolean, number, string, array, object, unsigned}
+use Rattle.serde_json.specs.Data.{Items, no_items, item, Members, no_members, member}
 use Rattle.serde_json.specs.View.{items_of}
+use Rattle.serde_json.specs.Written.{compact_text, items_text}
 
 -- what reading answers: an x with this form, or None where no x has it
 abbrev pub IsParsed : {X J : Type 0} → (X → J → Type 0) → J → Option X → Type 0
@@ -61,3 +65,40 @@ number_json_of n = number (unsigned n)
 -- a whole number from 0 to 4,294,967,295
 abbrev pub IsNumberForm : ℕ → Data → Type 0
 IsNumberForm n d = (n < 2 ^ 32) × (d ≡ number_json_of n)
+
+-- the text is the compact text of JSON of this value, and then the rest
+abbrev pub BeginsAs : {X : Type 0} → (X → Data → Type 0) → List ℕ → X → List ℕ → Type 0
+BeginsAs IsForm text x rest = (d : Data) × (text ≡ compact_text d ++ rest) × IsForm x d
+
+-- the text is the compact text of items of an array, with the closing bracket, and then the rest; `later`: items come before
+abbrev pub BeginsItems : {X : Type 0} → Bool → (X → Items → Type 0) → List ℕ → X → List ℕ → Type 0
+BeginsItems later AreItems text x rest = (ds : Items) × (text ≡ items_text later ds ++ rest) × AreItems x ds
+
+-- journals of this version are read
+abbrev pub IsVersion : ℕ → Type 0
+IsVersion v = (v ≡ 1) ⊎ (v ≡ 2)
+
+-- Whether an object with the key "list" stands anywhere in the value. Of the objects of headers and events none but a
+-- list has this key: their own keys are "agent", "agents", "bag", "call", "capacity", "clash", "events", "fire",
+-- "fired", "init", "number", "read", "reads", "reply", "set", "stale", "values" and "version". So a header or an event
+-- has a list in it exactly where this answers true, and a further key "list" is a wrong shape in each version.
+abbrev mutual
+  pub has_list : Data → Bool
+  has_list null = false
+  has_list (boolean b) = false
+  has_list (number n) = false
+  has_list (string s) = false
+  has_list (array ds) = items_have_list ds
+  has_list (object ms) = members_have_list ms
+
+  pub items_have_list : Items → Bool
+  items_have_list no_items = false
+  items_have_list (item d ds) = has_list d || items_have_list ds
+
+  pub members_have_list : Members → Bool
+  members_have_list no_members = false
+  members_have_list (member k d ms) = bytes_eq k (codes "list") || (has_list d || members_have_list ms)
+
+-- a journal of this version may have the value
+abbrev pub IsOfVersion : ℕ → Data → Type 0
+IsOfVersion v d = v ≡ 1 → has_list d ≡ false

@@ -1,5 +1,5 @@
--- The text of a history.
-use Rattle.std.specs.Prelude.{ℕ, List, [], ◌∷◌, ◌++◌, length, map, codes}
+-- The text of a history, and what of it went out before a write stopped.
+use Rattle.std.specs.Prelude.{ℕ, List, [], ◌∷◌, ◌++◌, length, map, codes, ◌<◌, take, Option}
 use Rattle.std.specs.List.{flat_map}
 use Rattle.std.specs.FinMap as finite
 use Rattle.serde_json.specs.Data.{Data, Members, object, member, no_members}
@@ -10,6 +10,9 @@ use Rattle.asm_storage.specs.declared.history.History.{History}
 use Rattle.asm_journal.specs.Shape.{list_of, number_json_of}
 use Rattle.asm_journal.specs.Value.{pair_json_of}
 use Rattle.asm_journal.specs.Event.{event_json_of}
+use Rattle.std.specs.Io.KnownBytes.{Appends, Keeps}
+use Rattle.asm_journal.specs.declared.error.WriteError.{WriteError}
+use Rattle.asm_journal.specs.declared.error.WriteError.TheVariants.{Output, Memory}
 
 -- [PAIR, ..], in ascending order of locations
 abbrev pub state_json_of : State → Data
@@ -51,3 +54,9 @@ events_text events = flat_map (λ e. line (event_json_of e)) events
 -- a header line, and a line for each event
 abbrev pub text_of : History → List ℕ
 text_of h = line (header_json_of h) ++ events_text h.events
+
+-- the first bytes of the text went out, as many as the error says and fewer than all, or none because memory was
+-- refused
+abbrev pub Stops : Option (List ℕ) → Option (List ℕ) → List ℕ → WriteError → Type 0
+Stops old new text (Output written) = (written < length text) × Appends old new (take written text)
+Stops old new text Memory = Keeps old new

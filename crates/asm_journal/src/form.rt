@@ -2,7 +2,7 @@
 ghost use Rattle.std.specs.Prelude.{◌≡◌, IfOk};
 ghost use Rattle.serde_json.specs.Data.{Data};
 ghost use Rattle.serde_json.specs.View.{view};
-ghost use Rattle.asm_journal.specs.Shape.{IsParsed};
+ghost use Rattle.asm_journal.specs.Shape.{IsNumberForm, IsParsed};
 
 use serde_json::Value as Json;
 use std::alloc::{AllocError, Global};
@@ -11,9 +11,7 @@ mod answer;
 mod array;
 mod call;
 mod element;
-mod event;
 mod instruction;
-mod number;
 mod object;
 mod set;
 mod state;
@@ -24,7 +22,6 @@ pub use array::{Listed, read_one, two_items};
 pub(crate) use call::instructions_of;
 pub use element::{location_json, read_location};
 pub use instruction::{instruction_json, instruction_parts, read_instruction};
-pub(crate) use number::read_number;
 pub(crate) use object::five_members;
 pub use object::{one_member, two_members};
 pub use set::read_amount;
@@ -57,4 +54,11 @@ pub trait ToJson {
     /// `AllocError` comes only where memory was refused.
     fn to_json(&self, alloc: Global) -> Result<Json, AllocError>
         ensures { IfOk result (λ json. view json ≡ json_of self.now) };
+}
+
+/// Reads a whole number from 0 to 4,294,967,295.
+pub(crate) fn read_number(json: &Json) -> Option<u32>
+    ensures { IsParsed IsNumberForm (view json.now) result }
+{
+    u32::try_from(json.as_u64()?).ok()
 }

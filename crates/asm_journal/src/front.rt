@@ -3,9 +3,9 @@
 ghost use Rattle.std.specs.Prelude.{ℕ, ◌≤◌, IfSome};
 ghost use Rattle.serde_json.specs.Data.{Data};
 ghost use Rattle.serde_json.specs.Read.{max_depth};
-ghost use Rattle.asm_journal.specs.Front.{BeginsAs};
+ghost use Rattle.asm_journal.specs.Shape.{BeginsAs};
 ghost use Rattle.asm_journal.specs.Reading.{IsJson};
-ghost use Rattle.asm_journal.specs.readback.CleanDepth.{IsCleanTo};
+ghost use Rattle.asm_journal.specs.readback.{IsCleanTo};
 
 use crate::form::FromJson;
 use std::alloc::Global;
@@ -13,10 +13,8 @@ use std::alloc::Global;
 mod answer;
 mod call;
 mod element;
-mod event;
 mod instruction;
 mod items;
-pub(crate) mod number;
 pub(crate) mod scalars;
 mod state;
 mod value;

@@ -3,14 +3,14 @@ ghost use Rattle.std.specs.Prelude.{◌≡◌};
 ghost use Rattle.asm_storage.specs.History.{Fits};
 ghost use Rattle.asm_storage.specs.declared.history.History.{History as Log};
 ghost use Rattle.asm_journal.specs.Text.{text_of};
-ghost use Rattle.asm_journal.specs.Reading.{ReadsAs};
+ghost use Rattle.asm_journal.specs.Reading.{ReadsAs, TextReadsBack, OneReading, RewrittenReadsBack};
 ghost use Rattle.asm_journal.specs.Fault.{RefusedReadsAsNone, OneFault, SomeFault};
 ghost use Rattle.asm_journal.specs.Next.{RunGoesOn};
-ghost use Rattle.asm_journal.specs.Laws.{TextReadsBack, OneReading, RewrittenReadsBack};
 
 use asm_storage::History;
 
 /// The text of a history that is proper and fits a journal reads as that history.
+#[tactic(auto, using(crate::proofs::RoundTrip::text_reads))]
 pub fn text_reads_back()
     ensures { TextReadsBack }
 {}
@@ -51,6 +51,7 @@ pub fn reads_back(history: &History)
 
 /// The moves of a history, and then those of another whose storage opened with the state that the first ones leave,
 /// are one run from the first opening state.
+#[tactic(auto, using(crate::proofs::GoesOn::run_goes_on))]
 pub fn run_goes_on()
     ensures { RunGoesOn }
 {}

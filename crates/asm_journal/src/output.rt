@@ -2,8 +2,7 @@
 ghost use Rattle.std.specs.Prelude.{◌≡◌, ◌<◌, ℕ, length, OnOk, IfErr};
 ghost use Rattle.std.specs.Io.KnownBytes.{Appends};
 ghost use Rattle.asm_storage.specs.History.{Fits};
-ghost use Rattle.asm_journal.specs.Text.{text_of};
-ghost use Rattle.asm_journal.specs.Output.{Stops};
+ghost use Rattle.asm_journal.specs.Text.{text_of, Stops};
 
 use crate::error::WriteError;
 use crate::writing::to_text;

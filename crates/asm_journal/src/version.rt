@@ -1,7 +1,7 @@
 //! The versions of a journal: version 2 has lists, and version 1 has none.
 ghost use Rattle.std.specs.Prelude.{◌≡◌, ◌↔◌, IsTrue};
 ghost use Rattle.serde_json.specs.View.{view, items_view, members_view};
-ghost use Rattle.asm_journal.specs.Version.{IsVersion, IsOfVersion, has_list as has_list_of, items_have_list as items_have_list_of, members_have_list as members_have_list_of};
+ghost use Rattle.asm_journal.specs.Shape.{IsVersion, IsOfVersion, has_list as has_list_of, items_have_list as items_have_list_of, members_have_list as members_have_list_of};
 
 use serde_json::{Map, Value as Json};
 

@@ -1,33 +1,150 @@
--- One turn of a fire, and several.
-use Rattle.std.proofs.Common.{◌≡◌, ℕ, zero, suc, ◌+◌, ◌-◌, ◌^◌, ◌<◌, ◌≤◌, true, cond, nat_lt, min, List, [], ◌∷◌, ◌++◌, length, length-append, take, Option, Some, None}
-use Rattle.std.proofs.Common.{Ok, Err, IfOk, OnErr, IfSome, IfNone, Result, arith, refl, ap, sym, ◌∙◌, subst}
-use Rattle.std.specs.declared.alloc.AllocError.{AllocError}
+-- One turn of a fire, and several: the state's verdict is the reply, what fired finds what it named as it was, where the
+-- agent's state then stands, and how many offers were made.
+use Rattle.std.proofs.Common.{◌≡◌, ◌+◌, ◌<◌, Bool, true, false, cond, List, length, nat_lt, Option, Some, None, Ok, Err, refl, ap, sym, ◌∙◌, subst, arith, ◌-◌, ℕ, ◌^◌, ◌≤◌, min, IfErr, zero, suc, [], ◌∷◌, ◌++◌, length-append, take, OnErr, IfSome}
+use Rattle.std.proofs.Common.{IfNone}
+use Rattle.std.specs.Prelude.{Result, IsOk, IfOk, MatchBool}
+use Rattle.std.proofs.lemmas.List.{length-map, take_all, take-append-le}
 use Rattle.std.proofs.lemmas.Bool.Decides.{nat_tests}
-use Rattle.std.proofs.lemmas.List.{take-append-le, take_all}
-use mathlib.Core.List.{IsPrefix}
-use Rattle.asm_update.specs.Aggregator.{Meaning}
+use Rattle.std.specs.declared.alloc.AllocError.{AllocError}
 use Rattle.asm_update.specs.Move.{Move}
+use Rattle.asm_update.specs.State.{State, Updates, val}
+use Rattle.asm_update.specs.Fire.{Part, fire, aggregated, overwritten, state_of}
+use Rattle.asm_update.specs.declared.clash.Clash.{Clash}
 use Rattle.asm_state.specs.declared.named.Named.{Named}
-use Rattle.asm_storage.specs.declared.call.Answer.TheVariants as answer
+use Rattle.asm_state.specs.Verdict.{least_stale}
 use Rattle.asm_storage.specs.declared.call.Call.TheVariants as call
 use Rattle.asm_storage.specs.declared.call.Reply.{Reply}
 use Rattle.asm_storage.specs.declared.call.Reply.TheVariants as reply
-use Rattle.asm_storage.specs.declared.error.FireError.TheVariants as fire_error
-use Rattle.asm_storage.specs.declared.part.offering.Offering.{Offering}
-use Rattle.asm_storage.specs.declared.part.AgentPart.{AgentPart}
+use Rattle.asm_storage.specs.declared.call.Answer.TheVariants as answer
 use Rattle.asm_storage.specs.declared.entry.Entry.{Entry}
-use Rattle.asm_storage.specs.declared.receipt.Receipt.{Receipt}
+use Rattle.asm_storage.specs.Machine as machine
+use Rattle.asm_storage.specs.Machine.{Machine, firing_reply, fire_reply, taken_reply, reply_to}
 use Rattle.asm_storage.specs.Agents.{moves_seen}
-use Rattle.asm_storage.specs.Calls.{receipt_at, after_answer, after_fire, judged_on, HasOffered, IsReplied, MadeOffers, Ran}
-use Rattle.asm_storage.specs.History.{fired_move}
-use Rattle.asm_storage.specs.Machine.{reply_to}
-use Rattle.asm_storage.specs.Offering.{IsOffering}
-use Rattle.asm_storage.specs.Part.{agent_of, HasWon, IsLost, IsPartOf, IsTurn, LooksOn, offers_in, misses_in}
+use Rattle.asm_storage.specs.Part.{IsReplyAt, IsJudged, agent_of, LooksOn, HasWon, IsLost, IsPartOf, IsTurn, offers_in, misses_in, IsOffering}
+use Rattle.asm_update.specs.Aggregator.{Meaning}
+use Rattle.asm_storage.specs.History.{IsCoherentAt, fired_move}
+use Rattle.asm_storage.specs.Storage.{AgentAt, StorageView, machine_of, FollowsOn, last_look, has_looked, has_seen, with_fired, with_receipt, IsReplyOf, Missed}
+use Rattle.asm_storage.specs.Calls.{after_fire, judged_on, IsReplied, IsCoherentReply, StandsAfter, HasOffered, IsBusy, MadeOffers, receipt_at, after_answer, Ran}
+use Rattle.asm_storage.proofs.Run.{coherent_at}
+use Rattle.asm_storage.specs.declared.part.AgentPart.{AgentPart}
+use Rattle.asm_storage.specs.declared.error.FireError.{FireError}
+use Rattle.asm_storage.specs.declared.error.FireError.TheVariants as fire_error
 use Rattle.asm_storage.specs.Limits.{offers_limit}
-use Rattle.asm_storage.specs.Storage.{AgentAt, StorageView, machine_of, has_looked, has_seen, with_fired, with_receipt}
-use Rattle.asm_storage.specs.Storage.{last_look, IsReplyOf, Missed}
+use mathlib.Core.List.{IsPrefix}
+use Rattle.asm_storage.specs.declared.part.offering.Offering.{Offering}
+use Rattle.asm_storage.specs.declared.receipt.Receipt.{Receipt}
 use Rattle.asm_row.proofs.Prefixes.{IsPrefix-trans}
 use Rattle.asm_storage.proofs.Lists.{length-prefix}
+
+-- a move that has an update set fires
+pub fires : (part : Part) (A : State) (M : Move) → IsOk (aggregated part (val A) M) → IsOk (fire part A M)
+fires part A M ok = by_answer (aggregated part (val A) M) ok where
+  by_answer : (r : Result Updates Clash) → IsOk r → IsOk (overwritten A r)
+  by_answer (Ok U) h = refl
+  by_answer (Err c) h = absurd (cc h)
+
+-- what fires is answered by the room that the row has
+pub full_or_none : (part : Part) (A : State) (q : List Move) (full : Bool) (reads : List Named) (M : Move)
+    (o : Option Reply) → o ≡ cond full (Some reply.Full) None → least_stale part A q reads ≡ None →
+    IsOk (fire part (state_of part A q) M) → IsReplyAt part A q full reads M o
+full_or_none part A q full reads M o is none ok =
+    subst (IsReplyAt part A q full reads M) (sym is) (by_room full) where
+      by_room : (full : Bool) → IsReplyAt part A q full reads M (cond full (Some reply.Full) None)
+      by_room true = (none, ok, refl)
+      by_room false = (none, ok, refl)
+
+pub clashes : (part : Part) (A : State) (M : Move) (c : Clash) → aggregated part (val A) M ≡ Err c → fire part A M ≡ Err c
+clashes part A M c e = ap (overwritten A) e
+
+count : (seen : List Entry) → length (moves_seen seen) ≡ length seen
+count seen = length-map seen (λ (x : Entry). x.instrs)
+
+taken : (m : Machine) (seen : List Entry) → length seen < m.capacity → taken_reply m.capacity (length (moves_seen seen)) ≡ reply.Fired (length seen + 1)
+taken m seen lt = ap (taken_reply m.capacity) (count seen) ∙ (let b : nat_lt (length seen) m.capacity ≡ true = grind (arith, nat_tests) in ap (λ b. cond b (reply.Fired (length seen + 1)) reply.Full) b)
+
+full_reply : (m : Machine) (seen : List Entry) → length seen ≡ m.capacity → taken_reply m.capacity (length (moves_seen seen)) ≡ reply.Full
+full_reply m seen e = ap (taken_reply m.capacity) (count seen) ∙ (let b : nat_lt (length seen) m.capacity ≡ false = grind (arith, nat_tests) in ap (λ b. cond b (reply.Fired (length seen + 1)) reply.Full) b)
+
+firing_ok : (m : Machine) (q : List Move) (r : Result State Clash) → IsOk r → firing_reply m q r ≡ taken_reply m.capacity (length q)
+firing_ok m q (Ok B) h = refl
+firing_ok m q (Err c) h = absurd (cc h)
+
+reply_none : (m : Machine) (seen : List Entry) (reads : List Named) (M : Move) (r : Reply) → least_stale m.part m.init (moves_seen seen) reads ≡ None → firing_reply m (moves_seen seen) (fire m.part (machine.machine_state m (moves_seen seen)) M) ≡ r → answer.Fire r ≡ reply_to m (moves_seen seen) (call.Fire reads M)
+reply_none m seen reads M r none fired = ap answer.Fire (sym (ap (fire_reply m (moves_seen seen) M) none ∙ fired))
+
+pub judged_reply : (m : Machine) (seen : List Entry) (reads : List Named) (M : Move) (full : Bool) (o : Option Reply) → MatchBool full (length seen ≡ m.capacity) (length seen < m.capacity) → IsReplyAt m.part m.init (moves_seen seen) full reads M o → IsJudged m seen reads M o
+judged_reply m seen reads M full (Some (reply.Stale l)) room h = (ap (λ s. answer.Fire (fire_reply m (moves_seen seen) M s)) (sym h), refl)
+judged_reply m seen reads M full (Some (reply.Clash c)) room h = (reply_none m seen reads M (reply.Clash c) h.0 (ap (firing_reply m (moves_seen seen)) h.1), refl)
+judged_reply m seen reads M true (Some reply.Full) room h = (reply_none m seen reads M reply.Full h.0 (firing_ok m (moves_seen seen) _ h.1 ∙ full_reply m seen room), refl)
+judged_reply m seen reads M false (Some reply.Full) room h = absurd cc
+judged_reply m seen reads M full (Some (reply.Fired k)) room h = absurd h
+judged_reply m seen reads M true None room h = absurd (cc h.2)
+judged_reply m seen reads M false None room h = (reply_none m seen reads M (reply.Fired (length seen + 1)) h.0 (firing_ok m (moves_seen seen) _ h.1 ∙ taken m seen room), room)
+
+pub judged_result : (m : Machine) (seen : List Entry) (reads : List Named) (M : Move) (full : Bool) (r : Result (Option Reply) AllocError) → MatchBool full (length seen ≡ m.capacity) (length seen < m.capacity) → IfOk r (IsReplyAt m.part m.init (moves_seen seen) full reads M) → IfOk r (IsJudged m seen reads M)
+judged_result m seen reads M full (Ok o) room h = judged_reply m seen reads M full o room h
+judged_result m seen reads M full (Err e) room h = tt
+
+same_storage : {A : Type 0} (old new : AgentAt A) (reads : List Named) (M : Move) (r : Reply) → new ≡ after_fire old new reads M r → new.storage ≡ old.storage
+same_storage {A} old new reads M (reply.Fired k) is = ap (λ (a : AgentAt A). a.storage) is
+same_storage {A} old new reads M (reply.Stale l) is = ap (λ (a : AgentAt A). a.storage) is
+same_storage {A} old new reads M (reply.Clash c) is = ap (λ (a : AgentAt A). a.storage) is
+same_storage {A} old new reads M reply.Full is = ap (λ (a : AgentAt A). a.storage) is
+
+pub answered_coherent : {A : Type 0} (meaning : A → Meaning) (old new : AgentAt A) (reads : List Named) (M : Move) (r : Reply) → IsReplied meaning old new reads M r → IsCoherentReply meaning new reads M r
+answered_coherent {A} meaning old new reads M (reply.Fired k) is =
+    let q = moves_seen (judged_on (reply.Fired k) new.account.seen) in
+    subst (λ (s : StorageView A). IsCoherentAt (machine_of meaning s) q (call.Fire reads M) (k - 1)) (sym (same_storage old new reads M (reply.Fired k) is.agent))
+    (coherent_at (machine_of meaning old.storage) q (call.Fire reads M) k is.reply q (take_all (length q) q (omega arith)))
+answered_coherent meaning old new reads M (reply.Stale l) is = tt
+answered_coherent meaning old new reads M (reply.Clash c) is = tt
+answered_coherent meaning old new reads M reply.Full is = tt
+
+-- a later turn's answer is one of the whole call
+pub stands_later : {A : Type 0} (old mid new : AgentAt A) (plain : Bool) (r : Reply) →
+    (plain ≡ true → mid.number ≡ old.number) → StandsAfter mid new plain r → StandsAfter old new plain r
+stands_later old mid new true r same stands = stands ∙ same refl
+stands_later old mid new false r same stands = stands
+
+-- an agent that looked on goes on
+pub looked_follows : {A : Type 0} (meaning : A → Meaning) (s : StorageView A) (old new : AgentPart) →
+    LooksOn meaning s old new → FollowsOn (agent_of s old) (agent_of s new)
+looked_follows meaning s old new looks = record { onward = looks.onward; within = looks.part.following.within }
+
+one_at_most : (b : Bool) → cond b 1 0 ≤ 1
+one_at_most true = omega arith
+one_at_most false = omega arith
+
+module _ {A : Type 0} (old new : AgentAt A) where
+  after_last : (n : ℕ) → n < offers_limit → HasOffered old new n (n + last_look new) → new.misses ≤ old.misses + offers_limit
+  after_last n lt offered =
+      let last : last_look new ≤ 1 = one_at_most (nat_lt (length new.account.seen) (length new.storage.row)) in
+      omega (arith, lt, offered.missed, last)
+
+  -- no more looks find nothing than a fire makes offers
+  pub few_misses : (r : Result Reply FireError) (n : ℕ) → MadeOffers old new r n → new.misses ≤ old.misses + offers_limit
+  few_misses (Ok (reply.Fired k)) n made = omega (arith, made.1, made.2.missed)
+  few_misses (Ok (reply.Stale l)) n made = after_last n made.0 made.1
+  few_misses (Ok (reply.Clash c)) n made = after_last n made.0 made.1
+  few_misses (Ok reply.Full) n made = after_last n made.0 made.1
+  few_misses (Err fire_error.ManyReads) n made = subst (λ (a : AgentAt A). new.misses ≤ a.misses + offers_limit) made.1 (omega arith)
+  few_misses (Err (fire_error.Busy from to)) n made = omega (arith, made.0, made.1.missed)
+  few_misses (Err fire_error.Memory) n made = after_last n made.0 made.1
+
+  -- a look that found nothing comes before the move that fired
+  pub fired_missed : (r : Result Reply FireError) (n : ℕ) → MadeOffers old new r n →
+      (k : ℕ) → r ≡ Ok (reply.Fired k) → min (old.misses + 1) (2 ^ 64 - 1) ≤ new.misses
+  fired_missed r n made k is =
+      let fired = subst (λ (q : Result Reply FireError). MadeOffers old new q n) is made in
+      omega (arith, fired.0, fired.2.missed)
+
+  -- a busy fire saw at least as many moves as it lost offers
+  pub busy_lost : (r : Result Reply FireError) (n : ℕ) → MadeOffers old new r n → IfErr r (IsBusy old new) →
+      (from to : ℕ) → r ≡ Err (fire_error.Busy from to) → from + offers_limit ≤ to
+  busy_lost r n made busy from to is =
+      let lost = subst (λ (q : Result Reply FireError). MadeOffers old new q n) is made in
+      let told = subst (λ (q : Result Reply FireError). IfErr q (IsBusy old new)) is busy in
+      omega (arith, lost.0, lost.1.longer, told.0, told.1)
 
 pub take_before : {X : Type 0} (xs : List X) (x : X) → take (length xs + 1 - 1) (xs ++ x ∷ []) ≡ xs
 take_before xs x =

@@ -1,11 +1,11 @@
--- Legal histories, event by event.
+-- Legal histories, event by event: their calls decide their answers.
 use Rattle.std.proofs.Common.{◌≡◌, List, [], ◌∷◌, ◌++◌, Option, Some, None, append_assoc, append-nil, refl, ap, sym, ◌∙◌, subst}
 use Rattle.std.specs.List.{cons_option, AllByRecursion}
 use Rattle.std.proofs.lemmas.List.Elements.{filter_map-append}
 use Rattle.asm_storage.specs.declared.history.Event.{Event}
 use Rattle.asm_update.specs.Move.{Move}
 use Rattle.asm_storage.specs.Machine.{Machine, reply_to}
-use Rattle.asm_storage.specs.History.{fired_moves, move_of, IsLegal}
+use Rattle.asm_storage.specs.History.{fired_moves, move_of, IsLegal, fired_move, answers_in, calls_in, CallsDecideAnswers, CallsDecideMoves}
 
 -- the events are legal after the moves q
 abbrev pub IsLegalFrom : Machine → List Move → List Event → Type 0
@@ -47,3 +47,35 @@ legal_quiet m q (e ∷ h) each none = here (move_of e) refl (legal_quiet m q h e
       let others : fired_moves h ≡ [] = sym (ap (λ o. cons_option o (fired_moves h)) is) ∙ none in
       (each.0, subst (λ r. IsLegalFrom m r h) (sym (ap (λ r. q ++ r) mine ∙ append-nil q)) (rest others))
   here (Some M) is rest = absurd (let bad : M ∷ fired_moves h ≡ [] = sym (ap (λ o. cons_option o (fired_moves h)) is) ∙ none in cc)
+
+-- after equal moves the same calls have the same answers, one by one
+same_answers : (m : Machine) (q r : List Move) (g h : List Event) → IsLegalFrom m q g → IsLegalFrom m r h → q ≡ r →
+    calls_in g ≡ calls_in h → answers_in g ≡ answers_in h
+same_answers m q r [] [] left right moves calls = refl
+same_answers m q r [] (e ∷ h) left right moves calls = absurd cc
+same_answers m q r (d ∷ g) [] left right moves calls = absurd cc
+same_answers m q r (d ∷ g) (e ∷ h) left right moves calls =
+    let call : d.call ≡ e.call = cc calls in
+    let others : calls_in g ≡ calls_in h = cc calls in
+    let answer : d.answer ≡ e.answer = left.0 ∙ (λ i. reply_to m (moves i) (call i)) ∙ sym right.0 in
+    let rest = same_answers m (q ++ fired_moves (d ∷ [])) (r ++ fired_moves (e ∷ [])) g h left.1 right.1
+    (λ i. moves i ++ cons_option (fired_move (call i) (answer i)) []) others in
+    λ i. answer i ∷ rest i
+
+pub answers_decided : CallsDecideAnswers
+answers_decided m g h left right calls =
+    same_answers m [] [] g h (legal_behind m [] g left) (legal_behind m [] h right) refl calls
+
+-- the same calls with the same answers fired the same moves
+same_moves : (g h : List Event) → calls_in g ≡ calls_in h → answers_in g ≡ answers_in h → fired_moves g ≡ fired_moves h
+same_moves [] [] calls answers = refl
+same_moves [] (e ∷ h) calls answers = absurd cc
+same_moves (d ∷ g) [] calls answers = absurd cc
+same_moves (d ∷ g) (e ∷ h) calls answers =
+    let call : d.call ≡ e.call = cc calls in
+    let answer : d.answer ≡ e.answer = cc answers in
+    let rest = same_moves g h (cc calls) (cc answers) in
+    λ i. cons_option (fired_move (call i) (answer i)) (rest i)
+
+pub moves_decided : CallsDecideMoves
+moves_decided m g h left right calls = same_moves g h calls (answers_decided m g h left right calls)

@@ -27,18 +27,15 @@ use Rattle.asm_storage.specs.declared.error.FireError.{FireError}
 use Rattle.asm_storage.specs.declared.error.FireError.TheVariants as fire_error
 use Rattle.asm_storage.specs.declared.part.AgentPart.{AgentPart}
 use Rattle.asm_storage.specs.Agents.{moves_seen}
-use Rattle.asm_storage.specs.Calls.{judged_on, IsReplied, IsBusy, IsCoherentReply, IsFire, IsFireOver, MadeOffers, StandsAfter}
+use Rattle.asm_storage.specs.Calls.{judged_on, IsReplied, IsBusy, IsCoherentReply, IsFire, IsFireOver, MadeOffers, StandsAfter, is_plain, is_plain_over}
 use Rattle.asm_storage.specs.History.{fired_move}
 use Rattle.asm_storage.specs.Limits.{reads_limit}
 use Rattle.asm_storage.specs.Machine.{Machine, fire_reply, reply_to}
 use Rattle.asm_storage.specs.Part.{agent_of, HasWon, IsTurn, IsTurnOver}
-use Rattle.asm_storage.specs.Plain.{is_plain, is_plain_over}
 use Rattle.asm_storage.specs.Scans.{with_found, IsUnwritten, IsOvertaken, IsFound, IsNamedOver, IsKept, RestsOn}
 use Rattle.asm_storage.specs.Storage.{AgentAt, FollowsOn, StorageView, IsSameAgent, machine_of, has_looked}
-use Rattle.asm_storage.proofs.FireTurns.{won_judged}
+use Rattle.asm_storage.proofs.FireTurns.{won_judged, answered_coherent, busy_lost, few_misses, fired_missed}
 use Rattle.asm_storage.proofs.Lists.{Each-rest}
-use Rattle.asm_storage.proofs.Coherent.{answered_coherent}
-use Rattle.asm_storage.proofs.OfferBounds.{busy_lost, few_misses, fired_missed}
 use Rattle.asm_storage.proofs.Run.{fresh_each, same_value_from}
 
 -- nothing is among no scans

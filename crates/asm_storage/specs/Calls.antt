@@ -1,15 +1,15 @@
--- The calls of an agent: a reading, an agent after an answered call, and how many offers and looks the call made.
-use Rattle.std.specs.Prelude.{◌≡◌, ◌↔◌, ℕ, zero, suc, ◌+◌, ◌-◌, ◌^◌, ◌≤◌, ◌<◌, min, List, length, take, Option}
-use Rattle.std.specs.Prelude.{Bool, true, false, Result, Ok, Err, IfOk, IfErr, OnErr, IsErrOf, refl}
+-- The calls of an agent: a reading, an agent after an answered call, how many offers and looks the call made, and plain moves.
+use Rattle.std.specs.Prelude.{Bool, false, ◌&&◌, nat_le, List, [], ◌∷◌, length, ◌≡◌, ◌↔◌, ℕ, zero, suc, ◌+◌, ◌-◌, ◌^◌, ◌≤◌, ◌<◌, min, take, Option, true, Result, Ok, Err, IfOk, IfErr, OnErr, IsErrOf, refl}
+use Rattle.asm_update.specs.Move.{Move, all_regular}
+use Rattle.asm_state.specs.declared.named.Named.{Named}
+use Rattle.asm_state.specs.declared.scanned.Scanned.{Scanned}
+use Rattle.asm_storage.specs.Limits.{most_plain, offers_limit, reads_limit}
 use Rattle.std.specs.Coded.{Coded, code_by, coded×, coded_ℕ, coded_list}
 use mathlib.Core.List.{IsPrefix}
 use Rattle.asm_element.specs.Place.{Place}
 use Rattle.asm_element.specs.declared.value.Value.{Value}
 use Rattle.asm_update.specs.Aggregator.{Meaning}
-use Rattle.asm_update.specs.Move.{Move}
 use Rattle.asm_state.specs.Verdict.{least_stale}
-use Rattle.asm_state.specs.declared.named.Named.{Named}
-use Rattle.asm_state.specs.declared.scanned.Scanned.{Scanned}
 use Rattle.asm_storage.specs.declared.call.Answer.{Answer}
 use Rattle.asm_storage.specs.declared.call.Answer.TheVariants as answer
 use Rattle.asm_storage.specs.declared.call.Call.{Call}
@@ -22,13 +22,21 @@ use Rattle.asm_storage.specs.declared.error.ReadError.{ReadError}
 use Rattle.asm_storage.specs.declared.error.ReadError.TheVariants as read_error
 use Rattle.asm_storage.specs.declared.entry.Entry.{Entry}
 use Rattle.asm_storage.specs.declared.receipt.Receipt.{Receipt}
-use Rattle.asm_storage.specs.Limits.{offers_limit, reads_limit}
 use Rattle.asm_storage.specs.Machine.{reply_to}
 use Rattle.asm_storage.specs.History.{IsCoherentAt}
 use Rattle.asm_storage.specs.Agents.{moves_seen, next_stood}
-use Rattle.asm_storage.specs.Plain.{is_plain, is_plain_over}
 use Rattle.asm_storage.specs.Scans.{with_found, RestsOn}
 use Rattle.asm_storage.specs.Storage.{AgentAt, FollowsOn, IsLevel, IsSameAgent, machine_of, has_looked, with_receipt, with_fired, last_look, Missed}
+
+-- whether a move is judged alike on every state: it has no named read, no partial update and few instructions
+abbrev pub is_plain : List Named → Move → Bool
+is_plain [] M = nat_le (length M) most_plain && all_regular M
+is_plain (r ∷ rs) M = false
+
+-- whether it is so of one that rests on scans: on none
+abbrev pub is_plain_over : List Named → List Scanned → Move → Bool
+is_plain_over reads [] M = is_plain reads M
+is_plain_over reads (s ∷ ss) M = false
 
 -- what was read: the number of moves, the locations and their values
 pub record ReadingView : Type 0 where

@@ -1,6 +1,6 @@
--- Histories: events in one order, when they are those of the storage of one thread, and the run of their moves.
-use Rattle.std.specs.Prelude.{◌≡◌, ℕ, zero, suc, ◌+◌, ◌-◌, ◌<◌, ◌≤◌, List, [], ◌∷◌, ◌++◌, length, All, take, filter}
-use Rattle.std.specs.Prelude.{Option, Some, None, Ok, nat_eq}
+-- Histories: events in one order, when they are those of the storage of one thread, the run of their moves, and the law of
+-- replicas: who plays the same calls in the same order gets the same answers.
+use Rattle.std.specs.Prelude.{◌≡◌, ℕ, zero, suc, ◌+◌, ◌-◌, ◌<◌, ◌≤◌, List, [], ◌∷◌, ◌++◌, length, All, take, filter, Option, Some, None, Ok, nat_eq, map}
 use Rattle.std.specs.List.{filter_map}
 use Rattle.asm_update.specs.Move.{Move}
 use Rattle.asm_update.specs.State.{State, val}
@@ -108,3 +108,21 @@ pub record Fits (h : History) : Type 0 where
   pub events : All (EventFits h.agents) h.events
   -- what it holds is what a program can hold, so each list in it has at most 4,096 items and nests at most 8 deep
   pub proper : IsProper h
+
+-- the calls of a history, in order
+abbrev pub calls_in : List Event → List Call
+calls_in h = map (λ e. e.call) h
+
+-- its answers, in order
+abbrev pub answers_in : List Event → List Answer
+answers_in h = map (λ e. e.answer) h
+
+-- Two legal histories of one machine whose calls are equal, in order, have equal answers, whichever agents made the calls.
+abbrev pub CallsDecideAnswers : Type 0
+CallsDecideAnswers = (m : Machine) (g h : List Event) →
+    IsLegal m g → IsLegal m h → calls_in g ≡ calls_in h → answers_in g ≡ answers_in h
+
+-- And they have equal moves, in order, so that the machine is in the same state after both.
+abbrev pub CallsDecideMoves : Type 0
+CallsDecideMoves = (m : Machine) (g h : List Event) →
+    IsLegal m g → IsLegal m h → calls_in g ≡ calls_in h → fired_moves g ≡ fired_moves h

@@ -2,12 +2,9 @@ pub mod Agents
 pub mod Calls
 pub mod Closed
 pub mod History
-pub mod Laws
 pub mod Limits
 pub mod Machine
-pub mod Offering
 pub mod Part
-pub mod Plain
 pub mod Proper
 pub mod ReceiptOrder
 pub mod Scans

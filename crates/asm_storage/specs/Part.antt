@@ -1,19 +1,19 @@
--- The part of an agent that is no borrow: what is true of it beside its storage, and what its calls do.
-use Rattle.std.specs.Prelude.{◌≡◌, ℕ, ◌+◌, ◌-◌, ◌^◌, ◌<◌, ◌≤◌, List, length, take, Option, Some, None, Result, Ok, Err}
-use Rattle.std.specs.Prelude.{Bool, false, IsOk, IsTrue}
+-- The part of an agent that is no borrow: what is true of it beside its storage, what it offers, and what its calls do.
+use Rattle.std.specs.Prelude.{◌≡◌, ℕ, List, ◌+◌, ◌-◌, ◌^◌, ◌<◌, ◌≤◌, length, take, Option, Some, None, Result, Ok, Err, Bool, false, IsOk, IsTrue}
+use Rattle.asm_update.specs.Move.{Move}
+use Rattle.asm_state.specs.declared.named.Named.{Named}
+use Rattle.asm_storage.specs.declared.call.Call.TheVariants as call
+use Rattle.asm_storage.specs.declared.part.offering.Offering.{Offering}
 use Rattle.std.specs.declared.alloc.AllocError.{AllocError}
 use mathlib.Core.List.{IsPrefix}
 use Rattle.asm_update.specs.Aggregator.{Meaning}
 use Rattle.asm_update.specs.Fire.{Part, fire, state_of}
-use Rattle.asm_update.specs.Move.{Move}
 use Rattle.asm_update.specs.State.{State}
 use Rattle.asm_state.specs.Stands.{Stands}
 use Rattle.asm_state.specs.Verdict.{least_stale}
 use Rattle.asm_state.specs.View.{StateView}
-use Rattle.asm_state.specs.declared.named.Named.{Named}
 use Rattle.asm_state.specs.declared.scanned.Scanned.{Scanned}
 use Rattle.asm_storage.specs.declared.call.Answer.TheVariants as answer
-use Rattle.asm_storage.specs.declared.call.Call.TheVariants as call
 use Rattle.asm_storage.specs.declared.call.Reply.{Reply}
 use Rattle.asm_storage.specs.declared.call.Reply.TheVariants as reply
 use Rattle.asm_storage.specs.declared.part.AgentPart.{AgentPart}
@@ -25,6 +25,17 @@ use Rattle.asm_storage.specs.Agents.{AgentView, IsAgent, moves_seen}
 use Rattle.asm_storage.specs.Calls.{receipt_at, judged_on, IsReplied}
 use Rattle.asm_storage.specs.Scans.{with_found, RestsOn}
 use Rattle.asm_storage.specs.Storage.{AgentAt, StorageView, machine_of, has_seen, has_looked, with_fired, last_look}
+
+-- the agent's entry of this move, and the call to fire it with these named reads
+pub record IsOffering (agent : ℕ) (reads : List Named) (M : Move) (o : Offering) : Type 0 where
+  pub mine : o.entry.value.agent ≡ agent
+  pub instrs : o.entry.value.instrs ≡ M
+  pub call_is : o.call ≡ call.Fire reads M
+
+-- the same entry, and the same call
+pub record IsSameOffering (old new : Offering) : Type 0 where
+  pub entry_is : new.entry.value ≡ old.entry.value
+  pub call_is : new.call ≡ old.call
 
 -- the agent that the part is of
 abbrev pub account_of : AgentPart → AgentView

@@ -1,5 +1,5 @@
 //! The laws of histories. The function does nothing; its contract is the law.
-ghost use Rattle.asm_storage.specs.Laws.{CallsDecideAnswers, CallsDecideMoves};
+ghost use Rattle.asm_storage.specs.History.{CallsDecideAnswers, CallsDecideMoves};
 
 /// The calls of a legal history, in order, decide its answers and its moves, where the opening state, the capacity and
 /// the aggregator are the same.

@@ -1,10 +1,4 @@
-pub mod Differing
-pub mod Floats
 pub mod Noted
-pub mod Once
 pub mod Making
 pub mod Local
 pub mod Kept
-pub mod Alone
-pub mod Properness
-pub mod Leaving

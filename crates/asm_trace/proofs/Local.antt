@@ -1,7 +1,7 @@
 -- Partial updates of sets, bags and counters change what they name alone.
 use Rattle.std.proofs.Common.{◌≡◌, ℕ, ℤ, ◌+◌, ◌-◌, Bool, true, false, cond, not, ◌&&◌, ◌||◌, List, [], ◌∷◌, map}
 use Rattle.std.proofs.Common.{refl, sym, ap, subst, ◌∙◌}
-use Rattle.std.specs.Prelude.{Option, Some, None, Result, Ok, Err, unwrap_or, filter, nat_eq, nat_lt}
+use Rattle.std.specs.Prelude.{Option, Some, None, Ok, Err, unwrap_or, filter, nat_eq, nat_lt}
 use Rattle.std.specs.FinMap as finite
 use Rattle.std.specs.FinMap.Entries.{where_key, is_sorted-where_key}
 use Rattle.std.specs.List.{list_any, list_all}
@@ -12,7 +12,7 @@ use Rattle.asm_element.specs.Bag.{ElementBag, count}
 use Rattle.asm_element.specs.Element.{element_cmp, element_cmp_total}
 use Rattle.asm_element.specs.Set as set
 use Rattle.asm_element.specs.Set.{ElementSet, contains, same_set}
-use Rattle.asm_element.specs.Tests.{both, itself, or_true}
+use Rattle.asm_element.specs.Tests.{itself, or_true}
 use Rattle.asm_element.specs.declared.element.Element.{Element}
 use Rattle.asm_element.specs.declared.value.Value.{Value}
 use Rattle.asm_element.specs.declared.value.Value.TheVariants as values
@@ -33,11 +33,9 @@ use Rattle.asm_aggregate.specs.Sets.{is_the, union, difference, elements_by}
 use Rattle.asm_aggregate.specs.Steps as steps
 use Rattle.asm_aggregate.specs.laws.BagAlgebra.{has, has-names, held, held_count, get-recounted}
 use Rattle.asm_aggregate.specs.laws.SetAlgebra.{contains-elements, contains-elements_by, contains_updated}
-use Rattle.asm_trace.specs.Change.{OfSet, OfBag, is_missing, without, differ_at, differing, recount, recounts, Recount}
+use Rattle.asm_trace.specs.Change.{OfSet, OfBag, is_missing, without, differ_at, differing, recount, recounts, names, is_named, AreSameTo, told, IsLocal}
 use Rattle.asm_aggregate.specs.Standard.{standard_meaning, standard_part}
-use Rattle.asm_trace.specs.Local.{names, is_named, AreSameTo, told, IsLocal}
-use Rattle.asm_trace.proofs.Differing.{contains-differing}
-use Rattle.asm_trace.proofs.Making.{has-without, same_count}
+use Rattle.asm_trace.proofs.Making.{contains-differing, has-without, same_count}
 
 -- ---- lists
 

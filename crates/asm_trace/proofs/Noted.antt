@@ -1,16 +1,24 @@
--- Notes of events, one at a time.
-use Rattle.std.proofs.Common.{◌≡◌, ◌<◌, ◌≤◌, ◌+◌, ℕ, suc, List, [], ◌∷◌, ◌++◌, length, get_or, take, Option, Some, None}
-use Rattle.std.proofs.Common.{refl, sym, ap, subst, ◌∙◌, append-nil, append_assoc, arith, option_map}
-use Rattle.std.specs.List.{cons_option}
+-- Notes of events, one at a time: a history has one list of them, a right answer has nothing beside it, and what moves leave of
+-- values that a program can hold are such values again.
+use Rattle.std.proofs.Common.{◌≡◌, Bool, true, false, refl, sym, subst, All, Result, Ok, Err, ◌<◌, ◌≤◌, ◌+◌, ℕ, suc, List, [], ◌∷◌, ◌++◌, length, get_or, take, Option, Some, None, ap, ◌∙◌, append-nil, append_assoc, arith, option_map, ◌≢◌, ap₂}
+use Rattle.asm_element.specs.Place.{Place}
+use Rattle.asm_element.specs.Value as value
+use Rattle.asm_update.specs.Action.{IsProperInstruction}
+use Rattle.asm_update.specs.Aggregator.{Meaning, AggregatorLaws}
+use Rattle.asm_update.specs.Fire.{fire, state_or, Part, Old}
+use Rattle.asm_update.specs.Move.{Move, actions_at, writes}
+use Rattle.asm_update.specs.State.{State, val}
+use Rattle.asm_update.specs.declared.clash.Clash.{Clash}
+use Rattle.asm_update.proofs.FireLemmas.{val-fired, val-unwritten}
+use Rattle.asm_aggregate.proofs.Sequence.{proper_actions}
+use Rattle.asm_storage.proofs.ProperResults.{result_proper}
+use Rattle.std.specs.List.{cons_option, slice_get}
 use Rattle.std.proofs.lemmas.List.{take_more, length-take-le}
 use Rattle.serde_json.specs.Data.{Data}
-use Rattle.asm_update.specs.Move.{Move}
-use Rattle.asm_update.specs.State.{val}
-use Rattle.asm_update.specs.Fire.{Part, Old}
 use Rattle.asm_state.specs.View.{StateView, value_at}
 use Rattle.asm_state.specs.Stands.{Stands}
 use Rattle.asm_state.proofs.Judged.{same_old}
-use Rattle.asm_storage.specs.Machine.{Machine, machine_state}
+use Rattle.asm_storage.specs.Machine.{Machine, machine_state, reply_to}
 use Rattle.asm_storage.specs.History.{move_of, fired_moves}
 use Rattle.asm_storage.specs.Limits.{events_limit}
 use Rattle.asm_storage.specs.declared.call.Answer.{Answer}
@@ -20,8 +28,29 @@ use Rattle.asm_storage.proofs.Legal.{fired_moves-append}
 use Rattle.asm_journal.specs.Check.{machine, machine_of, moves_with}
 use Rattle.asm_journal.specs.Text.{line}
 use Rattle.asm_trace.specs.Change.{changes_of}
-use Rattle.asm_trace.specs.Note.{Note, IsNoteOf, AreNotesOf, IsJudged}
-use Rattle.asm_trace.specs.Text.{note_json_of, notes_text, event_with, header_of, changes_json_of, right_json_of, IsNoted}
+use Rattle.asm_trace.specs.Note.{Note, IsNoteOf, AreNotesOf, IsJudged, IsToldRight}
+use Rattle.asm_trace.specs.Text.{note_json_of, notes_text, event_with, header_of, changes_json_of, right_json_of, IsNoted, OneTrace, LegalTrace, FirstWrongTold, TellsNone}
+use Rattle.std.proofs.lemmas.List.Elements.{All-nil, All-cons}
+
+-- each location has a value that a program can hold
+abbrev pub IsHeld : State → Type 0
+IsHeld A = (l : Place) → value.IsProper (val A l)
+
+module _ {a : Meaning} (laws : AggregatorLaws a) where
+  fired_held : (A B : State) (M : Move) → IsHeld A → All IsProperInstruction M → fire a.part A M ≡ Ok B → IsHeld B
+  fired_held A B M held proper is l = by_test (writes M l) refl where
+    by_test : (b : Bool) → writes M l ≡ b → value.IsProper (val B l)
+    by_test true there =
+        result_proper laws (val A l) (val B l) (actions_at M l) (held l) (proper_actions M l proper)
+        (val-fired a.part A B M l is there)
+    by_test false none = subst value.IsProper (sym (val-unwritten a.part A B M l is none)) (held l)
+
+  -- the state after a proper move holds such values too
+  pub move_held : (A : State) (M : Move) → IsHeld A → All IsProperInstruction M → IsHeld (state_or A (fire a.part A M))
+  move_held A M held proper = by_answer (fire a.part A M) refl where
+    by_answer : (r : Result State Clash) → fire a.part A M ≡ r → IsHeld (state_or A r)
+    by_answer (Ok B) e = fired_held A B M held proper e
+    by_answer (Err c) e = held
 
 -- ---- the moves of events, one at a time
 
@@ -123,3 +152,95 @@ few_followed part h s text i so_far within few =
     let moves = few_moves (take i h.events) in
     let number = so_far.1.number in
     omega (arith, long, moves, number, within, few)
+
+-- ---- a history has one trace at most
+
+told_once : (a r : Answer) (x y : Option Answer) → IsToldRight a r x → IsToldRight a r y → x ≡ y
+told_once a r None None h k = refl
+told_once a r None (Some y) h k = absurd (k.1 h)
+told_once a r (Some x) None h k = absurd (h.1 k)
+told_once a r (Some x) (Some y) h k = ap Some (h.0 ∙ sym k.0)
+
+note_once : (m : Machine) (q : List Move) (n : ℕ) (e : Event) (x y : Note) → IsNoteOf m q n e x → IsNoteOf m q n e y → x ≡ y
+note_once m q n e x y h k =
+    let numbers = h.number ∙ sym k.number in
+    let events = h.event ∙ sym k.event in
+    let rights = told_once e.answer (reply_to m q e.call) x.right y.right h.right k.right in
+    let changes = h.changes ∙ sym k.changes in
+    λ i. record { number = numbers i; event = events i; right = rights i; changes = changes i }
+
+notes_once : (m : Machine) (q : List Move) (n : ℕ) (es : List Event) (xs ys : List Note) → AreNotesOf m q n es xs →
+    AreNotesOf m q n es ys → xs ≡ ys
+notes_once m q n [] [] [] h k = refl
+notes_once m q n (e ∷ es) (x ∷ xs) (y ∷ ys) h k =
+    ap₂ (λ a b. a ∷ b) (note_once m q n e x y h.0 k.0) (notes_once m (moves_with q e) (n + 1) es xs ys h.1 k.1)
+notes_once m q n [] [] ys h k = absurd k
+notes_once m q n (e ∷ es) (x ∷ xs) ys h k = absurd k
+notes_once m q n es xs ys h k = absurd h
+
+pub one_trace : OneTrace
+one_trace part h s t (xs, are, is) (ys, also, too) =
+    is ∙ ap (λ zs. line (header_of h) ++ notes_text zs) (notes_once (machine_of part h) [] 0 h.events xs ys are also)
+    ∙ sym too
+
+-- ---- a right answer has nothing beside it, and a wrong one has
+
+-- the events are legal after the moves q
+abbrev AreLegal : Machine → List Move → List Event → Type 0
+AreLegal m q es = (before after : List Event) (e : Event) →
+    before ++ e ∷ after ≡ es → e.answer ≡ reply_to m (q ++ fired_moves before) e.call
+
+none_told : (a r : Answer) (x : Option Answer) → a ≡ r → IsToldRight a r x → x ≡ None
+none_told a r None is h = refl
+none_told a r (Some x) is h = absurd (h.1 is)
+
+some_told : (a r : Answer) (x : Option Answer) → a ≢ r → IsToldRight a r x → x ≢ None
+some_told a r None other h = λ _. other h
+some_told a r (Some x) other h = λ none. absurd cc
+
+legal_first : (m : Machine) (q : List Move) (e : Event) (es : List Event) → AreLegal m q (e ∷ es) → e.answer ≡ reply_to m q e.call
+legal_first m q e es legal = subst (λ p. e.answer ≡ reply_to m p e.call) (append-nil q) (legal [] es e refl)
+
+legal_rest : (m : Machine) (q : List Move) (e : Event) (es : List Event) → AreLegal m q (e ∷ es) → AreLegal m (moves_with q e) es
+legal_rest m q e es legal before after x stands =
+    subst (λ p. x.answer ≡ reply_to m p x.call) (sym (moves_joined q (move_of e) (fired_moves before)))
+    (legal (e ∷ before) after x (ap (λ l. e ∷ l) stands))
+
+legal_notes : (m : Machine) (q : List Move) (n : ℕ) (es : List Event) (xs : List Note) → AreLegal m q es →
+    AreNotesOf m q n es xs → All TellsNone xs
+legal_notes m q n [] [] legal h = All-nil TellsNone
+legal_notes m q n (e ∷ es) (x ∷ xs) legal h =
+    All-cons TellsNone x xs
+    (none_told e.answer (reply_to m q e.call) x.right (legal_first m q e es legal) h.0.right)
+    (legal_notes m (moves_with q e) (n + 1) es xs (legal_rest m q e es legal) h.1)
+legal_notes m q n es xs legal h = absurd h
+
+pub legal_trace : LegalTrace
+legal_trace part h notes are legal = legal_notes (machine_of part h) [] 0 h.events notes legal are
+
+-- the note behind the first ones, which tell nothing, tells the right answer
+abbrev IsFirstToTell : List Note → ℕ → Type 0
+IsFirstToTell xs k = All TellsNone (take k xs) × ((x : Note) × (slice_get xs k ≡ Some x) × (x.right ≢ None))
+
+first_told : (m : Machine) (q : List Move) (n : ℕ) (before after : List Event) (e : Event) (xs : List Note) →
+    AreLegal m q before → e.answer ≢ reply_to m (q ++ fired_moves before) e.call →
+    AreNotesOf m q n (before ++ e ∷ after) xs → IsFirstToTell xs (length before)
+first_told m q n [] after e [] legal wrong h = absurd h
+first_told m q n [] after e (x ∷ xs) legal wrong h =
+    let here = subst (λ p. e.answer ≢ reply_to m p e.call) (append-nil q) wrong in
+    (All-nil TellsNone, (x, refl, some_told e.answer (reply_to m q e.call) x.right here h.0.right))
+first_told m q n (b ∷ before) after e [] legal wrong h = absurd h
+first_told m q n (b ∷ before) after e (x ∷ xs) legal wrong h =
+    let later = subst (λ p. e.answer ≢ reply_to m p e.call) (sym (moves_joined q (move_of b) (fired_moves before))) wrong in
+    let rest = first_told m (moves_with q b) (n + 1) before after e xs (legal_rest m q b before legal) later h.1 in (
+      All-cons TellsNone x (take (length before) xs)
+          (none_told b.answer (reply_to m q b.call) x.right (legal_first m q b before legal) h.0.right) rest.0,
+      rest.1,
+    )
+
+pub first_wrong_told : FirstWrongTold
+first_wrong_told part h notes k are first =
+    let m = machine_of part h in
+    let split = subst (λ es. AreNotesOf m [] 0 es notes) (sym first.stands) are in
+    subst (IsFirstToTell notes) first.counted
+    (first_told m [] 0 first.before first.after first.event notes first.legal first.wrong split)

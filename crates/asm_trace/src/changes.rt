@@ -3,8 +3,7 @@ ghost use Rattle.std.specs.Prelude.{◌≡◌, true, None, IfOk, option_map};
 ghost use Rattle.serde_json.specs.View.{view};
 ghost use Rattle.asm_state.specs.View.{value_at};
 ghost use Rattle.asm_storage.specs.History.{move_of};
-ghost use Rattle.asm_trace.specs.Change.{change_of, changes_by, changes_of};
-ghost use Rattle.asm_trace.specs.Local.{changes_at, told, IsLocal};
+ghost use Rattle.asm_trace.specs.Change.{change_of, changes_by, changes_of, changes_at, told, IsLocal};
 ghost use Rattle.asm_trace.specs.Text.{change_json_of, changes_json_of};
 
 use crate::bags::bag_change_json;

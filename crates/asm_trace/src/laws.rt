@@ -1,5 +1,5 @@
 //! The laws of traces. Each function does nothing; its contract is the law.
-ghost use Rattle.asm_trace.specs.Laws.{OneTrace, LegalTrace, FirstWrongTold, ChangesLeave, WithoutTells, RecountsTell};
+ghost use Rattle.asm_trace.specs.Text.{OneTrace, LegalTrace, FirstWrongTold, ChangesLeave, WithoutTells, RecountsTell};
 
 /// A history has at most one trace.
 pub fn one_trace()

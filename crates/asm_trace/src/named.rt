@@ -7,7 +7,7 @@ ghost use Rattle.asm_element.specs.Value.{undef};
 ghost use Rattle.asm_element.specs.declared.element.Element.{Element as Datum};
 ghost use Rattle.asm_element.specs.declared.value.Value.TheVariants as values;
 ghost use Rattle.asm_aggregate.specs.Steps.{raised};
-ghost use Rattle.asm_trace.specs.Local.{element_named, names, AreSameTo};
+ghost use Rattle.asm_trace.specs.Change.{element_named, names, AreSameTo};
 
 use asm_element::{ElemBag, ElemSet, Element, Value};
 use asm_update::Action;

@@ -9,7 +9,7 @@ ghost use Rattle.asm_storage.specs.Limits.{events_limit};
 ghost use Rattle.asm_storage.specs.Machine.{reply_to};
 ghost use Rattle.asm_journal.specs.Check.{machine, judged_reply, moves_with};
 ghost use Rattle.asm_journal.specs.Shape.{list_of, number_json_of};
-ghost use Rattle.asm_trace.specs.Local.{IsLocal};
+ghost use Rattle.asm_trace.specs.Change.{IsLocal};
 ghost use Rattle.asm_trace.specs.Note.{IsJudged};
 ghost use Rattle.asm_trace.specs.Text.{differing_positions, event_with, is_other_at, right_json_of, IsNoted};
 

@@ -4,7 +4,7 @@ ghost use Rattle.serde_json.specs.View.{view};
 ghost use Rattle.asm_storage.specs.History.{Fits};
 ghost use Rattle.asm_storage.specs.Limits.{events_limit};
 ghost use Rattle.asm_aggregate.specs.Standard.{standard_part};
-ghost use Rattle.asm_trace.specs.Local.{IsLocal};
+ghost use Rattle.asm_trace.specs.Change.{IsLocal};
 ghost use Rattle.asm_trace.specs.Text.{header_of, IsNoted, IsTrace};
 
 use crate::notes::push_note;

@@ -7,9 +7,8 @@ ghost use Rattle.asm_journal.specs.Event.{word_of_cause, clash_json_of, reply_js
 ghost use Rattle.asm_journal.specs.Event.{IsCauseForm, IsClashForm, IsReplyForm, IsAnswerForm};
 
 use crate::form::array::{Listed, list_json, pair_items, pair_of};
-use crate::form::number::read_number;
 use crate::form::object::{object_of, one_member, two_members};
-use crate::form::{FromJson, ToJson};
+use crate::form::{FromJson, ToJson, read_number};
 use asm_element::{Items, Location, Value};
 use asm_storage::{Answer, Reply};
 use asm_update::{Cause, Clash};

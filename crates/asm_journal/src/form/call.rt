@@ -1,17 +1,16 @@
-//! The JSON of calls: reads, and fires with their named reads.
+//! The JSON of calls: reads, and fires with their named reads; and of events: an agent, its call, and the answer.
 ghost use Rattle.std.specs.Prelude.{◌≡◌, IfOk, codes, map};
 ghost use Rattle.serde_json.specs.View.{view};
 ghost use Rattle.asm_journal.specs.Shape.{IsParsed, list_of, one_of, two_of};
-ghost use Rattle.asm_journal.specs.Event.{named_json_of, move_json_of, call_json_of};
-ghost use Rattle.asm_journal.specs.Event.{IsNamedForm, IsMoveForm, IsMoveOf, IsCallForm};
+ghost use Rattle.asm_journal.specs.Event.{named_json_of, move_json_of, call_json_of, event_json_of};
+ghost use Rattle.asm_journal.specs.Event.{IsNamedForm, IsMoveForm, IsMoveOf, IsCallForm, IsEventForm};
 
 use crate::form::array::{Listed, list_json, pair_items, pair_of};
-use crate::form::number::read_number;
-use crate::form::object::{object_of, one_member, two_members};
-use crate::form::{FromJson, ToJson};
+use crate::form::object::{object_of, one_member, three_members, two_members};
+use crate::form::{FromJson, ToJson, read_number};
 use asm_element::{Items, Location};
 use asm_state::Named;
-use asm_storage::Call;
+use asm_storage::{Answer, Call, Event};
 use asm_update::{Instruction, Instructions, InstructionsError};
 use serde_json::{Map, Value as Json};
 use std::alloc::{AllocError, Global};
@@ -136,6 +135,42 @@ impl FromJson for Call {
         }
         match two_members(json, "fire", "reads") {
             Some((instrs, reads)) => read_fire(alloc, instrs, reads),
+            None => Ok(None),
+        }
+    }
+}
+
+impl ToJson for Event {
+    ghost json_of = { event_json_of };
+
+    fn to_json(&self, alloc: Global) -> Result<Json, AllocError> {
+        let mut members = Map::new(alloc);
+        serde_json::put(&mut members, alloc, "agent", Json::from(self.agent))?;
+        serde_json::put(&mut members, alloc, "call", self.call.to_json(alloc)?)?;
+        serde_json::put(&mut members, alloc, "reply", self.answer.to_json(alloc)?)?;
+        Ok(Json::Object(members))
+    }
+}
+
+impl FromJson for Event {
+    ghost is_form = { IsEventForm };
+
+    fn from_json(alloc: Global, json: &Json) -> Result<Option<Event>, AllocError> {
+        let Some((agent, call, reply)) = three_members(json, "agent", "call", "reply") else {
+            return Ok(None);
+        };
+        let Some(agent) = read_number(agent) else {
+            return Ok(None);
+        };
+        let Some(call) = Call::from_json(alloc, call)? else {
+            return Ok(None);
+        };
+        match Answer::from_json(alloc, reply)? {
+            Some(answer) => Ok(Some(Event {
+                agent,
+                call,
+                answer,
+            })),
             None => Ok(None),
         }
     }

@@ -6,9 +6,8 @@ ghost use Rattle.asm_journal.specs.Set.{count_json_of, set_json_of, bag_json_of,
 ghost use Rattle.asm_journal.specs.Set.{IsAmountForm, IsCounted, IsCountForm, IsBagOf, IsBagForm};
 
 use crate::form::array::{Listed, array_of, pair_of, two_items};
-use crate::form::number::read_number;
 use crate::form::object::object_of;
-use crate::form::{FromJson, ToJson};
+use crate::form::{FromJson, ToJson, read_number};
 use asm_element::{ElemBag, ElemSet, Element};
 use asm_update::Amount;
 use serde_json::Value as Json;

@@ -1,13 +1,12 @@
 //! Answers: the number and values of a read, and the replies to a fire.
 ghost use Rattle.std.specs.Prelude.{IfSome};
 ghost use Rattle.asm_journal.specs.Event.{IsCauseForm, IsReplyForm, IsAnswerForm};
-ghost use Rattle.asm_journal.specs.readback.FormsClean.{clash_form_clean, reply_form_clean, answer_form_clean};
-ghost use Rattle.asm_journal.specs.Front.{BeginsAs};
+ghost use Rattle.asm_journal.specs.readback.{clash_form_clean, reply_form_clean, answer_form_clean};
+ghost use Rattle.asm_journal.specs.Shape.{BeginsAs};
 
 use crate::form::Listed;
 use crate::front::FromFront;
-use crate::front::number::number;
-use crate::front::scalars::{behind, quoted_text};
+use crate::front::scalars::{behind, number, quoted_text};
 use asm_element::{Items, Location, Value};
 use asm_storage::{Answer, Reply};
 use asm_update::{Cause, Clash};

@@ -1,16 +1,15 @@
-//! Calls: reads, and fires with their named reads.
+//! Calls: reads, and fires with their named reads; and events: an agent, its call, and the answer.
 ghost use Rattle.std.specs.Prelude.{IfSome};
-ghost use Rattle.asm_journal.specs.Event.{IsMoveOf, IsCallForm};
-ghost use Rattle.asm_journal.specs.readback.FormsClean.{named_form_clean, move_form_clean, call_form_clean};
-ghost use Rattle.asm_journal.specs.Front.{BeginsAs};
+ghost use Rattle.asm_journal.specs.Event.{IsCallForm};
+ghost use Rattle.asm_journal.specs.readback.{named_form_clean, move_form_clean, call_form_clean, event_form_clean};
+ghost use Rattle.asm_journal.specs.Shape.{BeginsAs};
 
 use crate::form::{Listed, instructions_of};
 use crate::front::FromFront;
-use crate::front::number::number;
-use crate::front::scalars::behind;
+use crate::front::scalars::{behind, number};
 use asm_element::{Items, Location};
 use asm_state::Named;
-use asm_storage::Call;
+use asm_storage::{Answer, Call, Event};
 use asm_update::{Instruction, Instructions};
 use std::alloc::Global;
 
@@ -29,16 +28,6 @@ impl FromFront for Named {
     }
 }
 
-/// The move of the instructions, unless there are too many.
-fn move_from(alloc: Global, list: Vec<Instruction>) -> Option<Instructions>
-    ensures { IfSome result (λ m. IsMoveOf m list.items) }
-{
-    match instructions_of(alloc, list) {
-        Ok(instrs) => instrs,
-        Err(_) => None,
-    }
-}
-
 impl FromFront for Instructions {
     ghost nests = { 21 };
 
@@ -46,7 +35,9 @@ impl FromFront for Instructions {
 
     fn from_front(alloc: Global, text: &[u8]) -> Option<(Instructions, &[u8])> {
         let (list, rest) = Listed::<Instruction>::from_front(alloc, text)?;
-        let instrs = move_from(alloc, list.into_vec())?;
+        let Ok(Some(instrs)) = instructions_of(alloc, list.into_vec()) else {
+            return None;
+        };
         Some((instrs, rest))
     }
 }
@@ -84,5 +75,29 @@ impl FromFront for Call {
             Some(b'f') => front_fire(alloc, text),
             _ => front_read(alloc, text),
         }
+    }
+}
+
+impl FromFront for Event {
+    ghost nests = { 23 };
+
+    ghost clean = { event_form_clean };
+
+    fn from_front(alloc: Global, text: &[u8]) -> Option<(Event, &[u8])> {
+        let inside = behind(text, b"{\"agent\":")?;
+        let (agent, left) = number(inside)?;
+        let second = behind(left, b",\"call\":")?;
+        let (call, next) = Call::from_front(alloc, second)?;
+        let third = behind(next, b",\"reply\":")?;
+        let (answer, end) = Answer::from_front(alloc, third)?;
+        let rest = behind(end, b"}")?;
+        Some((
+            Event {
+                agent,
+                call,
+                answer,
+            },
+            rest,
+        ))
     }
 }

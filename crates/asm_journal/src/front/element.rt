@@ -2,10 +2,9 @@
 ghost use Rattle.std.specs.Prelude.{◌≡◌, ◌∷◌, ◌++◌, [], true, false, IfSome, codes, string_bytes};
 ghost use Rattle.serde_json.specs.Data.{Items, array};
 ghost use Rattle.serde_json.specs.Written.{items_text};
-ghost use Rattle.asm_journal.specs.Shape.{AreForms, one_of};
+ghost use Rattle.asm_journal.specs.Shape.{AreForms, one_of, BeginsAs, BeginsItems};
 ghost use Rattle.asm_journal.specs.Element.{IsIntegerForm, IsElementForm, IsLocationForm};
-ghost use Rattle.asm_journal.specs.readback.FormsClean.{integer_form_clean, element_form_clean, location_form_clean};
-ghost use Rattle.asm_journal.specs.Front.{BeginsAs, BeginsItems};
+ghost use Rattle.asm_journal.specs.readback.{integer_form_clean, element_form_clean, location_form_clean};
 
 use crate::front::FromFront;
 use crate::front::items::put_behind;

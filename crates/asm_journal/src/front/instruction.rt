@@ -2,13 +2,12 @@
 ghost use Rattle.std.specs.Prelude.{◌∷◌, true, IfSome};
 ghost use Rattle.asm_journal.specs.Set.{IsCounted};
 ghost use Rattle.asm_journal.specs.Instruction.{IsActionForm, IsInstructionForm};
-ghost use Rattle.asm_journal.specs.readback.FormsClean.{instruction_form_clean};
-ghost use Rattle.asm_journal.specs.Front.{BeginsItems};
+ghost use Rattle.asm_journal.specs.readback.{instruction_form_clean};
+ghost use Rattle.asm_journal.specs.Shape.{BeginsItems};
 
 use crate::front::FromFront;
 use crate::front::items::only_item;
-use crate::front::number::number;
-use crate::front::scalars::{behind, quoted_text};
+use crate::front::scalars::{behind, number, quoted_text};
 use asm_element::{Element, Location, Value};
 use asm_update::{Action, Amount, Instruction};
 use std::alloc::Global;

@@ -1,8 +1,7 @@
 //! The items of an array.
 ghost use Rattle.std.specs.Prelude.{◌≡◌, ◌∷◌, ◌++◌, [], true, false, IfSome, OnSome, suc};
-ghost use Rattle.asm_journal.specs.Shape.{AreForms, IsListForm, IsOnly};
-ghost use Rattle.asm_journal.specs.readback.FormsClean.{list_form_clean};
-ghost use Rattle.asm_journal.specs.Front.{BeginsAs, BeginsItems};
+ghost use Rattle.asm_journal.specs.Shape.{AreForms, IsListForm, IsOnly, BeginsAs, BeginsItems};
+ghost use Rattle.asm_journal.specs.readback.{list_form_clean};
 
 use crate::form::Listed;
 use crate::front::FromFront;

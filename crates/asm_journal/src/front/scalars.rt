@@ -3,8 +3,10 @@ ghost use Rattle.std.specs.Prelude.{◌≡◌, ◌<◌, ◌^◌, ◌++◌, ◌�
 ghost use Rattle.std.specs.Fmt.{signed_decimal};
 ghost use Rattle.json.specs.Run.{is_plain};
 ghost use Rattle.json.specs.Print.{quoted};
+ghost use Rattle.asm_journal.specs.Shape.{IsNumberForm, BeginsAs};
 
 /// The rest of the text behind the word, if it begins with the word.
+#[tactic(auto, using(crate::proofs::Compact::stripped))]
 pub(crate) fn behind<'t>(text: &'t [u8], word: &[u8]) -> Option<&'t [u8]>
     ensures { IfSome result (λ rest. text.now ≡ word.now ++ rest.now) }
 {
@@ -82,6 +84,17 @@ pub(crate) fn quoted_text(text: &[u8]) -> Option<(&str, &[u8])>
     let (front, rest) = before_quote(inside)?;
     match str::from_utf8(front) {
         Ok(front) => Some((front, rest)),
+        Err(_) => None,
+    }
+}
+
+/// The whole number from 0 to 4,294,967,295 that the text begins with, and the rest of the text.
+pub(crate) fn number(text: &[u8]) -> Option<(u32, &[u8])>
+    ensures { IfSome result (λ p. BeginsAs IsNumberForm text.now p.0 p.1.now) }
+{
+    let (value, rest) = digits(text)?;
+    match u32::try_from(value) {
+        Ok(found) => Some((found, rest)),
         Err(_) => None,
     }
 }

@@ -1,7 +1,5 @@
 //! States: locations with their values.
-ghost use Rattle.std.specs.Prelude.{IfSome, map};
-ghost use Rattle.asm_journal.specs.Value.{IsStateOf};
-ghost use Rattle.asm_journal.specs.readback.FormsClean.{pair_form_clean, state_form_clean};
+ghost use Rattle.asm_journal.specs.readback.{pair_form_clean, state_form_clean};
 
 use crate::form::{Listed, StatePair, state_from};
 use crate::front::FromFront;
@@ -25,16 +23,6 @@ impl FromFront for StatePair {
     }
 }
 
-/// The state of the pairs, unless a location stands twice.
-fn state_of(alloc: Global, pairs: Vec<StatePair>) -> Option<PlainState>
-    ensures { IfSome result (λ A. IsStateOf A (map (λ p. (p.0, p.1)) pairs.items)) }
-{
-    match state_from(alloc, pairs) {
-        Ok(state) => state,
-        Err(_) => None,
-    }
-}
-
 impl FromFront for PlainState {
     ghost nests = { 21 };
 
@@ -42,7 +30,9 @@ impl FromFront for PlainState {
 
     fn from_front(alloc: Global, text: &[u8]) -> Option<(PlainState, &[u8])> {
         let (pairs, rest) = Listed::<StatePair>::from_front(alloc, text)?;
-        let state = state_of(alloc, pairs.into_vec())?;
+        let Ok(Some(state)) = state_from(alloc, pairs.into_vec()) else {
+            return None;
+        };
         Some((state, rest))
     }
 }

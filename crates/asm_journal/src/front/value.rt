@@ -1,9 +1,8 @@
 //! Sets, bags and values.
-ghost use Rattle.std.specs.Prelude.{IfSome, map};
-ghost use Rattle.asm_journal.specs.Set.{IsSetOf, IsBagOf};
+ghost use Rattle.std.specs.Prelude.{IfSome};
 ghost use Rattle.asm_journal.specs.Value.{IsValueForm};
-ghost use Rattle.asm_journal.specs.readback.FormsClean.{set_form_clean, bag_form_clean, count_form_clean, value_form_clean};
-ghost use Rattle.asm_journal.specs.Front.{BeginsAs};
+ghost use Rattle.asm_journal.specs.readback.{set_form_clean, bag_form_clean, count_form_clean, value_form_clean};
+ghost use Rattle.asm_journal.specs.Shape.{BeginsAs};
 
 use crate::form::{Counted, Listed, bag_of, set_of};
 use crate::front::FromFront;
@@ -12,16 +11,6 @@ use crate::front::scalars::behind;
 use asm_element::{ElemBag, ElemSet, Element, Value};
 use std::alloc::Global;
 
-/// The set of the elements, unless one stands twice.
-fn set_from(alloc: Global, elements: Vec<Element>) -> Option<ElemSet>
-    ensures { IfSome result (λ s. IsSetOf s elements.items) }
-{
-    match set_of(alloc, elements) {
-        Ok(set) => set,
-        Err(_) => None,
-    }
-}
-
 impl FromFront for ElemSet {
     ghost nests = { 17 };
 
@@ -29,7 +18,9 @@ impl FromFront for ElemSet {
 
     fn from_front(alloc: Global, text: &[u8]) -> Option<(ElemSet, &[u8])> {
         let (elements, rest) = Listed::<Element>::from_front(alloc, text)?;
-        let set = set_from(alloc, elements.into_vec())?;
+        let Ok(Some(set)) = set_of(alloc, elements.into_vec()) else {
+            return None;
+        };
         Some((set, rest))
     }
 }
@@ -46,16 +37,6 @@ impl FromFront for Counted {
     }
 }
 
-/// The bag of the counts, unless an element stands twice.
-fn bag_from(alloc: Global, counts: Vec<Counted>) -> Option<ElemBag>
-    ensures { IfSome result (λ b. IsBagOf b (map (λ c. (c.0, c.1)) counts.items)) }
-{
-    match bag_of(alloc, counts) {
-        Ok(bag) => bag,
-        Err(_) => None,
-    }
-}
-
 impl FromFront for ElemBag {
     ghost nests = { 18 };
 
@@ -63,7 +44,9 @@ impl FromFront for ElemBag {
 
     fn from_front(alloc: Global, text: &[u8]) -> Option<(ElemBag, &[u8])> {
         let (counts, rest) = Listed::<Counted>::from_front(alloc, text)?;
-        let bag = bag_from(alloc, counts.into_vec())?;
+        let Ok(Some(bag)) = bag_of(alloc, counts.into_vec()) else {
+            return None;
+        };
         Some((bag, rest))
     }
 }

@@ -9,10 +9,9 @@ ghost use Rattle.asm_storage.specs.History.{fired_move};
 ghost use Rattle.asm_storage.specs.Storage.{machine_of, with_fired, with_receipt, last_look, IsReplyOf, Missed};
 ghost use Rattle.asm_storage.specs.Limits.{reads_limit};
 ghost use Rattle.asm_storage.specs.Machine.{reply_to};
-ghost use Rattle.asm_storage.specs.Offering.{IsOffering, IsSameOffering};
+ghost use Rattle.asm_storage.specs.Part.{IsOffering, IsSameOffering, agent_of, offers_in, misses_in};
 ghost use Rattle.asm_storage.specs.Calls.{receipt_at, HasOffered, IsFireOver, MadeOffers, Ran, StandsAfter};
-ghost use Rattle.asm_storage.specs.Plain.{is_plain, is_plain_over};
-ghost use Rattle.asm_storage.specs.Part.{agent_of, offers_in, misses_in};
+ghost use Rattle.asm_storage.specs.Calls.{is_plain, is_plain_over};
 ghost use Rattle.asm_storage.specs.Part.{HasWon, IsJudged, IsLost, IsPartOf, IsTurnOver, LooksOn};
 
 use crate::call::{Answer, Call, Reply, fire_call};

@@ -5,7 +5,7 @@ ghost use Rattle.asm_update.specs.State as plain;
 ghost use Rattle.asm_state.specs.Stands.{Stands};
 ghost use Rattle.asm_storage.specs.declared.call.Reply.TheVariants as reply;
 ghost use Rattle.asm_storage.specs.Part.{IsReplyAt};
-ghost use Rattle.asm_storage.specs.Plain.{is_plain};
+ghost use Rattle.asm_storage.specs.Calls.{is_plain};
 
 use crate::call::Reply;
 use asm_state::{Named, Objection, State};

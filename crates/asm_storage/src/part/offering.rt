@@ -1,5 +1,5 @@
 ghost use Rattle.std.specs.Prelude.{◌≡◌, IfOk, IfSome, None, Ok};
-ghost use Rattle.asm_storage.specs.Offering.{IsOffering};
+ghost use Rattle.asm_storage.specs.Part.{IsOffering};
 
 use crate::call::{Call, fire_call};
 use crate::entry::Entry;

@@ -5,7 +5,7 @@ ghost use Rattle.asm_update.specs.State as plain;
 ghost use Rattle.asm_state.specs.Stands.{Stands};
 ghost use Rattle.asm_storage.specs.Agents.{moves_seen};
 ghost use Rattle.asm_storage.specs.Part.{IsPartOf};
-ghost use Rattle.asm_storage.specs.Plain.{is_plain_over};
+ghost use Rattle.asm_storage.specs.Calls.{is_plain_over};
 ghost use Rattle.asm_storage.specs.Scans.{IsFound, IsNamedOver};
 ghost use Rattle.asm_storage.specs.Storage.{machine_of};
 

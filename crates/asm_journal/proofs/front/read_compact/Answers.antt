@@ -1,4 +1,4 @@
-use Rattle.asm_journal.proofs.Whole.{whole_text, no_rest}
+use Rattle.asm_journal.proofs.FrontObjects.{whole_text, no_rest}
 use Rattle.asm_journal.proofs.front.read_compact.Goals as goal
 
 pub returns-then-is_empty : goal.returns-then-is_empty

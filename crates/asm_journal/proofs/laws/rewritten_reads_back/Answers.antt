@@ -1,4 +1,4 @@
-use Rattle.asm_journal.proofs.Fitting.{reads_fit}
+use Rattle.asm_journal.proofs.FaultFound.{reads_fit}
 use Rattle.asm_journal.proofs.RoundTrip.{text_reads}
 use Rattle.asm_journal.proofs.laws.rewritten_reads_back.Goals as goal
 

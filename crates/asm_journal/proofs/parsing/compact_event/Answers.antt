@@ -1,5 +1,5 @@
 use Rattle.std.proofs.Common.{◌≡◌, ◌∷◌, ap, ◌∙◌, rules}
-use Rattle.asm_journal.proofs.Whole.{compact_line}
+use Rattle.asm_journal.proofs.FrontObjects.{compact_line}
 use Rattle.asm_journal.proofs.parsing.compact_event.Goals as goal
 
 pub returns : goal.returns

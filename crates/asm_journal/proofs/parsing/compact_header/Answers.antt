@@ -1,4 +1,4 @@
-use Rattle.asm_journal.proofs.Whole.{compact_header_line}
+use Rattle.asm_journal.proofs.FrontObjects.{compact_header_line}
 use Rattle.asm_journal.proofs.parsing.compact_header.Goals as goal
 
 pub returns : goal.returns

@@ -1,5 +1,5 @@
 use Rattle.asm_journal.proofs.Refused.{answered}
-use Rattle.asm_journal.proofs.Fitting.{fitting}
+use Rattle.asm_journal.proofs.FaultFound.{fitting}
 use Rattle.asm_journal.proofs.parsing.from_text.Goals as goal
 
 pub returns-clause-only : goal.returns-clause-only

@@ -2,10 +2,9 @@ use Rattle.std.proofs.Common.{ℕ, ◌<◌, ◌≤◌, sym, subst, ◌∙◌, in
 use Rattle.std.specs.Prelude.{◌^◌}
 use Rattle.asm_row.specs.Limits.{capacity_limit}
 use Rattle.asm_storage.specs.Limits.{agents_limit, events_limit}
-use Rattle.asm_journal.specs.Version.{IsVersion}
+use Rattle.asm_journal.specs.Shape.{IsVersion}
 use Rattle.asm_journal.proofs.Parsed.{true_and_false}
-use Rattle.asm_journal.proofs.Arrays.{same_number}
-use Rattle.asm_journal.proofs.OtherShapes.{none_gives}
+use Rattle.asm_journal.proofs.Arrays.{same_number, none_gives}
 use Rattle.asm_journal.proofs.parsing.limits_of.Goals as goal
 
 few : (n : ℕ) → n ≤ events_limit → n < 2 ^ 32

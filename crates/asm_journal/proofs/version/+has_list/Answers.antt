@@ -1,6 +1,6 @@
 use Rattle.std.proofs.Common.{sym, ◌∙◌, arith}
 use Rattle.std.proofs.lemmas.List.{take_more}
-use Rattle.asm_journal.proofs.Versions.{item_tells, none_more, item_is_shallower}
+use Rattle.asm_journal.proofs.Clean.{item_tells, none_more, item_is_shallower}
 use Rattle.asm_journal.proofs.version.+has_list.Goals as goal
 
 pub items_have_list-has_list-requires : goal.items_have_list-has_list-requires

@@ -2,7 +2,7 @@ use Rattle.std.proofs.Common.{◌≡◌, ◌≤◌, ◌+◌, ◌*◌, false}
 use Rattle.std.specs.Prelude.{take}
 use Rattle.serde_json.specs.Data.{depth, items_depth, members_depth}
 use Rattle.serde_json.specs.View.{view, items_view, members_view}
-use Rattle.asm_journal.specs.Version.{items_have_list, members_have_list}
+use Rattle.asm_journal.specs.Shape.{items_have_list, members_have_list}
 use Rattle.asm_journal.proofs.version.+has_list.Given as goal
 
 -- how deep the value nests, twice, so that its items stand between it and each of them

@@ -1,4 +1,4 @@
-use Rattle.asm_storage.proofs.CallsDecide.{answers_decided, moves_decided}
+use Rattle.asm_storage.proofs.Legal.{answers_decided, moves_decided}
 use Rattle.asm_storage.proofs.laws.calls_decide.Goals as goal
 
 pub returns-clause-answers : goal.returns-clause-answers

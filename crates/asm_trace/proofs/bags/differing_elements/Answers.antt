@@ -1,4 +1,4 @@
-use Rattle.asm_trace.proofs.Differing.{differing_is}
+use Rattle.asm_trace.proofs.Making.{differing_is}
 use Rattle.asm_trace.proofs.bags.differing_elements.Goals as goal
 
 pub returns : goal.returns

@@ -1,6 +1,6 @@
 use Rattle.std.proofs.Common.{ap, ◌∙◌}
 use Rattle.asm_element.specs.Set.{insert}
-use Rattle.asm_trace.proofs.Differing.{noted, unnoted, differ_from, alike_from}
+use Rattle.asm_trace.proofs.Making.{noted, unnoted, differ_from, alike_from}
 use Rattle.asm_trace.proofs.bags.note.Goals as goal
 
 pub returns-in_ok-insert : goal.returns-in_ok-insert

@@ -1,6 +1,6 @@
 use Rattle.std.proofs.Common.{map, ap, ◌∙◌, refl}
 use Rattle.asm_element.specs.Bag as bag
-use Rattle.asm_trace.proofs.Differing.{alike_more, alike_all, element_in}
+use Rattle.asm_trace.proofs.Making.{alike_more, alike_all, element_in}
 use Rattle.asm_trace.proofs.bags.note_all.Goals as goal
 
 pub loop-element-init : goal.loop-element-init

@@ -1,5 +1,5 @@
 use Rattle.std.proofs.Common.{map}
-use Rattle.asm_trace.proofs.Differing.{AreAlike, element_in}
+use Rattle.asm_trace.proofs.Making.{AreAlike, element_in}
 use Rattle.asm_trace.proofs.bags.note_all.Given as goal
 
 -- the set, with what is left to come, is as the first one with all

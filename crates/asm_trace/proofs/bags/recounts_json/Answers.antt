@@ -5,7 +5,7 @@ use Rattle.asm_journal.specs.Shape.{list_of}
 use Rattle.asm_journal.proofs.Arrays.{written_all}
 use Rattle.asm_trace.specs.Change.{recount}
 use Rattle.asm_trace.specs.Text.{recount_json_of}
-use Rattle.asm_trace.proofs.Differing.{recounts_json_is}
+use Rattle.asm_trace.proofs.Making.{recounts_json_is}
 use Rattle.asm_trace.proofs.bags.recounts_json.Goals as goal
 
 pub returns : goal.returns

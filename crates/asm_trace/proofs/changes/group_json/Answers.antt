@@ -1,14 +1,13 @@
-use Rattle.std.proofs.Common.{◌≡◌, Some, None, [], ◌∷◌, map, ap, subst, ◌∙◌}
+use Rattle.std.proofs.Common.{[], ◌∷◌, map, ap, subst, ◌∙◌}
 use Rattle.std.proofs.lemmas.Result.{IfOk-weaker}
 use Rattle.std.specs.Prelude.{Err}
 use Rattle.serde_json.specs.View.{view}
 use Rattle.serde_json.specs.Data.{Data}
-use Rattle.asm_update.specs.Fire.{GroupResult}
 use Rattle.asm_update.specs.declared.error.ResultError.{ResultError}
 use Rattle.asm_update.specs.Aggregator.{IsOutcome}
 use Rattle.asm_state.specs.View.{value_at}
 use Rattle.asm_journal.specs.Shape.{list_of}
-use Rattle.asm_trace.specs.Local.{AreSameTo, changes_at, told}
+use Rattle.asm_trace.specs.Change.{AreSameTo, changes_at}
 use Rattle.asm_trace.specs.Text.{changes_json_of}
 use Rattle.asm_trace.proofs.Local.{told_alike}
 use Rattle.asm_trace.proofs.changes.group_json.Goals as goal

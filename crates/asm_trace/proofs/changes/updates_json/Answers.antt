@@ -2,7 +2,7 @@ use Rattle.std.proofs.Common.{map, ap, ◌∙◌}
 use Rattle.asm_state.specs.View.{value_at}
 use Rattle.asm_journal.specs.Shape.{list_of}
 use Rattle.asm_journal.proofs.Arrays.{written_more, written_all}
-use Rattle.asm_trace.proofs.Differing.{update_json_of, updates_json_is}
+use Rattle.asm_trace.proofs.Making.{update_json_of, updates_json_is}
 use Rattle.asm_trace.proofs.changes.updates_json.Goals as goal
 
 pub loop-at-preserved : goal.loop-at-preserved

@@ -1,6 +1,6 @@
 use Rattle.asm_state.specs.View.{value_at}
 use Rattle.asm_journal.proofs.Arrays.{AreWritten}
-use Rattle.asm_trace.proofs.Differing.{update_json_of}
+use Rattle.asm_trace.proofs.Making.{update_json_of}
 use Rattle.asm_trace.proofs.changes.updates_json.Given as goal
 
 abbrev pub invariant-loop-at : goal.invariant-loop-at

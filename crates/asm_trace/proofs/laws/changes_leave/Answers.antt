@@ -1,4 +1,4 @@
-use Rattle.asm_trace.proofs.Leaving as leaving
+use Rattle.asm_trace.proofs.Kept as leaving
 use Rattle.asm_trace.proofs.laws.changes_leave.Goals as goal
 
 pub returns : goal.returns

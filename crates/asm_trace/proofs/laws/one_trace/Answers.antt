@@ -1,4 +1,4 @@
-use Rattle.asm_trace.proofs.Once as once
+use Rattle.asm_trace.proofs.Noted as once
 use Rattle.asm_trace.proofs.laws.one_trace.Goals as goal
 
 pub returns : goal.returns

@@ -1,4 +1,4 @@
-use Rattle.asm_trace.proofs.Once.{legal_trace, first_wrong_told}
+use Rattle.asm_trace.proofs.Noted.{legal_trace, first_wrong_told}
 use Rattle.asm_trace.proofs.laws.wrong_answers.Goals as goal
 
 pub returns-clause-legal : goal.returns-clause-legal

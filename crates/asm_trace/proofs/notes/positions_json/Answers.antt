@@ -5,7 +5,7 @@ use Rattle.std.specs.List.{filter, range_with_len}
 use Rattle.serde_json.specs.View.{view}
 use Rattle.asm_journal.specs.Shape.{list_of, number_json_of}
 use Rattle.asm_trace.specs.Text.{is_other_at}
-use Rattle.asm_trace.proofs.Differing.{positions_more}
+use Rattle.asm_trace.proofs.Making.{positions_more}
 use Rattle.asm_trace.proofs.notes.positions_json.Goals as goal
 
 pub loop-i-init : goal.loop-i-init

@@ -5,7 +5,7 @@ use Rattle.asm_state.specs.View.{value_at}
 use Rattle.asm_storage.specs.History.{move_of}
 use Rattle.asm_trace.specs.Change.{changes_of}
 use Rattle.asm_trace.specs.Text.{right_json_of}
-use Rattle.asm_trace.proofs.Floats.{HasNoFloat, event_no_float, some_right_no_float, some_changes_no_float}
+use Rattle.asm_trace.proofs.Kept.{HasNoFloat, event_no_float, some_right_no_float, some_changes_no_float}
 use Rattle.asm_trace.proofs.Noted.{noted_step}
 use Rattle.asm_trace.proofs.notes.push_note.Goals as goal
 

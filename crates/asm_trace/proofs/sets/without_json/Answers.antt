@@ -4,7 +4,7 @@ use Rattle.serde_json.specs.View.{view}
 use Rattle.asm_journal.specs.Element.{element_json_of}
 use Rattle.asm_journal.specs.Shape.{list_of}
 use Rattle.asm_trace.specs.Change.{is_missing}
-use Rattle.asm_trace.proofs.Differing.{left_passing}
+use Rattle.asm_trace.proofs.Making.{left_passing}
 use Rattle.asm_trace.proofs.sets.without_json.Goals as goal
 
 pub loop-element-preserved : goal.loop-element-preserved

@@ -1,7 +1,7 @@
 use Rattle.std.proofs.Common.{string_bytes, sym, subst}
 use Rattle.std.proofs.lemmas.Result.{IfOk-weaker}
 use Rattle.asm_update.specs.Aggregator.{Meaning}
-use Rattle.asm_trace.specs.Local.{IsLocal}
+use Rattle.asm_trace.specs.Change.{IsLocal}
 use Rattle.asm_trace.specs.Text.{IsTrace}
 use Rattle.asm_trace.proofs.Local.{standard_local}
 use Rattle.asm_trace.proofs.tracing.standard_trace_text.Goals as goal

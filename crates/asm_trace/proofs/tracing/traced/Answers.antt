@@ -7,7 +7,7 @@ use Rattle.asm_journal.specs.Check.{machine_of}
 use Rattle.asm_journal.specs.Text.{line}
 use Rattle.asm_trace.specs.Note.{AreNotesOf}
 use Rattle.asm_trace.specs.Text.{header_of}
-use Rattle.asm_trace.proofs.Floats.{header_no_float}
+use Rattle.asm_trace.proofs.Kept.{header_no_float}
 use Rattle.asm_trace.proofs.Noted.{noted_to_more, few_followed}
 use Rattle.asm_trace.proofs.tracing.traced.Goals as goal
 

@@ -1,4 +1,4 @@
-use Rattle.asm_journal.proofs.OtherShapes.{none_gives, no_first, no_second, just_two, more_than_two}
+use Rattle.asm_journal.proofs.Arrays.{none_gives, no_first, no_second, just_two, more_than_two}
 use Rattle.asm_journal.proofs.form.array.two_items.Goals as goal
 
 pub returns-in_err-first-clause-none : goal.returns-in_err-first-clause-none

@@ -10,7 +10,7 @@ use Rattle.asm_journal.specs.Shape.{AreForms, IsParsed}
 use Rattle.asm_journal.proofs.Parsed.{IsParsed-some, IsParsed-none}
 use Rattle.asm_journal.proofs.Arrays.{AreForms-push, no_forms}
 use Rattle.asm_journal.proofs.Elements.{list_json, list_read, no_list}
-use Rattle.asm_journal.proofs.Versions.{item_is_shallower}
+use Rattle.asm_journal.proofs.Clean.{item_is_shallower}
 use Rattle.asm_journal.proofs.form.element.+read_element.Goals as goal
 
 pub read_list-read_element-requires : goal.read_list-read_element-requires

@@ -1,6 +1,6 @@
 use Rattle.std.proofs.Common.{sym, ap, length, ◌∙◌}
 use Rattle.serde_json.specs.View.{view}
-use Rattle.asm_journal.proofs.OtherShapes.{none_gives, no_array_parts, no_word_parts, no_location_parts, no_text_parts, parts_are}
+use Rattle.asm_journal.proofs.Arrays.{none_gives, no_array_parts, no_word_parts, no_location_parts, no_text_parts, parts_are}
 use Rattle.asm_journal.proofs.form.instruction.instruction_parts.Goals as goal
 
 pub returns-in_err-as_array-clause-none : goal.returns-in_err-as_array-clause-none

@@ -5,7 +5,7 @@ use Rattle.asm_journal.specs.Shape.{IsParsed}
 use Rattle.asm_journal.specs.Set.{IsCounted}
 use Rattle.asm_journal.specs.Instruction.{IsActionForm}
 use Rattle.asm_journal.proofs.Actions.{put_read, add_read, remove_read, no_bagadd, no_bagremove, inc_read, no_action}
-use Rattle.asm_journal.proofs.Sets.{count_of}
+use Rattle.asm_journal.proofs.Elements.{count_of}
 use Rattle.asm_journal.proofs.Parsed.{IsParsed-some, IsParsed-none}
 use Rattle.asm_journal.proofs.Values.{mapped}
 use Rattle.asm_journal.proofs.form.instruction.read_action.Goals as goal

@@ -1,5 +1,4 @@
-use Rattle.asm_journal.proofs.Objects.{same_members, behind, not_end, in_all, one_more}
-use Rattle.asm_journal.proofs.OtherShapes.{none_gives}
+use Rattle.asm_journal.proofs.Arrays.{same_members, behind, not_end, in_all, one_more, none_gives}
 use Rattle.asm_journal.proofs.form.object.one_member.Goals as goal
 
 pub returns-in_err-members-clause-none : goal.returns-in_err-members-clause-none

@@ -2,8 +2,8 @@ use Rattle.std.proofs.Common.{◌≡◌, ◌<◌, ◌≤◌, ◌+◌, ℕ, [], �
 use Rattle.std.proofs.lemmas.List.{map-append}
 use Rattle.asm_element.specs.Bag as bag
 use Rattle.asm_element.specs.declared.element.Element.{Element}
-use Rattle.asm_journal.proofs.Sets.{counts_of}
-use Rattle.asm_journal.proofs.Gathered.{one_back, none_distinct, bag-twice, bag-more}
+use Rattle.asm_journal.proofs.Elements.{counts_of}
+use Rattle.asm_journal.proofs.EntriesKept.{one_back, none_distinct, bag-twice, bag-more}
 use Rattle.asm_element.specs.Element.{element_cmp}
 use Rattle.asm_journal.proofs.form.set.bag_of.Goals as goal
 

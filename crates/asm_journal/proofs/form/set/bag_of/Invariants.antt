@@ -1,8 +1,8 @@
 use Rattle.std.proofs.Common.{◌≡◌, ◌++◌, ℕ, List, vec_len}
 use Rattle.asm_element.specs.declared.element.Element.{Element}
 use Rattle.asm_journal.specs.Set.{IsBagOf}
-use Rattle.asm_journal.proofs.Gathered.{ArePositive}
-use Rattle.asm_journal.proofs.Sets.{counts_of}
+use Rattle.asm_journal.proofs.EntriesKept.{ArePositive}
+use Rattle.asm_journal.proofs.Elements.{counts_of}
 use Rattle.asm_journal.proofs.form.set.bag_of.Given as goal
 
 abbrev pub decreases-loop-element : goal.decreases-loop-element

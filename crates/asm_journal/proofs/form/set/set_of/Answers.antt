@@ -1,6 +1,6 @@
 use Rattle.std.proofs.Common.{[], ◌∷◌, sym, ◌∙◌, append-nil}
 use Rattle.asm_element.specs.Element.{element_cmp}
-use Rattle.asm_journal.proofs.Gathered.{one_back, none_distinct, set-twice, set-more}
+use Rattle.asm_journal.proofs.EntriesKept.{one_back, none_distinct, set-twice, set-more}
 use Rattle.asm_journal.proofs.form.set.set_of.Goals as goal
 
 pub loop-element-init : goal.loop-element-init

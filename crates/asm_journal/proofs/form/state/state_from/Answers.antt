@@ -3,7 +3,7 @@ use Rattle.std.proofs.lemmas.List.{map-append}
 use Rattle.asm_element.specs.Place.{Place, location_cmp}
 use Rattle.asm_element.specs.declared.value.Value.{Value}
 use Rattle.asm_update.specs.State.{write}
-use Rattle.asm_journal.proofs.Gathered.{one_back, none_distinct, none_read, read-more, state-twice, state-more}
+use Rattle.asm_journal.proofs.EntriesKept.{one_back, none_distinct, none_read, read-more, state-twice, state-more}
 use Rattle.asm_journal.proofs.Values.{pairs_seen}
 use Rattle.asm_journal.proofs.form.state.state_from.Goals as goal
 

@@ -2,7 +2,7 @@ use Rattle.std.proofs.Common.{◌≡◌, ◌++◌, List, vec_len}
 use Rattle.asm_element.specs.Place.{Place}
 use Rattle.asm_element.specs.declared.value.Value.{Value}
 use Rattle.asm_journal.specs.Value.{IsStateOf}
-use Rattle.asm_journal.proofs.Gathered.{AreRead}
+use Rattle.asm_journal.proofs.EntriesKept.{AreRead}
 use Rattle.asm_journal.proofs.Values.{pairs_seen}
 use Rattle.asm_journal.proofs.form.state.state_from.Given as goal
 

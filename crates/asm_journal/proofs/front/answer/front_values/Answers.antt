@@ -1,7 +1,7 @@
 use Rattle.std.proofs.Common.{sym, subst, ◌∙◌}
 use Rattle.asm_storage.specs.declared.call.Answer.TheVariants as answer
 use Rattle.asm_journal.specs.Event.{IsAnswerForm}
-use Rattle.asm_journal.specs.Front.{BeginsAs}
+use Rattle.asm_journal.specs.Shape.{BeginsAs}
 use Rattle.asm_journal.proofs.FrontObjects.{values_begin}
 use Rattle.asm_journal.proofs.front.answer.front_values.Goals as goal
 

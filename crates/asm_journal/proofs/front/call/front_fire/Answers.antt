@@ -1,7 +1,7 @@
 use Rattle.std.proofs.Common.{sym, subst, ◌∙◌}
 use Rattle.asm_storage.specs.declared.call.Call.TheVariants as call
 use Rattle.asm_journal.specs.Event.{IsCallForm}
-use Rattle.asm_journal.specs.Front.{BeginsAs}
+use Rattle.asm_journal.specs.Shape.{BeginsAs}
 use Rattle.asm_journal.proofs.FrontObjects.{fire_begins}
 use Rattle.asm_journal.proofs.front.call.front_fire.Goals as goal
 

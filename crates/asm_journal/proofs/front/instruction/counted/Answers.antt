@@ -1,4 +1,4 @@
-use Rattle.asm_journal.proofs.FrontInstructions.{counted_begins, some_amount}
+use Rattle.asm_journal.proofs.FrontObjects.{counted_begins, some_amount}
 use Rattle.asm_journal.proofs.front.instruction.counted.Goals as goal
 
 pub returns : goal.returns

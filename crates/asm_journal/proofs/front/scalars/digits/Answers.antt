@@ -1,5 +1,5 @@
 use Rattle.std.proofs.Common.{◌<◌, ◌+◌, ◌*◌, ◌++◌, ◌^◌, ◌≤◌, decimal, sym, ap, subst, ◌∙◌, arith}
-use Rattle.asm_journal.proofs.Fronts.{one_digit, zero_digit, first_digit, next_small}
+use Rattle.asm_journal.proofs.Compact.{one_digit, zero_digit, first_digit, next_small}
 use Rattle.asm_journal.proofs.front.scalars.digits.Goals as goal
 
 pub returns-then-first-eq48-clause-text : goal.returns-then-first-eq48-clause-text

@@ -1,4 +1,4 @@
-use Rattle.asm_journal.proofs.Fronts.{quoted_front}
+use Rattle.asm_journal.proofs.Compact.{quoted_front}
 use Rattle.asm_journal.proofs.front.scalars.quoted_text.Goals as goal
 
 pub returns-in-Ok : goal.returns-in-Ok

@@ -2,14 +2,12 @@ use Rattle.std.proofs.Common.{◌+◌, Err, Ok, IfSome, Option, None, Some, arit
 use Rattle.std.proofs.lemmas.Result.{err_from_is_err_and}
 use Rattle.asm_storage.specs.declared.call.Reply.{Reply}
 use Rattle.asm_storage.specs.declared.error.FireError.TheVariants as fire_error
-use Rattle.asm_storage.specs.Calls.{HasOffered, IsFireOver, MadeOffers, Ran, StandsAfter}
+use Rattle.asm_storage.specs.Calls.{HasOffered, IsFireOver, MadeOffers, Ran, StandsAfter, is_plain_over}
 use Rattle.asm_storage.specs.Part.{agent_of, IsTurnOver, offers_in, misses_in}
-use Rattle.asm_storage.specs.Plain.{is_plain_over}
 use Rattle.asm_storage.specs.Scans.{with_found}
 use Rattle.asm_row.proofs.Prefixes.{IsPrefix-trans}
-use Rattle.asm_storage.proofs.OwnState.{looked_follows, stands_later}
+use Rattle.asm_storage.proofs.FireTurns.{looked_follows, stands_later, answered_after, offered_then, offers_answered, offers_refused, looked_id, ran_then, same_offering}
 use Rattle.asm_storage.proofs.PartKept.{looks_then}
-use Rattle.asm_storage.proofs.FireTurns.{answered_after, offered_then, offers_answered, offers_refused, looked_id, ran_then, same_offering}
 use Rattle.asm_storage.proofs.Scanning.{is_over}
 use Rattle.asm_storage.proofs.part.AgentPart.fire.Goals as goal
 

@@ -1,8 +1,6 @@
 use Rattle.std.specs.Prelude.{◌≡◌, true, IfSome}
-use Rattle.asm_storage.specs.Calls.{HasOffered, Ran}
-use Rattle.asm_storage.specs.Offering.{IsOffering}
-use Rattle.asm_storage.specs.Part.{agent_of, LooksOn}
-use Rattle.asm_storage.specs.Plain.{is_plain_over}
+use Rattle.asm_storage.specs.Calls.{HasOffered, Ran, is_plain_over}
+use Rattle.asm_storage.specs.Part.{IsOffering, agent_of, LooksOn}
 use Rattle.asm_storage.proofs.part.AgentPart.fire.Given as goal
 
 -- each turn so far lost one offer, and left what it offered

@@ -7,7 +7,7 @@ use Rattle.asm_storage.specs.Agents.{moves_seen}
 use Rattle.asm_storage.specs.Part.{IsReplyAt}
 use Rattle.asm_storage.specs.Storage.{machine_of}
 use Rattle.asm_storage.proofs.PartKept.{stands_for_all}
-use Rattle.asm_storage.proofs.Judging.{judged_result}
+use Rattle.asm_storage.proofs.FireTurns.{judged_result}
 use Rattle.asm_storage.proofs.part.AgentPart.judge.Goals as goal
 
 pub returns : goal.returns

@@ -5,7 +5,7 @@ use Rattle.asm_storage.specs.declared.call.Reply.{Reply}
 use Rattle.asm_storage.specs.Agents.{moves_seen}
 use Rattle.asm_storage.specs.Machine.{reply_to}
 use Rattle.asm_storage.specs.Part.{agent_of, IsJudged}
-use Rattle.asm_storage.specs.Plain.{is_plain, is_plain_over}
+use Rattle.asm_storage.specs.Calls.{is_plain, is_plain_over}
 use Rattle.asm_storage.specs.Storage.{AgentAt, machine_of}
 use Rattle.asm_storage.proofs.FireTurns.{answered_quiet, attempt_counted, attempt_ran, attempt_seen, attempted, looked_id, same_offering}
 use Rattle.asm_storage.proofs.Scanning.{unfound_over, names_reads, plain_named, scans_level, turn_offered, turn_quiet}

@@ -3,7 +3,7 @@ use Rattle.std.specs.Prelude.{Option}
 use Rattle.asm_update.specs.Fire.{state_of}
 use Rattle.asm_state.specs.declared.verdict.Objection.{Objection}
 use Rattle.asm_state.specs.Verdict.{IsObjection}
-use Rattle.asm_storage.proofs.Judging.{fires, clashes, full_or_none}
+use Rattle.asm_storage.proofs.FireTurns.{fires, clashes, full_or_none}
 use Rattle.asm_storage.proofs.part.judging.judged.Goals as goal
 
 pub returns-in-Some-Stale : goal.returns-in-Some-Stale

@@ -10,8 +10,8 @@ use Rattle.asm_update.proofs.PlainLemmas.{plain_fires, plain_clashes}
 use Rattle.asm_state.specs.Verdict.{least_stale}
 use Rattle.asm_state.specs.declared.named.Named.{Named}
 use Rattle.asm_storage.specs.Limits.{most_plain}
-use Rattle.asm_storage.specs.Plain.{is_plain}
-use Rattle.asm_storage.proofs.Judging.{full_or_none}
+use Rattle.asm_storage.specs.Calls.{is_plain}
+use Rattle.asm_storage.proofs.FireTurns.{full_or_none}
 use Rattle.asm_storage.proofs.part.judging.judged_plain.Goals as goal
 
 none_stale : (part : Part) (A : State) (q : List Move) (reads : List Named) (M : Move) → is_plain reads M ≡ true →

@@ -4,7 +4,7 @@ use Rattle.serde_json.specs.View.{view}
 use Rattle.asm_journal.specs.Shape.{IsParsed, IsListForm}
 use Rattle.asm_journal.specs.Instruction.{IsInstructionForm}
 use Rattle.asm_journal.specs.Event.{IsMoveOf}
-use Rattle.asm_journal.proofs.ItemsRead.{made_read}
+use Rattle.asm_journal.proofs.Elements.{made_read}
 use Rattle.asm_journal.proofs.Parsed.{IsParsed-some, IsParsed-none}
 use Rattle.asm_journal.proofs.Events.{instruction_once}
 use Rattle.asm_journal.proofs.form.call.InstructionsFromJson.from_json.Goals as goal

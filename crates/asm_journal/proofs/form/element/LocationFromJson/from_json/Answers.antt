@@ -4,9 +4,8 @@ use Rattle.serde_json.specs.Data.{array, string, item}
 use Rattle.asm_journal.specs.Element.{IsElementForm, IsLocationForm}
 use Rattle.asm_journal.specs.Shape.{AreForms, IsParsed}
 use Rattle.asm_journal.proofs.Parsed.{IsParsed-some, IsParsed-none}
-use Rattle.asm_journal.proofs.Arrays.{array_is, string_is}
+use Rattle.asm_journal.proofs.Arrays.{array_is, string_is, no_array_located, no_items_located, no_name_located}
 use Rattle.asm_journal.proofs.Elements.{location_read, no_location}
-use Rattle.asm_journal.proofs.OtherShapes.{no_array_located, no_items_located, no_name_located}
 use Rattle.asm_journal.proofs.form.element.LocationFromJson.from_json.Goals as goal
 
 pub returns : goal.returns

@@ -7,7 +7,7 @@ use Rattle.asm_journal.specs.Shape.{IsParsed}
 use Rattle.asm_journal.specs.Set.{IsCounted}
 use Rattle.asm_journal.specs.declared.form.set.Counted.{Counted}
 use Rattle.asm_journal.proofs.Arrays.{array_is, same_array}
-use Rattle.asm_journal.proofs.Sets.{IsCountedForm}
+use Rattle.asm_journal.proofs.Elements.{IsCountedForm}
 use Rattle.asm_journal.proofs.form.set.CountedFromJson.from_json.Goals as goal
 
 counted : (d : Data) (ds : Items) (o : Option Counted) → d ≡ array ds → IsParsed IsCounted ds (option_map (λ c. (c.0, c.1)) o) → IsParsed IsCountedForm d o

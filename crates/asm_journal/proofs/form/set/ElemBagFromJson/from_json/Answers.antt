@@ -3,8 +3,7 @@ use Rattle.std.proofs.lemmas.Result.{IfOk-weaker}
 use Rattle.serde_json.specs.View.{view}
 use Rattle.asm_journal.specs.Shape.{IsParsed, IsListForm}
 use Rattle.asm_journal.specs.Set.{IsCountForm, IsBagOf}
-use Rattle.asm_journal.proofs.ItemsRead.{made_read, list_seen}
-use Rattle.asm_journal.proofs.Sets.{IsCountedForm, count_of, counts_of, no_counts, count_once}
+use Rattle.asm_journal.proofs.Elements.{made_read, list_seen, IsCountedForm, count_of, counts_of, no_counts, count_once}
 use Rattle.asm_journal.proofs.Parsed.{IsParsed-some, IsParsed-none}
 use Rattle.asm_journal.proofs.form.set.ElemBagFromJson.from_json.Goals as goal
 

@@ -4,9 +4,8 @@ use Rattle.serde_json.specs.View.{view}
 use Rattle.asm_journal.specs.Shape.{IsParsed, IsListForm}
 use Rattle.asm_journal.specs.Element.{IsElementForm}
 use Rattle.asm_journal.specs.Set.{IsSetOf}
-use Rattle.asm_journal.proofs.ItemsRead.{made_read}
+use Rattle.asm_journal.proofs.Elements.{made_read, element_once}
 use Rattle.asm_journal.proofs.Parsed.{IsParsed-some, IsParsed-none}
-use Rattle.asm_journal.proofs.Elements.{element_once}
 use Rattle.asm_journal.proofs.form.set.ElemSetFromJson.from_json.Goals as goal
 
 pub returns-in-Some : goal.returns-in-Some

@@ -3,7 +3,7 @@ use Rattle.std.proofs.lemmas.Result.{IfOk-weaker}
 use Rattle.serde_json.specs.View.{view}
 use Rattle.asm_journal.specs.Shape.{IsParsed, IsListForm}
 use Rattle.asm_journal.specs.Value.{IsPairForm, IsStateOf}
-use Rattle.asm_journal.proofs.ItemsRead.{made_read, list_seen}
+use Rattle.asm_journal.proofs.Elements.{made_read, list_seen}
 use Rattle.asm_journal.proofs.Values.{IsReadPair, pair_seen, pairs_seen, no_pairs, pair_once}
 use Rattle.asm_journal.proofs.Parsed.{IsParsed-some, IsParsed-none}
 use Rattle.asm_journal.proofs.form.state.PlainStateFromJson.from_json.Goals as goal

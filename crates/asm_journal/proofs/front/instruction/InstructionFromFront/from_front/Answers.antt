@@ -1,4 +1,4 @@
-use Rattle.asm_journal.proofs.FrontInstructions.{instruction_begins}
+use Rattle.asm_journal.proofs.FrontObjects.{instruction_begins}
 use Rattle.asm_journal.proofs.front.instruction.InstructionFromFront.from_front.Goals as goal
 
 pub returns : goal.returns

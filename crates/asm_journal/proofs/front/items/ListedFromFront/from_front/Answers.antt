@@ -1,6 +1,5 @@
 use Rattle.std.proofs.Common.{sym, subst}
-use Rattle.asm_journal.specs.Front.{BeginsAs}
-use Rattle.asm_journal.specs.Shape.{IsListForm}
+use Rattle.asm_journal.specs.Shape.{BeginsAs, IsListForm}
 use Rattle.asm_journal.proofs.Compact.{array_begins}
 use Rattle.asm_journal.proofs.front.items.ListedFromFront.from_front.Goals as goal
 

@@ -1,5 +1,5 @@
 use Rattle.asm_journal.proofs.FrontObjects.{event_begins}
-use Rattle.asm_journal.proofs.front.event.EventFromFront.from_front.Goals as goal
+use Rattle.asm_journal.proofs.front.call.EventFromFront.from_front.Goals as goal
 
 pub returns : goal.returns
 returns c =
