@@ -32,7 +32,7 @@ public sealed interface Actor extends AutoCloseable permits Agent, RunAgent, Sha
      * @throws RunException if the run has ended
      */
     default <T, X extends Exception> Played<T> play(Rule<T, X> rule) throws X {
-        return Plays.play(this, rule, Integer.MAX_VALUE, Plays.FOR_EVER);
+        return Patience.Plays.play(this, rule, Integer.MAX_VALUE, Patience.Plays.FOR_EVER);
     }
 
     /**
@@ -52,7 +52,7 @@ public sealed interface Actor extends AutoCloseable permits Agent, RunAgent, Sha
             throws X {
         if (tries < 1)
             throw new IllegalArgumentException("a number of tries is 1 or more, and not " + tries);
-        return Plays.play(this, rule, tries, timeout);
+        return Patience.Plays.play(this, rule, tries, timeout);
     }
 
     /** Has its own state follow all moves that are found; how many it has then seen. */

@@ -10,25 +10,17 @@ import java.util.Objects;
  * lone surrogate is refused by an IllegalArgumentException. Any thread may call it. Nothing is
  * released by the garbage collector; call close(), which gives the agent back to its storage.
  */
-public final class Agent implements Actor {
+public final class Agent extends AgentCalls implements Actor {
+    Agent(Storage storage, int number) {
+        super(storage, number);
+    }
+
     private static final Object LEARNING = new Object();
 
-    /** The agent's slot, and the lock of the calls on it and on its steps. */
-    final AgentSlot slot = new AgentSlot();
 
     /** By which its storage knows it without keeping it. */
     final WeakReference<Agent> weak = new WeakReference<>(this);
-    private final Room room = slot.room;
-    private final Storage storage;
-    private final int number;
-    /** What it is of where that is of a run; else null. */
-    private volatile Chained chain;
-    private int vain;
 
-    Agent(Storage storage, int number) {
-        this.storage = storage;
-        this.number = number;
-    }
 
     /** Its number among the agents of its storage. */
     @Override
@@ -36,29 +28,11 @@ public final class Agent implements Actor {
         return number;
     }
 
-    /** Tells that it was given back, if this code was answered for that; to be called with its lock. */
-    int held(int code) {
-        if (code != FolugbenException.EMPTY || slot.isFull())
-            return code;
-        if (isPast())
-            throw PartException.full();
-        throw FolugbenException.closed("the agent was given back");
-    }
 
-    /** Whether it is of a part of a run that is over. */
-    boolean isPast() {
-        Chained own = chain;
-        return own != null && own.isOver();
-    }
-
-    /** What is expected of the code of a call on it. */
-    void expect(int code) {
-        FolugbenException.expect(held(code));
-    }
 
     /** Reads the locations [LOC, ..]; the answer is {"number":N,"values":[VALUE, ..]}. */
     public String read(String locations) {
-        Player player = Player.look(this);
+        Turns.Player player = Turns.Player.look(this);
         byte[] call = Texts.utf8(locations, "locations");
         takeState();
         synchronized (slot) {
@@ -75,18 +49,13 @@ public final class Agent implements Actor {
         }
     }
 
-    /** The values of a reading, without the number. */
-    private static String values(String reading) {
-        return reading.substring(reading.indexOf(','));
-    }
-
     /**
      * Reads the locations, at most 256.
      *
      * @throws FolugbenException as a {@link ManyException} if there are more
      */
     public Reading read(List<Location> locations) {
-        List<Location> copy = Copies.of(locations, "locations");
+        List<Location> copy = Texts.Copies.of(locations, "locations");
         return JsonReader.reading(read(JsonWriter.locations(copy)), copy);
     }
 
@@ -161,7 +130,7 @@ public final class Agent implements Actor {
      * @throws FolugbenException as of two arguments
      */
     public Reply tryFire(String instructions, String reads, String scans) {
-        Player player = Player.look(this);
+        Turns.Player player = Turns.Player.look(this);
         String move = "{\"fire\":" + Texts.oneValue(instructions, "instructions") + ",\"reads\":"
                 + Texts.oneValue(reads, "reads") + "}";
         byte[] call = Texts.utf8(move, "the move");
@@ -182,79 +151,14 @@ public final class Agent implements Actor {
         }
     }
 
-    /** The code of a fire, FULL where it came too late for the part of a run. */
-    private int inTime(int code) {
-        boolean isTooLate = code == FolugbenException.EMPTY && !slot.isFull() && isPast();
-        return isTooLate ? FolugbenException.FULL : code;
-    }
 
-    /** What became of a fire with this code, on which the agent's lock is still held. */
-    Reply reply(int told, boolean isOfStep) {
-        int code = inTime(told);
-        long before = before();
-        long move = code == FolugbenException.DONE ? before + room.number(0) : 0;
-        long from = before + room.number(1);
-        long to = before + room.number(2);
-        String answer = null;
-        switch (code) {
-            case FolugbenException.STALE, FolugbenException.CLASH -> {
-                vain++;
-                answer = lastAnswer();
-            }
-            case FolugbenException.FULL -> vain++;
-            case FolugbenException.BUSY -> {}
-            default -> expect(code);
-        }
-        return new Reply(code, move, from, to, answer, isOfStep, chain != null);
-    }
 
-    /** Whether it is one of a run. */
-    boolean isOfRun() {
-        return chain != null;
-    }
 
-    /** Has the agent be one of this part of a run. */
-    void joins(Chained chain) {
-        this.chain = chain;
-    }
 
-    /** How many moves of its run come before those of its storage. */
-    long before() {
-        return chain == null ? 0 : chain.before();
-    }
 
-    /** How many of its calls were answered and fired nothing, since it was made or taken. */
-    int vain() {
-        synchronized (slot) {
-            return vain;
-        }
-    }
 
-    /** Whether it is there: neither given back nor abandoned. */
-    boolean isHeld() {
-        synchronized (slot) {
-            return slot.isFull();
-        }
-    }
 
-    /** Whether a step is under way on it. */
-    boolean isInStep() {
-        synchronized (slot) {
-            return slot.hasStep();
-        }
-    }
 
-    /** Tells the run, if it is of one that may wait for that, that a step is over; with its lock. */
-    void endStep() {
-        if (chain != null)
-            chain.endStep();
-    }
-
-    /** Throws what has ended the run, if it is of one. */
-    void expectGoing() {
-        if (chain != null)
-            chain.expectGoing();
-    }
 
     /**
      * Begins a step on the agent's own state, which follows all moves that are found first. Several
@@ -262,7 +166,7 @@ public final class Agent implements Actor {
      */
     @Override
     public Step step() {
-        Player player = Player.look(this);
+        Turns.Player player = Turns.Player.look(this);
         Step step = begin();
         player.begun(step);
         return step;
@@ -277,27 +181,6 @@ public final class Agent implements Actor {
     }
 
     /**
-     * Takes the state of the agent whose call on the storage was this thread's last one, if that
-     * waits for nothing in it: so that each move is followed about once, and not once for each of
-     * the agents that a thread plays by turns.
-     */
-    void takeState() {
-        Agent other = storage.plays(this);
-        if (other != null && other.number != number)
-            withBoth(other, () -> slot.takeState(other.slot));
-    }
-
-    /** Does something with the locks of both, which are taken in the order of their numbers. */
-    private void withBoth(Agent other, Runnable work) {
-        boolean isFirst = number < other.number;
-        synchronized (isFirst ? slot : other.slot) {
-            synchronized (isFirst ? other.slot : slot) {
-                work.run();
-            }
-        }
-    }
-
-    /**
      * Has the agent's own state follow all moves that are found; how many it has then seen. That
      * state moves on only here and in read, fire, stands and step, and as a step is fired; and where
      * it is shown after another agent, that the same thread plays, went on from it: then it looks on
@@ -305,7 +188,7 @@ public final class Agent implements Actor {
      */
     @Override
     public long follow() {
-        Player.look(this);
+        Turns.Player.look(this);
         takeState();
         synchronized (slot) {
             expect(slot.follow());
@@ -319,7 +202,7 @@ public final class Agent implements Actor {
      * each location with this number.
      */
     public String peek(String locations) {
-        Player player = Player.call(this);
+        Turns.Player player = Turns.Player.call(this);
         byte[] call = Texts.utf8(locations, "locations");
         synchronized (slot) {
             Calls.Told told = slot.peek(call);
@@ -333,13 +216,13 @@ public final class Agent implements Actor {
     /** The same of any number of locations as objects. */
     @Override
     public Reading peek(List<Location> locations) {
-        List<Location> copy = Copies.of(locations, "locations");
+        List<Location> copy = Texts.Copies.of(locations, "locations");
         return JsonReader.reading(peek(JsonWriter.locations(copy)), copy);
     }
 
     /** The same of a prepared location. */
     public Peeked peek(PreparedLocation location) {
-        Player player = Player.call(this);
+        Turns.Player player = Turns.Player.call(this);
         synchronized (slot) {
             look(location);
             player.reads(location);
@@ -354,7 +237,7 @@ public final class Agent implements Actor {
      * @throws IllegalStateException if the value is no number
      */
     public long peekNumber(PreparedLocation location) {
-        Player player = Player.call(this);
+        Turns.Player player = Turns.Player.call(this);
         synchronized (slot) {
             look(location);
             player.reads(location);
@@ -363,17 +246,10 @@ public final class Agent implements Actor {
         }
     }
 
-    private void look(PreparedLocation location) {
-        Objects.requireNonNull(location, "location");
-        synchronized (location.slot) {
-            location.expect(held(slot.peek(location)));
-        }
-    }
-
     /** The agent's own state, in ascending order of locations, without a look or a receipt. */
     @Override
     public State state() {
-        Player player = Player.call(this);
+        Turns.Player player = Turns.Player.call(this);
         synchronized (slot) {
             Calls.Told told = slot.state();
             expect(told.code());
@@ -390,7 +266,7 @@ public final class Agent implements Actor {
      */
     @Override
     public State scan(String name) {
-        Player player = Player.call(this);
+        Turns.Player player = Turns.Player.call(this);
         byte[] bytes = Texts.utf8(name, "name");
         synchronized (slot) {
             Calls.Told told = slot.scan(bytes);
@@ -410,23 +286,8 @@ public final class Agent implements Actor {
      *         the moves that the agent had seen
      */
     public Reply stands(String reads) {
-        Player player = Player.look(this);
-        byte[] call = Texts.utf8(reads, "reads");
-        synchronized (slot) {
-            Calls.Told told = slot.stands(call);
-            if (told.code() == FolugbenException.STALE || told.code() == FolugbenException.DONE) {
-                player.readsNamed(reads);
-                player.hears(told.text());
-            }
-            if (told.code() == FolugbenException.STALE)
-                return new Reply(told.code(), 0, 0, 0, told.text());
-            if (told.code() == FolugbenException.MANY)
-                throw ManyException.places(JsonReader.reads(reads).size(), "locations are named");
-            if (told.code() == FolugbenException.RANGE)
-                throw FolugbenException.ahead(reads, Calls.asm_seen(slot.at));
-            FolugbenException.expectReads(held(told.code()), reads);
-            return new Reply(told.code(), 0, 0, 0, null);
-        }
+        Turns.Player player = Turns.Player.look(this);
+        return standing(reads, player);
     }
 
     /**
@@ -440,16 +301,8 @@ public final class Agent implements Actor {
 
     /** The answer to the last answered call, of whichever thread. */
     public String answer() {
-        Player.call(this);
+        Turns.Player.call(this);
         return lastAnswer();
-    }
-
-    private String lastAnswer() {
-        synchronized (slot) {
-            Calls.Told told = slot.answer();
-            expect(told.code());
-            return told.text();
-        }
     }
 
     /**
@@ -466,7 +319,7 @@ public final class Agent implements Actor {
 
     /** Takes in what the other agent of the storage has seen. */
     public void learn(Agent other) {
-        Player.look(this).depends();
+        Turns.Player.look(this).depends();
         Objects.requireNonNull(other, "other");
         if (other.storage != storage)
             FolugbenException.expect(FolugbenException.OTHER);
@@ -507,7 +360,7 @@ public final class Agent implements Actor {
 
     /** Gives it back to its storage. */
     public void give() {
-        Player.call(this);
+        Turns.Player.call(this);
         storage.give(this);
     }
 
@@ -535,10 +388,5 @@ public final class Agent implements Actor {
             return "agent " + number
                     + (slot.isFull() ? ", at " + (before() + Calls.asm_seen(slot.at)) + " moves" : ", given back");
         }
-    }
-
-    /** Its storage. */
-    Storage storage() {
-        return storage;
     }
 }

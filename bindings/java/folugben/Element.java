@@ -59,12 +59,12 @@ public sealed interface Element extends Value, Comparable<Element> {
     record ListOf(List<Element> items) implements Element {
         /** A copy of the items, if they are within the limits. */
         public ListOf {
-            items = Copies.of(items, "items");
+            items = Texts.Copies.of(items, "items");
             if (items.size() > MAX_ITEMS)
                 throw new IllegalArgumentException(
                         "a list of " + items.size() + " items, at most " + MAX_ITEMS);
             if (deepest(items) >= MAX_DEPTH)
-                throw Words.isTooDeep();
+                throw Texts.Words.isTooDeep();
         }
 
         private static int deepest(List<Element> items) {

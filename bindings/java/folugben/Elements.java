@@ -53,7 +53,7 @@ final class Elements {
     /** Too deep a list is refused on the way down: it may hold itself. */
     private static Element list(List<?> items, int depth) {
         if (depth > Element.MAX_DEPTH)
-            throw Words.isTooDeep();
+            throw Texts.Words.isTooDeep();
         return new Element.ListOf(each(items, depth));
     }
 

@@ -55,7 +55,7 @@ public final class Explorer {
     public static Explorer of(
             Supplier<Storage> make, List<? extends Interleave.Work<? super Agent, ?>> works) {
         return new Explorer(Objects.requireNonNull(make, "make"),
-                Copies.<Interleave.Work<? super Agent, ?>>of(works, "works"),
+                Texts.Copies.<Interleave.Work<? super Agent, ?>>of(works, "works"),
                 new Holds(values -> true, values -> true), SCHEDULES, TIME, TURNS);
     }
 
@@ -98,7 +98,7 @@ public final class Explorer {
     public record Finding(List<Integer> turns, String journal, String broken, Throwable thrown) {
         /** A copy of the turns. */
         public Finding {
-            turns = Copies.of(turns, "turns");
+            turns = Texts.Copies.of(turns, "turns");
         }
     }
 

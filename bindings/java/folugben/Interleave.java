@@ -6,7 +6,7 @@ import java.util.List;
 import java.util.Random;
 
 /**
- * Plays agents by turns: one at a time goes on, up to its next call or that of one of its steps;
+ * Patience.Plays agents by turns: one at a time goes on, up to its next call or that of one of its steps;
  * who goes on then is drawn by a seed. What only tells a number, as {@code won}, takes no turn.
  *
  * <p>The same seed gives the same journal, byte for byte, where the works themselves draw nothing
@@ -42,12 +42,12 @@ public final class Interleave {
     /** What is played with an agent. */
     @FunctionalInterface
     public interface Work<A, R> {
-        /** Plays it; what it answers is told. */
+        /** Patience.Plays it; what it answers is told. */
         R play(A agent);
     }
 
     /**
-     * Plays each work with its agent, an {@link Agent} or a {@link RunAgent}, on a thread of its
+     * Patience.Plays each work with its agent, an {@link Agent} or a {@link RunAgent}, on a thread of its
      * own, by turns; what the works answered, in their order. The first exception of a work, by the
      * number of its place, is thrown once all have ended.
      *
@@ -83,18 +83,18 @@ public final class Interleave {
     /** The same by a list. */
     public static <A, R> List<R> play(List<? extends A> agents,
             List<? extends Work<? super A, ? extends R>> works, List<Integer> turns, int most) {
-        return play(agents, works, listed(Copies.of(turns, "turns")), most);
+        return play(agents, works, listed(Texts.Copies.of(turns, "turns")), most);
     }
 
     private static <A, R> List<R> play(List<? extends A> agents,
             List<? extends Work<? super A, ? extends R>> works, Turns.Choice choice, int most) {
-        List<A> own = Copies.of(agents, "agents");
-        List<Work<? super A, ? extends R>> each = Copies.of(works, "works");
+        List<A> own = Texts.Copies.of(agents, "agents");
+        List<Work<? super A, ? extends R>> each = Texts.Copies.of(works, "works");
         if (own.size() != each.size())
             throw new IllegalArgumentException(own.size() + " agents for " + each.size() + " works");
         Turns turns = new Turns(own.size(), choice, most);
-        List<Player> players = new ArrayList<>();
-        for (int number = 0; number < own.size(); number++) players.add(new Player(turns, number));
+        List<Turns.Player> players = new ArrayList<>();
+        for (int number = 0; number < own.size(); number++) players.add(new Turns.Player(turns, number));
         Turns.Told<R> told = turns.play(own, each, players);
         return told.orThrow();
     }

@@ -262,7 +262,7 @@ final class JsonReader {
         SortedMap<Element, Long> counts = new TreeMap<>();
         for (Map.Entry<Element, Long> entry : list(JsonReader::count))
             if (counts.put(entry.getKey(), entry.getValue()) != null)
-                throw Words.isTwice("bag", entry.getKey());
+                throw Texts.Words.isTwice("bag", entry.getKey());
         return new Value.BagOf(counts);
     }
 

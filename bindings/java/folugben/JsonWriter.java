@@ -40,7 +40,7 @@ final class JsonWriter {
     /** An exception names the argument that is null, or of which an item is. */
     private static <T> String list(
             Item<? super T> form, Collection<? extends T> items, String name) {
-        return text((writer, all) -> writer.each(form, all), Copies.<T>of(items, name));
+        return text((writer, all) -> writer.each(form, all), Texts.Copies.<T>of(items, name));
     }
 
     static String text(Value value) {

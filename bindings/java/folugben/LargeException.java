@@ -18,7 +18,7 @@ public final class LargeException extends FolugbenException {
     static LargeException line(String what, long length) {
         return new LargeException(String.format(Locale.ROOT,
                 "%s would make a line of about %,d bytes, and an audit reads %,d", what, length,
-                Lines.LIMIT), null);
+                Texts.Lines.LIMIT), null);
     }
 
     /** The location of the updates; null of a journal or a line. */

@@ -21,7 +21,7 @@ public record Location(String name, List<Element> arguments) implements Comparab
         if (!isName(name))
             throw new IllegalArgumentException("a name has 1 to " + MAX_NAME
                     + " letters, digits and _, and begins with no digit");
-        arguments = Copies.of(arguments, "arguments");
+        arguments = Texts.Copies.of(arguments, "arguments");
         if (arguments.size() > MAX_ARGUMENTS)
             throw new IllegalArgumentException(
                     arguments.size() + " arguments, at most " + MAX_ARGUMENTS);
@@ -79,6 +79,6 @@ public record Location(String name, List<Element> arguments) implements Comparab
     /** Such as x, or account(1, "a"). */
     @Override
     public String toString() {
-        return arguments.isEmpty() ? name : name + Words.listed("(", arguments, ")");
+        return arguments.isEmpty() ? name : name + Texts.Words.listed("(", arguments, ")");
     }
 }

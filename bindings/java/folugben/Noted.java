@@ -15,7 +15,7 @@ import java.util.Set;
  * A player who takes a turn at each look and each fire alone, and notes what is done from there to
  * the next one, an event: by that a search knows which events depend on each other.
  */
-final class Noted extends Player {
+final class Noted extends Turns.Player {
     /** Whether all events are said to depend on each other, by which a test sees what is saved. */
     static volatile boolean areAllDependent;
 

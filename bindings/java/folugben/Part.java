@@ -7,7 +7,7 @@ package folugben;
  *
  * <p>Its lock is taken after that of an agent of the run, and before those of slots.
  */
-final class Part implements Chained {
+final class Part implements Run.Chained {
     /** Its number among the segments, from 0. */
     final long number;
     /** How many moves the parts before it have. */
@@ -62,7 +62,7 @@ final class Part implements Chained {
     synchronized void passOn(Agent agent) {
         if (isOver)
             return;
-        Lines.expectState(Lines.bytes(agent.state().pairs()));
+        Texts.Lines.expectState(Texts.Lines.bytes(agent.state().pairs()));
         open(agent.goOn(capacity), before + capacity);
     }
 

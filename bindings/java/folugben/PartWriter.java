@@ -1,5 +1,8 @@
 package folugben;
 
+import com.sun.jna.Function;
+import com.sun.jna.NativeLibrary;
+
 import java.io.IOException;
 import java.io.UncheckedIOException;
 import java.nio.ByteBuffer;
@@ -211,7 +214,7 @@ final class PartWriter {
         for (int at = 0; at < journal.limit(); at++) {
             if (journal.get(at) != '\n')
                 continue;
-            if (at - begin > Lines.LIMIT)
+            if (at - begin > Texts.Lines.LIMIT)
                 throw LargeException.line("what was done", at - begin);
             begin = at + 1;
             lines++;
@@ -227,5 +230,35 @@ final class PartWriter {
             left.storage.close();
         }
         folder.close();
+    }
+
+    /**
+     * Hands memory that was released back to the system. The C library keeps it for the thread that took
+     * it; as each part of a run is taken by other threads than the one that releases it, a long run would
+     * else keep more and more.
+     */
+    static final class FreeMemory {
+        /** How many bytes of journals are written between two times. */
+        private static final long BETWEEN = 8_000_000;
+        /** Null where the C library has no such call. */
+        private final Function trim = found();
+        private long left = BETWEEN;
+
+        private static Function found() {
+            try {
+                return NativeLibrary.getInstance("c").getFunction("malloc_trim");
+            } catch (UnsatisfiedLinkError error) {
+                return null;
+            }
+        }
+
+        /** Counts so many bytes of a journal, and hands back what is free once there were enough. */
+        void count(long bytes) {
+            left -= bytes;
+            if (left > 0 || trim == null)
+                return;
+            left = BETWEEN;
+            trim.invokeInt(new Object[] {0L});
+        }
     }
 }

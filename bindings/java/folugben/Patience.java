@@ -1,5 +1,7 @@
 package folugben;
 
+import java.time.Duration;
+import java.util.Objects;
 import java.util.concurrent.TimeUnit;
 import java.util.concurrent.locks.LockSupport;
 
@@ -36,5 +38,52 @@ final class Patience {
             } catch (InterruptedException error) {
                 isInterrupted = true;
             }
+    }
+
+    /** Plays of a rule on step after step, until one is fired. */
+    static final class Plays {
+        /** After so many tries in vain an agent waits between them: 1 << LONGEST_WAIT us at most. */
+        private static final int TRIES_WITHOUT_WAIT = 8;
+        private static final int LONGEST_WAIT = 10;
+
+        /** So long no play takes: 292 years. */
+        static final Duration FOR_EVER = Duration.ofNanos(Long.MAX_VALUE);
+
+        private Plays() {}
+
+        static <T, X extends Exception> Actor.Played<T> play(
+                Actor actor, Actor.Rule<T, X> rule, int most, Duration timeout) throws X {
+            Objects.requireNonNull(rule, "rule");
+            boolean isTimed = timeout.compareTo(FOR_EVER) < 0;
+            long begin = isTimed ? System.nanoTime() : 0;
+            for (int tries = 0;; tries++) {
+                boolean isLast = tries + 1 >= most;
+                try (Step step = actor.step()) {
+                    try {
+                        T told = rule.play(step);
+                        if (step.isIdle())
+                            return new Actor.Played<>(0, told, tries);
+                        Actor.Reply reply = step.tryCommit();
+                        isLast |= isTimed && System.nanoTime() - begin >= timeout.toNanos();
+                        if (isLast || !reply.shouldRetry())
+                            return new Actor.Played<>(reply.orThrow(), told, tries);
+                    } catch (PartException over) {
+                        if (isLast || !step.isPast())
+                            throw over;
+                    }
+                }
+                backOff(tries);
+            }
+        }
+
+        /** Waits between tries in vain, of which there were so many before. */
+        static void backOff(int tries) {
+            if (Turns.isPlayed())
+                return;
+            if (tries < TRIES_WITHOUT_WAIT)
+                Thread.yield();
+            else
+                LockSupport.parkNanos(1000L << Math.min(tries - TRIES_WITHOUT_WAIT, LONGEST_WAIT));
+        }
     }
 }

@@ -4,10 +4,10 @@ import java.util.List;
 
 /** The values of locations, in the order in which these were passed, after so many moves. */
 public record Reading(long number, List<Location> locations, List<Value> values) {
-    /** Copies of both, which are of one length. */
+    /** Texts.Copies of both, which are of one length. */
     public Reading {
-        locations = Copies.of(locations, "locations");
-        values = Copies.of(values, "values");
+        locations = Texts.Copies.of(locations, "locations");
+        values = Texts.Copies.of(values, "values");
         if (locations.size() != values.size())
             throw new IllegalArgumentException(
                     locations.size() + " locations have " + values.size() + " values");

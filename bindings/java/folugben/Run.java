@@ -305,7 +305,7 @@ public final class Run implements AutoCloseable {
      */
     void awaitPart() {
         while (Turns.isPlayed() && isGoing() && newest.isOver() && isAnyInStep())
-            Player.call(this);
+            Turns.Player.call(this);
         writer.awaitPart(!Turns.isPlayed());
         expectGoing();
     }
@@ -360,5 +360,20 @@ public final class Run implements AutoCloseable {
         writer.close();
         if (!wasClosed && failure != null)
             throw new RunException(failure.part(), failure.getCause());
+    }
+
+    /** What the agents of a run have of it: where they are, and whether it goes on. */
+    interface Chained {
+        /** Whether its agents have gone on to another part. */
+        boolean isOver();
+
+        /** Tells that a step in it is over; with the lock of the step's agent. */
+        void endStep();
+
+        /** Throws what has ended the run. */
+        void expectGoing();
+
+        /** How many moves of the run come before its own. */
+        long before();
     }
 }

@@ -46,7 +46,7 @@ public final class RunAgent implements Actor {
      */
     @Override
     public Step step() {
-        Player.call(this);
+        Turns.Player.call(this);
         return whereOpen(agent -> {
             isByTurns = Turns.isPlayed();
             Step step = agent.begin();
@@ -65,8 +65,8 @@ public final class RunAgent implements Actor {
      */
     @Override
     public Reading peek(List<Location> locations) {
-        Player.call(this);
-        List<Location> copy = Copies.of(locations, "locations");
+        Turns.Player.call(this);
+        List<Location> copy = Texts.Copies.of(locations, "locations");
         return whereOpen(agent -> {
             agent.follow();
             return agent.peek(copy).plus(part.before());
@@ -76,7 +76,7 @@ public final class RunAgent implements Actor {
     /** All locations that aren't empty with their values, as peek tells some. */
     @Override
     public State state() {
-        Player.call(this);
+        Turns.Player.call(this);
         return whereOpen(agent -> {
             agent.follow();
             return ofRun(agent.state());
@@ -86,7 +86,7 @@ public final class RunAgent implements Actor {
     /** The same of the locations of one function name alone. */
     @Override
     public State scan(String name) {
-        Player.call(this);
+        Turns.Player.call(this);
         return whereOpen(agent -> {
             agent.follow();
             return ofRun(agent.scan(name));
@@ -109,10 +109,10 @@ public final class RunAgent implements Actor {
      * @throws RunException if a part of the run couldn't be written
      */
     public long fire(List<? extends Instruction> instructions, List<Named> reads) {
-        Player.call(this);
-        List<Named> rests = Copies.of(reads, "reads");
-        List<Instruction> move = Copies.of(instructions, "instructions");
-        Lines.expectCall(move, rests);
+        Turns.Player.call(this);
+        List<Named> rests = Texts.Copies.of(reads, "reads");
+        List<Instruction> move = Texts.Copies.of(instructions, "instructions");
+        Texts.Lines.expectCall(move, rests);
         return whereOpen(agent -> {
             if (part.isOverWith((int) agent.seen()))
                 return null;
@@ -238,7 +238,7 @@ public final class RunAgent implements Actor {
     /** Looks on; how many moves of all parts it has then seen, of this run and those it resumes. */
     @Override
     public long follow() {
-        Player.call(this);
+        Turns.Player.call(this);
         return whereOpen(agent -> part.before() + agent.follow());
     }
 

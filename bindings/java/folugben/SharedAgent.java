@@ -2,7 +2,9 @@ package folugben;
 
 import java.io.IOException;
 import java.io.UncheckedIOException;
+import java.util.LinkedHashSet;
 import java.util.List;
+import java.util.Set;
 
 /**
  * An agent of a {@link SharedRun}. It begins its steps on a replica in its own process, so that to
@@ -13,12 +15,12 @@ public final class SharedAgent implements Actor {
     private final SharedWorker worker;
     private final int own;
     /** What its agents in segments have of it. */
-    private final Chained chain = new Chain();
+    private final Run.Chained chain = new Chain();
 
     /** The lock of all below. */
     private final Object lock = new Object();
     private Agent agent;
-    private Era era;
+    private Replica.Era era;
     private long won;
     private long fired;
     private volatile boolean isGone;
@@ -29,7 +31,7 @@ public final class SharedAgent implements Actor {
         this.own = own;
     }
 
-    private final class Chain implements Chained {
+    private final class Chain implements Run.Chained {
         @Override
         public boolean isOver() {
             return !isGone;
@@ -53,7 +55,7 @@ public final class SharedAgent implements Actor {
 
     /** Does something with its agent in the newest segment. */
     private interface Work<T> {
-        T done(Agent agent, Era era);
+        T done(Agent agent, Replica.Era era);
     }
 
     private <T> T now(Work<T> work) {
@@ -63,7 +65,7 @@ public final class SharedAgent implements Actor {
             worker.expectGoing();
             if (era != worker.era()) {
                 leave();
-                Era[] place = new Era[1];
+                Replica.Era[] place = new Replica.Era[1];
                 agent = worker.come(place);
                 era = place[0];
                 agent.joins(chain);
@@ -100,7 +102,7 @@ public final class SharedAgent implements Actor {
     }
 
     /** Appends what a step offers to the log; what it came to. */
-    Reply fire(Era era, String call, String scans) {
+    Reply fire(Replica.Era era, String call, String scans) {
         Reply reply = worker.answer(era.number, own, call, scans);
         if (reply.isFired())
             synchronized (lock) {
@@ -140,7 +142,7 @@ public final class SharedAgent implements Actor {
         return now((agent, era) -> ofRun(agent.scan(name), era));
     }
 
-    private static State ofRun(State own, Era era) {
+    private static State ofRun(State own, Replica.Era era) {
         return new State(era.base + own.number(), own.pairs());
     }
 
@@ -179,5 +181,58 @@ public final class SharedAgent implements Actor {
     @Override
     public String toString() {
         return "agent " + own + " of " + run + (isGone ? ", given back" : "");
+    }
+
+    /** A step of an agent of a shared run, whose fire is a call of the run's log. */
+    static final class SharedStep extends Step {
+        private final SharedAgent shared;
+        private final Replica.Era era;
+        /** The functions that it has scanned. */
+        private final Set<String> scanned = new LinkedHashSet<>();
+
+        /** To be called with the lock of the agent of its process. */
+        SharedStep(SharedAgent shared, Agent agent, Replica.Era era) {
+            super(agent);
+            this.shared = shared;
+            this.era = era;
+        }
+
+        @Override
+        long before() {
+            return era.base;
+        }
+
+        @Override
+        public Agent.State scan(String name) {
+            Agent.State found = super.scan(name);
+            synchronized (scanned) {
+                scanned.add(name);
+            }
+            return found;
+        }
+
+        /** The scans that its fire rests on. */
+        private String scans() {
+            synchronized (scanned) {
+                return JsonWriter.scans(scanned.stream().map(it -> new Scanned(it, own())).toList());
+            }
+        }
+
+        /**
+         * The same. It returns once the answer is durable.
+         *
+         * @throws LargeException if the move's line would be longer than an audit reads
+         * @throws RunException if the run has ended: whether the move was fired may not be known
+         * @throws UnknownException if whether the move was fired isn't known
+         */
+        @Override
+        public Agent.Reply tryCommit() {
+            String call = offerText();
+            Texts.Lines.expectCall(Texts.utf8(call, "call"));
+            Agent.Reply reply = shared.fire(era, call, scans());
+            if (reply.isFired())
+                close();
+            return reply;
+        }
     }
 }

@@ -42,7 +42,7 @@ final class SharedLink {
             while (true)
                 try {
                     return work.done(log);
-                } catch (LostException lost) {
+                } catch (Database.LostException lost) {
                     reconnect(lost);
                 }
         } finally {
@@ -73,7 +73,7 @@ final class SharedLink {
     }
 
     /** Connects again, and takes the numbers of the agents again. */
-    private void reconnect(LostException lost) throws IOException {
+    private void reconnect(Database.LostException lost) throws IOException {
         long end = System.nanoTime() + PATIENCE;
         for (long pause = 10;; pause = Math.min(LONGEST_PAUSE, 2 * pause))
             try {
@@ -83,7 +83,7 @@ final class SharedLink {
                         throw FolugbenException.closed("another process has taken an agent's number"
                                 + " while the server was away");
                 return;
-            } catch (LostException again) {
+            } catch (Database.LostException again) {
                 if (System.nanoTime() > end)
                     throw lost;
                 Patience.rest(pause);

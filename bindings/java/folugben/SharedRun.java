@@ -85,7 +85,7 @@ public final class SharedRun implements AutoCloseable {
     private static byte[] opening(String init, int moves) {
         try (Storage storage = new Storage(init, moves)) {
             ByteBuffer journal = storage.closeJournal(new Room());
-            Lines.expectState(journal.remaining());
+            Texts.Lines.expectState(journal.remaining());
             byte[] text = new byte[journal.remaining()];
             journal.get(text);
             return text;
@@ -99,7 +99,7 @@ public final class SharedRun implements AutoCloseable {
     private static <T> T reaching(Work<T> work) {
         try {
             return work.done();
-        } catch (LostException lost) {
+        } catch (Database.LostException lost) {
             throw new UncheckedIOException(Postgres.unanswered(lost));
         } catch (IOException fault) {
             throw new UncheckedIOException(fault);

@@ -85,7 +85,7 @@ final class SharedWorker {
         return new RunException(replica.era().number, fault);
     }
 
-    Era era() {
+    Replica.Era era() {
         return replica.era();
     }
 
@@ -141,7 +141,7 @@ final class SharedWorker {
     }
 
     /** An agent of the newest segment, to begin steps with, which the place is told. */
-    Agent come(Era[] place) {
+    Agent come(Replica.Era[] place) {
         lock.lock();
         try {
             place[0] = replica.era();
@@ -152,7 +152,7 @@ final class SharedWorker {
     }
 
     /** Takes it back. */
-    void leave(Era era, Agent agent) {
+    void leave(Replica.Era era, Agent agent) {
         lock.lock();
         try {
             era.leave(agent);

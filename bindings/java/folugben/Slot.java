@@ -24,4 +24,166 @@ class Slot extends Memory {
     boolean isFull() {
         return getByte(0) != 0;
     }
+
+    /**
+     * The slot of an agent with the calls on it, whose lock is that of the calls on its steps too.
+     *
+     * <p>A thread may be stopped, or run out of stack, at each call and at each return of one: so the
+     * slots of steps are kept by links, which are written one after the other, and a slot that is
+     * between two lists is in none of them.
+     */
+    static final class AgentSlot extends Slot {
+        /** What these calls are passed and tell. */
+        final Room room = new Room();
+
+        /** The slot that was made last for a step, and the one of a step that was over last. */
+        private StepSlot made;
+        private StepSlot idle;
+        /** Whether the last call was a fire, or the end of a step: what is done next looks on first. */
+        private boolean isIdle;
+        /** Whether another agent took the state, so that the one that is here is older. */
+        private boolean isLent;
+
+        /** A slot for a step: its own, until it gives it back. */
+        StepSlot takeStep(Step step) {
+            StepSlot taken = idle;
+            if (taken == null) {
+                taken = new StepSlot();
+                taken.before = made;
+                made = taken;
+            } else {
+                idle = taken.next;
+            }
+            taken.owner = step;
+            return taken;
+        }
+
+        /** Takes back the slot of a step that is over, which is empty; of any other one, nothing. */
+        void giveStep(StepSlot slot, Step step) {
+            if (slot.owner != step)
+                return;
+            slot.owner = null;
+            slot.next = idle;
+            idle = slot;
+            isIdle = true;
+        }
+
+        /** Whether a step has begun and isn't over. */
+        boolean hasStep() {
+            for (StepSlot slot = made; slot != null; slot = slot.before)
+                if (slot.owner != null)
+                    return true;
+            return false;
+        }
+
+        /** The slot of a step, and its place among those of the agent. */
+        static final class StepSlot extends Slot {
+            /** The step that it is of; null where it is idle. */
+            private Step owner;
+            private StepSlot next;
+            /** The one that was made before: what all have keeps them from being collected. */
+            private StepSlot before;
+
+            boolean isOf(Step step) {
+                return owner == step;
+            }
+        }
+
+        /**
+         * Takes the state of another agent of the storage, whose lock is held too, if that waits for
+         * nothing in its own: it has fired or ended a step since it last looked, and is in none.
+         */
+        void takeState(AgentSlot other) {
+            if (!isFull() || !other.isFull() || !other.isIdle || other.hasStep())
+                return;
+            // It is lent before it is taken, as this thread may be stopped in between.
+            other.isLent = true;
+            Calls.asm_take_state(at, other.at);
+            isLent = false;
+        }
+
+        /** Notes the code of a call that looks on, by which the state is as new as any. */
+        private int looked(int code) {
+            isIdle = false;
+            if (code == FolugbenException.DONE)
+                isLent = false;
+            return code;
+        }
+
+        /** Looks on where the state is older than it was, before it is shown. */
+        private int catchUp() {
+            return isLent ? follow() : FolugbenException.DONE;
+        }
+
+        int read(byte[] locations) {
+            return looked(room.make(locations,
+                    (text, out, length, written) -> Calls.asm_read(at, text, locations.length)));
+        }
+
+        /** The code of a fire of a move, whose text has so many bytes, over the scans behind it. */
+        int fireOver(byte[] both, int move) {
+            int code = room.make(both,
+                    (text, out, length, written)
+                            -> Calls.asm_try_fire_over(
+                                    at, text, move, text + move, both.length - move, room.numbers()));
+            isIdle = true;
+            return code;
+        }
+
+        int begin(StepSlot step) {
+            return looked(Calls.asm_begin(at, step.at, room.numbers()));
+        }
+
+        int follow() {
+            return looked(Calls.asm_follow(at, room.numbers()));
+        }
+
+        Calls.Told stands(byte[] reads) {
+            Calls.Told told = room.told(reads,
+                    (text, out, length, written)
+                            -> Calls.asm_stands(at, text, reads.length, out, length, written));
+            looked(told.code());
+            return told;
+        }
+
+        Calls.Told peek(byte[] locations) {
+            int code = catchUp();
+            return code != FolugbenException.DONE ? new Calls.Told(code, "") : room.told(locations,
+                    (text, out, length, written)
+                            -> Calls.asm_peek(at, text, locations.length, out, length, written));
+        }
+
+        /** Tells the value into the room, at the first number there. */
+        int peek(PreparedLocation location) {
+            int code = catchUp();
+            return code != FolugbenException.DONE ? code : room.make(
+                    (text, out, length, written)
+                            -> Calls.asm_peek_at(at, location.slot.at, room.numbers(), room.value(), out,
+                                    length, written));
+        }
+
+        Calls.Told state() {
+            int code = catchUp();
+            return code != FolugbenException.DONE ? new Calls.Told(code, "") : room.told(
+                    (text, out, length, written)
+                            -> Calls.asm_state(at, room.numbers(), out, length, written));
+        }
+
+        Calls.Told scan(byte[] name) {
+            int code = catchUp();
+            return code != FolugbenException.DONE ? new Calls.Told(code, "") : room.told(name,
+                    (text, out, length, written)
+                            -> Calls.asm_scan(
+                                    at, text, name.length, room.numbers(), out, length, written));
+        }
+
+        int goOn(int capacity, Slot next) {
+            int code = catchUp();
+            return code != FolugbenException.DONE ? code : Calls.asm_go_on(at, capacity, next.at);
+        }
+
+        Calls.Told answer() {
+            return room.told((text, out, length, written) -> Calls.asm_answer(at, out, length, written));
+        }
+    }
 }

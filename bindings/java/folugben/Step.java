@@ -26,60 +26,10 @@ import java.util.SortedMap;
  * and stands, and in another step that begins or fires, getting and pushing throw MOVED: begin
  * another step. Nothing is released by the garbage collector; call close().
  */
-public sealed class Step implements AutoCloseable permits SharedStep {
-    private static final byte[] NO_INSTRUCTIONS = {'[', ']'};
-
-    private final Agent agent;
-    private final Room room;
-    private final int number;
-    private final long before;
-
-    /** How many bytes it was passed by now, of which a run's journal gets no more than some. */
-    private long size;
-
-    /** The step's slot, until the step is over: the agent then has it for another. */
-    private final AgentSlot.StepSlot slot;
-
+public sealed class Step extends StepCalls implements AutoCloseable permits SharedAgent.SharedStep {
     /** To be called with the agent's lock, as all that uses the slot. */
     Step(Agent agent) {
-        this.agent = agent;
-        room = agent.slot.room;
-        slot = agent.slot.takeStep(this);
-        boolean isBegun = false;
-        try {
-            agent.expect(agent.slot.begin(slot));
-            number = room.number(0);
-            before = agent.before();
-            isBegun = true;
-        } finally {
-            if (!isBegun)
-                close();
-        }
-    }
-
-    void end() {
-        Turns.here().over(this);
-        agent.slot.giveStep(slot, this);
-        agent.endStep();
-    }
-
-    /** Whether it could be committed, and nothing was pushed. */
-    boolean isIdle() {
-        synchronized (agent.slot) {
-            return !isOver() && Calls.asm_depth(slot.at) == 0;
-        }
-    }
-
-    private boolean isOver() {
-        return !slot.isOf(this);
-    }
-
-    /** The slot of a step that isn't over. */
-    private Slot slot() {
-        agent.expectGoing();
-        if (isOver())
-            throw FolugbenException.closed("the step is over: it was fired or closed");
-        return slot;
+        super(agent);
     }
 
     /** The number of moves that its state is after: of a run all of its moves. */
@@ -88,39 +38,9 @@ public sealed class Step implements AutoCloseable permits SharedStep {
         return before() + number;
     }
 
-    /** How many moves of the run come before those of its storage. */
-    long before() {
-        return before;
-    }
 
-    /** The number of moves of its storage that its state is after. */
-    int own() {
-        return number;
-    }
 
-    /** Whether its agent, if that is one of a run, has to go on to another part. */
-    boolean isPast() {
-        return agent.isPast();
-    }
 
-    /** A call on an agent and a step that is passed a text and tells one. */
-    private interface Call {
-        int call(long agent, long step, long text, long len, long out, long room,
-                long written);
-    }
-
-    private Calls.Told told(Call call, byte[] text) {
-        synchronized (agent.slot) {
-            long step = slot().at;
-            size += text.length;
-            Calls.Told told = room.told(text,
-                    (at, out, length, written)
-                            -> call.call(
-                                    agent.slot.at, step, at, text.length, out, length, written));
-            agent.held(told.code());
-            return told;
-        }
-    }
 
     /**
      * What is seen through the pushed moves at the locations [LOC, ..], as
@@ -142,7 +62,7 @@ public sealed class Step implements AutoCloseable permits SharedStep {
      *         than 256 would be got
      */
     public List<Value> get(List<Location> locations) {
-        List<Location> copy = Copies.of(locations, "locations");
+        List<Location> copy = Texts.Copies.of(locations, "locations");
         return JsonReader.reading(get(JsonWriter.locations(copy)), copy).values();
     }
 
@@ -171,24 +91,13 @@ public sealed class Step implements AutoCloseable permits SharedStep {
         return looked(Calls::asm_see, locations);
     }
 
-    private String looked(Call call, String locations) {
-        byte[] text = Texts.utf8(locations, "locations");
-        Player player = Player.call(this);
-        Calls.Told told = told(call, text);
-        ManyException.expectPlaces(told.code());
-        FolugbenException.expectRead(told.code(), Storage.Form.LOCATIONS, text);
-        player.reads(locations);
-        player.hears(told.text());
-        return told.text();
-    }
-
     /**
      * What get tells of the locations, in their order, but nothing is got.
      *
      * @throws FolugbenException as a {@link MovedException}
      */
     public List<Value> see(List<Location> locations) {
-        List<Location> copy = Copies.of(locations, "locations");
+        List<Location> copy = Texts.Copies.of(locations, "locations");
         return JsonReader.reading(see(JsonWriter.locations(copy)), copy).values();
     }
 
@@ -204,7 +113,7 @@ public sealed class Step implements AutoCloseable permits SharedStep {
      *         others
      */
     public Value get(PreparedLocation location) {
-        Player player = Player.call(this);
+        Turns.Player player = Turns.Player.call(this);
         synchronized (agent.slot) {
             take(location, player);
             return room.told();
@@ -218,7 +127,7 @@ public sealed class Step implements AutoCloseable permits SharedStep {
      * @throws IllegalStateException if the value is no number
      */
     public long getNumber(PreparedLocation location) {
-        Player player = Player.call(this);
+        Turns.Player player = Turns.Player.call(this);
         synchronized (agent.slot) {
             take(location, player);
             return room.kind() == Room.NUM ? room.number() : room.told().asLong();
@@ -231,7 +140,7 @@ public sealed class Step implements AutoCloseable permits SharedStep {
      * @throws IllegalStateException if the value is no boolean
      */
     public boolean getBoolean(PreparedLocation location) {
-        Player player = Player.call(this);
+        Turns.Player player = Turns.Player.call(this);
         synchronized (agent.slot) {
             take(location, player);
             return room.kind() == Room.BOOL ? room.number() != 0 : room.told().asBoolean();
@@ -244,26 +153,11 @@ public sealed class Step implements AutoCloseable permits SharedStep {
      * @throws IllegalStateException if the value is no text
      */
     public String getText(PreparedLocation location) {
-        Player player = Player.call(this);
+        Turns.Player player = Turns.Player.call(this);
         synchronized (agent.slot) {
             take(location, player);
             return room.kind() == Room.STRING ? room.text() : room.told().asText();
         }
-    }
-
-    /** Gets the value into the agent's room, whose lock is held. */
-    private void take(PreparedLocation location, Player player) {
-        Objects.requireNonNull(location, "location");
-        long step = slot().at;
-        synchronized (location.slot) {
-            int code = room.make((text, out, length, written)
-                                         -> Calls.asm_get_at(agent.slot.at, step, location.slot.at,
-                                                 room.value(), out, length, written));
-            ManyException.expectPlaces(code);
-            location.expect(agent.held(code));
-        }
-        player.reads(location);
-        player.hears(room);
     }
 
     /**
@@ -275,14 +169,7 @@ public sealed class Step implements AutoCloseable permits SharedStep {
      * @throws FolugbenException MOVED; MANY if more than 256 would be got and scanned
      */
     public Agent.State scan(String name) {
-        byte[] text = Texts.utf8(name, "name");
-        Player player = Player.call(this);
-        Calls.Told told = told(Calls::asm_get_all, text);
-        ManyException.expectPlaces(told.code());
-        FolugbenException.expect(told.code());
-        player.stepScans(name);
-        player.hears(told.text());
-        return new Agent.State(before() + number, told.text());
+        return scanned(name);
     }
 
     /** The values of such a scan: the locations with their values, in ascending order. */
@@ -360,44 +247,7 @@ public sealed class Step implements AutoCloseable permits SharedStep {
         grow(Calls::asm_extend_move, Calls::asm_extend, move);
     }
 
-    private void grow(Call call, String move) {
-        byte[] text = Texts.utf8(move, "move");
-        Player player = Player.call(this);
-        Calls.Told told = told(call, text);
-        FolugbenException.expectNoObjection(told);
-        ManyException.expectMove(told.code(), "the one move of all that are pushed");
-        FolugbenException.expectMove(told.code(), move, "");
-        player.pushes(this);
-    }
 
-    /** A call on an agent, a step and a move that tells a text. */
-    private interface MoveCall {
-        int call(long agent, long step, long move, long out, long room, long written);
-    }
-
-    /** A slot holds no move of no instructions: their text is pushed. */
-    private void grow(MoveCall call, Call textCall, Move move) {
-        Objects.requireNonNull(move, "move");
-        Calls.Told told;
-        Player player = Player.call(this);
-        synchronized (agent.slot) {
-            long step = slot().at;
-            synchronized (move.slot) {
-                move.expectOpen();
-                size += move.bytes;
-                told = move.size() == 0
-                        ? told(textCall, NO_INSTRUCTIONS)
-                        : room.told((text, out, length, written)
-                                            -> call.call(agent.slot.at, step, move.slot.at, out,
-                                                    length, written));
-            }
-            agent.held(told.code());
-        }
-        FolugbenException.expectNoObjection(told);
-        ManyException.expectMove(told.code(), "the one move of all that are pushed");
-        FolugbenException.expect(told.code());
-        player.pushes(this);
-    }
 
     /**
      * Takes away the move that was pushed last, and what it rests on; what was got stays got.
@@ -405,7 +255,7 @@ public sealed class Step implements AutoCloseable permits SharedStep {
      * @throws FolugbenException NONE if no move is pushed
      */
     public void pop() {
-        Player.call(this);
+        Turns.Player.call(this);
         synchronized (agent.slot) {
             FolugbenException.expect(Calls.asm_pop(slot().at));
         }
@@ -428,17 +278,7 @@ public sealed class Step implements AutoCloseable permits SharedStep {
      * @throws FolugbenException as the other; EMPTY if the move is closed
      */
     public Move popMove(Move into) {
-        Player.call(this);
-        Objects.requireNonNull(into, "move");
-        synchronized (agent.slot) {
-            long step = slot().at;
-            synchronized (into.slot) {
-                into.bytes = size;
-                int code = agent.held(into.takePopped(step));
-                ManyException.expectMove(code, "the one move of those that are popped");
-                FolugbenException.expect(code);
-            }
-        }
+        popsInto(into);
         return into;
     }
 
@@ -448,10 +288,10 @@ public sealed class Step implements AutoCloseable permits SharedStep {
      * told.
      */
     public record Offer(List<Instruction> fire, List<Named> reads) {
-        /** Copies of both. */
+        /** Texts.Copies of both. */
         public Offer {
-            fire = Copies.of(fire, "fire");
-            reads = Copies.of(reads, "reads");
+            fire = Texts.Copies.of(fire, "fire");
+            reads = Texts.Copies.of(reads, "reads");
         }
 
         /** The same with numbers that count so many moves more. */
@@ -472,18 +312,8 @@ public sealed class Step implements AutoCloseable permits SharedStep {
 
     /** The same as the text {"fire":[INSTR, ..],"reads":[NAMED, ..]}, with numbers of its storage. */
     public String offerText() {
-        Player.call(this);
+        Turns.Player.call(this);
         return offered();
-    }
-
-    private String offered() {
-        synchronized (agent.slot) {
-            long step = slot().at;
-            Calls.Told told = room.told(
-                    (text, out, length, written) -> Calls.asm_offer(step, out, length, written));
-            FolugbenException.expect(agent.held(told.code()));
-            return told.text();
-        }
     }
 
     /** How many moves are pushed, at most 64. */
@@ -507,15 +337,7 @@ public sealed class Step implements AutoCloseable permits SharedStep {
      * @throws LargeException on a run, if the move's line would be longer than an audit reads
      */
     public Agent.Reply tryCommit() {
-        Player player = Player.look(this);
-        player.fires(this);
-        synchronized (agent.slot) {
-            if (agent.isOfRun() && size > Lines.SHORT && !isOver())
-                Lines.expectCall(Texts.utf8(offered(), "call"));
-            Agent.Reply reply = agent.reply(committed(), true);
-            player.fired(reply);
-            return reply;
-        }
+        return commits();
     }
 
     /**
@@ -551,13 +373,6 @@ public sealed class Step implements AutoCloseable permits SharedStep {
         return commit();
     }
 
-    private int committed() {
-        int code = Calls.asm_commit(agent.slot.at, slot().at, room.numbers());
-        if (code == FolugbenException.DONE)
-            end();
-        return code;
-    }
-
     /** Such as a step of agent 3 at 7, 2 moves pushed. */
     @Override
     public String toString() {
@@ -571,10 +386,7 @@ public sealed class Step implements AutoCloseable permits SharedStep {
     @Override
     public void close() {
         synchronized (agent.slot) {
-            if (slot.isOf(this)) {
-                Calls.asm_free(slot.at);
-                end();
-            }
+            drop();
         }
     }
 }

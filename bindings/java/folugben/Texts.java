@@ -2,7 +2,12 @@ package folugben;
 
 import java.nio.charset.StandardCharsets;
 import java.util.Arrays;
+import java.util.Collection;
+import java.util.List;
+import java.util.Map;
 import java.util.Objects;
+import java.util.stream.Collectors;
+import java.util.stream.Stream;
 
 /** What is looked at in the texts of a caller before the library gets them. */
 final class Texts {
@@ -118,5 +123,105 @@ final class Texts {
         int end = at;
         while (end < text.length() && " \t\n\r,:[]{}\"".indexOf(text.charAt(end)) < 0) end++;
         return end > at ? end : -1;
+    }
+
+    /** How long the lines of a run's journals may be, so that an audit reads each of them. */
+    static final class Lines {
+        /** How many bytes a line may have, its line feed apart: what an audit reads, and is written. */
+        static final int LIMIT = Integer.getInteger("folugben.line", 1_073_741_824);
+        /** What a line has at most besides its call and the location of its reply, or its state. */
+        private static final int ROOM = 120;
+
+        /** Of a call of fewer bytes no line is too long, whatever its characters are escaped to. */
+        static final int SHORT = LIMIT / 16;
+
+        private Lines() {}
+
+        /** Expects that the line of a fire is short enough, whatever its reply is. */
+        static void expectCall(byte[] call) {
+            if (2L * call.length + ROOM <= LIMIT)
+                return;
+            Step.Offer told = JsonReader.offer(new String(call, StandardCharsets.UTF_8));
+            long longest = Stream.concat(told.fire().stream().map(Instruction::location),
+                                         told.reads().stream().map(Named::location))
+                                   .mapToLong(it -> bytes(it.json()))
+                                   .max()
+                                   .orElse(0);
+            long length = call.length + longest + ROOM;
+            if (length > LIMIT)
+                throw LargeException.line("the move", length);
+        }
+
+        /** The same of a move that rests on these reads. */
+        static void expectCall(List<Instruction> move, List<Named> reads) {
+            String call = "{\"fire\":" + JsonWriter.move(move, "instructions") + ",\"reads\":"
+                    + JsonWriter.reads(reads) + "}";
+            if (call.length() > SHORT)
+                expectCall(Texts.utf8(call, "call"));
+        }
+
+        /** Expects that a journal may open with a state whose text has so many bytes. */
+        static void expectState(long length) {
+            if (length + ROOM > LIMIT)
+                throw LargeException.line("the state", length + ROOM);
+        }
+
+        static long bytes(String text) {
+            return text.getBytes(StandardCharsets.UTF_8).length;
+        }
+    }
+
+    /** How objects are printed. */
+    static final class Words {
+        private Words() {}
+
+        static String listed(String before, Collection<?> items, String behind) {
+            return items.stream()
+                    .map(Object::toString)
+                    .collect(Collectors.joining(", ", before, behind));
+        }
+
+        static String braced(Collection<?> items) {
+            return listed("{", items, "}");
+        }
+
+        static String counted(Map<Element, Long> counts) {
+            return counts.entrySet()
+                    .stream()
+                    .map(entry -> entry.getKey() + ": " + entry.getValue())
+                    .collect(Collectors.joining(", ", "{", "}"));
+        }
+
+        static IllegalStateException isNo(String kind, Value value) {
+            return new IllegalStateException("no " + kind + ": " + value);
+        }
+
+        static IllegalArgumentException isTwice(String kind, Object element) {
+            return new IllegalArgumentException(
+                    "an element stands twice in a " + kind + ": " + element);
+        }
+
+        static IllegalArgumentException isTooDeep() {
+            return new IllegalArgumentException("lists nest at most " + Element.MAX_DEPTH + " deep");
+        }
+    }
+
+    /** Arguments as they were at one time: a collection may be changed by others while it is read. */
+    static final class Copies {
+        private Copies() {}
+
+        /**
+         * What is in the collection, which is asked once for all of it.
+         *
+         * @throws NullPointerException which names the argument, and which item of it is null
+         */
+        @SuppressWarnings("unchecked")
+        static <T> List<T> of(Collection<? extends T> items, String name) {
+            Object[] copy = Objects.requireNonNull(items, name).toArray();
+            for (int at = 0; at < copy.length; at++)
+                if (copy[at] == null)
+                    throw new NullPointerException(name + "[" + at + "] is null");
+            return (List<T>) List.of(copy);
+        }
     }
 }

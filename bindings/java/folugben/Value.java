@@ -29,13 +29,13 @@ public sealed interface Value permits Element, Value.SetOf, Value.BagOf {
         /** A copy of the elements. */
         public SetOf {
             SortedSet<Element> kept = new TreeSet<>(Elements.ORDER);
-            kept.addAll(Copies.of(elements, "elements"));
+            kept.addAll(Texts.Copies.of(elements, "elements"));
             elements = Collections.unmodifiableSortedSet(kept);
         }
 
         @Override
         public String toString() {
-            return "set " + Words.braced(elements);
+            return "set " + Texts.Words.braced(elements);
         }
     }
 
@@ -56,7 +56,7 @@ public sealed interface Value permits Element, Value.SetOf, Value.BagOf {
 
         @Override
         public String toString() {
-            return "bag " + Words.counted(counts);
+            return "bag " + Texts.Words.counted(counts);
         }
 
         /** The count or the amount, if it is in range. */
@@ -98,7 +98,7 @@ public sealed interface Value permits Element, Value.SetOf, Value.BagOf {
         SortedSet<Element> kept = new TreeSet<>(Elements.ORDER);
         for (Object element : elements)
             if (!kept.add(Element.of(element)))
-                throw Words.isTwice("set", element);
+                throw Texts.Words.isTwice("set", element);
         return new SetOf(kept);
     }
 
@@ -115,7 +115,7 @@ public sealed interface Value permits Element, Value.SetOf, Value.BagOf {
             if (!(count instanceof Integer || count instanceof Long))
                 throw new IllegalArgumentException("a count is an Integer or a Long: " + count);
             if (kept.put(Element.of(key), ((Number) count).longValue()) != null)
-                throw Words.isTwice("bag", key);
+                throw Texts.Words.isTwice("bag", key);
         });
         return new BagOf(kept);
     }
@@ -147,35 +147,35 @@ public sealed interface Value permits Element, Value.SetOf, Value.BagOf {
     default long asLong() {
         if (this instanceof Element.Num num)
             return num.value();
-        throw Words.isNo("number", this);
+        throw Texts.Words.isNo("number", this);
     }
 
     /** Its text, without quotes. */
     default String asText() {
         if (this instanceof Element.Text text)
             return text.value();
-        throw Words.isNo("text", this);
+        throw Texts.Words.isNo("text", this);
     }
 
     /** Its truth. */
     default boolean asBoolean() {
         if (this instanceof Element.Bool bool)
             return bool.value();
-        throw Words.isNo("boolean", this);
+        throw Texts.Words.isNo("boolean", this);
     }
 
     /** The items of the list. */
     default List<Element> asList() {
         if (this instanceof Element.ListOf list)
             return list.items();
-        throw Words.isNo("list", this);
+        throw Texts.Words.isNo("list", this);
     }
 
     /** The elements of the set, in ascending order. */
     default Set<Element> asSet() {
         if (this instanceof SetOf set)
             return set.elements();
-        throw Words.isNo("set", this);
+        throw Texts.Words.isNo("set", this);
     }
 
     /**
@@ -189,13 +189,13 @@ public sealed interface Value permits Element, Value.SetOf, Value.BagOf {
             return set.elements().contains(Element.of(element));
         if (this instanceof BagOf bag)
             return bag.counts().containsKey(Element.of(element));
-        throw Words.isNo("set or bag", this);
+        throw Texts.Words.isNo("set or bag", this);
     }
 
     /** The elements of the bag with their counts, in ascending order. */
     default Map<Element, Long> asBag() {
         if (this instanceof BagOf bag)
             return bag.counts();
-        throw Words.isNo("bag", this);
+        throw Texts.Words.isNo("bag", this);
     }
 }

@@ -58,10 +58,10 @@ public final class Bank implements Machine {
         Location due = Location.of("due", own);
         Rule collect = let(see -> see.get(due), rest -> collected(account, due, rest.asLong()));
         Rule rule = seq(
-                update(due, Term.value(NEED)),
+                update(due, Rule.Term.value(NEED)),
                 iterate(collect),
                 par(update(account, see -> see.getNumber(account) + NEED - see.getNumber(due)),
-                        update(due, Term.value(null))));
+                        update(due, Rule.Term.value(null))));
         return new Program(rule, actor -> actor.won() == times);
     }
 
@@ -72,8 +72,8 @@ public final class Bank implements Machine {
         return choose(random, "account",
                 (at, money) -> !at.equals(own) && money.asLong() > 0,
                 (at, money) -> par(
-                        update(at, Term.value(Math.max(money.asLong() - rest, 0))),
-                        update(due, Term.value(Math.max(rest - money.asLong(), 0)))),
+                        update(at, Rule.Term.value(Math.max(money.asLong() - rest, 0))),
+                        update(due, Rule.Term.value(Math.max(rest - money.asLong(), 0)))),
                 skip());
     }
 

@@ -28,17 +28,17 @@ public final class Rules {
     }
 
     /** Puts the term's value. */
-    public static Rule update(Location at, Term term) {
+    public static Rule update(Location at, Rule.Term term) {
         return made(see -> Instruction.put(at, term.of(see)));
     }
 
     /** Adds the term's element to a set. */
-    public static Rule add(Location at, Term term) {
+    public static Rule add(Location at, Rule.Term term) {
         return made(see -> Instruction.add(at, Element.of(term.of(see))));
     }
 
     /** Removes the term's element from a set. */
-    public static Rule remove(Location at, Term term) {
+    public static Rule remove(Location at, Rule.Term term) {
         return made(see -> Instruction.remove(at, Element.of(term.of(see))));
     }
 
@@ -86,17 +86,17 @@ public final class Rules {
     }
 
     /** Does one where the condition comes to true, and else the other one. */
-    public static Rule when(Term condition, Rule then, Rule otherwise) {
+    public static Rule when(Rule.Term condition, Rule then, Rule otherwise) {
         return new Derived(see -> (boolean) condition.of(see) ? then : otherwise);
     }
 
     /** Does it where the condition comes to true. */
-    public static Rule when(Term condition, Rule then) {
+    public static Rule when(Rule.Term condition, Rule then) {
         return when(condition, then, skip());
     }
 
     /** Does what is made of the term's value. */
-    public static Rule let(Term term, Function<Value, Rule> body) {
+    public static Rule let(Rule.Term term, Function<Value, Rule> body) {
         return new Derived(see -> body.apply(Value.of(term.of(see))));
     }
 

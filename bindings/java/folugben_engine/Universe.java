@@ -61,9 +61,9 @@ public final class Universe implements Machine {
             long node = 1 + own + agents * count.asLong();
             return choose(random, "last", (at, below) -> true,
                     (at, below) -> par(
-                            update(parent(node), Term.value(below)),
-                            update(last, Term.value(node)),
-                            update(made, Term.value(count.asLong() + 1))),
+                            update(parent(node), Rule.Term.value(below)),
+                            update(last, Rule.Term.value(node)),
+                            update(made, Rule.Term.value(count.asLong() + 1))),
                     skip());
         });
         return new Program(rule, actor -> actor.won() == times);

@@ -191,7 +191,7 @@ final class ConformanceTests {
     }
 
     private static String told(Agent.State state, String number) {
-        Checks.equal("" + state.number(), number);
+        Test.Checks.equal("" + state.number(), number);
         return state.pairs();
     }
 
@@ -244,7 +244,7 @@ final class ConformanceTests {
         }
         for (String name : List.of("moves", "calls", "steps", "journals"))
             try {
-                Checks.equal(replayed(Path.of(root, "bindings/conformance", name + ".jsonl")) > 20, true);
+                Test.Checks.equal(replayed(Path.of(root, "bindings/conformance", name + ".jsonl")) > 20, true);
             } catch (IOException fault) {
                 throw new IllegalStateException(fault);
             }

@@ -1,7 +1,7 @@
 package folugben;
 
-import static folugben.Checks.equal;
-import static folugben.Checks.thrown;
+import static folugben.Test.Checks.equal;
+import static folugben.Test.Checks.thrown;
 
 import java.time.Duration;
 import java.util.ArrayList;

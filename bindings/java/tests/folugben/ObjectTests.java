@@ -1,11 +1,11 @@
 package folugben;
 
-import static folugben.Checks.equal;
-import static folugben.Checks.outOfRange;
-import static folugben.Checks.refused;
-import static folugben.Checks.refusedAt;
-import static folugben.Checks.refusedValue;
-import static folugben.Checks.thrown;
+import static folugben.Test.Checks.equal;
+import static folugben.Test.Checks.outOfRange;
+import static folugben.Test.Checks.refused;
+import static folugben.Test.Checks.refusedAt;
+import static folugben.Test.Checks.refusedValue;
+import static folugben.Test.Checks.thrown;
 
 import java.util.ArrayList;
 import java.util.Collections;

@@ -1,9 +1,9 @@
 package folugben;
 
-import static folugben.Checks.equal;
-import static folugben.Checks.refused;
-import static folugben.Checks.refusedAt;
-import static folugben.Checks.thrown;
+import static folugben.Test.Checks.equal;
+import static folugben.Test.Checks.refused;
+import static folugben.Test.Checks.refusedAt;
+import static folugben.Test.Checks.thrown;
 
 import com.sun.jna.Native;
 

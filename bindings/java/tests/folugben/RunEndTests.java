@@ -1,7 +1,7 @@
 package folugben;
 
-import static folugben.Checks.equal;
-import static folugben.Checks.refused;
+import static folugben.Test.Checks.equal;
+import static folugben.Test.Checks.refused;
 
 import java.io.IOException;
 import java.io.UncheckedIOException;
@@ -45,7 +45,7 @@ final class RunEndTests {
         throw new IllegalStateException("the run hasn't ended");
     }
 
-    /** Plays until the run has ended. */
+    /** Patience.Plays until the run has ended. */
     private static RunException failsInTime(RunAgent agent) {
         return fails(() -> {
             while (true) RunTests.count(agent);

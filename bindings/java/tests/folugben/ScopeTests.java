@@ -1,10 +1,10 @@
 package folugben;
 
-import static folugben.Checks.equal;
-import static folugben.Checks.refused;
-import static folugben.Checks.refusedAt;
-import static folugben.Checks.refusedValue;
-import static folugben.Checks.thrown;
+import static folugben.Test.Checks.equal;
+import static folugben.Test.Checks.refused;
+import static folugben.Test.Checks.refusedAt;
+import static folugben.Test.Checks.refusedValue;
+import static folugben.Test.Checks.thrown;
 
 import java.io.IOException;
 import java.io.UncheckedIOException;

@@ -1,6 +1,6 @@
 package folugben;
 
-import static folugben.Checks.equal;
+import static folugben.Test.Checks.equal;
 
 import java.io.IOException;
 import java.nio.charset.StandardCharsets;

@@ -1,7 +1,7 @@
 package folugben;
 
-import static folugben.Checks.equal;
-import static folugben.Checks.refused;
+import static folugben.Test.Checks.equal;
+import static folugben.Test.Checks.refused;
 
 import java.io.ByteArrayOutputStream;
 import java.io.IOException;
@@ -241,12 +241,12 @@ final class SharedTests {
     /** Changes the tables from outside. */
     private static void alter(String target, String sql) throws SQLException {
         boolean isServer = Database.isServer(target);
-        String url = isServer ? ServerName.of(target).url() : "jdbc:sqlite:" + target;
+        String url = isServer ? Postgres.ServerName.of(target).url() : "jdbc:sqlite:" + target;
         try (Connection own = isServer ? DriverManager.getConnection(url, "folugben", "")
                                        : DriverManager.getConnection(url);
                 Statement all = own.createStatement()) {
             if (isServer)
-                all.execute("set search_path = \"" + ServerName.of(target).schema() + "\"");
+                all.execute("set search_path = \"" + Postgres.ServerName.of(target).schema() + "\"");
             all.execute(sql);
         }
     }

@@ -1,9 +1,9 @@
 package folugben;
 
-import static folugben.Checks.equal;
-import static folugben.Checks.outOfRange;
-import static folugben.Checks.refused;
-import static folugben.Checks.refusedAt;
+import static folugben.Test.Checks.equal;
+import static folugben.Test.Checks.outOfRange;
+import static folugben.Test.Checks.refused;
+import static folugben.Test.Checks.refusedAt;
 
 import java.util.Collections;
 import java.util.List;

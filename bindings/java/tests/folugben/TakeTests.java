@@ -1,8 +1,8 @@
 package folugben;
 
-import static folugben.Checks.equal;
-import static folugben.Checks.refused;
-import static folugben.Checks.thrown;
+import static folugben.Test.Checks.equal;
+import static folugben.Test.Checks.refused;
+import static folugben.Test.Checks.thrown;
 
 import java.time.Duration;
 import java.util.ArrayList;

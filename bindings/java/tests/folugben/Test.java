@@ -1,10 +1,10 @@
 package folugben;
 
-import static folugben.Checks.equal;
-import static folugben.Checks.outOfRange;
-import static folugben.Checks.refused;
-import static folugben.Checks.refusedAt;
-import static folugben.Checks.thrown;
+import static folugben.Test.Checks.equal;
+import static folugben.Test.Checks.outOfRange;
+import static folugben.Test.Checks.refused;
+import static folugben.Test.Checks.refusedAt;
+import static folugben.Test.Checks.thrown;
 
 import java.util.List;
 
@@ -182,7 +182,7 @@ public final class Test {
     static void quick() {
         String wanted = System.getProperty("folugben.quick");
         if (wanted != null)
-            equal(Quick.isThere(), Boolean.valueOf(wanted));
+            equal(Calls.Quick.isThere(), Boolean.valueOf(wanted));
     }
 
     static void libraryNames() {
@@ -223,7 +223,7 @@ public final class Test {
         ValueTests.all();
         ObjectTests.all();
         StepTests.all();
-        KindTests.all();
+        ValueTests.KindTests.all();
         PlainTests.all();
         ScopeTests.all();
         OddTests.all();
@@ -231,12 +231,69 @@ public final class Test {
         TurnTests.all();
         TakeTests.all();
         ConformanceTests.all();
-        JournalTests.all();
+        AuditTests.JournalTests.all();
         ExploreTests.all();
         RunTests.all();
         RunEndTests.all();
         ResumeTests.all();
-        SavingTests.all();
+        ResumeTests.SavingTests.all();
         SharedTests.all();
+    }
+
+    /** What the tests have in common. */
+    static final class Checks {
+        private Checks() {}
+
+        static void equal(Object told, Object wanted) {
+            boolean areNumbers = told instanceof Number && wanted instanceof Number;
+            if (areNumbers ? ((Number) told).longValue() != ((Number) wanted).longValue()
+                           : !told.equals(wanted))
+                throw new IllegalStateException("told " + told + ", wanted " + wanted);
+        }
+
+        static FolugbenException refused(int code, Runnable call) {
+            try {
+                call.run();
+            } catch (FolugbenException error) {
+                equal(error.code(), code);
+                return error;
+            }
+            throw new IllegalStateException("not refused: code " + code);
+        }
+
+        /** The call is refused with this number, which the message tells too, as what it counts. */
+        static void refusedAt(int code, long number, String told, Runnable call) {
+            FolugbenException error = refused(code, call);
+            equal(error.number(), number);
+            equal(error.getMessage(), FolugbenException.errorText(code) + told);
+        }
+
+        /** The call throws an exception of this class, which tells this. */
+        static void thrown(Class<? extends RuntimeException> kind, String told, Runnable call) {
+            try {
+                call.run();
+            } catch (RuntimeException error) {
+                equal(error.getClass(), kind);
+                equal("" + error.getMessage(), "" + told);
+                return;
+            }
+            throw new IllegalStateException("not thrown: " + told);
+        }
+
+        /** The call is refused by an IllegalArgumentException, which tells this. */
+        static void refusedValue(String told, Runnable call) {
+            thrown(IllegalArgumentException.class, told, call);
+        }
+
+        /** The call is refused as a capacity or the number of an agent is out of its range. */
+        static void outOfRange(Runnable call) {
+            try {
+                call.run();
+            } catch (IllegalArgumentException told) {
+                equal(told.getMessage().contains(" 1 to 1,048,576") || told.getMessage().contains(" 0 to 255"), true);
+                return;
+            }
+            throw new IllegalStateException("not refused");
+        }
     }
 }

@@ -87,7 +87,7 @@ public final class EngineTests {
 
     private static void partsSeeOneState() {
         Rule swap = par(update(f(1), see -> see.get(f(2))), update(f(2), see -> see.get(f(1))));
-        equal(played(par(swap, add(SET, EngineTests::count), remove(SET, Term.value(1))), f(1),
+        equal(played(par(swap, add(SET, EngineTests::count), remove(SET, Rule.Term.value(1))), f(1),
                       f(2), SET),
                 values("b", "a", java.util.Set.of(3)));
         Location g = Location.of("g");
@@ -101,17 +101,17 @@ public final class EngineTests {
         Location no = Location.of("no");
         Location let = Location.of("let");
         Rule rule = par(
-                when(see -> count(see) == 3, update(yes, Term.value(1)), update(no, Term.value(1))),
-                when(Term.value(false), update(no, Term.value(1))),
-                let(EngineTests::count, three -> update(let, Term.value(three.asLong() + 1))));
+                when(see -> count(see) == 3, update(yes, Rule.Term.value(1)), update(no, Rule.Term.value(1))),
+                when(Rule.Term.value(false), update(no, Rule.Term.value(1))),
+                let(EngineTests::count, three -> update(let, Rule.Term.value(three.asLong() + 1))));
         equal(played(rule, yes, no, let), values(1, null, 4));
     }
 
     private static void iterationsEndWithoutUpdates() {
         Location sum = Location.of("sum");
-        Rule rule = seq(update(sum, Term.value(0)),
+        Rule rule = seq(update(sum, Rule.Term.value(0)),
                 iterate(let(EngineTests::count,
-                        rest -> when(Term.value(rest.asLong() > 0),
+                        rest -> when(Rule.Term.value(rest.asLong() > 0),
                                 par(raised(-1), update(sum, see -> see.getNumber(sum) + rest.asLong()))))));
         equal(played(rule, COUNT, sum), values(0, 6));
         Rule long_ = iterate(when(see -> count(see) < 1000, raised(1)));
@@ -122,19 +122,19 @@ public final class EngineTests {
         BiPredicate<Location, Value> isA = (at, value) -> value.asText().equals("a");
         BiPredicate<Location, Value> isNone = (at, value) -> false;
         BiFunction<Location, Value, Rule> all =
-                (at, value) -> update(Location.of("all", at.arguments().get(0)), Term.value(true));
+                (at, value) -> update(Location.of("all", at.arguments().get(0)), Rule.Term.value(true));
         Location chosen = Location.of("chosen");
         Location other = Location.of("other");
         Random random = new Random(4);
         BiFunction<Location, Value, Rule> mark =
-                (at, value) -> update(chosen, Term.value(at.arguments().get(0)));
+                (at, value) -> update(chosen, Rule.Term.value(at.arguments().get(0)));
         List<Object> told = new ArrayList<>();
         for (int times = 0; times < 40; times++)
             told.add(played(choose(random, "f", isA, mark, skip()), chosen).get(0));
         equal(told.contains(Value.of(1)) && told.contains(Value.of(3)), true);
         equal(told.contains(Value.of(2)), false);
         Rule rule = par(forall("f", isA, all),
-                choose(random, "f", isNone, mark, update(other, Term.value(1))));
+                choose(random, "f", isNone, mark, update(other, Rule.Term.value(1))));
         equal(played(rule, Location.of("all", 1), Location.of("all", 2), Location.of("all", 3),
                       chosen, other),
                 values(true, null, true, null, 1));
@@ -159,13 +159,13 @@ public final class EngineTests {
         ClashException told = clash(par(dry, seq(raised(0), update(beside, EngineTests::count))));
         equal(told.at(), COUNT);
         equal(told.cause(), Cause.TWO);
-        clash(seq(par(raised(1), update(COUNT, Term.value(9))), raised(1)));
+        clash(seq(par(raised(1), update(COUNT, Rule.Term.value(9))), raised(1)));
     }
 
     /** In sequence these come to nothing, but on a number alone. */
     private static void dryRunsAreRestedOn() {
         Rule rule = par(seq(raise(COUNT, 1), raise(COUNT, -1)),
-                update(Location.of("g"), Term.value(1)));
+                update(Location.of("g"), Rule.Term.value(1)));
         try (Storage storage = Storage.open(INIT, 10); Agent agent = storage.agent(0);
                 Agent rival = storage.agent(1); Step step = agent.step()) {
             rule.play(step);
@@ -279,9 +279,9 @@ public final class EngineTests {
     }
 
     private static void anErrorOfOneProgramEndsAll() {
-        Machine.Program waits = new Machine.Program(when(Term.value(false), raised(1)), actor -> false);
+        Machine.Program waits = new Machine.Program(when(Rule.Term.value(false), raised(1)), actor -> false);
         Machine.Program clashes = new Machine.Program(
-                par(update(COUNT, Term.value(1)), update(COUNT, Term.value(2))), actor -> false);
+                par(update(COUNT, Rule.Term.value(1)), update(COUNT, Rule.Term.value(2))), actor -> false);
         try (Storage storage = Storage.open(INIT, 10)) {
             Engine.play(number -> storage.agent(number), List.of(waits, clashes, waits));
         } catch (ClashException told) {

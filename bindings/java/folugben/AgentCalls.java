@@ -1,0 +1,163 @@
+package folugben;
+
+import java.util.Objects;
+
+/** What an agent has, and what its calls on the library come to, with its lock. */
+abstract sealed class AgentCalls permits Agent {
+    /** The agent's slot, and the lock of the calls on it and on its steps. */
+    final Slot.AgentSlot slot = new Slot.AgentSlot();
+    final Room room = slot.room;
+    final Storage storage;
+    final int number;
+    /** What it is of where that is of a run; else null. */
+    volatile Run.Chained chain;
+    int vain;
+    /** Tells that it was given back, if this code was answered for that; to be called with its lock. */
+    int held(int code) {
+        if (code != FolugbenException.EMPTY || slot.isFull())
+            return code;
+        if (isPast())
+            throw PartException.full();
+        throw FolugbenException.closed("the agent was given back");
+    }
+    /** Whether it is of a part of a run that is over. */
+    boolean isPast() {
+        Run.Chained own = chain;
+        return own != null && own.isOver();
+    }
+    /** What is expected of the code of a call on it. */
+    void expect(int code) {
+        FolugbenException.expect(held(code));
+    }
+    /** The values of a reading, without the number. */
+    static String values(String reading) {
+        return reading.substring(reading.indexOf(','));
+    }
+    /** The code of a fire, FULL where it came too late for the part of a run. */
+    int inTime(int code) {
+        boolean isTooLate = code == FolugbenException.EMPTY && !slot.isFull() && isPast();
+        return isTooLate ? FolugbenException.FULL : code;
+    }
+    /** What became of a fire with this code, on which the agent's lock is still held. */
+    Actor.Reply reply(int told, boolean isOfStep) {
+        int code = inTime(told);
+        long before = before();
+        long move = code == FolugbenException.DONE ? before + room.number(0) : 0;
+        long from = before + room.number(1);
+        long to = before + room.number(2);
+        String answer = null;
+        switch (code) {
+            case FolugbenException.STALE, FolugbenException.CLASH -> {
+                vain++;
+                answer = lastAnswer();
+            }
+            case FolugbenException.FULL -> vain++;
+            case FolugbenException.BUSY -> {}
+            default -> expect(code);
+        }
+        return new Actor.Reply(code, move, from, to, answer, isOfStep, chain != null);
+    }
+    /** Whether it is one of a run. */
+    boolean isOfRun() {
+        return chain != null;
+    }
+    /** Has the agent be one of this part of a run. */
+    void joins(Run.Chained chain) {
+        this.chain = chain;
+    }
+    /** How many moves of its run come before those of its storage. */
+    long before() {
+        return chain == null ? 0 : chain.before();
+    }
+    /** How many of its calls were answered and fired nothing, since it was made or taken. */
+    int vain() {
+        synchronized (slot) {
+            return vain;
+        }
+    }
+    /** Whether it is there: neither given back nor abandoned. */
+    boolean isHeld() {
+        synchronized (slot) {
+            return slot.isFull();
+        }
+    }
+    /** Whether a step is under way on it. */
+    boolean isInStep() {
+        synchronized (slot) {
+            return slot.hasStep();
+        }
+    }
+    /** Tells the run, if it is of one that may wait for that, that a step is over; with its lock. */
+    void endStep() {
+        if (chain != null)
+            chain.endStep();
+    }
+    /** Throws what has ended the run, if it is of one. */
+    void expectGoing() {
+        if (chain != null)
+            chain.expectGoing();
+    }
+    void look(PreparedLocation location) {
+        Objects.requireNonNull(location, "location");
+        synchronized (location.slot) {
+            location.expect(held(slot.peek(location)));
+        }
+    }
+    String lastAnswer() {
+        synchronized (slot) {
+            Calls.Told told = slot.answer();
+            expect(told.code());
+            return told.text();
+        }
+    }
+    /** Its storage. */
+    Storage storage() {
+        return storage;
+    }
+
+    /**
+     * Takes the state of the agent whose call on the storage was this thread's last one, if that
+     * waits for nothing in it: so that each move is followed about once, and not once for each of
+     * the agents that a thread plays by turns.
+     */
+    void takeState() {
+        Agent other = storage.plays((Agent) this);
+        if (other != null && other.number != number)
+            withBoth(other, () -> slot.takeState(other.slot));
+    }
+
+    /** Does something with the locks of both, which are taken in the order of their numbers. */
+    void withBoth(Agent other, Runnable work) {
+        boolean isFirst = number < other.number;
+        synchronized (isFirst ? slot : other.slot) {
+            synchronized (isFirst ? other.slot : slot) {
+                work.run();
+            }
+        }
+    }
+
+    AgentCalls(Storage storage, int number) {
+        this.storage = storage;
+        this.number = number;
+    }
+
+    /** Whether named reads still stand. */
+    final Actor.Reply standing(String reads, Turns.Player player) {
+        byte[] call = Texts.utf8(reads, "reads");
+        synchronized (slot) {
+            Calls.Told told = slot.stands(call);
+            if (told.code() == FolugbenException.STALE || told.code() == FolugbenException.DONE) {
+                player.readsNamed(reads);
+                player.hears(told.text());
+            }
+            if (told.code() == FolugbenException.STALE)
+                return new Actor.Reply(told.code(), 0, 0, 0, told.text());
+            if (told.code() == FolugbenException.MANY)
+                throw ManyException.places(JsonReader.reads(reads).size(), "locations are named");
+            if (told.code() == FolugbenException.RANGE)
+                throw FolugbenException.ahead(reads, Calls.asm_seen(slot.at));
+            FolugbenException.expectReads(held(told.code()), reads);
+            return new Actor.Reply(told.code(), 0, 0, 0, null);
+        }
+    }
+}

@@ -1,0 +1,211 @@
+package folugben;
+
+import java.util.Objects;
+
+/** What a step has, and its calls on the library, with the lock of its agent. */
+abstract sealed class StepCalls permits Step {
+    static final byte[] NO_INSTRUCTIONS = {'[', ']'};
+    final Agent agent;
+    final Room room;
+    final int number;
+    final long before;
+    /** How many bytes it was passed by now, of which a run's journal gets no more than some. */
+    long size;
+    /** The step's slot, until the step is over: the agent then has it for another. */
+    final Slot.AgentSlot.StepSlot slot;
+    void end() {
+        Turns.here().over(self());
+        agent.slot.giveStep(slot, self());
+        agent.endStep();
+    }
+    /** Whether it could be committed, and nothing was pushed. */
+    boolean isIdle() {
+        synchronized (agent.slot) {
+            return !isOver() && Calls.asm_depth(slot.at) == 0;
+        }
+    }
+    boolean isOver() {
+        return !slot.isOf(self());
+    }
+    /** The slot of a step that isn't over. */
+    Slot slot() {
+        agent.expectGoing();
+        if (isOver())
+            throw FolugbenException.closed("the step is over: it was fired or closed");
+        return slot;
+    }
+    /** How many moves of the run come before those of its storage. */
+    long before() {
+        return before;
+    }
+    /** The number of moves of its storage that its state is after. */
+    int own() {
+        return number;
+    }
+    /** Whether its agent, if that is one of a run, has to go on to another part. */
+    boolean isPast() {
+        return agent.isPast();
+    }
+    /** A call on an agent and a step that is passed a text and tells one. */
+    interface Call {
+        int call(long agent, long step, long text, long len, long out, long room,
+                long written);
+    }
+    Calls.Told told(Call call, byte[] text) {
+        synchronized (agent.slot) {
+            long step = slot().at;
+            size += text.length;
+            Calls.Told told = room.told(text,
+                    (at, out, length, written)
+                            -> call.call(
+                                    agent.slot.at, step, at, text.length, out, length, written));
+            agent.held(told.code());
+            return told;
+        }
+    }
+    String looked(Call call, String locations) {
+        byte[] text = Texts.utf8(locations, "locations");
+        Turns.Player player = Turns.Player.call(this);
+        Calls.Told told = told(call, text);
+        ManyException.expectPlaces(told.code());
+        FolugbenException.expectRead(told.code(), Storage.Form.LOCATIONS, text);
+        player.reads(locations);
+        player.hears(told.text());
+        return told.text();
+    }
+    /** Gets the value into the agent's room, whose lock is held. */
+    void take(PreparedLocation location, Turns.Player player) {
+        Objects.requireNonNull(location, "location");
+        long step = slot().at;
+        synchronized (location.slot) {
+            int code = room.make((text, out, length, written)
+                                         -> Calls.asm_get_at(agent.slot.at, step, location.slot.at,
+                                                 room.value(), out, length, written));
+            ManyException.expectPlaces(code);
+            location.expect(agent.held(code));
+        }
+        player.reads(location);
+        player.hears(room);
+    }
+    void grow(Call call, String move) {
+        byte[] text = Texts.utf8(move, "move");
+        Turns.Player player = Turns.Player.call(this);
+        Calls.Told told = told(call, text);
+        FolugbenException.expectNoObjection(told);
+        ManyException.expectMove(told.code(), "the one move of all that are pushed");
+        FolugbenException.expectMove(told.code(), move, "");
+        player.pushes(self());
+    }
+    /** A call on an agent, a step and a move that tells a text. */
+    interface MoveCall {
+        int call(long agent, long step, long move, long out, long room, long written);
+    }
+    /** A slot holds no move of no instructions: their text is pushed. */
+    void grow(MoveCall call, Call textCall, Move move) {
+        Objects.requireNonNull(move, "move");
+        Calls.Told told;
+        Turns.Player player = Turns.Player.call(this);
+        synchronized (agent.slot) {
+            long step = slot().at;
+            synchronized (move.slot) {
+                move.expectOpen();
+                size += move.bytes;
+                told = move.size() == 0
+                        ? told(textCall, NO_INSTRUCTIONS)
+                        : room.told((text, out, length, written)
+                                            -> call.call(agent.slot.at, step, move.slot.at, out,
+                                                    length, written));
+            }
+            agent.held(told.code());
+        }
+        FolugbenException.expectNoObjection(told);
+        ManyException.expectMove(told.code(), "the one move of all that are pushed");
+        FolugbenException.expect(told.code());
+        player.pushes(self());
+    }
+    String offered() {
+        synchronized (agent.slot) {
+            long step = slot().at;
+            Calls.Told told = room.told(
+                    (text, out, length, written) -> Calls.asm_offer(step, out, length, written));
+            FolugbenException.expect(agent.held(told.code()));
+            return told.text();
+        }
+    }
+    int committed() {
+        int code = Calls.asm_commit(agent.slot.at, slot().at, room.numbers());
+        if (code == FolugbenException.DONE)
+            end();
+        return code;
+    }
+
+    /** To be called with the agent's lock, as all that uses the slot. */
+    StepCalls(Agent agent) {
+        this.agent = agent;
+        room = agent.slot.room;
+        slot = agent.slot.takeStep(self());
+        boolean isBegun = false;
+        try {
+            agent.expect(agent.slot.begin(slot));
+            number = room.number(0);
+            before = agent.before();
+            isBegun = true;
+        } finally {
+            if (!isBegun)
+                drop();
+        }
+    }
+
+    /** The step itself. */
+    final Step self() {
+        return (Step) this;
+    }
+
+    /** Releases the slot, unless the step is over; with the agent's lock. */
+    final void drop() {
+        if (slot.isOf(self())) {
+            Calls.asm_free(slot.at);
+            end();
+        }
+    }
+
+    /** The reply to a commit. */
+    final Actor.Reply commits() {
+        Turns.Player player = Turns.Player.look(this);
+        player.fires(self());
+        synchronized (agent.slot) {
+            if (agent.isOfRun() && size > Texts.Lines.SHORT && !isOver())
+                Texts.Lines.expectCall(Texts.utf8(offered(), "call"));
+            Actor.Reply reply = agent.reply(committed(), true);
+            player.fired(reply);
+            return reply;
+        }
+    }
+
+    /** What a scan finds. */
+    final Actor.State scanned(String name) {
+        byte[] text = Texts.utf8(name, "name");
+        Turns.Player player = Turns.Player.call(this);
+        Calls.Told told = told(Calls::asm_get_all, text);
+        ManyException.expectPlaces(told.code());
+        FolugbenException.expect(told.code());
+        player.stepScans(name);
+        player.hears(told.text());
+        return new Actor.State(before() + number, told.text());
+    }
+
+    /** Pops into a move. */
+    final void popsInto(Move into) {
+        Turns.Player.call(this);
+        Objects.requireNonNull(into, "move");
+        synchronized (agent.slot) {
+            long step = slot().at;
+            synchronized (into.slot) {
+                into.bytes = size;
+                int code = agent.held(into.takePopped(step));
+                ManyException.expectMove(code, "the one move of those that are popped");
+                FolugbenException.expect(code);
+            }
+        }
+    }
+}
