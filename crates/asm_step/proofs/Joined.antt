@@ -1,4 +1,4 @@
--- Sets of which one takes an element in and the other gives it away, as lists that are joined.
+-- Sets and bags to which one more partial update is joined, as lists that compose, and what pairs of aggregators know of that.
 use Rattle.std.proofs.Common.{◌≡◌, ◌≢◌, true, false, cond, List, [], ◌∷◌, refl, ap, ◌∙◌, ℕ, ◌+◌, ◌-◌, ◌<◌, ◌^◌, ◌&&◌, length, Ok, Err, sym, subst, arith, Bool, not, ◌||◌, ◌++◌}
 use Rattle.std.specs.Prelude.{None, Ok, Err, filter, Result, Option, Some, is_some, IfOk, OnErr}
 use Rattle.std.specs.List.{list_all, filter_map}
