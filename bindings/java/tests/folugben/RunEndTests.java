@@ -172,7 +172,7 @@ final class RunEndTests {
 
     /** A state of more bytes than a line may have is refused before anything is made. */
     private static void linesAreShort(Path path) throws IOException {
-        String state = "[[[\"a\"],\"" + "x".repeat(Lines.LIMIT) + "\"]]";
+        String state = "[[[\"a\"],\"" + "x".repeat(Texts.Lines.LIMIT) + "\"]]";
         equal(refused(FolugbenException.LARGE, () -> Run.open(state, path, 5, 9)).getClass(),
                 LargeException.class);
         equal(Files.exists(path), false);
