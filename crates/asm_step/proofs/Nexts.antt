@@ -1,4 +1,4 @@
--- The layer of a move that is next, from its parts.
+-- The layer of a move that is next, from its parts, and that of a first move.
 use Rattle.std.proofs.Common.{◌≡◌, ◌≤◌, ◌<◌, ◌+◌, ◌-◌, ℕ, Bool, true, false, cond, List, [], ◌∷◌, ◌++◌, length, All, Option, Some, None, is_some, unwrap_or, Result, Ok, Err, inr, refl, sym, ap, subst, ◌∙◌, arith, map}
 use Rattle.std.specs.Option.{option_map, option_map_or, option_or}
 use Rattle.asm_element.specs.Place.{Place, location_cmp, location_cmp_total}

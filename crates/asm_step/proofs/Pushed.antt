@@ -1,4 +1,4 @@
--- On which values moves rest with one more move, and what the one move keeps.
+-- On which values moves rest with one more move, what the one move keeps, and what layers on layers write.
 use Rattle.std.proofs.Common.{◌≡◌, ◌++◌, Bool, true, false, cond, not, ◌&&◌, ◌||◌, List, [], ◌∷◌, Option, Some, None, is_some, Ok, refl, sym, ap, ◌∙◌, unwrap_or, subst}
 use Rattle.std.proofs.lemmas.Bool.{false≢true}
 use Rattle.std.proofs.lemmas.List.Folds.{list_any-append}

@@ -1,4 +1,4 @@
--- Where outcomes rest on what is below, and build on it.
+-- Where outcomes rest on what is below and build on it, and what a put comes to alone.
 use Rattle.std.proofs.Common.{◌≡◌, ◌↔◌, Bool, true, false, cond, ◌&&◌, ◌||◌, T, List, [], ◌∷◌, map, filter, Contains, ⊎_elim, Option, Some, None, is_some, refl, sym, ap, subst, ◌∙◌, arith, Result}
 use Rattle.std.proofs.lemmas.Bool.{false≢true}
 use Rattle.std.proofs.lemmas.List.Elements.{Contains-append_left, Contains-append_right, Contains-append_cases, Contains-push_cases}

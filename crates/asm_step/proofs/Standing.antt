@@ -1,4 +1,4 @@
--- Where a state has what is looked up at the locations on which moves rest, the one move does what they do.
+-- What moves do at one location, and that the one move does what they do where a state agrees at what they rest on.
 use Rattle.std.proofs.Common.{◌≡◌, Bool, true, false, cond, not, ◌&&◌, ◌||◌, List, [], ◌∷◌, ◌++◌, map, filter, Option, Some, None, unwrap_or, Result, Ok, Err, IsOk, IsSomeAnd, refl, sym, ap, subst, ◌∙◌}
 use Rattle.std.proofs.lemmas.Bool.{false≢true}
 use Rattle.std.specs.List.{filter_map}
