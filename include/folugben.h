@@ -409,10 +409,10 @@ FOLUGBEN_NODISCARD int32_t asm_push(struct asm_agent *agent, struct asm_step *st
 
 /* The same, but the move joins the one that was pushed last, and is popped with it: a loop of a
  * thousand rounds is one move deep, and each round costs by what it does itself. A round of one partial
- * update changes a set or a bag in place: it costs by the logarithm of the size. The first two in a
- * pushed move copy the value, and so do the next two where a bag's updates have come to none. Any other
- * round costs also by the size of a set or a bag that it changes and the earlier updates of it. Without a
- * pushed move it is pushed. Never ASM_DEEP. */
+ * update changes a set or a bag in place: it costs by the logarithm of the size, after
+ * the first two in a pushed move, which copy the value. Any other round costs also by the size of a set
+ * or a bag that it changes and the earlier updates of it. Without a pushed move it is pushed. Never
+ * ASM_DEEP. */
 FOLUGBEN_NODISCARD int32_t asm_extend(struct asm_agent *agent, struct asm_step *step,
     const uint8_t *move, size_t len, uint8_t *out, size_t room, size_t *written);
 

@@ -133,6 +133,23 @@ static double beside(const kind *k, unsigned elements) {
     return took;
 }
 
+/* The same of an addition and its removal, by turns. */
+static double back_and_forth(const kind *k, unsigned elements) {
+    char *text = large(k == &kinds[1], elements);
+    begin(text);
+    free(text);
+    extend_by(k, 0);
+    take_back(k, 0);
+    double from = now();
+    for (unsigned i = 0; i < LATER / 2; i++) {
+        extend_by(k, 0);
+        take_back(k, 0);
+    }
+    double took = (now() - from) * 1e3 / LATER;
+    end();
+    return took;
+}
+
 int main(void) {
     puts("milliseconds of 500, 1000, 2000 and 4000 extensions");
     for (unsigned put = 0; put < 2; put++)
@@ -150,6 +167,7 @@ int main(void) {
     }
     puts("microseconds of one more beside 10 and 100,000 elements");
     for (const kind *k = kinds; k < kinds + 2; k++)
-        printf("%-8s %9.2f %9.2f\n", k->name, beside(k, 10), beside(k, 100000));
+        printf("%-8s %9.2f %9.2f, by turns %9.2f %9.2f\n", k->name, beside(k, 10), beside(k, 100000),
+               back_and_forth(k, 10), back_and_forth(k, 100000));
     return 0;
 }

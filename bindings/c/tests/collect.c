@@ -3,7 +3,7 @@
  * step collects into a bag of many elements that it hasn't put. */
 #include "tests.h"
 
-enum { ELEMENTS = 6, LEVELS = 5, ROUNDS = 60, STEPS = 120, WIDE = 200, TIMES = 400 };
+enum { ELEMENTS = 6, LEVELS = 5, ROUNDS = 60, STEPS = 120, WIDE = 200, TIMES = 400, BACK = 40 };
 
 /* What the locations s, b and c have. */
 typedef struct model {
@@ -144,6 +144,17 @@ static void extend_bag(unsigned *counts) {
         counts[e] += adds ? n : 0 - n;
 }
 
+/* An addition and its removal, which come to no update. */
+static void add_and_remove(unsigned e) {
+    char text[LONGEST];
+    uint8_t out[LONGEST];
+    size_t written;
+    for (unsigned i = 0; i < 2; i++) {
+        snprintf(text, sizeof text, "[['bag%s',['b'],%u,1]]", i ? "remove" : "add", e);
+        REQUIRE(asm_extend(&agent, &step, TEXT(text), out, sizeof out, &written) == ASM_DONE);
+    }
+}
+
 static void is_bag(const unsigned *counts, uint32_t number, bool fired) {
     char bag[LONGEST], text[LONGEST + 64];
     told_bag(counts, bag);
@@ -167,6 +178,10 @@ static void collect_into_a_bag(void) {
     open_with(init, 1, &storage);
     REQUIRE(asm_agent(&storage, 0, &agent) == ASM_DONE);
     REQUIRE(asm_begin(&agent, &step, &began) == ASM_DONE && began == 0);
+    for (unsigned i = 0; i < BACK; i++) {
+        add_and_remove(i);
+        is_bag(counts, 0, false);
+    }
     for (unsigned i = 0; i < TIMES; i++) {
         extend_bag(counts);
         if (i % 16 == 0)

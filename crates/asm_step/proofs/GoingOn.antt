@@ -8,7 +8,7 @@ use Rattle.std.proofs.lemmas.List.Elements.{All-cons, All-head, All-nil, All-tai
 use Rattle.std.proofs.lemmas.List.Folds.{list_any-append}
 use Rattle.asm_element.proofs.Ordered.{no_entries}
 use Rattle.asm_element.specs.Place.{Place, location_cmp, location_cmp_total, same_location}
-use Rattle.asm_element.specs.Tests.{flipped, itself, or_false}
+use Rattle.asm_element.specs.Tests.{ok_is, flipped, itself, or_false}
 use Rattle.asm_element.specs.declared.value.Value.{Value}
 use Rattle.asm_update.specs.Action.{family_of, is_partial, is_regular, AllProper, IsProper, IsProperInstruction}
 use Rattle.asm_update.specs.Aggregator.{Meaning, AggregatorLaws, Joined}
@@ -23,13 +23,13 @@ use Rattle.asm_aggregate.specs.Bundle.{bundle_of}
 use Rattle.asm_aggregate.specs.Compose.{composed, composed_at, composition, in_turn, placed}
 use Rattle.asm_aggregate.proofs.Composing.{keeps_sequence, same_places}
 use Rattle.asm_aggregate.proofs.Sequence.{actions_placed}
-use Rattle.asm_step.specs.Front.{GoneOn}
+use Rattle.asm_step.specs.Front.{joined_to, GoneOn}
 use Rattle.asm_step.specs.Layers.{Layer, IsSound, frames_of, laid_on, outcomes_of, top_of, behind, layers_on, moves_of}
 use Rattle.asm_step.specs.Next.{AreNext, IsComposed, IsNextLayer, is_first, next_at, those, IsLayerGoneOn, IsStepGoneOn, LayerGoneOn}
 use Rattle.asm_step.specs.Outcomes.{Outcome, Outcomes, acts, acts_at, actions_in, builds_at, listed, sees_at}
 use Rattle.asm_step.specs.declared.front.Grown.{Grown}
 use Rattle.asm_step.specs.declared.layer.OwnLayer.{OwnLayer}
-use Rattle.asm_step.proofs.Joined.{res_partial}
+use Rattle.asm_step.proofs.Joined.{as_joined, res_partial}
 use Rattle.asm_step.proofs.Laid.{kept_at, kept_within, placed_length}
 use Rattle.asm_step.proofs.Nexts.{next_ok, topmost_is}
 use Rattle.asm_step.proofs.Prefixes.{top_sound, all_laid, all_push, extended_top, held-push, layers-push, sound_behind, sound_items}
@@ -136,39 +136,8 @@ module _ {a : Meaning} (laws : AggregatorLaws a) (old : Old) (s : List Layer) (s
       ap (placed l) (sym acts_here) ∙ sym (append-nil (placed l (actions_in os l)))
       ∙ ap (kept_at os) (sym (entries-only l w.value))
 
-  some_here : acts_at os l ≡ true
-  some_here = ap acts acts_here ∙ gone.some
-
-  shared : M ≡ those true os M
-  shared = ap (λ b. cond b M []) (sym some_here)
-
-  apart : [] ≡ those false os M
-  apart = ap (λ b. cond (not b) M []) (sym some_here)
-
   proper_here : All IsProperInstruction E
   proper_here = proper_placed l o.actions (All-head IsProperInstruction (record { at = l; action = x }) [] proper).0 gone.applied.proper
-
-  written_here : (q : Place) → is_some (finite.get U q) ≡ writes (E ++ M) q
-  written_here q =
-      ap is_some (get-only l w.value q) ∙ by_test (eq_by_cmp location_cmp q l) ∙ sym (writes_placed l q o.actions)
-      ∙ ap (λ b. writes E q || b) (sym (at_one q))
-      ∙ sym (list_any-append _ E M) where
-        by_test : (b : Bool) → is_some (cond b (Some w.value) None) ≡ b
-        by_test true = refl
-        by_test false = refl
-
-  at_here : locations (E ++ M) ≡ l ∷ []
-  at_here = sym (same_places U (E ++ M) written_here) ∙ ap places (entries-only l w.value)
-
-  composed_here : composed_at a E M l ≡ Ok w.actions
-  composed_here =
-      (λ i. composed a (bundle_of (actions_placed l l o.actions true (itself location_cmp_total l) i)) (bundle_of (does_one i)))
-      ∙ gone.applied.joined
-
-  gave : composition a E M ≡ Ok F
-  gave =
-      ap (λ ls. in_turn (map (λ (k : Place). (k, composed_at a E M k)) ls)) at_here
-      ∙ ap (λ (j : Joined). in_turn ((l, j) ∷ [])) composed_here
 
   outcomes_top : os ≡ z.outcomes
   outcomes_top = ap (λ (t : Option Layer). option_map_or (λ (y : Layer). y.outcomes) t finite.empty) top
@@ -185,37 +154,6 @@ module _ {a : Meaning} (laws : AggregatorLaws a) (old : Old) (s : List Layer) (s
 
   long : length F ≡ length w.actions
   long = ap length (append-nil (placed l w.actions)) ∙ placed_length l w.actions
-
-  few_here : length F ≤ 4096
-  few_here =
-      let longer = gone.applied.longer in
-      let one = gone.applied.few in
-      omega (arith, longer, one, within, room, long)
-
-  composed_is : IsComposed a (option_map (λ (y : Layer). E) (top_of s)) M (Ok F)
-  composed_is =
-      subst (λ (t : Option Layer). IsComposed a (option_map (λ (y : Layer). E) t) M (Ok F)) (sym top)
-      ((gave, few_here), keeps_sequence laws E M (Ok F) proper_here proper (gave, few_here))
-
-  next_here : w ≡ next_at os (F ++ []) M l w.value
-  next_here = λ i. record {
-    value = w.value;
-    actions = (sym (ap (λ (K : Move). actions_at K l) (append-nil (placed l w.actions ++ []) ∙ append-nil (placed l w.actions))
-        ∙ actions_placed l l w.actions true (itself location_cmp_total l))) i;
-    builds = (gone.builds ∙ sym (ap (λ (t : Option Outcome). option_map_or (λ (o : Outcome). o.builds) t true) here)
-        ∙ ap (λ b. cond b (builds_at os l) (sees_at os l)) (sym (ap (list_any is_regular) does_one ∙ not_regular x gone.partial))) i;
-    rests = (gone.rests ∙ sym (ap (λ (t : Option Outcome). option_map_or (λ (o : Outcome). o.builds) t false) here)) i;
-  }
-
-  next : AreNext os U (F ++ []) M own
-  next q =
-      get-only l w q ∙ by_test (eq_by_cmp location_cmp q l) refl
-      ∙ ap (option_map (next_at os (F ++ []) M q)) (sym (get-only l w.value q)) where
-        by_test : (b : Bool) → eq_by_cmp location_cmp q l ≡ b →
-            cond b (Some w) None ≡ option_map (next_at os (F ++ []) M q) (cond b (Some w.value) None)
-        by_test true e =
-            subst (λ (p : Place). Some w ≡ Some (next_at os (F ++ []) M p w.value)) (sym (same_location q l e)) (ap Some next_here)
-        by_test false e = refl
 
   -- the layer of the move
   abbrev pub going : OwnLayer
@@ -238,10 +176,137 @@ module _ {a : Meaning} (laws : AggregatorLaws a) (old : Old) (s : List Layer) (s
   first : false ≡ is_first s
   first = ap (λ (t : Option Layer). option_map_or (λ (y : Layer). false) t true) (sym top)
 
+  -- where there are actions before it
+  module _ (some : acts o.actions ≡ true) where
+    some_here : acts_at os l ≡ true
+    some_here = ap acts acts_here ∙ some
+
+    shared : M ≡ those true os M
+    shared = ap (λ b. cond b M []) (sym some_here)
+
+    apart : [] ≡ those false os M
+    apart = ap (λ b. cond (not b) M []) (sym some_here)
+
+    written_here : (q : Place) → is_some (finite.get U q) ≡ writes (E ++ M) q
+    written_here q =
+        ap is_some (get-only l w.value q) ∙ by_test (eq_by_cmp location_cmp q l) ∙ sym (writes_placed l q o.actions)
+        ∙ ap (λ b. writes E q || b) (sym (at_one q))
+        ∙ sym (list_any-append _ E M) where
+          by_test : (b : Bool) → is_some (cond b (Some w.value) None) ≡ b
+          by_test true = refl
+          by_test false = refl
+
+    at_here : locations (E ++ M) ≡ l ∷ []
+    at_here = sym (same_places U (E ++ M) written_here) ∙ ap places (entries-only l w.value)
+
+    composed_here : composed_at a E M l ≡ Ok w.actions
+    composed_here =
+        (λ i. composed a (bundle_of (actions_placed l l o.actions true (itself location_cmp_total l) i)) (bundle_of (does_one i)))
+        ∙ sym (as_joined a o.actions x some) ∙ gone.applied.joined
+
+    gave : composition a E M ≡ Ok F
+    gave =
+        ap (λ ls. in_turn (map (λ (k : Place). (k, composed_at a E M k)) ls)) at_here
+        ∙ ap (λ (j : Joined). in_turn ((l, j) ∷ [])) composed_here
+
+    few_here : length F ≤ 4096
+    few_here =
+        let longer = gone.applied.longer in
+        let one = gone.applied.few in
+        omega (arith, longer, one, within, room, long)
+
+    composed_is : IsComposed a (option_map (λ (y : Layer). E) (top_of s)) M (Ok F)
+    composed_is =
+        subst (λ (t : Option Layer). IsComposed a (option_map (λ (y : Layer). E) t) M (Ok F)) (sym top)
+        ((gave, few_here), keeps_sequence laws E M (Ok F) proper_here proper (gave, few_here))
+
+    next_here : w ≡ next_at os (F ++ []) M l w.value
+    next_here = λ i. record {
+      value = w.value;
+      actions = (sym (ap (λ (K : Move). actions_at K l) (append-nil (placed l w.actions ++ []) ∙ append-nil (placed l w.actions))
+          ∙ actions_placed l l w.actions true (itself location_cmp_total l))) i;
+      builds = (gone.builds ∙ sym (ap (λ (t : Option Outcome). option_map_or (λ (o : Outcome). o.builds) t true) here)
+          ∙ ap (λ b. cond b (builds_at os l) (sees_at os l)) (sym (ap (list_any is_regular) does_one ∙ not_regular x gone.partial))) i;
+      rests = (gone.rests ∙ sym (ap (λ (t : Option Outcome). option_map_or (λ (o : Outcome). o.builds) t false) here)) i;
+    }
+
+    next : AreNext os U (F ++ []) M own
+    next q =
+        get-only l w q ∙ by_test (eq_by_cmp location_cmp q l) refl
+        ∙ ap (option_map (next_at os (F ++ []) M q)) (sym (get-only l w.value q)) where
+          by_test : (b : Bool) → eq_by_cmp location_cmp q l ≡ b →
+              cond b (Some w) None ≡ option_map (next_at os (F ++ []) M q) (cond b (Some w.value) None)
+          by_test true e =
+              subst (λ (p : Place). Some w ≡ Some (next_at os (F ++ []) M p w.value)) (sym (same_location q l e)) (ap Some next_here)
+          by_test false e = refl
+
+    goes_on_behind : IsNextLayer a old s M (laid_on os going)
+    goes_on_behind =
+        next_ok laws old s M E M [] U sound set kept shared apart proper_here proper (omega arith) F composed_is z.count count
+        going next counted few refl first
+
+  -- where there are none
+  module _ (none : o.actions ≡ []) where
+    none_here : acts_at os l ≡ false
+    none_here = ap acts (acts_here ∙ none)
+
+    none_shared : [] ≡ those true os M
+    none_shared = ap (λ b. cond b M []) (sym none_here)
+
+    all_apart : M ≡ those false os M
+    all_apart = ap (λ b. cond (not b) M []) (sym none_here)
+
+    none_kept : [] ≡ kept_at os (finite.entries U)
+    none_kept = sym (ap (placed l) none) ∙ kept
+
+    nowhere : locations [] ≡ []
+    nowhere =
+        sym (same_places (none_yet Value) [] (λ q. ap is_some (finite.get-empty location_cmp q)))
+        ∙ ap places (no_entries _ (sym (finite.len-entries (none_yet Value)) ∙ finite.len-empty location_cmp Value))
+
+    gave_none : composition a [] [] ≡ Ok []
+    gave_none = ap (λ ls. in_turn (map (λ (k : Place). (k, composed_at a [] [] k)) ls)) nowhere
+
+    nothing_composed : IsComposed a (option_map (λ (y : Layer). []) (top_of s)) [] (Ok [])
+    nothing_composed =
+        subst (λ (t : Option Layer). IsComposed a (option_map (λ (y : Layer). []) t) [] (Ok [])) (sym top)
+        ((gave_none, omega arith), keeps_sequence laws [] [] (Ok []) (All-nil IsProperInstruction) (All-nil IsProperInstruction) (gave_none, omega arith))
+
+    only_this : w.actions ≡ x ∷ []
+    only_this = sym (ok_is _ _ (sym (ap (λ (xs : List Action). joined_to a xs x) none) ∙ gone.applied.joined))
+
+    first_here : w ≡ next_at os M M l w.value
+    first_here = λ i. record {
+      value = w.value;
+      actions = (only_this ∙ sym does_one) i;
+      builds = (gone.builds ∙ sym (ap (λ (t : Option Outcome). option_map_or (λ (o : Outcome). o.builds) t true) here)
+          ∙ ap (λ b. cond b (builds_at os l) (sees_at os l)) (sym (ap (list_any is_regular) does_one ∙ not_regular x gone.partial))) i;
+      rests = (gone.rests ∙ sym (ap (λ (t : Option Outcome). option_map_or (λ (o : Outcome). o.builds) t false) here)) i;
+    }
+
+    first_next : AreNext os U M M own
+    first_next q =
+        get-only l w q ∙ by_test (eq_by_cmp location_cmp q l) refl
+        ∙ ap (option_map (next_at os M M q)) (sym (get-only l w.value q)) where
+          by_test : (b : Bool) → eq_by_cmp location_cmp q l ≡ b →
+              cond b (Some w) None ≡ option_map (next_at os M M q) (cond b (Some w.value) None)
+          by_test true e =
+              subst (λ (p : Place). Some w ≡ Some (next_at os M M p w.value)) (sym (same_location q l e)) (ap Some first_here)
+          by_test false e = refl
+
+    goes_on_alone : IsNextLayer a old s M (laid_on os going)
+    goes_on_alone =
+        next_ok laws old s M [] [] M U sound set none_kept none_shared all_apart (All-nil IsProperInstruction)
+        (All-nil IsProperInstruction) (omega arith) [] nothing_composed z.count count going first_next
+        (let longer = gone.applied.longer in
+        let one = gone.applied.few in
+        let nothing = ap length none in omega (arith, longer, one, nothing, listed_here)) few refl first
+
   pub goes_on : IsNextLayer a old s M (laid_on os going)
-  goes_on =
-      next_ok laws old s M E M [] U sound set kept shared apart proper_here proper (omega arith) F composed_is z.count count
-      going next counted few refl first
+  goes_on = by_actions o.actions refl where
+    by_actions : (xs : List Action) → o.actions ≡ xs → IsNextLayer a old s M (laid_on os going)
+    by_actions [] is = goes_on_alone is
+    by_actions (y ∷ ys) is = goes_on_behind (ap acts is)
 
 module _ {a : Meaning} (laws : AggregatorLaws a) (old : Old) (t items : List OwnLayer) (now : List Layer) (x new : OwnLayer) (M : Move)
     (seen : layers_on finite.empty items ≡ now) (is : items ≡ t ++ x ∷ []) (sound : All IsSound now)

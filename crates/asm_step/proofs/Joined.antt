@@ -26,7 +26,7 @@ use Rattle.asm_aggregate.specs.SetMeaning.{set_joins, adds_and_removes, joined_e
 use Rattle.asm_aggregate.specs.Sets.{meets}
 use Rattle.asm_aggregate.specs.laws.BagAlgebra.{Small, small_bag, small_below}
 use Rattle.asm_aggregate.specs.laws.FamilyLemmas.{all_partial, all_of_both, common_is, nil_parts}
-use Rattle.asm_step.specs.Front.{Applied, IsApplied, IsChanged, IsExchanged, IsLonger, bag_list, set_list, set_update, Joins, IsKnown}
+use Rattle.asm_step.specs.Front.{joined_to, Applied, IsApplied, IsChanged, IsExchanged, IsLonger, bag_list, set_list, set_update, Joins, IsKnown}
 use Rattle.asm_step.specs.Outcomes.{acts}
 use Rattle.asm_step.specs.declared.front.Grown.{Grown}
 use Rattle.asm_step.proofs.BagCounts.{lowered_none, small-lowered, small-raised}
@@ -77,6 +77,27 @@ composed_alone a xs ys zs h k ne fair joins =
       by_list [] ne fair = absurd (ne refl)
       by_list (u ∷ us) ne fair = ap (λ o. unless o (a.joins xs ys)) fair
 
+-- the update that comes behind some actions
+pub as_joined : (a : Meaning) (xs : List Action) (x : Action) → acts xs ≡ true →
+    joined_to a xs x ≡ composed a (bundle_of xs) (bundle_of (x ∷ []))
+as_joined a [] x some = cc
+as_joined a (y ∷ ys) x some = refl
+
+pub none_act : (xs : List Action) → acts xs ≡ false → xs ≡ []
+none_act [] none = refl
+none_act (x ∷ xs) none = cc
+
+-- the first update
+pub begun : (a : Meaning) (x : Action) (v w : Value) (xs ys : List Action) (grown : Grown) → xs ≡ [] →
+    a.part v None (x ∷ []) ≡ Ok w → ys ≡ x ∷ [] → grown.more ≡ 1 → grown.less ≡ 0 → Applied a x v xs w ys grown
+begun a x v w xs ys grown none changed one more less = record {
+  value = changed;
+  joined = ap (λ (zs : List Action). joined_to a zs x) none ∙ ap (λ zs. Ok zs) (sym one);
+  longer = let old = ap length none in let new = ap length one in omega (arith, old, new, more, less);
+  few = omega (arith, more);
+  proper = subst AllProper (sym none) (All-nil IsProper);
+}
+
 abbrev Answer : Type 0
 Answer = Result (Option Grown) AllocError
 
@@ -108,7 +129,7 @@ module _ (a : Meaning) (joins : Joins a Set set_joins) (x : Action) (partial : i
       IfOk r (IsApplied a x v (set_list p q) w (set_list n m))
   added_ok e (Ok (Some grown)) is to from changed longer = record {
     value = changed;
-    joined = composed_set true e (set_list n m) is (joins_added p q e apart ∙ ap (λ xs. Ok xs) (two set_list (sym to) (sym from)));
+    joined = as_joined a (set_list p q) x some ∙ composed_set true e (set_list n m) is (joins_added p q e apart ∙ ap (λ xs. Ok xs) (two set_list (sym to) (sym from)));
     longer = ap (λ k. k + grown.less) (list_length n m) ∙ longer.0 ∙ ap (λ k. k + grown.more) (sym (list_length p q));
     few = longer.1;
     proper = proper;
@@ -125,7 +146,7 @@ module _ (a : Meaning) (joins : Joins a Set set_joins) (x : Action) (partial : i
       let new = list_length n m in
       let old = list_length p q in record {
         value = changed;
-        joined = composed_set false e (set_list n m) is (joins_removed p q e apart ∙ ap (λ xs. Ok xs) (two set_list (sym from) (sym to)));
+        joined = as_joined a (set_list p q) x some ∙ composed_set false e (set_list n m) is (joins_removed p q e apart ∙ ap (λ xs. Ok xs) (two set_list (sym from) (sym to)));
         longer = omega (arith, long, new, old);
         few = longer.1;
         proper = proper;
@@ -151,7 +172,8 @@ module _ (a : Meaning) (joins : Joins a Bag bag_joins) (x : Action) (bags : is_o
       let single : list_all (is_of Bag) (x ∷ []) ≡ true = ap (λ b. b && true) bags in record {
         value = changed;
         joined =
-            composed_alone a (bag_list p q) (x ∷ []) (bag_list n m) (all_partial Bag (bag_list p q) all)
+            as_joined a (bag_list p q) x some
+            ∙ composed_alone a (bag_list p q) (x ∷ []) (bag_list n m) (all_partial Bag (bag_list p q) all)
             (all_partial Bag (x ∷ []) single) ne
             (ap refused (joins.same (bag_list p q) [] ne all refl) ∙ bags_fair (bag_list p q) all)
             (joins.same (bag_list p q) (x ∷ []) ne all single ∙ gives ∙ ap (λ xs. Ok xs) (sym same));

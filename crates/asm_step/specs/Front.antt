@@ -13,7 +13,7 @@ use Rattle.asm_update.specs.Action.{is_partial, AllProper, is_of}
 use Rattle.asm_update.specs.Aggregator.{Meaning, Joined}
 use Rattle.asm_update.specs.declared.action.Action.{Action}
 use Rattle.asm_update.specs.declared.action.Action.TheVariants.{Regular, SetAdd, SetRemove, BagAdd, BagRemove}
-use Rattle.asm_step.specs.Outcomes.{Outcome, Outcomes, acts}
+use Rattle.asm_step.specs.Outcomes.{Outcome, Outcomes}
 use Rattle.asm_step.specs.declared.amounts.Amounts.{Amounts}
 use Rattle.asm_step.specs.declared.front.Front.{Front}
 use Rattle.asm_step.specs.declared.front.Front.TheVariants.{Nothing, Put, Sets, Bags}
@@ -87,10 +87,15 @@ abbrev pub IsLonger : ℕ → ℕ → Option Grown → Type 0
 IsLonger old new (Some grown) = (new + grown.less ≡ old + grown.more) × (grown.more ≤ 1)
 IsLonger old new None = Unit {0}
 
+-- the actions that do what these and one more partial update do: the update as it is, where there are none before it
+abbrev pub joined_to : Meaning → List Action → Action → Joined
+joined_to a [] x = Ok (x ∷ [])
+joined_to a (y ∷ ys) x = composed a (bundle_of (y ∷ ys)) (bundle_of (x ∷ []))
+
 -- a value and the actions that leave it, before and after one more partial update
 pub record Applied (a : Meaning) (x : Action) (v : Value) (xs : List Action) (w : Value) (ys : List Action) (grown : Grown) : Type 0 where
   pub value : a.part v None (x ∷ []) ≡ Ok w
-  pub joined : composed a (bundle_of xs) (bundle_of (x ∷ [])) ≡ Ok ys
+  pub joined : joined_to a xs x ≡ Ok ys
   pub longer : length ys + grown.less ≡ length xs + grown.more
   pub few : grown.more ≤ 1
   pub proper : AllProper xs
@@ -103,7 +108,6 @@ IsApplied a x v xs w ys None = (w ≡ v) × (ys ≡ xs)
 -- an outcome that goes on with a partial update of a later move
 pub record GoneOn (a : Meaning) (x : Action) (old new : Outcome) (grown : Grown) : Type 0 where
   pub partial : is_partial x ≡ true
-  pub some : acts old.actions ≡ true
   pub applied : Applied a x old.value old.actions new.value new.actions grown
   pub builds : new.builds ≡ old.builds
   pub rests : new.rests ≡ old.builds

@@ -5,16 +5,17 @@ ghost use Rattle.std.specs.Option.{option_or};
 ghost use Rattle.std.specs.FinMap as map;
 ghost use Rattle.asm_element.specs.Place.{Place};
 ghost use Rattle.asm_aggregate.specs.Compose.{placed};
+ghost use Rattle.asm_update.specs.Action.{is_partial};
 ghost use Rattle.asm_update.specs.Limits.{instructions_limit};
 ghost use Rattle.asm_step.specs.Front.{IsGoneOn, IsGoneOnAt};
 ghost use Rattle.asm_step.specs.Outcomes.{Outcome, Outcomes, acts, with_action, resting_in, with_put, AreReplaced};
 
-use crate::front::{Front, Grown};
+use crate::front::{Front, Grown, changed};
 use crate::held::Held;
 use crate::in_place::InPlace;
 use crate::listing::append;
 use asm_element::{Location, Value};
-use asm_update::{Action, Instructions};
+use asm_update::{Action, Aggregator, Instructions};
 use std::alloc::{AllocError, Global};
 use std::collections::BTreeMap;
 use std::collections::btree_map::{IntoIter, Iter};
@@ -136,8 +137,31 @@ impl Outcome {
         Ok(())
     }
 
-    /// Goes on with one partial update of a later move, in place; None where that isn't done here. After an error nothing
-    /// is changed.
+    // Goes on with one partial update where there are no actions so far: it is the only one then.
+    #[tactic(auto, using(crate::proofs::Joined::begun))]
+    fn begin<A: Aggregator>(
+        &mut self,
+        alloc: Global,
+        aggregator: &A,
+        action: &Action,
+    ) -> Result<Option<Grown>, AllocError>
+        requires partial { is_partial action.now ≡ true }
+        requires none { self.old.actions ≡ [] }
+        ensures ok { IfOk result (IsGoneOn (A.meaning aggregator.now) action.now self.old self.new) }
+        ensures err { OnErr result (self.new ≡ self.old) }
+    {
+        let rest = vec![in alloc; action.clone()?]?;
+        if !changed(alloc, aggregator, &mut self.value, action)? {
+            return Ok(None);
+        }
+        self.front = Front::Nothing;
+        self.rest = rest;
+        self.rests = self.builds;
+        Ok(Some(Grown { more: 1, less: 0 }))
+    }
+
+    /// Goes on with one partial update, in place; None where that isn't done here. On an error nothing changes.
+    #[tactic(auto, using(crate::proofs::Joined::none_act))]
     fn go_on<A: InPlace>(
         &mut self,
         alloc: Global,
@@ -147,8 +171,11 @@ impl Outcome {
         ensures ok { IfOk result (IsGoneOn (A.meaning aggregator.now) action.now self.old self.new) }
         ensures err { OnErr result (self.new ≡ self.old) }
     {
-        if action.family().is_none() || !self.acts() {
+        if action.family().is_none() {
             return Ok(None);
+        }
+        if !self.acts() {
+            return self.begin(alloc, aggregator, action);
         }
         self.settle(alloc)?;
         if !self.rest.is_empty() {
@@ -261,8 +288,7 @@ impl Outcomes {
         Ok(true)
     }
 
-    /// Notes a regular update of the next move at the location, if that has an outcome: what was built there by
-    /// earlier moves stays, and this one builds nothing.
+    /// Notes a regular update of the next move at the location, if that has an outcome: it builds nothing there.
     pub(crate) fn mark(&mut self, at: &Location)
         ensures { self.new ≡ with_put at.now self.old }
     {
@@ -272,8 +298,7 @@ impl Outcomes {
         outcome.mark();
     }
 
-    /// Goes on at the location with one partial update of a later move, in place; None where that isn't done here.
-    /// After an error nothing is changed.
+    /// Goes on at the location with one partial update, in place; None where that isn't done here.
     pub(crate) fn go_on<A: InPlace>(
         &mut self,
         alloc: Global,
@@ -290,8 +315,7 @@ impl Outcomes {
         outcome.go_on(alloc, aggregator, action)
     }
 
-    /// Replaces the outcome of the location by this one and hands the old one back; where there is none,
-    /// hands this one back.
+    /// Replaces the outcome of the location and hands the old one back; where there is none, hands this one back.
     fn exchange(&mut self, at: &Location, outcome: Outcome) -> Result<Outcome, Outcome>
         ensures there { IfOk result (λ old. map.get self.old at.now ≡ Some old) }
         ensures ok { OnOk result (self.new ≡ map.insert self.old at.now outcome) }
