@@ -1,10 +1,16 @@
 //! The first wrong answer of a journal, beside the right one.
-use crate::texts::shown;
+ghost use Rattle.std.specs.Prelude.{ℕ, IfOk, IfSome};
+ghost use Rattle.asm_aggregate.specs.Standard.{standard_part};
+ghost use Rattle.asm_journal.specs.Check.{machine_of, IsFirstWrong};
+ghost use Rattle.asm_journal.specs.Reading.{ReadsAs};
+ghost use Rattle.asm_storage.specs.declared.history.History.{History as Log};
+
+use asm_driver::shown_text;
 use asm_element::{Location, Value};
-use asm_journal::{ToJson, from_text, judge_event, value_json};
+use asm_journal::{Legality, ToJson, check, from_text, judge_event, value_json};
 use asm_play::aggregator::chosen;
 use asm_state::State;
-use asm_storage::{Call, Event};
+use asm_storage::{Call, Event, History};
 use asm_trace::push_standard_note;
 use asm_update::Lookup;
 use serde_json::Value as Json;
@@ -77,9 +83,9 @@ fn said_of(
     event: &Event,
 ) -> Result<String, AllocError> {
     let right = right_answer(alloc, state, capacity, number, event)?;
-    let right = shown(alloc, right.as_str())?;
-    let call = shown(alloc, event.call.to_json(alloc)?.to_string(alloc)?.as_str())?;
-    let reply = shown(
+    let right = shown_text(alloc, right.as_str())?;
+    let call = shown_text(alloc, event.call.to_json(alloc)?.to_string(alloc)?.as_str())?;
+    let reply = shown_text(
         alloc,
         event.answer.to_json(alloc)?.to_string(alloc)?.as_str(),
     )?;
@@ -89,11 +95,8 @@ fn said_of(
     )
 }
 
-/// The call of a journal whose answer is wrong, with that answer and the right one.
-pub(crate) fn wrong_answer(alloc: Global, bytes: &[u8]) -> Result<Option<String>, AllocError> {
-    let Ok(history) = from_text(alloc, bytes) else {
-        return Ok(None);
-    };
+// What is said of the first event of a history whose answer is wrong.
+fn said_of_first(alloc: Global, history: &History) -> Result<Option<String>, AllocError> {
     let mut state = State::new(alloc, history.init.copy(alloc)?)?;
     for (number, event) in history.events.as_slice().iter().enumerate() {
         if !judge_event(alloc, &chosen(), &mut state, history.capacity, event)? {
@@ -102,4 +105,18 @@ pub(crate) fn wrong_answer(alloc: Global, bytes: &[u8]) -> Result<Option<String>
         }
     }
     Ok(None)
+}
+
+/// The call of a journal whose answer is wrong, with that answer and the right one. Of no other text is anything said.
+pub(crate) fn wrong_answer(alloc: Global, bytes: &[u8]) -> Result<Option<String>, AllocError>
+    ensures { IfOk result (λ said. IfSome said (λ _. (h : Log) × (n : ℕ) × ReadsAs bytes.now h
+        × IsFirstWrong (machine_of standard_part h) h.events n)) }
+{
+    let Ok(history) = from_text(alloc, bytes) else {
+        return Ok(None);
+    };
+    match check(alloc, &chosen(), &history)? {
+        Legality::Legal { calls: _, moves: _ } => Ok(None),
+        Legality::Illegal { call: _ } => said_of_first(alloc, &history),
+    }
 }
