@@ -1,7 +1,7 @@
 -- What the matches of a subcommand ask for, and how words are refused.
 use Rattle.std.proofs.Common.{◌≡◌, ◌∙◌, ◌<◌, ◌^◌, ℕ, Bool, true, false, Option, Some, None, Result, Ok, Err}
-use Rattle.std.proofs.Common.{Bor, List, [], ap, bytes_eq, codes, option_map, sym, refl, subst, true≢false}
-use Rattle.std.specs.Prelude.{◌≤◌, ◌⊎◌, inl, inr, IfSome, is_some, not, unwrap_or}
+use Rattle.std.proofs.Common.{◌⊎◌, inl, inr, Bor, List, [], ap, bytes_eq, codes, option_map, sym, refl, subst, true≢false}
+use Rattle.std.specs.Prelude.{◌≤◌, IfSome, is_some, not, unwrap_or}
 use Rattle.std.specs.Option.{option_or}
 use Rattle.std.specs.Str.Parse.{ParsesUnsigned, IsNumeral, digits_value, without_leading_plus}
 use Rattle.std.proofs.lemmas.Slice.Eq.{bytes_eq-Decides}

@@ -10,7 +10,7 @@ use Rattle.asm_driver.specs.Run.{RunsOver, input_of, output_of, IsUnread, IsWhol
 use Rattle.asm_driver.specs.declared.program.refusal.Refusal.{Refusal}
 use Rattle.asm_driver.specs.declared.program.refusal.Refusal.TheVariants as refusal
 use Rattle.asm_driver.specs.declared.program.words.Request.{Request}
-use Rattle.asm_driver.specs.declared.program.words.Request.TheVariants.{Run, Terms, Show, Audit, Explain, Watch}
+use Rattle.asm_driver.specs.declared.program.words.Request.TheVariants.{Run, Terms, Show, Audit, Explain}
 use Rattle.asm_driver.specs.Audit.{is_failed_read}
 use Rattle.asm_driver.specs.Window.{IsNoWindow}
 use Rattle.asm_driver.specs.declared.program.words.Window.{Window}

@@ -136,7 +136,9 @@ pub(crate) fn report_of_owned(alloc: Global, played: Played) -> Result<String, A
 {
     let moves = played.history.moves();
     let Played {
-        history, outcomes, ..
+        history,
+        outcomes,
+        ..
     } = played;
     let History { init, events, .. } = history;
     let state = replay_over(alloc, &chosen(), init, events.as_slice())?;

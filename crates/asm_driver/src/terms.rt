@@ -65,10 +65,7 @@ fn push_line(
 /// For each step that ended since a term had no value, a line that says where in the step this was, and why.
 ///
 /// Agents, steps, blocks and instructions count from 0. `AllocError` comes only where memory was refused.
-pub(crate) fn terms_text(
-    alloc: Global,
-    terms: &[Items<StepTerm>],
-) -> Result<String, AllocError> {
+pub(crate) fn terms_text(alloc: Global, terms: &[Items<StepTerm>]) -> Result<String, AllocError> {
     let mut text = String::new(alloc);
     for (agent, steps) in terms.iter().enumerate() {
         for told in steps.as_slice() {

@@ -16,6 +16,5 @@ returns c =
     let placed = c.in_ok-push_str.ensures.bytes ∙ ap (λ t. text ++ t) formatted in
     let reasoned = c.in_ok-push_str-2.ensures.bytes ∙ ap₂ (λ a b. a ++ b) placed c.as_str-2.ensures.value in (
       why,
-      c.in_ok-push_str-3.ensures.bytes ∙ ap (λ t. t ++ 10 ∷ []) (reasoned ∙ append_assoc text place why)
-          ∙ append_assoc text (place ++ why) (10 ∷ []) ∙ ap (λ t. text ++ t) (append_assoc place why (10 ∷ [])),
+      c.in_ok-push_str-3.ensures.bytes ∙ ap (λ t. t ++ 10 ∷ []) reasoned ∙ simp append_assoc,
     )

@@ -13,7 +13,7 @@ returns-clause-told g c = λ text before watched.
     let bytes = c.args.bytes.now in
     let r = c.feed_some-told.result in
     taken_at_once c.args.every text (before ++ string_bytes c.args.lines.now) bytes p q old.line.items new.line.items r.0
-    (omega (arith, c.if-0-lt-every.false)) watched r.1
+    (omega (arith, c.if-every-gt0.false)) watched r.1
     (subst (λ (m : Meaning). IsFedAnswer m.part bytes p old.line.items q new.line.items r.1) c.requires
     c.feed_some-told.ensures.told)
     (subst (λ (m : Meaning). HasTakenFirst m.part bytes p old.line.items q new.line.items r.0 r.1) c.requires
