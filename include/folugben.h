@@ -55,9 +55,9 @@
  *    added; the agent may have seen more moves. No other call adds one.
  *  - After asm_follow, asm_stands and asm_begin the agent may have seen more moves, with ASM_MEMORY
  *    too. asm_audit takes bytes with each code except ASM_TAKEN. A push or an extension that is
- *    refused (ASM_CLASH, ASM_MANY, ASM_LARGE, ASM_SMALL) leaves the pushed moves unchanged, and may
- *    track locations. After any other call, each code except ASM_DONE means that the slots are
- *    unchanged.
+ *    refused (ASM_CLASH, ASM_MANY, ASM_LONG_MOVE, ASM_LARGE, ASM_SMALL) leaves the pushed moves
+ *    unchanged, and may track locations. After any other call, each code except ASM_DONE means
+ *    that the slots are unchanged.
  *  - A number that a call writes is 0 unless its code is said to set it. `*written` is set with
  *    ASM_DONE and with each code that is said to come with a text, to the length of the text, and
  *    with ASM_SMALL.
@@ -137,38 +137,50 @@ extern "C" {
  * version, a thousand for each minor one. */
 #define FOLUGBEN_VERSION 2000
 
-/* What calls answer. */
+/* What calls answer. Each code has one meaning, which asm_error_text writes too. */
 enum asm_code {
-    ASM_DONE = 0,      /* done; of asm_try_fire: fired; of asm_check: legal */
-    ASM_STALE = 1,     /* a location was written since that the move names, or of a function that it
-                          scans; nothing was fired */
-    ASM_CLASH = 2,     /* the updates of the move clash; nothing was fired */
-    ASM_MEMORY = 3,    /* out of memory; nothing was fired or lost */
-    ASM_FULL = 4,      /* as many moves were fired as the capacity; nothing was fired */
-    ASM_EMPTY = 5,     /* a slot holds nothing of the kind that is wanted, or is passed twice */
-    ASM_RANGE = 6,     /* the capacity, a number, a count, a form, a verb, a kind or an amount is out of
-                          range */
-    ASM_SMALL = 7,     /* the buffer is too small, and `*written` is the room that is needed */
-    ASM_BUSY = 8,      /* 64 offers were lost to other agents; nothing was fired */
-    ASM_MANY = 9,      /* more than 256 locations, or locations and scanned functions; or a move of
-                          more than 4,096 instructions */
-    ASM_NONE = 10,     /* no call was answered yet; no journal since an agent was returned or taken;
-                          no move is pushed; no agent with the number was returned; no part has
-                          begun; or the storage isn't full */
-    ASM_TAKEN = 11,    /* a slot that was to be filled holds something else */
-    ASM_NUMBER = 12,   /* an agent of the storage with this number was made before */
-    ASM_MISSING = 13,  /* a move has no receipt among the returned agents */
-    ASM_OTHER = 14,    /* the two slots are of two storages */
-    ASM_ILLEGAL = 15,  /* the journal isn't legal */
-    ASM_NOT_JSON = 16, /* the bytes, or a line of the journal, are not JSON */
-    ASM_SHAPE = 17,    /* they are JSON of another shape, or beyond a limit */
-    ASM_VERSION = 18,  /* a journal of another version than 1 and 2 */
-    ASM_CUT = 19,      /* the journal ends too early */
-    ASM_LARGE = 20,    /* more calls than the 4,294,967,295 that a journal holds; too long a line; or
-                          too large an amount or sum */
-    ASM_MOVED = 21,    /* the agent's own state isn't at the step's number */
-    ASM_DEEP = 22,     /* 64 moves are pushed already */
-    ASM_APART = 23     /* a part of a run opens with another state than the one before it leaves */
+    ASM_DONE = 0,        /* done; of asm_try_fire: fired; of asm_check: legal */
+    ASM_STALE = 1,       /* a location was written since that the move names, or of a function that it
+                            scans; nothing was fired */
+    ASM_CLASH = 2,       /* the updates of the move clash; nothing was fired */
+    ASM_MEMORY = 3,      /* out of memory; nothing was fired or lost */
+    ASM_FULL = 4,        /* as many moves were fired as the capacity; nothing was fired */
+    ASM_EMPTY = 5,       /* a slot holds nothing of the kind that is wanted, or is passed twice */
+    ASM_CAPACITY = 6,    /* the capacity isn't 1 to 1,048,576: asm_open, asm_next, asm_go_on */
+    ASM_SMALL = 7,       /* the buffer is too small, and `*written` is the room that is needed */
+    ASM_BUSY = 8,        /* 64 offers were lost to other agents; nothing was fired */
+    ASM_MANY = 9,        /* more than 256 locations, or locations and scanned functions */
+    ASM_NO_ANSWER = 10,  /* no call was answered yet: asm_answer */
+    ASM_TAKEN = 11,      /* a slot that was to be filled holds something else */
+    ASM_NUMBER = 12,     /* an agent of the storage with this number was made before */
+    ASM_MISSING = 13,    /* a move has no receipt among the returned agents: asm_close */
+    ASM_OTHER = 14,      /* the two slots are of two storages */
+    ASM_ILLEGAL = 15,    /* the journal isn't legal */
+    ASM_NOT_JSON = 16,   /* the bytes, or a line of the journal, are not JSON */
+    ASM_SHAPE = 17,      /* they are JSON of another shape, or beyond a limit */
+    ASM_VERSION = 18,    /* a journal of another version than 1 and 2 */
+    ASM_CUT = 19,        /* the journal ends too early */
+    ASM_LARGE = 20,      /* an amount or a sum is too large */
+    ASM_MOVED = 21,      /* the agent's own state isn't at the step's number */
+    ASM_DEEP = 22,       /* 64 moves are pushed already */
+    ASM_APART = 23,      /* a part of a run opens with another state than the one before it leaves */
+    ASM_AGENTS = 24,     /* an agent's number isn't below 256, or more than 256 agents are asked for:
+                            asm_agent, asm_agents */
+    ASM_AHEAD = 25,      /* a location or a function is named at a number above that of the moves that
+                            the agent has seen: asm_try_fire, asm_try_fire_over, asm_stands */
+    ASM_OPERAND = 26,    /* the verb, the kind, the number, the bytes and the amount make no
+                            instruction: asm_instruct */
+    ASM_NO_FORM = 27,    /* there is no such form: asm_explain */
+    ASM_NO_JOURNAL = 28, /* no journal was made since an agent was returned or taken: asm_journal,
+                            asm_next */
+    ASM_NO_PUSH = 29,    /* no move is pushed: asm_pop, asm_pop_move */
+    ASM_NO_AGENT = 30,   /* no agent with this number was returned: asm_take */
+    ASM_NO_PART = 31,    /* no part has begun: asm_audit_state */
+    ASM_NOT_FULL = 32,   /* the agent's own state is at fewer moves than its storage has room for:
+                            asm_go_on */
+    ASM_MANY_CALLS = 33, /* more calls than the 4,294,967,295 that a journal holds: asm_close */
+    ASM_LONG_LINE = 34,  /* a line of more than 16,777,216 bytes: asm_audit */
+    ASM_LONG_MOVE = 35   /* a move of more than 4,096 instructions */
 };
 
 /* Writes what a code means, in a line of English. ASM_SMALL. */
@@ -206,19 +218,18 @@ struct asm_audit {
 };
 
 /* Opens a storage with the state [PAIR, ..], for 1 to 1,048,576 moves, in an empty slot.
- * ASM_TAKEN, ASM_NOT_JSON, ASM_SHAPE, ASM_RANGE (the capacity), ASM_MEMORY. */
+ * ASM_TAKEN, ASM_NOT_JSON, ASM_SHAPE, ASM_CAPACITY, ASM_MEMORY. */
 FOLUGBEN_NODISCARD int32_t asm_open(const uint8_t *init, size_t len, uint32_t capacity,
     struct asm_storage *storage);
 
 /* Makes an agent with this number, below 256, in an empty slot, at any time. A storage has one
  * agent of each number: also one that was freed keeps its number, as its moves may be in the
- * journal. ASM_RANGE (the number), ASM_TAKEN (`agent` is full), ASM_EMPTY (`storage`), ASM_NUMBER
- * (an agent with this number was made before), ASM_MEMORY; the first of these that holds is
- * answered. */
+ * journal. ASM_AGENTS (the number), ASM_TAKEN (`agent` is full), ASM_EMPTY (`storage`), ASM_NUMBER,
+ * ASM_MEMORY; the first of these that holds is answered. */
 FOLUGBEN_NODISCARD int32_t asm_agent(struct asm_storage *storage, uint32_t number,
     struct asm_agent *agent);
 
-/* Makes an agent in each of at most 256 empty slots, with the numbers from 0 up. ASM_RANGE (the
+/* Makes an agent in each of at most 256 empty slots, with the numbers from 0 up. ASM_AGENTS (the
  * count), ASM_TAKEN (one of the slots), ASM_EMPTY (`storage`), ASM_NUMBER (an agent with one of
  * the numbers was made before), ASM_MEMORY; the first of these that holds is answered. */
 FOLUGBEN_NODISCARD int32_t asm_agents(struct asm_storage *storage, struct asm_agent *agents,
@@ -240,10 +251,10 @@ typedef struct asm_numbers {
  * ASM_SHAPE), unless one of the at most 256 named locations (else ASM_MANY) was written since the
  * number of moves under which it is named: that of a reading of this agent, or of one of which it
  * has learnt. A number above what asm_seen returns when the call begins would guard nothing:
- * ASM_RANGE, before a look is made and before ASM_MANY. After asm_next numbers begin again at 0.
+ * ASM_AHEAD, before a look is made and before ASM_MANY. After asm_next numbers begin again at 0.
  * ASM_DONE: fired. ASM_STALE, ASM_CLASH and ASM_FULL are answers too: asm_answer writes
  * {"fired":N}, {"stale":LOC}, {"clash":[LOC,CAUSE]} or "full". ASM_BUSY, ASM_EMPTY, ASM_NOT_JSON,
- * ASM_SHAPE, ASM_RANGE, ASM_MANY, ASM_MEMORY: not answered, and nothing was fired. */
+ * ASM_SHAPE, ASM_AHEAD, ASM_MANY, ASM_MEMORY: not answered, and nothing was fired. */
 FOLUGBEN_NODISCARD int32_t asm_try_fire(struct asm_agent *agent, const uint8_t *call, size_t len,
     asm_numbers *numbers);
 
@@ -252,14 +263,14 @@ FOLUGBEN_NODISCARD int32_t asm_try_fire(struct asm_agent *agent, const uint8_t *
  * scan's number. Where one of these was written since, also with its first value, the answer is
  * ASM_STALE too, and the receipt names the smallest such location of one scan, behind the others;
  * otherwise the journal doesn't record scans. Named locations and scans are at most 256 together
- * (ASM_MANY), each at a number that the agent has seen (ASM_RANGE). ASM_NOT_JSON, ASM_SHAPE: the
+ * (ASM_MANY), each at a number that the agent has seen (ASM_AHEAD). ASM_NOT_JSON, ASM_SHAPE: the
  * call, or else the scans. All else is as of asm_try_fire. A scan costs a walk of the locations of
  * this name that moves wrote; with a text that is no name of a function, of all that they wrote. */
 FOLUGBEN_NODISCARD int32_t asm_try_fire_over(struct asm_agent *agent, const uint8_t *call,
     size_t call_len, const uint8_t *scans, size_t scans_len, asm_numbers *numbers);
 
 /* Writes the text of the answer to the agent's last answered call.
- * ASM_EMPTY, ASM_NONE, ASM_SMALL, ASM_MEMORY. */
+ * ASM_EMPTY, ASM_NO_ANSWER, ASM_SMALL, ASM_MEMORY. */
 FOLUGBEN_NODISCARD int32_t asm_answer(struct asm_agent *agent, uint8_t *out, size_t room,
     size_t *written);
 
@@ -309,7 +320,7 @@ FOLUGBEN_NODISCARD int32_t asm_scan(struct asm_agent *agent, const uint8_t *name
 /* Validates the named reads [NAMED, ..], at most 256, after a poll as asm_follow makes one.
  * ASM_DONE: none of the locations was written since. ASM_STALE, with the text {"stale":LOC}: the
  * smallest location that was. A fire may still be refused, by a move that comes in between.
- * ASM_RANGE as of asm_try_fire. ASM_EMPTY, ASM_MANY, ASM_SMALL, ASM_NOT_JSON, ASM_SHAPE,
+ * ASM_AHEAD as of asm_try_fire. ASM_EMPTY, ASM_MANY, ASM_SMALL, ASM_NOT_JSON, ASM_SHAPE,
  * ASM_MEMORY. */
 FOLUGBEN_NODISCARD int32_t asm_stands(struct asm_agent *agent, const uint8_t *reads, size_t len,
     uint8_t *out, size_t room, size_t *written);
@@ -372,13 +383,13 @@ FOLUGBEN_NODISCARD int32_t asm_get_all(struct asm_agent *agent, struct asm_step 
 
 /* Pushes the move [INSTR, ..]: what is got and pushed later is seen through what it leaves. A push
  * that is refused, or is popped, is a dry run, on which the step depends. ASM_CLASH, with the text
- * {"clash":[LOC,CAUSE]}: its updates clash on what is seen. ASM_DEEP. ASM_MANY: the one move of all
- * would have more than 4,096 instructions; or the move is refused, and tracking it would take more
- * than 256 places, so that nothing is tracked. ASM_LARGE, with {"large":LOC}: never for a step of
- * the agent's storage. ASM_MOVED, ASM_EMPTY (one of the slots), ASM_SMALL (for the text of a
- * refusal), ASM_NOT_JSON, ASM_SHAPE, ASM_MEMORY. It costs by the move's own instructions, not by
- * those pushed before, and by the size of a set or a bag that they change and the earlier updates
- * of it. */
+ * {"clash":[LOC,CAUSE]}: its updates clash on what is seen. ASM_DEEP. ASM_LONG_MOVE: the one move
+ * of all would have more than 4,096 instructions. ASM_MANY: the move is refused, and tracking it
+ * would take more than 256 places, so that nothing is tracked. ASM_LARGE, with {"large":LOC}:
+ * never for a step of the agent's storage. ASM_MOVED, ASM_EMPTY (one of the slots), ASM_SMALL (for
+ * the text of a refusal), ASM_NOT_JSON, ASM_SHAPE, ASM_MEMORY. It costs by the move's own
+ * instructions, not by those pushed before, and by the size of a set or a bag that they change and
+ * the earlier updates of it. */
 FOLUGBEN_NODISCARD int32_t asm_push(struct asm_agent *agent, struct asm_step *step,
     const uint8_t *move, size_t len, uint8_t *out, size_t room, size_t *written);
 
@@ -393,7 +404,7 @@ FOLUGBEN_NODISCARD int32_t asm_extend(struct asm_agent *agent, struct asm_step *
 
 /* Takes away the move that was pushed last, with those that joined it, and tracks the locations
  * where these have partial updates that were judged on the state. What was tracked and scanned
- * stays so. ASM_NONE, ASM_EMPTY, ASM_MANY (more than 256 places would be taken), ASM_MEMORY. */
+ * stays so. ASM_NO_PUSH, ASM_EMPTY, ASM_MANY (more than 256 places would be taken), ASM_MEMORY. */
 FOLUGBEN_NODISCARD int32_t asm_pop(struct asm_step *step);
 
 /* Takes these away too, and puts the one move that does what they do in turn into a slot that is
@@ -401,9 +412,9 @@ FOLUGBEN_NODISCARD int32_t asm_pop(struct asm_step *step);
  * step or on another. A move that none joined is put unchanged, and tracks nothing; of others the
  * locations are tracked that two of them change, where the first has partial updates alone that
  * were judged on the state. ASM_TAKEN (`move` holds something else), before all others; ASM_EMPTY
- * (`step`), ASM_NONE; ASM_MANY: the first of the moves come to more than 4,096 instructions, though
- * all might come to fewer; or more than 256 places would be taken; ASM_CLASH, ASM_LARGE: never for
- * a step of the agent's storage; ASM_MEMORY. */
+ * (`step`), ASM_NO_PUSH; ASM_LONG_MOVE: the first of the moves come to more than 4,096
+ * instructions, though all might come to fewer; ASM_MANY: more than 256 places would be taken;
+ * ASM_CLASH, ASM_LARGE: never for a step of the agent's storage; ASM_MEMORY. */
 FOLUGBEN_NODISCARD int32_t asm_pop_move(struct asm_step *step, struct asm_move *move);
 
 /* How many moves are pushed; 0 for a slot without a step. */
@@ -424,7 +435,7 @@ FOLUGBEN_NODISCARD int32_t asm_offer(struct asm_step *step, uint8_t *out, size_t
  * took what it removes; begin again, as after ASM_STALE. ASM_STALE comes too where a location of a
  * function that was scanned was written since: the receipt names the smallest of these too.
  * ASM_MANY: the locations that would be named and the functions that were scanned are more than
- * 256. It polls, so it answers neither ASM_MOVED nor ASM_RANGE. */
+ * 256. It polls, so it answers neither ASM_MOVED nor ASM_AHEAD. */
 FOLUGBEN_NODISCARD int32_t asm_commit(struct asm_agent *agent, struct asm_step *step,
     asm_numbers *numbers);
 
@@ -482,10 +493,10 @@ FOLUGBEN_NODISCARD int32_t asm_get_at(struct asm_agent *agent, struct asm_step *
  * asm_value) and its bytes, of which a text, a list, a set and a bag alone have any; a set and a
  * bag can be put, and no more. `amount` is 1 or above for ASM_BAGADD and ASM_BAGREMOVE, and 0 for
  * any other verb. ASM_INC takes a number alone. ASM_TAKEN (`move` holds something else than a
- * move), ASM_EMPTY (`at`), ASM_RANGE (the verb, the kind, the number or the bytes of this kind, the
+ * move), ASM_EMPTY (`at`), ASM_OPERAND (the verb, the kind, the number or the bytes of this kind, the
  * amount, or a set or a bag that isn't put), ASM_NOT_JSON (the bytes of a list, a set or a bag),
  * ASM_SHAPE (these are JSON of no value of this kind, or the bytes of a text aren't UTF-8),
- * ASM_MANY (the move has 4,096 instructions), ASM_MEMORY. ASM_TAKEN comes before all others; where
+ * ASM_LONG_MOVE (the move has 4,096 instructions), ASM_MEMORY. ASM_TAKEN comes before all others; where
  * several of these hold, one of them is answered. */
 FOLUGBEN_NODISCARD int32_t asm_instruct(struct asm_move *move, struct asm_location *at,
     int32_t verb, int32_t kind, int64_t number, const uint8_t *bytes, size_t len, uint32_t amount);
@@ -494,7 +505,7 @@ FOLUGBEN_NODISCARD int32_t asm_instruct(struct asm_move *move, struct asm_locati
  * both do at once, as the agents of a block in parallel do. Instructions that occur in both count twice.
  * An empty slot is the move of no instructions, so `move` holds a move afterwards. ASM_TAKEN (`move`
  * holds something else), before all others; ASM_EMPTY (`other` holds something else, or the two slots
- * are one); ASM_MANY (the two have more than 4,096 instructions together); ASM_MEMORY. */
+ * are one); ASM_LONG_MOVE (the two have more than 4,096 instructions together); ASM_MEMORY. */
 FOLUGBEN_NODISCARD int32_t asm_unite(struct asm_move *move, struct asm_move *other);
 
 /* As asm_push and asm_extend, with the move in a slot, which stays there until asm_free_move. ASM_EMPTY:
@@ -523,18 +534,17 @@ FOLUGBEN_NODISCARD int32_t asm_give(struct asm_storage *storage, struct asm_agen
 /* Checks a returned agent out of its storage again, into an empty slot: it goes on where it was,
  * with its number and its receipts. So agents that leave and come again need no further numbers.
  * The journal of an earlier asm_close is discarded. ASM_TAKEN (`agent` is full), ASM_EMPTY
- * (`storage`), ASM_NONE (no agent with this number was returned), ASM_MEMORY; the first of these
- * that holds is answered. */
+ * (`storage`), ASM_NO_AGENT, ASM_MEMORY; the first of these that holds is answered. */
 FOLUGBEN_NODISCARD int32_t asm_take(struct asm_storage *storage, uint32_t number,
     struct asm_agent *agent);
 
 /* Makes the journal of the returned agents, if they have a receipt of every move that was fired
  * before this call. ASM_MISSING: the move `*number`, the smallest such, has none among them; return
  * the agent that fired it, and close again. The moves of an agent that was freed are missing for
- * good. Else `*number` is 0. ASM_EMPTY, ASM_LARGE, ASM_MEMORY. */
+ * good. Else `*number` is 0. ASM_EMPTY, ASM_MANY_CALLS, ASM_MEMORY. */
 FOLUGBEN_NODISCARD int32_t asm_close(struct asm_storage *storage, uint32_t *number);
 
-/* Writes the journal that asm_close made. ASM_EMPTY, ASM_NONE, ASM_SMALL. */
+/* Writes the journal that asm_close made. ASM_EMPTY, ASM_NO_JOURNAL, ASM_SMALL. */
 FOLUGBEN_NODISCARD int32_t asm_journal(struct asm_storage *storage, uint8_t *out, size_t room,
     size_t *written);
 
@@ -542,8 +552,8 @@ FOLUGBEN_NODISCARD int32_t asm_journal(struct asm_storage *storage, uint8_t *out
  * ended: its opening state is the one that the journal's moves leave, its agents start again, and
  * numbers begin at 0: keep no number of a read before, as it is taken for one of this storage once
  * so many moves were seen. The journals of both, one after the other, are one run; moves that were
- * fired after asm_close are in neither. ASM_TAKEN (`next`), ASM_EMPTY (`storage`), ASM_NONE,
- * ASM_RANGE (the capacity), ASM_MEMORY. */
+ * fired after asm_close are in neither. ASM_TAKEN (`next`), ASM_EMPTY (`storage`), ASM_NO_JOURNAL,
+ * ASM_CAPACITY, ASM_MEMORY. */
 FOLUGBEN_NODISCARD int32_t asm_next(struct asm_storage *storage, uint32_t capacity,
     struct asm_storage *next);
 
@@ -552,8 +562,7 @@ FOLUGBEN_NODISCARD int32_t asm_next(struct asm_storage *storage, uint32_t capaci
  * to the end (asm_follow, asm_begin). No journal is needed, and no other agent waits: each may read
  * on, be returned and be closed into the first storage's journal later. The journals of both, one
  * after the other, are one run. Numbers begin at 0, as after asm_next. ASM_TAKEN (`next`),
- * ASM_EMPTY (`agent`), ASM_NONE (the agent's own state is at fewer moves), ASM_RANGE (the
- * capacity), ASM_MEMORY; the first of these that holds is answered. */
+ * ASM_EMPTY (`agent`), ASM_NOT_FULL, ASM_CAPACITY, ASM_MEMORY; the first of these that holds is answered. */
 FOLUGBEN_NODISCARD int32_t asm_go_on(struct asm_agent *agent, uint32_t capacity,
     struct asm_storage *next);
 
@@ -612,7 +621,7 @@ typedef struct asm_audit_numbers {
  * that have ended is right, with the numbers so far. With any other code those before the one at
  * which it comes were taken; a line is judged at its line feed. ASM_ILLEGAL: the first wrong
  * answer, with its part and its call. ASM_NOT_JSON and ASM_SHAPE, with part and line, ASM_VERSION,
- * ASM_CUT and ASM_APART, with the part: the first fault. ASM_LARGE: a line of more than 16,777,216
+ * ASM_CUT and ASM_APART, with the part: the first fault. ASM_LONG_LINE: a line of more than 16,777,216
  * bytes. ASM_MEMORY: pass the bytes that weren't taken again. ASM_TAKEN: `audit` holds something
  * else. */
 FOLUGBEN_NODISCARD int32_t asm_audit(struct asm_audit *audit, const uint8_t *bytes, size_t len,
@@ -624,7 +633,7 @@ FOLUGBEN_NODISCARD int32_t asm_audit(struct asm_audit *audit, const uint8_t *byt
 FOLUGBEN_NODISCARD int32_t asm_audited(struct asm_audit *audit, asm_audit_numbers *told);
 
 /* Writes the state [PAIR, ..] that the moves so far leave, in ascending order of locations. ASM_EMPTY,
- * ASM_NONE (no part has begun), ASM_SMALL, ASM_MEMORY. */
+ * ASM_NO_PART, ASM_SMALL, ASM_MEMORY. */
 FOLUGBEN_NODISCARD int32_t asm_audit_state(struct asm_audit *audit, uint8_t *out, size_t room,
     size_t *written);
 
@@ -652,7 +661,7 @@ FOLUGBEN_NODISCARD int32_t asm_aggregate(const uint8_t *state, size_t state_len,
  * state on which the first fires, it fires as the two in turn, or clashes as the second does then.
  * ASM_CLASH and ASM_LARGE come where on no state both fire, with the texts {"clash":[LOC,CAUSE]}, and
  * {"large":LOC} where an amount would be above 4294967295 or a sum of increments farther from 0 than
- * 18446744073709551615. ASM_MANY: more than 4,096 instructions. ASM_NOT_JSON, ASM_SHAPE (the first, or
+ * 18446744073709551615. ASM_LONG_MOVE: more than 4,096 instructions. ASM_NOT_JSON, ASM_SHAPE (the first, or
  * else the second), ASM_SMALL, ASM_MEMORY. */
 FOLUGBEN_NODISCARD int32_t asm_compose(const uint8_t *first, size_t first_len,
     const uint8_t *second, size_t second_len, uint8_t *out, size_t room, size_t *written);
@@ -672,7 +681,7 @@ enum asm_form {
  * 1 step 0 block 0 instruction 2: unknown word \"putt\"", all counted from 0. The text is empty,
  * with `*written` 0, exactly where the form's readers accept what they are passed: nothing is said
  * of what makes ASM_MANY, nor of an event that doesn't fit the journal's first line; a script is
- * within its limits. The sentences may change with the version. ASM_RANGE (the form), ASM_SMALL,
+ * within its limits. The sentences may change with the version. ASM_NO_FORM, ASM_SMALL,
  * ASM_MEMORY. */
 FOLUGBEN_NODISCARD int32_t asm_explain(int32_t form, const uint8_t *text, size_t len, uint8_t *out,
     size_t room, size_t *written);

@@ -29,7 +29,7 @@ static void reads(void) {
     } refused[] = {{"[[", ASM_NOT_JSON}, {"", ASM_NOT_JSON}, {"[[7]]", ASM_SHAPE}};
     const char *seen = "{'number':0,'values':[7,{'set':[1,'two']},null]}";
     begin_all();
-    ANSWERS(ASM_NONE, asm_answer(&agents[0], OUT));
+    ANSWERS(ASM_NO_ANSWER, asm_answer(&agents[0], OUT));
     REQUIRE(asm_read(&agents[0], TEXT("[['x'],['s'],['y',1]]")) == ASM_DONE);
     answered(&agents[0], seen);
     for (size_t i = 0; i < sizeof refused / sizeof *refused; i++)
@@ -54,18 +54,18 @@ static const struct fires {
 } fires[] = {
     {0, PUT, "[['x',0]]", ASM_DONE, 1, "{'fired':1}"},
     /* A scan at a number that is yet to come is refused before a look. */
-    {1, PHANTOM, "[['t',1]]", ASM_RANGE, 0, NULL},
+    {1, PHANTOM, "[['t',1]]", ASM_AHEAD, 0, NULL},
     /* A location of a scanned function gets a value that had none. */
     {1, PHANTOM, "[['x',0],['t',0]]", ASM_DONE, 2, "{'fired':2}"},
-    {0, PUT, "[['t',2]]", ASM_RANGE, 0, "{'fired':1}"},
+    {0, PUT, "[['t',2]]", ASM_AHEAD, 0, "{'fired':1}"},
     {0, PUT, "[['x',0],['t',0]]", ASM_STALE, 0, STALE},
     {0, PUT, "[['t',1],['x',0]]", ASM_STALE, 0, STALE},
     {0, PUT, "[['x',2],['t',2]]", ASM_FULL, 0, "'full'"},
     {0, CLASHES, "[['t',2]]", ASM_CLASH, 0, "{'clash':[['y'],'Two']}"},
     {0, CLASHES, "[['t',1]]", ASM_STALE, 0, STALE},
     {0, PUT, "[]", ASM_FULL, 0, "'full'"},
-    {0, PUT, "[['x',0],['t',3]]", ASM_RANGE, 0, "'full'"},
-    {0, "{'fire':[],'reads':[[['x'],3]]}", "[['t',2]]", ASM_RANGE, 0, "'full'"},
+    {0, PUT, "[['x',0],['t',3]]", ASM_AHEAD, 0, "'full'"},
+    {0, "{'fire':[],'reads':[[['x'],3]]}", "[['t',2]]", ASM_AHEAD, 0, "'full'"},
     {0, "{", "[['t',2]]", ASM_NOT_JSON, 0, "'full'"},
     {0, "{'read':[]}", "[['t',2]]", ASM_SHAPE, 0, "'full'"},
     {0, "{'read':[]}", "[", ASM_SHAPE, 0, "'full'"},
@@ -80,7 +80,7 @@ static const struct fires {
     {0, "{", NULL, ASM_NOT_JSON, 0, "'full'"},
     {0, "{'fire':[]}", NULL, ASM_SHAPE, 0, "'full'"},
     {0, "{'read':[]}", NULL, ASM_SHAPE, 0, "'full'"},
-    {0, "{'fire':[],'reads':[[['x'],1],[['x'],3]]}", NULL, ASM_RANGE, 0, "'full'"},
+    {0, "{'fire':[],'reads':[[['x'],1],[['x'],3]]}", NULL, ASM_AHEAD, 0, "'full'"},
 };
 
 static void fires_as(const struct fires *row) {
@@ -95,7 +95,7 @@ static void fires_as(const struct fires *row) {
     if (row->answer)
         answered(agent, row->answer);
     else
-        ANSWERS(ASM_NONE, asm_answer(agent, OUT));
+        ANSWERS(ASM_NO_ANSWER, asm_answer(agent, OUT));
 }
 
 static void each_fire(void) {
@@ -149,7 +149,7 @@ static void learning(void) {
     REQUIRE(asm_learn(&agents[1], &agents[0]) == ASM_DONE);
     counts(&agents[0], 1, 1, 1);
     counts(&agents[1], 1, 0, 0);
-    ANSWERS(ASM_NONE, asm_answer(&agents[1], OUT));
+    ANSWERS(ASM_NO_ANSWER, asm_answer(&agents[1], OUT));
     end_all();
 }
 

@@ -17,7 +17,7 @@ static void closes(size_t first) {
     REQUIRE(asm_agent(&storage, 3, &agents[1]) == ASM_DONE);
     fire(&agents[0], "[['inc',['x'],2]]");
     REQUIRE(asm_read(&agents[1], TEXT("[['x']]")) == ASM_DONE);
-    ANSWERS(ASM_NONE, asm_journal(&storage, OUT));
+    ANSWERS(ASM_NO_JOURNAL, asm_journal(&storage, OUT));
     REQUIRE(asm_give(&storage, &agents[first]) == ASM_DONE && !agents[first].slot.full);
     REQUIRE(asm_give(&storage, &agents[!first]) == ASM_DONE && !agents[!first].slot.full);
     REQUIRE(asm_close(&storage, &number) == ASM_DONE && number == 0);

@@ -44,7 +44,7 @@ static void own_states(void) {
     REQUIRE(number == 2);
     TELLS(ASM_DONE, "[[['y',2],'two']]", asm_scan(&agents[0], TEXT("y"), &number, OUT));
     REQUIRE(number == 2);
-    ANSWERS(ASM_NONE, asm_answer(&agents[0], OUT));
+    ANSWERS(ASM_NO_ANSWER, asm_answer(&agents[0], OUT));
     end_all();
 }
 
@@ -118,7 +118,7 @@ static void standing_reads(void) {
     ANSWERS(ASM_NOT_JSON, asm_stands(&agents[0], TEXT("[[['x'],]]"), OUT));
     ANSWERS(ASM_SHAPE, asm_stands(&agents[0], TEXT("[['x']]"), OUT));
     ANSWERS(ASM_SHAPE, asm_stands(&agents[0], TEXT("[[['x'],-1]]"), OUT));
-    ANSWERS(ASM_NONE, asm_answer(&agents[0], OUT));
+    ANSWERS(ASM_NO_ANSWER, asm_answer(&agents[0], OUT));
     end_all();
 }
 
@@ -155,9 +155,9 @@ static void are_ahead(struct asm_agent *agent, const char *reads) {
     uint32_t seen = asm_seen(agent), won = asm_won(agent);
     uint64_t misses = asm_misses(agent);
     snprintf(call, sizeof call, "{\"fire\":[[\"put\",[\"x\"],9]],\"reads\":%s}", reads);
-    REQUIRE(asm_try_fire(agent, bytes(call), strlen(call), &numbers) == ASM_RANGE);
+    REQUIRE(asm_try_fire(agent, bytes(call), strlen(call), &numbers) == ASM_AHEAD);
     REQUIRE(numbers.fired == 0 && numbers.from == 0 && numbers.to == 0);
-    ANSWERS(ASM_RANGE, asm_stands(agent, bytes(reads), strlen(reads), OUT));
+    ANSWERS(ASM_AHEAD, asm_stands(agent, bytes(reads), strlen(reads), OUT));
     REQUIRE(is_same(*agent, was) && asm_seen(agent) == seen && asm_won(agent) == won);
     REQUIRE(asm_misses(agent) == misses);
 }
@@ -171,7 +171,7 @@ static void numbers_to_come(void) {
     fire(&agents[1], "[['put',['x'],8]]");
     are_ahead(&agents[0], json("[[['y',1],0],[['x'],1]]"));
     are_ahead(&agents[0], json("[[['z'],4294967295]]"));
-    ANSWERS(ASM_NONE, asm_answer(&agents[0], OUT));
+    ANSWERS(ASM_NO_ANSWER, asm_answer(&agents[0], OUT));
     follows_to(&agents[0], 1);
     ANSWERS(ASM_DONE, asm_stands(&agents[0], TEXT("[[['y',1],0],[['x'],1]]"), OUT));
     are_ahead(&agents[0], json("[[['x'],2]]"));
@@ -237,8 +237,8 @@ static void refused_nexts(void) {
     refused_next(&next, 4, ASM_EMPTY);
     begin_all();
     REQUIRE(asm_begin(&agents[0], &step, &number) == ASM_DONE);
-    refused_next(&next, 4, ASM_NONE);
-    refused_next(&next, 0, ASM_NONE);
+    refused_next(&next, 4, ASM_NO_JOURNAL);
+    refused_next(&next, 0, ASM_NO_JOURNAL);
     refused_next(AS(storage, &agents[0]), 4, ASM_TAKEN);
     refused_next(AS(storage, &step), 4, ASM_TAKEN);
     refused_next(&storage, 4, ASM_TAKEN);
@@ -248,10 +248,10 @@ static void refused_nexts(void) {
     REQUIRE(!next.slot.full && step.slot.full);
     REQUIRE(asm_next(&next, 4, &next) == ASM_EMPTY && !next.slot.full);
     REQUIRE(asm_close(&storage, &number) == ASM_DONE);
-    refused_next(&next, 0, ASM_RANGE);
-    refused_next(&next, 1048577, ASM_RANGE);
+    refused_next(&next, 0, ASM_CAPACITY);
+    refused_next(&next, 1048577, ASM_CAPACITY);
     REQUIRE(asm_give(&storage, &agents[0]) == ASM_DONE);
-    refused_next(&next, 4, ASM_NONE);
+    refused_next(&next, 4, ASM_NO_JOURNAL);
     REQUIRE(asm_close(&storage, &number) == ASM_DONE);
     REQUIRE(asm_next(&storage, 1048576, &next) == ASM_DONE && next.slot.full && storage.slot.full);
     refused_next(&next, 4, ASM_TAKEN);

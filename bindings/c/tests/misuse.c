@@ -103,7 +103,7 @@ static void opens(unsigned at) {
     uint32_t capacity = any_capacity();
     int32_t wanted = accounts[at].kind        ? ASM_TAKEN
                      : t->state               ? t->state
-                     : !is_capacity(capacity) ? ASM_RANGE
+                     : !is_capacity(capacity) ? ASM_CAPACITY
                                               : ASM_DONE;
     if (wanted == ASM_DONE && opened == STORAGES)
         return;
@@ -127,7 +127,7 @@ static void agent_is_made(unsigned at, unsigned storage, unsigned number) {
 
 static void makes_agent(unsigned of, unsigned at) {
     unsigned number = below(8) ? below(NUMBERS) : 256;
-    int32_t wanted = number >= 256                  ? ASM_RANGE
+    int32_t wanted = number >= 256                  ? ASM_AGENTS
                      : accounts[at].kind            ? ASM_TAKEN
                      : accounts[of].kind != STORAGE ? ASM_EMPTY
                                                     : was_made(accounts[of].storage, number, 1);
@@ -206,7 +206,7 @@ static void answers(unsigned at) {
     uint8_t out[ROOM];
     size_t written = 9, room = below(2) ? sizeof out : 0;
     int32_t wanted = accounts[at].kind != AGENT  ? ASM_EMPTY
-                     : !accounts[at].is_answered ? ASM_NONE
+                     : !accounts[at].is_answered ? ASM_NO_ANSWER
                      : room                      ? ASM_DONE
                                                  : ASM_SMALL;
     REQUIRE(asm_answer(ANY(at), room ? out : NULL, room, &written) == wanted);
@@ -246,7 +246,7 @@ static void takes(unsigned of, unsigned at) {
     int32_t wanted = accounts[at].kind              ? ASM_TAKEN
                      : accounts[of].kind != STORAGE ? ASM_EMPTY
                      : is_there                     ? ASM_DONE
-                                                    : ASM_NONE;
+                                                    : ASM_NO_AGENT;
     REQUIRE(asm_take(ANY(of), number, ANY(at)) == wanted);
     if (wanted == ASM_DONE) {
         given was = s->given[number];
@@ -296,12 +296,12 @@ static void explains(void) {
                     : form == ASM_FORM_MOVE    ? t->fire
                     : form == ASM_FORM_STATE   ? t->state
                                                : ASM_SHAPE;
-    int32_t wanted = form < 0 || form > ASM_FORM_SCRIPT ? ASM_RANGE
+    int32_t wanted = form < 0 || form > ASM_FORM_SCRIPT ? ASM_NO_FORM
                      : found == ASM_DONE || room       ? ASM_DONE
                                                        : ASM_SMALL;
     REQUIRE(asm_explain(form, bytes(t), strlen(t->bytes), room ? out : NULL, room, &written) ==
             wanted);
-    REQUIRE((written > 0) == (wanted != ASM_RANGE && found != ASM_DONE));
+    REQUIRE((written > 0) == (wanted != ASM_NO_FORM && found != ASM_DONE));
 }
 
 /* Checks, replays and traces a journal that is cut off, or has one bit that is another. */
@@ -327,7 +327,7 @@ static void writes(unsigned at) {
     uint8_t journal[ROOM];
     size_t written = 9, room = below(4) ? sizeof journal : 0;
     bool is_there = stories[accounts[at].storage].is_closed;
-    int32_t wanted = accounts[at].kind != STORAGE ? ASM_EMPTY : is_there ? ASM_DONE : ASM_NONE;
+    int32_t wanted = accounts[at].kind != STORAGE ? ASM_EMPTY : is_there ? ASM_DONE : ASM_NO_JOURNAL;
     int32_t code = asm_journal(ANY(at), room ? journal : NULL, room, &written);
     REQUIRE(code == wanted || (wanted == ASM_DONE && code == ASM_SMALL && written > room));
     REQUIRE((written > 0) == (wanted == ASM_DONE));

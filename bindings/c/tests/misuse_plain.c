@@ -122,14 +122,14 @@ static const struct {
     {ASM_PUT, ASM_KIND_BAG, 0, "{\"bag\":[[1,2]]}", 0, ASM_DONE, V_PLACE, 6},
     {ASM_PUT, ASM_KIND_LIST, 0, "", 0, ASM_NOT_JSON, PLACES, 0},
     {ASM_PUT, ASM_KIND_SET, 0, "{\"bag\":[]}", 0, ASM_SHAPE, PLACES, 0},
-    {ASM_PUT, ASM_KIND_BAG, 1, "{\"bag\":[]}", 0, ASM_RANGE, PLACES, 0},
-    {ASM_ADD, ASM_KIND_SET, 0, "{\"set\":[]}", 0, ASM_RANGE, PLACES, 0},
-    {ASM_PUT, ASM_KIND_BOOL, 2, "", 0, ASM_RANGE, PLACES, 0},
-    {ASM_PUT, ASM_KIND_UNDEF, 0, "u", 0, ASM_RANGE, PLACES, 0},
-    {ASM_ADD, ASM_KIND_NUM, 1, "", 1, ASM_RANGE, PLACES, 0},
-    {ASM_BAGADD, ASM_KIND_NUM, 1, "", 0, ASM_RANGE, PLACES, 0},
-    {ASM_INC, ASM_KIND_UNDEF, 0, "", 0, ASM_RANGE, PLACES, 0},
-    {9, ASM_KIND_NUM, 1, "", 0, ASM_RANGE, PLACES, 0},
+    {ASM_PUT, ASM_KIND_BAG, 1, "{\"bag\":[]}", 0, ASM_OPERAND, PLACES, 0},
+    {ASM_ADD, ASM_KIND_SET, 0, "{\"set\":[]}", 0, ASM_OPERAND, PLACES, 0},
+    {ASM_PUT, ASM_KIND_BOOL, 2, "", 0, ASM_OPERAND, PLACES, 0},
+    {ASM_PUT, ASM_KIND_UNDEF, 0, "u", 0, ASM_OPERAND, PLACES, 0},
+    {ASM_ADD, ASM_KIND_NUM, 1, "", 1, ASM_OPERAND, PLACES, 0},
+    {ASM_BAGADD, ASM_KIND_NUM, 1, "", 0, ASM_OPERAND, PLACES, 0},
+    {ASM_INC, ASM_KIND_UNDEF, 0, "", 0, ASM_OPERAND, PLACES, 0},
+    {9, ASM_KIND_NUM, 1, "", 0, ASM_OPERAND, PLACES, 0},
 };
 
 static void instructs(unsigned at, unsigned of_place) {
@@ -256,7 +256,7 @@ static void pops_into(unsigned of_step, unsigned of_move) {
     account *s = &accounts[of_step], *m = &accounts[of_move];
     int32_t wanted = m->kind != NOTHING && m->kind != MOVE ? ASM_TAKEN
                      : s->kind != STEP                     ? ASM_EMPTY
-                     : s->depth == 0                       ? ASM_NONE
+                     : s->depth == 0                       ? ASM_NO_PUSH
                                                            : ASM_DONE;
     REQUIRE(asm_pop_move(ANY(of_step), ANY(of_move)) == wanted);
     if (wanted != ASM_DONE)

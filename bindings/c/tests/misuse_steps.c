@@ -104,7 +104,7 @@ static void stands(unsigned at) {
     bool is_read = a->kind == AGENT && t->reads == ASM_DONE;
     bool is_looked = is_read && (t->x < 0 || (unsigned)t->x <= asm_seen(ANY(at)));
     told wanted = {a->kind != AGENT       ? ASM_EMPTY
-                   : is_read && !is_looked ? ASM_RANGE
+                   : is_read && !is_looked ? ASM_AHEAD
                                           : t->reads,
                    NULL};
     if (is_looked)
@@ -211,7 +211,7 @@ static void grows(unsigned at, unsigned of_step, bool is_push) {
 
 static void pops(unsigned at) {
     account *s = &accounts[at];
-    int32_t wanted = s->kind != STEP ? ASM_EMPTY : s->depth == 0 ? ASM_NONE : ASM_DONE;
+    int32_t wanted = s->kind != STEP ? ASM_EMPTY : s->depth == 0 ? ASM_NO_PUSH : ASM_DONE;
     REQUIRE(asm_pop(ANY(at)) == wanted);
     if (wanted != ASM_DONE)
         return;
@@ -284,8 +284,8 @@ static void goes_on_in(unsigned at, unsigned next) {
     const story *s = &stories[a->storage];
     int32_t wanted = accounts[next].kind      ? ASM_TAKEN
                      : a->kind != STORAGE     ? ASM_EMPTY
-                     : !s->is_closed          ? ASM_NONE
-                     : !is_capacity(capacity) ? ASM_RANGE
+                     : !s->is_closed          ? ASM_NO_JOURNAL
+                     : !is_capacity(capacity) ? ASM_CAPACITY
                                               : ASM_DONE;
     if (wanted == ASM_DONE && opened == STORAGES)
         return;
@@ -300,8 +300,8 @@ static void goes_on_from(unsigned at, unsigned next) {
     const account *a = &accounts[at];
     int32_t wanted = accounts[next].kind                         ? ASM_TAKEN
                      : a->kind != AGENT                          ? ASM_EMPTY
-                     : a->stood != stories[a->storage].capacity  ? ASM_NONE
-                     : !is_capacity(capacity)                    ? ASM_RANGE
+                     : a->stood != stories[a->storage].capacity  ? ASM_NOT_FULL
+                     : !is_capacity(capacity)                    ? ASM_CAPACITY
                                                                  : ASM_DONE;
     if (wanted == ASM_DONE && opened == STORAGES)
         return;
@@ -335,7 +335,7 @@ static void ends_audit(unsigned at) {
     REQUIRE(told.parts == 0 && told.moves == 0);
     REQUIRE(told.calls == (a->kind == AUDIT && a->has_begun));
     is_written(asm_audit_state(ANY(at), OUT(b)),
-               (struct told){a->kind == AUDIT ? ASM_NONE : ASM_EMPTY, NULL}, &b);
+               (struct told){a->kind == AUDIT ? ASM_NO_PART : ASM_EMPTY, NULL}, &b);
 }
 
 static void aggregates(void) {

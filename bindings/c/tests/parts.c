@@ -32,19 +32,19 @@ static void going_on(void) {
     open_with("[[['x'],7],[['y'],'why']]", 2, &storage);
     refused_going_on(&agent, 4, &next, ASM_EMPTY);
     REQUIRE(asm_agents(&storage, agents, 3) == ASM_DONE);
-    refused_going_on(&agents[0], 4, &next, ASM_NONE);
+    refused_going_on(&agents[0], 4, &next, ASM_NOT_FULL);
     fire(&agents[0], "[['inc',['x'],1],['put',['y'],null]]");
     follows_to(&agents[0], 1);
-    refused_going_on(&agents[0], 4, &next, ASM_NONE);
+    refused_going_on(&agents[0], 4, &next, ASM_NOT_FULL);
     fire(&agents[1], "[['put',['z',1],{'set':[2]}]]");
     /* Each has seen one move, and none the end. */
-    refused_going_on(&agents[0], 4, &next, ASM_NONE);
-    refused_going_on(&agents[1], 0, &next, ASM_NONE);
+    refused_going_on(&agents[0], 4, &next, ASM_NOT_FULL);
+    refused_going_on(&agents[1], 0, &next, ASM_NOT_FULL);
     follows_to(&agents[0], 2);
     REQUIRE(asm_learn(&agents[2], &agents[0]) == ASM_DONE && asm_seen(&agents[2]) == 2);
-    refused_going_on(&agents[2], 4, &next, ASM_NONE);
-    refused_going_on(&agents[0], 0, &next, ASM_RANGE);
-    refused_going_on(&agents[0], 1048577, &next, ASM_RANGE);
+    refused_going_on(&agents[2], 4, &next, ASM_NOT_FULL);
+    refused_going_on(&agents[0], 0, &next, ASM_CAPACITY);
+    refused_going_on(&agents[0], 1048577, &next, ASM_CAPACITY);
     refused_going_on(&agents[0], 0, &storage, ASM_TAKEN);
     refused_going_on(AS(agent, &storage), 4, AS(storage, &agents[0]), ASM_TAKEN);
     refused_going_on(&agents[0], 4, AS(storage, &agents[0]), ASM_TAKEN);
@@ -57,7 +57,7 @@ static void going_on(void) {
     refused_going_on(&agents[0], 3, &next, ASM_TAKEN);
     /* It has no agent, no move and no journal, and as much room as was wanted. */
     REQUIRE(asm_moves(&next, &number) == ASM_DONE && number == 0);
-    ANSWERS(ASM_NONE, asm_journal(&next, OUT));
+    ANSWERS(ASM_NO_JOURNAL, asm_journal(&next, OUT));
     REQUIRE(asm_agent(&next, 0, &agent) == ASM_DONE);
     TELLS(ASM_DONE, "[[['x'],8],[['z',1],{'set':[2]}]]", asm_state(&agent, &number, OUT));
     REQUIRE(number == 0);
@@ -93,22 +93,22 @@ static void taken_again(void) {
     uint32_t missing;
     open_with("[[['x'],0]]", 8, &storage);
     REQUIRE(asm_agents(&storage, agents, 3) == ASM_DONE);
-    refused_taking(0, &agent, ASM_NONE);
+    refused_taking(0, &agent, ASM_NO_AGENT);
     fire(&agents[1], "[['inc',['x'],1]]");
     follows_to(&agents[1], 1);
     REQUIRE(asm_give(&storage, &agents[1]) == ASM_DONE);
     REQUIRE(asm_give(&storage, &agents[2]) == ASM_DONE);
-    refused_taking(0, &agent, ASM_NONE);
-    refused_taking(256, &agent, ASM_NONE);
+    refused_taking(0, &agent, ASM_NO_AGENT);
+    refused_taking(256, &agent, ASM_NO_AGENT);
     refused_taking(1, &agents[0], ASM_TAKEN);
     refused_taking(1, AS(agent, &storage), ASM_TAKEN);
     REQUIRE(asm_take(AS(storage, &agents[0]), 1, &agent) == ASM_EMPTY && !agent.slot.full);
     REQUIRE(asm_take(AS(storage, &agent), 1, &agent) == ASM_EMPTY && !agent.slot.full);
     REQUIRE(asm_close(&storage, &missing) == ASM_DONE);
     REQUIRE(asm_take(&storage, 1, &agent) == ASM_DONE && agent.slot.full);
-    refused_taking(1, &agents[1], ASM_NONE);
+    refused_taking(1, &agents[1], ASM_NO_AGENT);
     /* The journal is gone, and without the agent a move has no receipt. */
-    ANSWERS(ASM_NONE, asm_journal(&storage, OUT));
+    ANSWERS(ASM_NO_JOURNAL, asm_journal(&storage, OUT));
     REQUIRE(asm_close(&storage, &missing) == ASM_MISSING && missing == 1);
     REQUIRE(asm_seen(&agent) == 1 && asm_won(&agent) == 1 && asm_misses(&agent) == 2);
     TELLS(ASM_DONE, "{'fired':1}", asm_answer(&agent, OUT));
@@ -300,7 +300,7 @@ static void long_lines(void) {
     char *line = malloc(MOST + 1);
     REQUIRE(line != NULL);
     memset(line, ' ', MOST + 1);
-    SAYS(asm_audit(&audit, bytes(line), MOST + 1, &taken, &told), ASM_LARGE, 0, 0, 0);
+    SAYS(asm_audit(&audit, bytes(line), MOST + 1, &taken, &told), ASM_LONG_LINE, 0, 0, 0);
     REQUIRE(taken == MOST);
     line[MOST] = '\n';
     SAYS(asm_audit(&audit, bytes(line) + MOST, 1, &taken, &told), ASM_NOT_JSON, 0, 1, 0);
@@ -333,7 +333,7 @@ static void refused_audits(void) {
     SAYS(asm_audit(&audit, NULL, 0, &taken, &told), ASM_DONE, 0, 0, 0);
     REQUIRE(audit.slot.full && taken == 0);
     SAYS(asm_audited(&audit, &told), ASM_CUT, 0, 0, 0);
-    ANSWERS(ASM_NONE, asm_audit_state(&audit, OUT));
+    ANSWERS(ASM_NO_PART, asm_audit_state(&audit, OUT));
     /* It is no agent, storage, step, location or move. */
     uint32_t number = 9;
     REQUIRE(asm_follow(AS(agent, &audit), &number) == ASM_EMPTY && number == 0);

@@ -163,9 +163,9 @@ static void order_of_codes(void) {
         bool is_in_range = i / 2 % 2, is_utf8 = i % 2;
         int32_t wanted = of == &step      ? ASM_TAKEN
                          : place == &none ? ASM_EMPTY
-                         : !is_in_range   ? ASM_RANGE
+                         : !is_in_range   ? ASM_OPERAND
                          : !is_utf8       ? ASM_SHAPE
-                         : of == &most    ? ASM_MANY
+                         : of == &most    ? ASM_LONG_MOVE
                                           : ASM_DONE;
         REQUIRE(asm_instruct(of, place, ASM_PUT, ASM_KIND_TEXT, is_in_range ? 0 : 1,
                              bytes(is_utf8 ? "a" : "\xff"), 1, 0) == wanted);
@@ -184,8 +184,8 @@ static void full(void) {
     begin_all();
     for (int i = 0; i < 4096; i++)
         does(X, ASM_INC, ASM_KIND_NUM, 1, "", 0);
-    REQUIRE(instruct(X, ASM_INC, ASM_KIND_NUM, 1, "", 0) == ASM_MANY);
-    REQUIRE(instruct(X, ASM_INC, ASM_KIND_NUM, 1, "", 1) == ASM_RANGE);
+    REQUIRE(instruct(X, ASM_INC, ASM_KIND_NUM, 1, "", 0) == ASM_LONG_MOVE);
+    REQUIRE(instruct(X, ASM_INC, ASM_KIND_NUM, 1, "", 1) == ASM_OPERAND);
     REQUIRE(grows(true) == ASM_DONE);
     gets(X, ASM_KIND_NUM, 4103, "");
     for (int i = 255; i > 0; i--) {
@@ -227,7 +227,7 @@ static void on_nothing(void *agent, void *of_step, void *third) {
         REQUIRE(asm_location(TEXT("['x']"), third) == ASM_TAKEN);
     REQUIRE(asm_pop_move(of_step, third) == (was[2].full && third != &move ? ASM_TAKEN
                                              : of_step != &step            ? ASM_EMPTY
-                                                                           : ASM_NONE));
+                                                                           : ASM_NO_PUSH));
     REQUIRE(is_same_slot(slot_of(agent), was[0]) && is_same_slot(slot_of(of_step), was[1]) &&
             is_same_slot(slot_of(third), was[2]));
 }

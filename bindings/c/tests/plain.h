@@ -108,7 +108,7 @@ static inline void refuses_as(int32_t code, int32_t verb, int32_t kind, int64_t 
 
 static inline void refuses(int32_t verb, int32_t kind, int64_t number, const char *text,
                            uint32_t amount) {
-    refuses_as(ASM_RANGE, verb, kind, number, text, amount);
+    refuses_as(ASM_OPERAND, verb, kind, number, text, amount);
 }
 
 #endif

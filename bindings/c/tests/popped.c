@@ -88,7 +88,7 @@ static void what_a_popped_move_leaves(void) {
     REQUIRE(asm_pop_move(&step, &move) == ASM_DONE && asm_pop_move(&step, &move) == ASM_DONE);
     REQUIRE(asm_pop_move(&step, &move) == ASM_DONE && asm_depth(&step) == 0);
     was = move.slot;
-    REQUIRE(asm_pop_move(&step, &move) == ASM_NONE && is_same(move, was));
+    REQUIRE(asm_pop_move(&step, &move) == ASM_NO_PUSH && is_same(move, was));
     fire(&agents[1], "[['put',['x'],0]]");
     REQUIRE(asm_commit(&agents[0], &step, &numbers) == ASM_DONE && numbers.fired == 2);
     end_all();
@@ -116,7 +116,7 @@ static void large_moves(void) {
     REQUIRE(grows(true) == ASM_DONE && adds(true, 0) == ASM_DONE && adds(false, 3000) == ASM_DONE);
     was[0] = step.slot;
     was[1] = move.slot;
-    REQUIRE(asm_pop_move(&step, &move) == ASM_MANY && asm_depth(&step) == 2);
+    REQUIRE(asm_pop_move(&step, &move) == ASM_LONG_MOVE && asm_depth(&step) == 2);
     REQUIRE(is_same(step, was[0]) && is_same(move, was[1]));
     REQUIRE(asm_pop(&step) == ASM_DONE && grows(true) == ASM_DONE && asm_pop(&step) == ASM_DONE);
     gets(S, ASM_KIND_SET, 0, "{'set':[]}");
@@ -125,7 +125,7 @@ static void large_moves(void) {
     for (int i = 0; i < 4096; i++)
         does(X, ASM_INC, ASM_KIND_NUM, 1, "", 0);
     REQUIRE(grows(true) == ASM_DONE && asm_pop_move(&step, &move) == ASM_DONE);
-    REQUIRE(instruct(X, ASM_INC, ASM_KIND_NUM, 1, "", 0) == ASM_MANY);
+    REQUIRE(instruct(X, ASM_INC, ASM_KIND_NUM, 1, "", 0) == ASM_LONG_MOVE);
     /* Two that were pushed as one are fewer. */
     REQUIRE(grows(true) == ASM_DONE && grows(false) == ASM_DONE);
     REQUIRE(asm_pop_move(&step, &move) == ASM_DONE);

@@ -161,7 +161,7 @@ static void fires_over_functions(void) {
     begin_with(8);
     TELLS(ASM_DONE, "[[['x'],7]]", asm_scan(&agents[0], TEXT("x"), &number, OUT));
     REQUIRE(number == 0);
-    fires_over(ASM_RANGE, &agents[0], put, "[['x',0],['none',1]]", 0);
+    fires_over(ASM_AHEAD, &agents[0], put, "[['x',0],['none',1]]", 0);
     fire(&agents[1], "[['put',['x',1],null],['put',['xx'],1]]");
     fires_over(ASM_STALE, &agents[0], put, "[['y',0],['x',0]]", 0);
     TELLS(ASM_DONE, "{'stale':['x',1]}", asm_answer(&agents[0], OUT));
@@ -261,7 +261,7 @@ static void many_named(void) {
     push("[['inc',['c'],1]]");
     push("[['inc',['c'],1]]");
     refused(ASM_MANY, NULL);
-    ANSWERS(ASM_NONE, asm_answer(&agents[0], OUT));
+    ANSWERS(ASM_NO_ANSWER, asm_answer(&agents[0], OUT));
     REQUIRE(asm_pop_move(&step, &move) == ASM_DONE);
     asm_free_move(&move);
     fired(1);

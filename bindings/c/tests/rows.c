@@ -196,8 +196,8 @@ static void refusals(void) {
     REQUIRE(asm_compose(bytes(most), strlen(most), TEXT("[['put',['w',0],1]]"), NULL, 0,
                         &written) == ASM_SMALL);
     REQUIRE(written == strlen(most));
-    ANSWERS(ASM_MANY, asm_compose(bytes(most), strlen(most), TEXT(more), OUT));
-    ANSWERS(ASM_MANY, asm_compose(TEXT(more), bytes(most), strlen(most), OUT));
+    ANSWERS(ASM_LONG_MOVE, asm_compose(bytes(most), strlen(most), TEXT(more), OUT));
+    ANSWERS(ASM_LONG_MOVE, asm_compose(TEXT(more), bytes(most), strlen(most), OUT));
 }
 
 int main(void) {

@@ -141,7 +141,7 @@ static void sentences(void) {
     sprintf(at, "],\"reads\":[]}");
     explained(ASM_FORM_MOVE, text, "4,097 instructions, at most 4,096");
     for (int32_t form = -1; form <= 5; form += 6)
-        ANSWERS(ASM_RANGE, asm_explain(form, bytes("[]"), 2, OUT));
+        ANSWERS(ASM_NO_FORM, asm_explain(form, bytes("[]"), 2, OUT));
 }
 
 /* What codes mean. */
@@ -150,18 +150,43 @@ static const struct meaning {
     const char *said;
 } meanings[] = {
     {ASM_DONE, "done"},
+    {ASM_STALE, "a location that was named, or of a function that was scanned, was written since"},
+    {ASM_CLASH, "the updates of the move clash"},
     {ASM_MEMORY, "out of memory"},
+    {ASM_FULL, "as many moves were fired as the capacity"},
     {ASM_EMPTY, "a slot holds nothing of this kind, or is passed twice"},
-    {ASM_RANGE,
-     "a capacity, a number, a count, a form, a verb, a kind or an amount is out of range"},
+    {ASM_CAPACITY, "the capacity is not 1 to 1,048,576"},
+    {ASM_SMALL, "the buffer is too small"},
+    {ASM_BUSY, "64 offers were lost"},
+    {ASM_MANY, "more than 256 locations, or locations and scanned functions"},
+    {ASM_NO_ANSWER, "no call was answered yet"},
+    {ASM_TAKEN, "the slot that was to be filled holds something else"},
+    {ASM_NUMBER, "an agent with this number was made before"},
+    {ASM_MISSING, "a move has no receipt among the agents that were returned"},
+    {ASM_OTHER, "the two slots are of two storages"},
+    {ASM_ILLEGAL, "the journal is not legal"},
     {ASM_NOT_JSON, "not JSON"},
-    {ASM_LARGE, "too many calls for a journal, too long a line, or too large an amount"},
-    {ASM_MANY,
-     "more than 256 locations and scanned functions, or more than 4,096 instructions"},
-    {ASM_NONE, "there is no answer, journal, pushed move, agent or part, or there is room still"},
+    {ASM_SHAPE, "JSON of another shape"},
+    {ASM_VERSION, "a journal of another version"},
+    {ASM_CUT, "the journal is cut off"},
+    {ASM_LARGE, "an amount or a sum is too large"},
     {ASM_MOVED, "the state of the agent is at another number of moves than the step"},
     {ASM_DEEP, "64 moves are pushed already"},
-    {23, "a part opens with another state than the one before it leaves"},
+    {ASM_APART, "a part opens with another state than the one before it leaves"},
+    {ASM_AGENTS, "the number of an agent is not below 256, or more than 256 agents are asked for"},
+    {ASM_AHEAD,
+     "a location or a function is named at a number of moves that the agent has not seen"},
+    {ASM_OPERAND, "the verb, the kind, the number, the bytes and the amount make no instruction"},
+    {ASM_NO_FORM, "there is no such form"},
+    {ASM_NO_JOURNAL, "no journal was made since an agent was returned or taken"},
+    {ASM_NO_PUSH, "no move is pushed"},
+    {ASM_NO_AGENT, "no agent with this number was returned"},
+    {ASM_NO_PART, "no part has begun"},
+    {ASM_NOT_FULL, "the state of the agent is at fewer moves than the storage has room for"},
+    {ASM_MANY_CALLS, "more than the 4,294,967,295 calls of a journal"},
+    {ASM_LONG_LINE, "a line of more than 16,777,216 bytes"},
+    {ASM_LONG_MOVE, "a move of more than 4,096 instructions"},
+    {36, "no code of this library"},
     {-1, "no code of this library"},
 };
 
@@ -171,8 +196,8 @@ static void texts_of_codes(void) {
     REQUIRE(asm_version() == FOLUGBEN_VERSION);
     for (size_t i = 0; i < sizeof meanings / sizeof *meanings; i++)
         SAYS(meanings[i].said, asm_error_text(meanings[i].code, OUT));
-    for (int32_t code = -2; code < 26; code++) {
-        bool known = code >= ASM_DONE && code <= ASM_APART;
+    for (int32_t code = -2; code < 40; code++) {
+        bool known = code >= ASM_DONE && code <= ASM_LONG_MOVE;
         REQUIRE(asm_error_text(code, out, sizeof out, &written) == ASM_DONE && written > 0);
         REQUIRE(known == !(written == 23 && !memcmp(out, "no code of this library", 23)));
     }

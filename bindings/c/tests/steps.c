@@ -119,8 +119,8 @@ static void other_slots(void) {
         if (i != 2)
             on_no_agent(slots[i]);
         REQUIRE(asm_depth(slots[i]) == 0);
-        REQUIRE(asm_pop(slots[i]) == (i == 3 ? ASM_NONE : ASM_EMPTY));
-        REQUIRE(asm_pop_move(slots[i], AS(move, &empty)) == (i == 3 ? ASM_NONE : ASM_EMPTY));
+        REQUIRE(asm_pop(slots[i]) == (i == 3 ? ASM_NO_PUSH : ASM_EMPTY));
+        REQUIRE(asm_pop_move(slots[i], AS(move, &empty)) == (i == 3 ? ASM_NO_PUSH : ASM_EMPTY));
         REQUIRE(!empty.slot.full);
         if (i != 3)
             ANSWERS(ASM_EMPTY, asm_offer(slots[i], OUT));
@@ -234,7 +234,7 @@ static void sees(void) {
     REQUIRE(get_places(2, 251, 4 * LONGEST) == ASM_DONE);
     REQUIRE(get_places(253, 1, 4 * LONGEST) == ASM_MANY);
     REQUIRE(see_places(0, 300) == ASM_DONE);
-    ANSWERS(ASM_NONE, asm_answer(&agents[0], OUT));
+    ANSWERS(ASM_NO_ANSWER, asm_answer(&agents[0], OUT));
     end_all();
 }
 
@@ -297,7 +297,7 @@ static void gets_all(void) {
 static void pushes(void) {
     const char *x = "[['x']]";
     begin_all();
-    REQUIRE(asm_pop(&step) == ASM_NONE);
+    REQUIRE(asm_pop(&step) == ASM_NO_PUSH);
     ANSWERS(ASM_DONE, asm_push(&agents[0], &step, TEXT("[['put',['x'],10]]"), OUT));
     ANSWERS(ASM_DONE, asm_extend(&agents[0], &step, TEXT("[['inc',['x'],5]]"), OUT));
     REQUIRE(asm_depth(&step) == 1);
@@ -309,12 +309,12 @@ static void pushes(void) {
     REQUIRE(asm_pop(&step) == ASM_DONE && asm_depth(&step) == 1);
     TELLS(ASM_DONE, "{'number':0,'values':[15,{'set':[1]}]}",
           asm_get(&agents[0], &step, TEXT("[['x'],['s']]"), OUT));
-    REQUIRE(asm_pop(&step) == ASM_DONE && asm_depth(&step) == 0 && asm_pop(&step) == ASM_NONE);
+    REQUIRE(asm_pop(&step) == ASM_DONE && asm_depth(&step) == 0 && asm_pop(&step) == ASM_NO_PUSH);
     TELLS(ASM_DONE, "{'number':0,'values':[7]}", asm_get(&agents[0], &step, TEXT(x), OUT));
     /* Without a pushed move an extension is one. */
     REQUIRE(extend("[]") == ASM_DONE && asm_depth(&step) == 1);
     REQUIRE(asm_seen(&agents[0]) == 0 && asm_won(&agents[0]) == 0);
-    ANSWERS(ASM_NONE, asm_answer(&agents[0], OUT));
+    ANSWERS(ASM_NO_ANSWER, asm_answer(&agents[0], OUT));
     end_all();
 }
 
@@ -389,8 +389,8 @@ static void many_instructions(void) {
     const char *all = puts_to(4096);
     ANSWERS(ASM_DONE, asm_push(&agents[0], &step, bytes(all), strlen(all), OUT));
     KEEPS({
-        ANSWERS(ASM_MANY, asm_push(&agents[0], &step, TEXT("[['put',['z'],1]]"), OUT));
-        ANSWERS(ASM_MANY, asm_extend(&agents[0], &step, TEXT("[['put',['z'],1]]"), OUT));
+        ANSWERS(ASM_LONG_MOVE, asm_push(&agents[0], &step, TEXT("[['put',['z'],1]]"), OUT));
+        ANSWERS(ASM_LONG_MOVE, asm_extend(&agents[0], &step, TEXT("[['put',['z'],1]]"), OUT));
     });
     REQUIRE(push("[['put',['w',7],2]]") == ASM_DONE && asm_pop(&step) == ASM_DONE);
     REQUIRE(asm_pop(&step) == ASM_DONE && push("[['put',['z'],1]]") == ASM_DONE);

@@ -90,7 +90,7 @@ static void full_slots(void) {
     struct asm_agent many[257] = {0};
     REQUIRE(open_with("[]", 4, &storage) == ASM_DONE && open_with("[]", 4, &storage) == ASM_TAKEN);
     REQUIRE(open_with("[", 0, &storage) == ASM_TAKEN);
-    REQUIRE(asm_agents(&storage, many, 257) == ASM_RANGE && !many[0].slot.full);
+    REQUIRE(asm_agents(&storage, many, 257) == ASM_AGENTS && !many[0].slot.full);
     REQUIRE(asm_agents(&storage, many, 256) == ASM_DONE && many[255].slot.full && !many[256].slot.full);
     REQUIRE(asm_agent(&storage, 0, &many[0]) == ASM_TAKEN);
     REQUIRE(asm_agents(&storage, many + 255, 2) == ASM_TAKEN && !many[256].slot.full);
@@ -159,10 +159,10 @@ static void no_bytes(void) {
     REQUIRE(asm_agents(&storage, NULL, 0) == ASM_DONE);
     REQUIRE(asm_read(&agent, NULL, 0) == ASM_NOT_JSON &&
             asm_try_fire(&agent, NULL, 0, &numbers) == ASM_NOT_JSON);
-    REQUIRE(asm_answer(&agent, NULL, 0, &written) == ASM_NONE && read_of(&agent, "[]") == ASM_DONE);
+    REQUIRE(asm_answer(&agent, NULL, 0, &written) == ASM_NO_ANSWER && read_of(&agent, "[]") == ASM_DONE);
     REQUIRE(asm_answer(&agent, NULL, 0, &written) == ASM_SMALL &&
             written == strlen("{\"number\":0,\"values\":[]}"));
-    REQUIRE(asm_journal(&storage, NULL, 0, &written) == ASM_NONE);
+    REQUIRE(asm_journal(&storage, NULL, 0, &written) == ASM_NO_JOURNAL);
     REQUIRE(asm_give(&storage, &agent) == ASM_DONE && asm_close(&storage, &number) == ASM_DONE);
     REQUIRE(asm_journal(&storage, NULL, 0, &written) == ASM_SMALL && written > 0);
     REQUIRE(asm_check(NULL, 0, &calls, &number) == ASM_CUT);
@@ -222,8 +222,8 @@ static void fires(void) {
     struct asm_agent a[2] = {0};
     uint8_t out[64];
     size_t written;
-    REQUIRE(open_with("[]", 0, &storage) == ASM_RANGE &&
-            open_with("[]", 1048577, &storage) == ASM_RANGE);
+    REQUIRE(open_with("[]", 0, &storage) == ASM_CAPACITY &&
+            open_with("[]", 1048577, &storage) == ASM_CAPACITY);
     REQUIRE(open_with("[[[\"x\"],1]]", 2, &storage) == ASM_DONE &&
             asm_agents(&storage, a, 2) == ASM_DONE);
     REQUIRE(fire_of(&a[0], "{\"fire\":[[\"inc\",[\"x\"],1]],\"reads\":[[[\"x\"],0]]}") == ASM_DONE);
@@ -250,7 +250,7 @@ static void many_locations(void) {
     struct asm_agent agent = {0};
     REQUIRE(open_with("[]", 4, &storage) == ASM_DONE &&
             asm_agent(&storage, 255, &agent) == ASM_DONE);
-    REQUIRE(asm_agent(&storage, 256, &(struct asm_agent){0}) == ASM_RANGE);
+    REQUIRE(asm_agent(&storage, 256, &(struct asm_agent){0}) == ASM_AGENTS);
     for (int count = 256; count <= 257; count++) {
         int32_t wanted = count > 256 ? ASM_MANY : ASM_DONE;
         char *at = text + sprintf(text, "[");
@@ -311,7 +311,7 @@ static void ends(void) {
     uint64_t calls, line;
     uint32_t number;
     REQUIRE(open_with("[]", 4, &storage) == ASM_DONE && asm_agents(&storage, a, 3) == ASM_DONE);
-    REQUIRE(asm_journal(&storage, text, ROOM, &written) == ASM_NONE);
+    REQUIRE(asm_journal(&storage, text, ROOM, &written) == ASM_NO_JOURNAL);
     REQUIRE(fire_of(&a[1], "{\"fire\":[[\"put\",[\"x\"],1]],\"reads\":[]}") == ASM_DONE &&
             read_of(&a[2], "[[\"x\"]]") == ASM_DONE);
     REQUIRE(asm_give(&storage, &a[2]) == ASM_DONE && asm_close(&storage, &number) == ASM_MISSING &&
@@ -338,7 +338,7 @@ static void ends(void) {
         text[at] ^= 1;
     }
     REQUIRE(asm_agent(&storage, 3, &a[0]) == ASM_DONE && asm_give(&storage, &a[0]) == ASM_DONE);
-    REQUIRE(asm_journal(&storage, text, ROOM, &written) == ASM_NONE &&
+    REQUIRE(asm_journal(&storage, text, ROOM, &written) == ASM_NO_JOURNAL &&
             asm_close(&storage, &number) == ASM_DONE);
     asm_free_storage(&storage);
 }

@@ -113,7 +113,7 @@ static void too_many_instructions(void) {
     const char *puts = each("[\"put\",[\"w\",%d],1]", 4096);
     begin_at_shelf();
     ANSWERS(ASM_DONE, asm_push(&agents[0], &step, bytes(puts), strlen(puts), OUT));
-    ANSWERS(ASM_MANY, asm_push(&agents[0], &step, TEXT("[['bagremove',['b'],'e',1]]"), OUT));
+    ANSWERS(ASM_LONG_MOVE, asm_push(&agents[0], &step, TEXT("[['bagremove',['b'],'e',1]]"), OUT));
     fire(&agents[1], "[['bagremove',['b'],'e',1]]");
     refused(ASM_STALE, "{'stale':['b']}");
     end_at_shelf();

@@ -86,12 +86,12 @@ static void most(void) {
     unite();
     unite();
     asm_slot was = move.slot;
-    REQUIRE(asm_unite(&move, &other) == ASM_MANY && is_same(move, was));
+    REQUIRE(asm_unite(&move, &other) == ASM_LONG_MOVE && is_same(move, was));
     asm_free_move(&other);
     unite();
     also(X, ASM_INC, 1);
-    REQUIRE(asm_unite(&move, &other) == ASM_MANY && is_same(move, was));
-    REQUIRE(asm_unite(&other, &move) == ASM_MANY);
+    REQUIRE(asm_unite(&move, &other) == ASM_LONG_MOVE && is_same(move, was));
+    REQUIRE(asm_unite(&other, &move) == ASM_LONG_MOVE);
     REQUIRE(grows(true) == ASM_DONE);
     gets(X, ASM_KIND_NUM, 7 + MOST, "");
     end_both();

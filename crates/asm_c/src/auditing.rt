@@ -1,7 +1,7 @@
 //! Audits of runs of any length, whose bytes come in pieces.
 ghost use Rattle.std.specs.Prelude.{◌≡◌, ◌∷◌, []};
 ghost use Rattle.asm_slots.specs.Audits.{Audits, EndsAudit, HasNoState, IsAuditState};
-ghost use Rattle.asm_slots.specs.Codes.{IsOneOf, ASM_DONE, ASM_MEMORY, ASM_EMPTY, ASM_SMALL, ASM_NONE};
+ghost use Rattle.asm_slots.specs.Codes.{IsOneOf, ASM_DONE, ASM_MEMORY, ASM_EMPTY, ASM_SMALL, ASM_NO_PART};
 ghost use Rattle.asm_slots.specs.Slots.{HoldsAudit, HoldsNoAudit, content_of};
 ghost use Rattle.asm_slots.specs.WrittenText.{TellsText};
 
@@ -21,7 +21,7 @@ use std::alloc::Global;
 /// a line is told at its line feed. `ASM_ILLEGAL`: the first answer that is wrong, with the numbers of its part, from 0, and
 /// of its call in it, from 0. `ASM_NOT_JSON`, `ASM_SHAPE`, `ASM_VERSION`, `ASM_CUT`: the fault of the journal of a part,
 /// with its number, and with the first two that of the line in it, from 1. `ASM_APART`: the part with this number opens with
-/// another state than the one before it leaves. `ASM_LARGE`: a line has more than 16,777,216 bytes. `ASM_MEMORY`: pass the
+/// another state than the one before it leaves. `ASM_LONG_LINE`: a line has more than 16,777,216 bytes. `ASM_MEMORY`: pass the
 /// bytes that weren't taken again. `ASM_TAKEN`: the slot holds something else, and is as it was. What a code doesn't set is 0.
 #[unsafe(no_mangle)]
 pub extern "C" fn asm_audit(
@@ -69,7 +69,7 @@ pub extern "C" fn asm_audited(alloc: Global, audit: &mut Slot, told: &mut AuditN
 
 /// Writes the state `[PAIR, ..]` that the moves so far leave, of the lines that have ended, in ascending order of locations.
 ///
-/// `ASM_SMALL`: `written` is the room that it needs. `ASM_NONE`: no part has begun. `ASM_EMPTY`: the slot has no audit.
+/// `ASM_SMALL`: `written` is the room that it needs. `ASM_NO_PART`: no part has begun. `ASM_EMPTY`: the slot has no audit.
 /// `ASM_MEMORY`. The slot stays as it was.
 #[unsafe(no_mangle)]
 pub extern "C" fn asm_audit_state(
@@ -78,11 +78,11 @@ pub extern "C" fn asm_audit_state(
     out: &mut [u8],
     written: &mut usize,
 ) -> i32
-    ensures codes { IsOneOf (ASM_DONE ∷ ASM_MEMORY ∷ ASM_EMPTY ∷ ASM_SMALL ∷ ASM_NONE ∷ []) result }
+    ensures codes { IsOneOf (ASM_DONE ∷ ASM_MEMORY ∷ ASM_EMPTY ∷ ASM_SMALL ∷ ASM_NO_PART ∷ []) result }
     ensures kept { content_of audit.new ≡ content_of audit.old }
     ensures text { TellsText (λ text. HoldsAudit (content_of audit.old) (λ a. IsAuditState a text))
         out.old out.new written.new result }
-    ensures none { result ≡ ASM_NONE → HoldsAudit (content_of audit.old) HasNoState }
+    ensures none { result ≡ ASM_NO_PART → HoldsAudit (content_of audit.old) HasNoState }
     ensures empty { result ≡ ASM_EMPTY → HoldsNoAudit (content_of audit.old) }
 {
     *written = 0;

@@ -32,7 +32,7 @@ pub extern "C" fn asm_aggregate(
 ///
 /// Where the first fires, the written move fires as the first and then the second, clashes included. On no state
 /// do both fire with `ASM_CLASH`, where `{"clash":[LOC,CAUSE]}` is written, and with `ASM_LARGE`: an amount or a
-/// sum is too large, and `{"large":LOC}` is written. `ASM_MANY`: the move would have more than 4,096
+/// sum is too large, and `{"large":LOC}` is written. `ASM_LONG_MOVE`: the move would have more than 4,096
 /// instructions. `ASM_SMALL`: `written` is the room that it needs. `ASM_NOT_JSON` and `ASM_SHAPE`: the first, or
 /// else the second, is not JSON or no move. `ASM_MEMORY`.
 #[unsafe(no_mangle)]

@@ -1,6 +1,6 @@
 //! Where and why a text is refused.
 ghost use Rattle.std.specs.Prelude.{◌≡◌, ◌≢◌, ◌<◌, ◌≤◌, ◌↔◌, ◌∷◌, [], length};
-ghost use Rattle.asm_slots.specs.Codes.{IsOneOf, ASM_DONE, ASM_MEMORY, ASM_RANGE, ASM_SMALL};
+ghost use Rattle.asm_slots.specs.Codes.{IsOneOf, ASM_DONE, ASM_MEMORY, ASM_NO_FORM, ASM_SMALL};
 ghost use Rattle.asm_slots.specs.Forms.{HasForm, IsNoForm, LacksForm};
 
 use std::alloc::Global;
@@ -13,13 +13,13 @@ pub extern "C" fn asm_explain(
     out: &mut [u8],
     written: &mut usize,
 ) -> i32
-    ensures codes { IsOneOf (ASM_DONE ∷ ASM_MEMORY ∷ ASM_RANGE ∷ ASM_SMALL ∷ []) result }
+    ensures codes { IsOneOf (ASM_DONE ∷ ASM_MEMORY ∷ ASM_NO_FORM ∷ ASM_SMALL ∷ []) result }
     ensures accepted { result ≡ ASM_DONE → written.new ≡ 0 → HasForm form text.now }
     ensures refused { written.new ≢ 0 → LacksForm form text.now }
     ensures fits { result ≡ ASM_DONE → written.new ≤ length out.new }
     ensures small { result ≡ ASM_SMALL → length out.old < written.new }
-    ensures no_text { IsOneOf (ASM_MEMORY ∷ ASM_RANGE ∷ []) result → written.new ≡ 0 }
-    ensures range { (result ≡ ASM_RANGE) ↔ IsNoForm form }
+    ensures no_text { IsOneOf (ASM_MEMORY ∷ ASM_NO_FORM ∷ []) result → written.new ≡ 0 }
+    ensures range { (result ≡ ASM_NO_FORM) ↔ IsNoForm form }
     ensures unwritten { result ≢ ASM_DONE → out.new ≡ out.old }
 {
     asm_slots::explain(alloc, form, text, out, written)

@@ -12,7 +12,7 @@ use std::alloc::Global;
 ///
 /// `ASM_DONE`: fired, and then each location of a scanned function, whether it has a value or none, had before the move what
 /// it had at the scan's number. `ASM_STALE`: a named location was written since, or one of a scanned function, which the
-/// receipt then names behind the others. Codes, numbers and receipt are those of `asm_try_fire`, with `ASM_RANGE` where a
+/// receipt then names behind the others. Codes, numbers and receipt are those of `asm_try_fire`, with `ASM_AHEAD` where a
 /// location is named or a function scanned at a number above what the agent had seen, `ASM_MANY` for more than 256 named
 /// locations and scans together, and `ASM_NOT_JSON` and `ASM_SHAPE` of the call, or else of the scans.
 #[unsafe(no_mangle)]

@@ -2,12 +2,12 @@
 ghost use Rattle.std.specs.Prelude.{◌≡◌, ◌≢◌, ◌⊎◌, ◌≤◌, ◌∷◌, [], length, None, Some};
 ghost use Rattle.asm_slots.specs.AgentCalls.{Closes, Gives, IsThere};
 ghost use Rattle.asm_slots.specs.ClosedStore.{IsTooLarge, LacksReceipt};
-ghost use Rattle.asm_slots.specs.Codes.{IsOneOf, ASM_DONE, ASM_MEMORY, ASM_EMPTY, ASM_SMALL, ASM_NONE};
-ghost use Rattle.asm_slots.specs.Codes.{ASM_NUMBER, ASM_MISSING, ASM_OTHER, ASM_LARGE};
+ghost use Rattle.asm_slots.specs.Codes.{IsOneOf, ASM_DONE, ASM_MEMORY, ASM_EMPTY, ASM_SMALL, ASM_NO_JOURNAL};
+ghost use Rattle.asm_slots.specs.Codes.{ASM_NUMBER, ASM_MISSING, ASM_OTHER, ASM_MANY_CALLS};
 ghost use Rattle.asm_slots.specs.Slots.{HoldsNoAgent, HoldsNoStore, HoldsStore, IsOfStore, content_of};
 ghost use Rattle.asm_slots.specs.WrittenText.{TellsText};
 
-use asm_slots::codes::{DONE, EMPTY, NONE, OTHER, copied};
+use asm_slots::codes::{DONE, EMPTY, NO_JOURNAL, OTHER, copied};
 use asm_slots::give_and_close::{code_of_unclosed, give_at};
 use asm_slots::take_and_put::{put_agent, put_store, store_in, take_agent, take_store};
 use asm_slots::{Slot, are_one, in_box};
@@ -75,18 +75,18 @@ pub extern "C" fn asm_give(alloc: Global, store: &mut Slot, agent: &mut Slot) ->
 ///
 /// `ASM_MISSING`: the move with this number, the least such, has no receipt among them; give back the agent
 /// that fired it, and close again. The moves of an agent that was freed without being given back are missing
-/// for good. With any other code the number is 0. `ASM_LARGE`: more calls than a journal holds.
+/// for good. With any other code the number is 0. `ASM_MANY_CALLS`: more calls than a journal holds.
 /// `ASM_EMPTY`: the slot has no storage. `ASM_MEMORY`. After each of these the slot is as it was. More
 /// agents may be made, given back and closed afterwards.
 #[unsafe(no_mangle)]
 pub extern "C" fn asm_close(alloc: Global, store: &mut Slot, number: &mut u32) -> i32
-    ensures codes { IsOneOf (ASM_DONE ∷ ASM_MEMORY ∷ ASM_EMPTY ∷ ASM_MISSING ∷ ASM_LARGE ∷ []) result }
+    ensures codes { IsOneOf (ASM_DONE ∷ ASM_MEMORY ∷ ASM_EMPTY ∷ ASM_MISSING ∷ ASM_MANY_CALLS ∷ []) result }
     ensures closed { result ≡ ASM_DONE → Closes (content_of store.old) (content_of store.new) }
     ensures kept { result ≢ ASM_DONE → content_of store.new ≡ content_of store.old }
     ensures missing { result ≡ ASM_MISSING →
         HoldsStore (content_of store.old) (λ s. LacksReceipt s.storage s.agents number.new) }
     ensures no_number { result ≢ ASM_MISSING → number.new ≡ 0 }
-    ensures large { result ≡ ASM_LARGE →
+    ensures large { result ≡ ASM_MANY_CALLS →
         HoldsStore (content_of store.old) (λ s. IsTooLarge s.storage s.agents) }
     ensures empty { result ≡ ASM_EMPTY → HoldsNoStore (content_of store.old) }
 {
@@ -108,7 +108,7 @@ pub extern "C" fn asm_close(alloc: Global, store: &mut Slot, number: &mut u32) -
 
 /// Writes the journal that the storage keeps, as often as it is asked for.
 ///
-/// `ASM_SMALL`: `written` is the room that it needs. `ASM_NONE`: the storage wasn't closed since an agent
+/// `ASM_SMALL`: `written` is the room that it needs. `ASM_NO_JOURNAL`: the storage wasn't closed since an agent
 /// was given back or taken. `ASM_EMPTY`: the slot has no storage. The slot stays as it was.
 #[unsafe(no_mangle)]
 pub extern "C" fn asm_journal(
@@ -117,18 +117,18 @@ pub extern "C" fn asm_journal(
     out: &mut [u8],
     written: &mut usize,
 ) -> i32
-    ensures codes { IsOneOf (ASM_DONE ∷ ASM_EMPTY ∷ ASM_SMALL ∷ ASM_NONE ∷ []) result }
+    ensures codes { IsOneOf (ASM_DONE ∷ ASM_EMPTY ∷ ASM_SMALL ∷ ASM_NO_JOURNAL ∷ []) result }
     ensures kept { content_of store.new ≡ content_of store.old }
     ensures text { TellsText (λ text. HoldsStore (content_of store.old) (λ s. s.journal ≡ Some text))
         out.old out.new written.new result }
-    ensures none { result ≡ ASM_NONE → HoldsStore (content_of store.old) (λ s. s.journal ≡ None) }
+    ensures none { result ≡ ASM_NO_JOURNAL → HoldsStore (content_of store.old) (λ s. s.journal ≡ None) }
     ensures empty { result ≡ ASM_EMPTY → HoldsNoStore (content_of store.old) }
 {
     *written = 0;
     in_box!(alloc, store, store_in, kept => {
         match kept.journal() {
             Some(text) => copied(text.as_bytes(), out, written),
-            None => NONE,
+            None => NO_JOURNAL,
         }
     })
 }

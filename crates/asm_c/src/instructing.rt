@@ -2,7 +2,7 @@
 ghost use Rattle.std.specs.Prelude.{◌≡◌, ◌≢◌, ◌≤◌, ◌<◌, ◌+◌, ◌↔◌, ◌∷◌, ◌++◌, [], length};
 ghost use Rattle.asm_update.specs.Limits.{instructions_limit};
 ghost use Rattle.asm_explain.specs.Bytes.{IsNoJson};
-ghost use Rattle.asm_slots.specs.Codes.{IsOneOf, ASM_DONE, ASM_MEMORY, ASM_EMPTY, ASM_RANGE, ASM_MANY};
+ghost use Rattle.asm_slots.specs.Codes.{IsOneOf, ASM_DONE, ASM_MEMORY, ASM_EMPTY, ASM_OPERAND, ASM_LONG_MOVE};
 ghost use Rattle.asm_slots.specs.Codes.{ASM_NOT_JSON, ASM_TAKEN, ASM_SHAPE};
 ghost use Rattle.asm_slots.specs.Kinds.{IsByJson, IsInstructed, IsMisshapen, IsNoAction};
 ghost use Rattle.asm_slots.specs.Slots.{HasRoomForMove, HoldsLocation, HoldsMove, HoldsNoLocation};
@@ -19,9 +19,9 @@ use std::alloc::Global;
 ///
 /// The operand is a value, which kind, number and bytes mean; the bytes of a list, a set or a bag are any JSON of it, and
 /// sets and bags can be put alone. `ASM_TAKEN`: the first slot holds something else than a move. `ASM_EMPTY`: the second
-/// has no location, or the two are one. `ASM_RANGE`: there is no such verb, no such operand of it, or no such amount.
+/// has no location, or the two are one. `ASM_OPERAND`: there is no such verb, no such operand of it, or no such amount.
 /// `ASM_NOT_JSON`: the bytes of a list, a set or a bag aren't JSON. `ASM_SHAPE`: they are JSON of no such value, or the
-/// bytes of a text aren't UTF-8. `ASM_MANY`: the move has 4,096 instructions. `ASM_MEMORY`. After each of these both slots
+/// bytes of a text aren't UTF-8. `ASM_LONG_MOVE`: the move has 4,096 instructions. `ASM_MEMORY`. After each of these both slots
 /// are as they were.
 #[unsafe(no_mangle)]
 pub extern "C" fn asm_instruct(
@@ -34,16 +34,16 @@ pub extern "C" fn asm_instruct(
     bytes: &[u8],
     amount: u32,
 ) -> i32
-    ensures codes { IsOneOf (ASM_DONE ∷ ASM_MEMORY ∷ ASM_EMPTY ∷ ASM_RANGE ∷ ASM_MANY ∷ ASM_TAKEN
+    ensures codes { IsOneOf (ASM_DONE ∷ ASM_MEMORY ∷ ASM_EMPTY ∷ ASM_OPERAND ∷ ASM_LONG_MOVE ∷ ASM_TAKEN
         ∷ ASM_NOT_JSON ∷ ASM_SHAPE ∷ []) result }
     ensures done { result ≡ ASM_DONE → HoldsLocation (content_of at.old) (λ l. HoldsMove (content_of instrs.new)
         (IsInstructed l verb kind number bytes.now amount (move_of (content_of instrs.old)))) }
     ensures taken { (result ≡ ASM_TAKEN) ↔ ¬ HasRoomForMove (content_of instrs.old) }
     ensures empty { result ≡ ASM_EMPTY → HoldsNoLocation (content_of at.old) }
-    ensures range { result ≡ ASM_RANGE → IsNoAction verb kind number bytes.now amount }
+    ensures range { result ≡ ASM_OPERAND → IsNoAction verb kind number bytes.now amount }
     ensures not_json { result ≡ ASM_NOT_JSON → IsByJson kind × IsNoJson bytes.now }
     ensures shape { result ≡ ASM_SHAPE → IsMisshapen kind bytes.now }
-    ensures many { result ≡ ASM_MANY → length (move_of (content_of instrs.old)) ≡ instructions_limit }
+    ensures many { result ≡ ASM_LONG_MOVE → length (move_of (content_of instrs.old)) ≡ instructions_limit }
     ensures kept { result ≢ ASM_DONE → content_of instrs.new ≡ content_of instrs.old }
     ensures held { content_of at.new ≡ content_of at.old }
 {
@@ -64,17 +64,17 @@ pub extern "C" fn asm_instruct(
 /// at once. An empty slot is the move of no instructions.
 ///
 /// `ASM_TAKEN`: the first slot holds something else than a move. `ASM_EMPTY`: the second does, or the two are one.
-/// `ASM_MANY`: the two have more than 4,096 instructions. `ASM_MEMORY`. After each of these the first slot is as it was;
+/// `ASM_LONG_MOVE`: the two have more than 4,096 instructions. `ASM_MEMORY`. After each of these the first slot is as it was;
 /// the second one always is.
 #[unsafe(no_mangle)]
 pub extern "C" fn asm_unite(alloc: Global, instrs: &mut Slot, other: &mut Slot) -> i32
-    ensures codes { IsOneOf (ASM_DONE ∷ ASM_MEMORY ∷ ASM_EMPTY ∷ ASM_MANY ∷ ASM_TAKEN ∷ []) result }
+    ensures codes { IsOneOf (ASM_DONE ∷ ASM_MEMORY ∷ ASM_EMPTY ∷ ASM_LONG_MOVE ∷ ASM_TAKEN ∷ []) result }
     ensures done { result ≡ ASM_DONE → HoldsMove (content_of instrs.new)
         (λ united. united ≡ move_of (content_of instrs.old) ++ move_of (content_of other.old)) }
     ensures taken { (result ≡ ASM_TAKEN) ↔ ¬ HasRoomForMove (content_of instrs.old) }
     ensures empty { result ≡ ASM_EMPTY → ¬ HasRoomForMove (content_of other.old) }
-    ensures room { IsOneOf (ASM_DONE ∷ ASM_MEMORY ∷ ASM_MANY ∷ []) result → HasRoomForMove (content_of other.old) }
-    ensures many { result ≡ ASM_MANY →
+    ensures room { IsOneOf (ASM_DONE ∷ ASM_MEMORY ∷ ASM_LONG_MOVE ∷ []) result → HasRoomForMove (content_of other.old) }
+    ensures many { result ≡ ASM_LONG_MOVE →
         instructions_limit < length (move_of (content_of instrs.old)) + length (move_of (content_of other.old)) }
     ensures kept { result ≢ ASM_DONE → content_of instrs.new ≡ content_of instrs.old }
     ensures held { content_of other.new ≡ content_of other.old }

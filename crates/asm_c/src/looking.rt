@@ -76,7 +76,7 @@ pub extern "C" fn asm_peek(
 /// The agent looks on until it finds nothing more, and its own state follows; no receipt is made. A fire that
 /// names the same reads may still be refused, by a move that comes in between. `ASM_STALE`: one doesn't stand,
 /// and `{"stale":LOC}` with the least such location is written. `ASM_SMALL`: `written` is the room that it
-/// needs. `ASM_EMPTY`: the slot has no agent. `ASM_NOT_JSON`, `ASM_SHAPE`. `ASM_RANGE`: a read has a number above
+/// needs. `ASM_EMPTY`: the slot has no agent. `ASM_NOT_JSON`, `ASM_SHAPE`. `ASM_AHEAD`: a read has a number above
 /// what the agent had seen, so nothing can be told of it. `ASM_MANY`, after it: more than 256 reads. After these
 /// five the slot is as it was. `ASM_MEMORY`: the agent may have seen more.
 #[unsafe(no_mangle)]

@@ -10,15 +10,15 @@ use std::alloc::Global;
 /// Pushes the move `[INSTR, ..]`: what is got or pushed later is seen through what it leaves.
 ///
 /// It makes no look and no receipt, and the agent's slot stays as it was. `ASM_CLASH`: its updates clash on what
-/// is seen, and `{"clash":[LOC,CAUSE]}` is written. `ASM_DEEP`: 64 moves are pushed. `ASM_MANY`: the one move of
-/// all that is pushed would have more than 4,096 instructions. `ASM_LARGE`, with `{"large":LOC}`, never comes
+/// is seen, and `{"clash":[LOC,CAUSE]}` is written. `ASM_DEEP`: 64 moves are pushed. `ASM_LONG_MOVE`: the one
+/// move of all that is pushed would have more than 4,096 instructions. `ASM_LARGE`, with `{"large":LOC}`, never comes
 /// for a step of the agent's storage. `ASM_MOVED`: the agent's own state doesn't stand at the step's number.
 /// `ASM_SMALL`: `written` is the room that the text of a refusal needs. `ASM_EMPTY`: the first slot has no agent,
 /// the second no step, or the two are one. `ASM_NOT_JSON`, `ASM_SHAPE`, `ASM_MEMORY`. After each of these what is pushed
 /// is as it was, so a push that is refused, or is popped, is a dry run. The step has to be one of the agent's storage.
 ///
 /// A refusal tells of the state below: its location, and the smaller ones at which the move has partial updates, which fit,
-/// are got where a get would get them; with `ASM_MANY` all at which it has some. Where they would take more than 256 places,
+/// are got where a get would get them; with `ASM_LONG_MOVE` all at which it has some. Where they would take more than 256 places,
 /// nothing is got, and `ASM_MANY` is answered without a text.
 #[unsafe(no_mangle)]
 pub extern "C" fn asm_push(

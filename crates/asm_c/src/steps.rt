@@ -1,7 +1,7 @@
 //! Beginning a step, what is seen through its pushed moves, and taking the last one away.
 ghost use Rattle.std.specs.Prelude.{◌≡◌, ◌≢◌, ◌↔◌, ◌∷◌, [], Ok, length};
 ghost use Rattle.asm_slots.specs.Codes.{IsOneOf, ASM_CLASH, ASM_DONE, ASM_EMPTY, ASM_LARGE, ASM_MANY};
-ghost use Rattle.asm_slots.specs.Codes.{ASM_MEMORY, ASM_NONE, ASM_TAKEN};
+ghost use Rattle.asm_slots.specs.Codes.{ASM_LONG_MOVE, ASM_MEMORY, ASM_NO_PUSH, ASM_TAKEN};
 ghost use Rattle.asm_slots.specs.GetByText.{Gets, Sees};
 ghost use Rattle.asm_slots.specs.Looks.{Begins};
 ghost use Rattle.asm_slots.specs.Popping.{IsComposedLast, IsNotPoppedLast};
@@ -119,14 +119,14 @@ pub extern "C" fn asm_see(
 /// Takes away the move that was pushed last, with those that extended it.
 ///
 /// The locations where these have partial updates are got, where what is seen is made from the state below: that they were
-/// taken tells of it. What was got stays got, and what was scanned stays scanned. `ASM_NONE`: none is pushed. `ASM_MANY`: more
+/// taken tells of it. What was got stays got, and what was scanned stays scanned. `ASM_NO_PUSH`: none is pushed. `ASM_MANY`: more
 /// than 256 places would be taken. `ASM_EMPTY`: the slot has no step. `ASM_MEMORY`. After each of these the slot is as it was.
 #[unsafe(no_mangle)]
 pub extern "C" fn asm_pop(alloc: Global, step: &mut Slot) -> i32
-    ensures codes { IsOneOf (ASM_DONE ∷ ASM_MEMORY ∷ ASM_EMPTY ∷ ASM_MANY ∷ ASM_NONE ∷ []) result }
+    ensures codes { IsOneOf (ASM_DONE ∷ ASM_MEMORY ∷ ASM_EMPTY ∷ ASM_MANY ∷ ASM_NO_PUSH ∷ []) result }
     ensures popped { result ≡ ASM_DONE →
         GoesStep (content_of step.old) (content_of step.new) (λ s. HasPoppedOver (judged_last s) s) }
-    ensures none { result ≡ ASM_NONE → HoldsStep (content_of step.old) (λ s. s.layers ≡ []) }
+    ensures none { result ≡ ASM_NO_PUSH → HoldsStep (content_of step.old) (λ s. s.layers ≡ []) }
     ensures many { result ≡ ASM_MANY → HoldsStep (content_of step.old) (λ s. WouldTakeMany (judged_last s) s) }
     ensures empty { result ≡ ASM_EMPTY → HoldsNoStep (content_of step.old) }
     ensures kept { result ≢ ASM_DONE → content_of step.new ≡ content_of step.old }
@@ -149,21 +149,23 @@ pub extern "C" fn asm_pop(alloc: Global, step: &mut Slot) -> i32
 /// location has partial updates alone there, and another one writes there too, it is got, if what is seen is made from the
 /// state below: the one move may come to less there. What was got stays got.
 ///
-/// `ASM_TAKEN`: the second slot holds something else than a move. `ASM_EMPTY`: the first has no step. `ASM_NONE`: none is
-/// pushed. `ASM_MANY`: the first of the moves come to more than 4,096 instructions, or more than 256 places would be taken.
+/// `ASM_TAKEN`: the second slot holds something else than a move. `ASM_EMPTY`: the first has no step. `ASM_NO_PUSH`: none is
+/// pushed. `ASM_LONG_MOVE`: the first of the moves come to more than 4,096 instructions. `ASM_MANY`: more than 256 places would be
+/// taken.
 /// `ASM_CLASH`, `ASM_LARGE`: the moves fire in turn on no state, which doesn't come of moves that were pushed over an agent's.
 /// `ASM_MEMORY`. After each of these both slots are as they were.
 #[unsafe(no_mangle)]
 pub extern "C" fn asm_pop_move(alloc: Global, step: &mut Slot, instrs: &mut Slot) -> i32
-    ensures codes { IsOneOf (ASM_DONE ∷ ASM_CLASH ∷ ASM_MEMORY ∷ ASM_EMPTY ∷ ASM_MANY ∷ ASM_TAKEN ∷ ASM_LARGE ∷ ASM_NONE ∷ []) result }
+    ensures codes { IsOneOf (ASM_DONE ∷ ASM_CLASH ∷ ASM_MEMORY ∷ ASM_EMPTY ∷ ASM_MANY ∷ ASM_TAKEN ∷ ASM_LARGE ∷ ASM_NO_PUSH
+        ∷ ASM_LONG_MOVE ∷ []) result }
     ensures popped { result ≡ ASM_DONE →
         GoesStep (content_of step.old) (content_of step.new) (λ s. HasPoppedOver (resting_last s) s) }
     ensures done { result ≡ ASM_DONE →
         HoldsStep (content_of step.old) (λ s. HoldsMove (content_of instrs.new) (λ M. IsComposedLast s (Ok M))) }
     ensures taken { (result ≡ ASM_TAKEN) ↔ ¬ HasRoomForMove (content_of instrs.old) }
     ensures empty { result ≡ ASM_EMPTY → HoldsNoStep (content_of step.old) }
-    ensures none { result ≡ ASM_NONE → HoldsStep (content_of step.old) (λ s. s.layers ≡ []) }
-    ensures refused { IsOneOf (ASM_CLASH ∷ ASM_MANY ∷ ASM_LARGE ∷ []) result →
+    ensures none { result ≡ ASM_NO_PUSH → HoldsStep (content_of step.old) (λ s. s.layers ≡ []) }
+    ensures refused { IsOneOf (ASM_CLASH ∷ ASM_MANY ∷ ASM_LARGE ∷ ASM_LONG_MOVE ∷ []) result →
         HoldsStep (content_of step.old) (λ s. IsNotPoppedLast s result) }
     ensures kept { result ≢ ASM_DONE → content_of step.new ≡ content_of step.old }
     ensures held { result ≢ ASM_DONE → content_of instrs.new ≡ content_of instrs.old }

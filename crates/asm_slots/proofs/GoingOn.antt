@@ -10,7 +10,7 @@ use Rattle.asm_storage.specs.declared.error.StorageError.{StorageError}
 use Rattle.asm_storage.specs.declared.history.History.{History}
 use Rattle.asm_journal.specs.Reading.{ReadsAs}
 use Rattle.asm_journal.specs.Text.{text_of}
-use Rattle.asm_slots.specs.Codes.{ASM_MEMORY, ASM_NONE, ASM_RANGE}
+use Rattle.asm_slots.specs.Codes.{ASM_MEMORY, ASM_NOT_FULL, ASM_CAPACITY}
 use Rattle.asm_slots.specs.AgentCalls.{IsOpened}
 use Rattle.asm_slots.specs.Bytes.{ReadAsState}
 use Rattle.asm_slots.specs.NextStore.{GoesOn, GoesOnFrom, HasOpened}
@@ -93,7 +93,7 @@ pub holds_store : (o : Option Content) (s : StoreView) (P : StoreView → Type 0
 holds_store o s P is p = subst (λ (x : Option Content). HoldsStore x P) (sym is) p
 
 -- one of these codes as an i32
-pub coded : (code : ℤ) → (code ≡ ASM_MEMORY) ⊎ ((code ≡ ASM_RANGE) ⊎ ((code ≡ ASM_NONE) ⊎ ⊥)) → to_z w32 (of_z w32 code) ≡ code
+pub coded : (code : ℤ) → (code ≡ ASM_MEMORY) ⊎ ((code ≡ ASM_CAPACITY) ⊎ ((code ≡ ASM_NOT_FULL) ⊎ ⊥)) → to_z w32 (of_z w32 code) ≡ code
 coded code (inl e) = subst (λ (z : ℤ). to_z w32 (of_z w32 z) ≡ z) (sym e) refl
 coded code (inr (inl e)) = subst (λ (z : ℤ). to_z w32 (of_z w32 z) ≡ z) (sym e) refl
 coded code (inr (inr (inl e))) = subst (λ (z : ℤ). to_z w32 (of_z w32 z) ≡ z) (sym e) refl

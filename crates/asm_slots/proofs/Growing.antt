@@ -136,7 +136,8 @@ not_small (inl e) = cc
 not_small (inr (inl e)) = cc
 not_small (inr (inr (inl e))) = cc
 not_small (inr (inr (inr (inl e)))) = cc
-not_small (inr (inr (inr (inr h)))) = h
+not_small (inr (inr (inr (inr (inl e))))) = cc
+not_small (inr (inr (inr (inr (inr h))))) = h
 
 -- the locations are got, in a step whose contents were these
 pub got_with : (locations : List Place) (inside old : StepView) (got : List Place) → inside ≡ old →

@@ -10,7 +10,7 @@ use Rattle.asm_update.specs.declared.action.Action.TheVariants.{Regular, SetAdd,
 use Rattle.asm_journal.specs.Value.{IsValueForm}
 use Rattle.asm_journal.proofs.Values.{value_once}
 use Rattle.asm_explain.specs.Bytes.{IsOtherJson, ReadAs}
-use Rattle.asm_slots.specs.Codes.{ASM_MEMORY, ASM_RANGE, ASM_SHAPE}
+use Rattle.asm_slots.specs.Codes.{ASM_MEMORY, ASM_OPERAND, ASM_SHAPE}
 use Rattle.asm_slots.specs.Kinds.{ASM_KIND_BAG, ASM_KIND_BOOL, ASM_KIND_LIST, ASM_KIND_NUM, ASM_KIND_SET, ASM_KIND_TEXT, ASM_KIND_UNDEF}
 use Rattle.asm_slots.specs.Kinds.{IsAction, IsAmount, IsByJson, IsKindForm, IsNoAction, IsOperand, IsTextOrPlain, kind_of, verb_of}
 use Rattle.asm_slots.specs.Verbs.{CannotTake, IsActionOn, IsVerb}
@@ -70,7 +70,7 @@ not_by k list set bag (inr (inl is)) = set (ap (of_z w32) is)
 not_by k list set bag (inr (inr is)) = bag (ap (of_z w32) is)
 
 -- these codes are what their words tell
-pub coded : (code : ℤ) → (code ≡ ASM_MEMORY) ⊎ ((code ≡ ASM_RANGE) ⊎ ((code ≡ ASM_SHAPE) ⊎ ⊥)) → to_z w32 (of_z w32 code) ≡ code
+pub coded : (code : ℤ) → (code ≡ ASM_MEMORY) ⊎ ((code ≡ ASM_OPERAND) ⊎ ((code ≡ ASM_SHAPE) ⊎ ⊥)) → to_z w32 (of_z w32 code) ≡ code
 coded code (inl e) = subst (λ (z : ℤ). to_z w32 (of_z w32 z) ≡ z) (sym e) refl
 coded code (inr (inl e)) = subst (λ (z : ℤ). to_z w32 (of_z w32 z) ≡ z) (sym e) refl
 coded code (inr (inr (inl e))) = subst (λ (z : ℤ). to_z w32 (of_z w32 z) ≡ z) (sym e) refl

@@ -12,7 +12,7 @@ use Rattle.asm_audit.specs.Fed.{HasTakenFirst, IsFedAnswer, IsFedEnd}
 use Rattle.asm_audit.specs.SoFar.{AreFedSoFar, IsFedStateSoFar}
 use Rattle.asm_slots.specs.AuditView.{AuditView}
 use Rattle.asm_slots.specs.Codes.{IsOneOf, ASM_DONE, ASM_MEMORY, ASM_EMPTY, ASM_TAKEN, ASM_ILLEGAL}
-use Rattle.asm_slots.specs.Codes.{ASM_NOT_JSON, ASM_SHAPE, ASM_VERSION, ASM_CUT, ASM_LARGE, ASM_APART}
+use Rattle.asm_slots.specs.Codes.{ASM_NOT_JSON, ASM_SHAPE, ASM_VERSION, ASM_CUT, ASM_LONG_LINE, ASM_APART}
 use Rattle.asm_slots.specs.Journals.{TellsError}
 use Rattle.asm_slots.specs.Slots.{GoesAudit, HoldsAudit, HoldsNoAudit, HasRoomForAudit}
 use Rattle.asm_slots.specs.Standard.{part}
@@ -31,7 +31,7 @@ AreNoNumbers n = (n.parts ≡ 0) × (n.calls ≡ 0) × (n.moves ≡ 0)
 abbrev pub TellsAuditError : AuditError → ℤ → AuditNumbers → Type 0
 TellsAuditError (Journal j fault) code n = TellsError fault code n.calls × (n.parts ≡ j) × (n.moves ≡ 0)
 TellsAuditError (Apart j) code n = (code ≡ ASM_APART) × (n.parts ≡ j) × (n.calls ≡ 0) × (n.moves ≡ 0)
-TellsAuditError LongLine code n = (code ≡ ASM_LARGE) × AreNoNumbers n
+TellsAuditError LongLine code n = (code ≡ ASM_LONG_LINE) × AreNoNumbers n
 TellsAuditError Memory code n = (code ≡ ASM_MEMORY) × AreNoNumbers n
 
 -- the code of what is told of bytes, with the number of the part and of the call whose answer is wrong
@@ -58,7 +58,7 @@ pub record HasAudited (bytes : List ℕ) (taken : ℕ) (n : AuditNumbers) (code 
 -- holds something else
 pub record Audits (bytes : List ℕ) (audit after : Option Content) (taken : ℕ) (n : AuditNumbers) (code : ℤ) : Type 0 where
   pub codes : IsOneOf (ASM_DONE ∷ ASM_MEMORY ∷ ASM_TAKEN ∷ ASM_ILLEGAL ∷ ASM_NOT_JSON ∷ ASM_SHAPE ∷ ASM_VERSION
-      ∷ ASM_CUT ∷ ASM_LARGE ∷ ASM_APART ∷ []) code
+      ∷ ASM_CUT ∷ ASM_LONG_LINE ∷ ASM_APART ∷ []) code
   pub audited : HasRoomForAudit audit → GoesAudit audit after (HasAudited bytes taken n code)
       ⊎ ((code ≡ ASM_MEMORY) × (after ≡ audit) × (taken ≡ 0) × AreNoNumbers n)
   pub other : (code ≡ ASM_TAKEN) ↔ ¬ HasRoomForAudit audit
@@ -73,7 +73,7 @@ pub record HasEnd (n : AuditNumbers) (code : ℤ) (a : AuditView) : Type 0 where
 -- the end is told of the audit of a slot
 pub record EndsAudit (audit : Option Content) (n : AuditNumbers) (code : ℤ) : Type 0 where
   pub codes : IsOneOf (ASM_DONE ∷ ASM_MEMORY ∷ ASM_EMPTY ∷ ASM_NOT_JSON ∷ ASM_SHAPE ∷ ASM_VERSION ∷ ASM_CUT
-      ∷ ASM_LARGE ∷ ASM_APART ∷ []) code
+      ∷ ASM_LONG_LINE ∷ ASM_APART ∷ []) code
   pub ends : ¬ HoldsNoAudit audit → HoldsAudit audit (HasEnd n code)
   pub empty : (code ≡ ASM_EMPTY) ↔ HoldsNoAudit audit
   pub none : code ≡ ASM_EMPTY → AreNoNumbers n

@@ -4,7 +4,7 @@ use Rattle.asm_storage.specs.declared.history.History.{History}
 use Rattle.asm_storage.specs.History.{Fits}
 use Rattle.asm_storage.specs.Storage.{AgentAt, StorageView}
 use Rattle.asm_slots.specs.ClosedStore.{IsTooLarge, IsUnseen, LacksReceipt}
-use Rattle.asm_slots.specs.Codes.{ASM_MEMORY, ASM_MISSING, ASM_LARGE}
+use Rattle.asm_slots.specs.Codes.{ASM_MEMORY, ASM_MISSING, ASM_MANY_CALLS}
 use Rattle.asm_slots.specs.Standard.{Standard}
 use Rattle.asm_slots.specs.declared.store_close.Unclosed.{Unclosed}
 use Rattle.asm_slots.specs.declared.store_close.Unclosed.TheVariants as unclosed
@@ -26,5 +26,5 @@ IsUnwritten s all history unclosed.Memory = Unit {0}
 -- this code tells why, with the number of the move that has no receipt, or 0
 abbrev pub TellsUnclosed : Unclosed → ℤ → ℕ → Type 0
 TellsUnclosed (unclosed.Missing n) code number = (code ≡ ASM_MISSING) × (number ≡ n)
-TellsUnclosed unclosed.Large code number = (code ≡ ASM_LARGE) × (number ≡ 0)
+TellsUnclosed unclosed.Large code number = (code ≡ ASM_MANY_CALLS) × (number ≡ 0)
 TellsUnclosed unclosed.Memory code number = (code ≡ ASM_MEMORY) × (number ≡ 0)

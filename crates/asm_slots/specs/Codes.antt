@@ -1,6 +1,5 @@
 -- The codes that C gets.
-use Rattle.std.specs.Prelude.{◌≡◌, ◌⊎◌, ℤ, pos, negsuc, List, [], ◌∷◌, ℕ, codes, slice_index_or, if◌then◌else◌}
-use Rattle.std.specs.Ordering.{int_eq}
+use Rattle.std.specs.Prelude.{◌≡◌, ◌⊎◌, ◌-◌, ℤ, pos, negsuc, List, [], ◌∷◌, ℕ, codes, int_lt, slice_index_or, if◌then◌else◌}
 
 -- done; of a fire: fired; of a check: legal
 abbrev pub ASM_DONE : ℤ
@@ -26,9 +25,9 @@ ASM_FULL = pos 4
 abbrev pub ASM_EMPTY : ℤ
 ASM_EMPTY = pos 5
 
--- a capacity, a number, a count, a form, a verb, a kind or an amount is out of range
-abbrev pub ASM_RANGE : ℤ
-ASM_RANGE = pos 6
+-- a capacity isn't 1 to 1,048,576
+abbrev pub ASM_CAPACITY : ℤ
+ASM_CAPACITY = pos 6
 
 -- the buffer is too small
 abbrev pub ASM_SMALL : ℤ
@@ -38,14 +37,13 @@ ASM_SMALL = pos 7
 abbrev pub ASM_BUSY : ℤ
 ASM_BUSY = pos 8
 
--- more than 256 locations, or locations and scanned functions; or a move with more than 4,096 instructions
+-- more than 256 locations, or locations and scanned functions
 abbrev pub ASM_MANY : ℤ
 ASM_MANY = pos 9
 
--- no call was answered yet; no journal since an agent was given back or taken; no move is pushed; no agent with the number was
--- given back; no part has begun; or the storage has room for a further move
-abbrev pub ASM_NONE : ℤ
-ASM_NONE = pos 10
+-- no call was answered yet
+abbrev pub ASM_NO_ANSWER : ℤ
+ASM_NO_ANSWER = pos 10
 
 -- a slot that was to be filled holds something else
 abbrev pub ASM_TAKEN : ℤ
@@ -83,7 +81,7 @@ ASM_VERSION = pos 18
 abbrev pub ASM_CUT : ℤ
 ASM_CUT = pos 19
 
--- more calls than a journal holds; too long a line; or too large an amount or sum
+-- an amount or a sum is too large
 abbrev pub ASM_LARGE : ℤ
 ASM_LARGE = pos 20
 
@@ -99,45 +97,113 @@ ASM_DEEP = pos 22
 abbrev pub ASM_APART : ℤ
 ASM_APART = pos 23
 
+-- an agent's number isn't below 256, or there would be one
+abbrev pub ASM_AGENTS : ℤ
+ASM_AGENTS = pos 24
+
+-- a location or a function is named at a number above that of the moves that the agent has seen
+abbrev pub ASM_AHEAD : ℤ
+ASM_AHEAD = pos 25
+
+-- a verb, a kind, a number, bytes and an amount make no instruction
+abbrev pub ASM_OPERAND : ℤ
+ASM_OPERAND = pos 26
+
+-- there is no such form
+abbrev pub ASM_NO_FORM : ℤ
+ASM_NO_FORM = pos 27
+
+-- no journal was made since an agent was given back or taken
+abbrev pub ASM_NO_JOURNAL : ℤ
+ASM_NO_JOURNAL = pos 28
+
+-- no move is pushed
+abbrev pub ASM_NO_PUSH : ℤ
+ASM_NO_PUSH = pos 29
+
+-- no agent with this number was given back
+abbrev pub ASM_NO_AGENT : ℤ
+ASM_NO_AGENT = pos 30
+
+-- no part has begun
+abbrev pub ASM_NO_PART : ℤ
+ASM_NO_PART = pos 31
+
+-- the agent's own state stands at fewer moves than its storage has room for
+abbrev pub ASM_NOT_FULL : ℤ
+ASM_NOT_FULL = pos 32
+
+-- more calls than a journal holds
+abbrev pub ASM_MANY_CALLS : ℤ
+ASM_MANY_CALLS = pos 33
+
+-- a line has more than 16,777,216 bytes
+abbrev pub ASM_LONG_LINE : ℤ
+ASM_LONG_LINE = pos 34
+
+-- a move has more than 4,096 instructions
+abbrev pub ASM_LONG_MOVE : ℤ
+ASM_LONG_MOVE = pos 35
+
 -- one of these codes
 abbrev pub IsOneOf : List ℤ → ℤ → Type 0
 IsOneOf [] code = ⊥
 IsOneOf (c ∷ cs) code = (code ≡ c) ⊎ IsOneOf cs code
 
--- the texts of the codes but ASM_APART, from 0 up
-abbrev pub texts : List (List ℕ)
-texts =
+-- the texts of the codes from 0 up to ASM_DEEP
+abbrev pub first_texts : List (List ℕ)
+first_texts =
     codes "done" ∷
     codes "a location that was named, or of a function that was scanned, was written since" ∷
     codes "the updates of the move clash" ∷
     codes "out of memory" ∷
     codes "as many moves were fired as the capacity" ∷
     codes "a slot holds nothing of this kind, or is passed twice" ∷
-    codes "a capacity, a number, a count, a form, a verb, a kind or an amount is out of range" ∷
+    codes "the capacity is not 1 to 1,048,576" ∷
     codes "the buffer is too small" ∷
     codes "64 offers were lost" ∷
-    codes "more than 256 locations and scanned functions, or more than 4,096 instructions" ∷
-    codes "there is no answer, journal, pushed move, agent or part, or there is room still" ∷
+    codes "more than 256 locations, or locations and scanned functions" ∷
+    codes "no call was answered yet" ∷
     codes "the slot that was to be filled holds something else" ∷
     codes "an agent with this number was made before" ∷
-    codes "a move has no receipt among the agents that were given back" ∷
+    codes "a move has no receipt among the agents that were returned" ∷
     codes "the two slots are of two storages" ∷
     codes "the journal is not legal" ∷
     codes "not JSON" ∷
     codes "JSON of another shape" ∷
     codes "a journal of another version" ∷
     codes "the journal is cut off" ∷
-    codes "too many calls for a journal, too long a line, or too large an amount" ∷
+    codes "an amount or a sum is too large" ∷
     codes "the state of the agent is at another number of moves than the step" ∷
     codes "64 moves are pushed already" ∷ []
 
--- the text of a code but ASM_APART
-abbrev pub text_but_apart : ℤ → List ℕ
-text_but_apart (pos n) = slice_index_or texts n (codes "no code of this library")
-text_but_apart (negsuc n) = codes "no code of this library"
+-- and of those from ASM_APART on
+abbrev pub further_texts : List (List ℕ)
+further_texts =
+    codes "a part opens with another state than the one before it leaves" ∷
+    codes "the number of an agent is not below 256, or more than 256 agents are asked for" ∷
+    codes "a location or a function is named at a number of moves that the agent has not seen" ∷
+    codes "the verb, the kind, the number, the bytes and the amount make no instruction" ∷
+    codes "there is no such form" ∷
+    codes "no journal was made since an agent was returned or taken" ∷
+    codes "no move is pushed" ∷
+    codes "no agent with this number was returned" ∷
+    codes "no part has begun" ∷
+    codes "the state of the agent is at fewer moves than the storage has room for" ∷
+    codes "more than the 4,294,967,295 calls of a journal" ∷
+    codes "a line of more than 16,777,216 bytes" ∷
+    codes "a move of more than 4,096 instructions" ∷ []
+
+-- the text of this index among these; none where there is no such text
+abbrev pub text_among : List (List ℕ) → ℤ → List ℕ
+text_among texts (pos n) = slice_index_or texts n (codes "no code of this library")
+text_among texts (negsuc n) = codes "no code of this library"
+
+-- the index of a code among the further ones
+abbrev pub further : ℤ → ℤ
+further (pos n) = pos (n - 23)
+further (negsuc n) = negsuc n
 
 -- the text of a code
 abbrev pub text_of_code : ℤ → List ℕ
-text_of_code code =
-    if int_eq code ASM_APART then codes "a part opens with another state than the one before it leaves"
-    else text_but_apart code
+text_of_code code = if int_lt code ASM_APART then text_among first_texts code else text_among further_texts (further code)

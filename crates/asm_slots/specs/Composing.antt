@@ -18,7 +18,7 @@ use Rattle.asm_journal.specs.Shape.{one_of}
 use Rattle.asm_journal.specs.Text.{state_json_of}
 use Rattle.asm_journal.specs.Value.{IsStateForm}
 use Rattle.asm_slots.specs.Bytes.{AreMisread, ReadAsMove, ReadAsState}
-use Rattle.asm_slots.specs.Codes.{IsOneOf, ASM_DONE, ASM_CLASH, ASM_MEMORY, ASM_SMALL, ASM_MANY}
+use Rattle.asm_slots.specs.Codes.{IsOneOf, ASM_DONE, ASM_CLASH, ASM_MEMORY, ASM_SMALL, ASM_LONG_MOVE}
 use Rattle.asm_slots.specs.Codes.{ASM_NOT_JSON, ASM_SHAPE, ASM_LARGE}
 use Rattle.asm_slots.specs.Standard.{standard, part}
 use Rattle.asm_slots.specs.WrittenText.{TellsOneOf}
@@ -59,7 +59,7 @@ abbrev pub TellsComposition : Result Move ComposeError → ℤ → List ℕ → 
 TellsComposition (Ok C) code text = (code ≡ ASM_DONE) × (text ≡ compact_text (move_json_of C))
 TellsComposition (Err (compose_error.Clash c)) code text = (code ≡ ASM_CLASH) × (text ≡ clash_text c)
 TellsComposition (Err (compose_error.Large l)) code text = (code ≡ ASM_LARGE) × (text ≡ large_text l)
-TellsComposition (Err compose_error.ManyInstructions) code text = (code ≡ ASM_MANY) × (text ≡ [])
+TellsComposition (Err compose_error.ManyInstructions) code text = (code ≡ ASM_LONG_MOVE) × (text ≡ [])
 TellsComposition (Err compose_error.Memory) code text = ⊥
 
 -- the bytes are JSON of two moves, and code and text tell their composition, which fires as the two do in turn
@@ -75,7 +75,7 @@ pub record IsComposed (first second : List ℕ) (code : ℤ) (text : List ℕ) :
 
 -- one move that does what the two moves of these bytes do in turn is told, or why there is none; or the code tells why not
 pub record Composes (first second out out_after : List ℕ) (written : ℕ) (code : ℤ) : Type 0 where
-  pub codes : IsOneOf (ASM_DONE ∷ ASM_CLASH ∷ ASM_MEMORY ∷ ASM_SMALL ∷ ASM_MANY
+  pub codes : IsOneOf (ASM_DONE ∷ ASM_CLASH ∷ ASM_MEMORY ∷ ASM_SMALL ∷ ASM_LONG_MOVE
       ∷ ASM_NOT_JSON ∷ ASM_SHAPE ∷ ASM_LARGE ∷ []) code
-  pub text : TellsOneOf (ASM_DONE ∷ ASM_CLASH ∷ ASM_MANY ∷ ASM_LARGE ∷ []) (IsComposed first second) out out_after written code
+  pub text : TellsOneOf (ASM_DONE ∷ ASM_CLASH ∷ ASM_LONG_MOVE ∷ ASM_LARGE ∷ []) (IsComposed first second) out out_after written code
   pub refused : IsOneOf (ASM_NOT_JSON ∷ ASM_SHAPE ∷ []) code → AreMisread IsMoveForm IsMoveForm first second code

@@ -20,7 +20,7 @@ use Rattle.asm_slots.specs.AgentCalls.{HasLooked, IsRepliedOver, IsReplyCode, Ma
 use Rattle.asm_slots.specs.AgentCalls.{MissedFew, MissedOne, SeesOn, WasBusy, code_of, number_of}
 use Rattle.asm_slots.specs.Bytes.{AreMisread}
 use Rattle.asm_slots.specs.Codes.{IsOneOf, ASM_DONE, ASM_STALE, ASM_CLASH, ASM_MEMORY, ASM_FULL}
-use Rattle.asm_slots.specs.Codes.{ASM_EMPTY, ASM_RANGE, ASM_BUSY, ASM_MANY, ASM_NOT_JSON, ASM_SHAPE}
+use Rattle.asm_slots.specs.Codes.{ASM_EMPTY, ASM_AHEAD, ASM_BUSY, ASM_MANY, ASM_NOT_JSON, ASM_SHAPE}
 use Rattle.asm_slots.specs.NumbersAhead.{is_any_above}
 use Rattle.asm_slots.specs.OwnState.{state_at}
 use Rattle.asm_slots.specs.Slots.{Goes, Holds, HoldsNoAgent}
@@ -85,7 +85,7 @@ HasTriedFireOver call scans code number old new =
 -- that is yet to come is told before the agent looks, and before more than 256 named reads and scans are
 pub record FiresOver (call scans : List ℕ) (agent after : Option Content) (numbers : Numbers) (code : ℤ) : Type 0 where
   pub codes : IsOneOf (ASM_DONE ∷ ASM_STALE ∷ ASM_CLASH ∷ ASM_MEMORY ∷ ASM_FULL ∷ ASM_EMPTY
-      ∷ ASM_RANGE ∷ ASM_BUSY ∷ ASM_MANY ∷ ASM_NOT_JSON ∷ ASM_SHAPE ∷ []) code
+      ∷ ASM_AHEAD ∷ ASM_BUSY ∷ ASM_MANY ∷ ASM_NOT_JSON ∷ ASM_SHAPE ∷ []) code
   pub answered : IsReplyCode code → Goes agent after (HasTriedFireOver call scans code numbers.fired)
   pub unfired : code ≢ ASM_DONE → numbers.fired ≡ 0
   pub not_busy : code ≢ ASM_BUSY → (numbers.from ≡ 0) × (numbers.to ≡ 0)
@@ -93,7 +93,7 @@ pub record FiresOver (call scans : List ℕ) (agent after : Option Content) (num
   pub missed : code ≡ ASM_DONE → Goes agent after MissedOne
   pub lost : code ≡ ASM_BUSY → numbers.from + offers_limit ≤ numbers.to
   pub memory : code ≡ ASM_MEMORY → Goes agent after MayHaveOffered
-  pub range : code ≡ ASM_RANGE → Holds agent (FiresOverAhead call scans)
+  pub range : code ≡ ASM_AHEAD → Holds agent (FiresOverAhead call scans)
   pub within : IsOneOf (ASM_DONE ∷ ASM_STALE ∷ ASM_CLASH ∷ ASM_FULL ∷ ASM_BUSY ∷ ASM_MANY ∷ []) code →
       Holds agent (FiresOverWithin call scans)
   pub many : code ≡ ASM_MANY → ReadAsManyOver call scans
@@ -103,4 +103,4 @@ pub record FiresOver (call scans : List ℕ) (agent after : Option Content) (num
   pub same : code ≢ ASM_EMPTY → Goes agent after IsSameAgent
   pub seen : code ≢ ASM_EMPTY → Goes agent after SeesOn
   pub empty : code ≡ ASM_EMPTY → HoldsNoAgent agent
-  pub kept : IsOneOf (ASM_EMPTY ∷ ASM_RANGE ∷ ASM_MANY ∷ ASM_NOT_JSON ∷ ASM_SHAPE ∷ []) code → after ≡ agent
+  pub kept : IsOneOf (ASM_EMPTY ∷ ASM_AHEAD ∷ ASM_MANY ∷ ASM_NOT_JSON ∷ ASM_SHAPE ∷ []) code → after ≡ agent

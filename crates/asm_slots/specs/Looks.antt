@@ -6,7 +6,7 @@ use Rattle.asm_explain.specs.Bytes.{IsNoJson, IsOtherJson}
 use Rattle.asm_slots.specs.Bytes.{AreReads, ReadAsMoreReads}
 use Rattle.asm_slots.specs.AgentCalls.{HasLooked, MayHaveLooked, SeesOn}
 use Rattle.asm_slots.specs.Codes.{IsOneOf, ASM_DONE, ASM_STALE, ASM_MEMORY, ASM_EMPTY, ASM_SMALL, ASM_MANY}
-use Rattle.asm_slots.specs.Codes.{ASM_RANGE, ASM_TAKEN, ASM_NOT_JSON, ASM_SHAPE}
+use Rattle.asm_slots.specs.Codes.{ASM_AHEAD, ASM_TAKEN, ASM_NOT_JSON, ASM_SHAPE}
 use Rattle.asm_slots.specs.OwnState.{AllStand, HasFollowed, HasLookedOn, IsStaleOf}
 use Rattle.asm_slots.specs.Slots.{Goes, HasRoomForStep, Holds, HoldsNoAgent, HoldsStep}
 use Rattle.asm_slots.specs.StepView.{begun}
@@ -20,7 +20,7 @@ IsStaleTold reads agent text = Holds agent (λ a. IsStaleOf reads a text)
 -- the named reads of these bytes stand after what the agent has then seen, or a stale one is told; or the code tells why not.
 -- A number that is yet to come is told before the agent looks, and before more than 256 reads are
 pub record Stands (reads : List ℕ) (agent after : Option Content) (out out_after : List ℕ) (written : ℕ) (code : ℤ) : Type 0 where
-  pub codes : IsOneOf (ASM_DONE ∷ ASM_STALE ∷ ASM_MEMORY ∷ ASM_EMPTY ∷ ASM_RANGE ∷ ASM_SMALL ∷ ASM_MANY
+  pub codes : IsOneOf (ASM_DONE ∷ ASM_STALE ∷ ASM_MEMORY ∷ ASM_EMPTY ∷ ASM_AHEAD ∷ ASM_SMALL ∷ ASM_MANY
       ∷ ASM_NOT_JSON ∷ ASM_SHAPE ∷ []) code
   pub stand : code ≡ ASM_DONE → Holds after (AllStand reads)
   pub text : Tells (ASM_STALE ∷ []) (λ c. IsStaleTold reads after) (IsStaleTold reads after) out out_after written code
@@ -29,13 +29,13 @@ pub record Stands (reads : List ℕ) (agent after : Option Content) (out out_aft
   pub refused : code ≢ ASM_EMPTY → Goes agent after HasLooked
   pub same : code ≢ ASM_EMPTY → Goes agent after IsSameAgent
   pub seen : code ≢ ASM_EMPTY → Goes agent after SeesOn
-  pub range : code ≡ ASM_RANGE → Holds agent (ReadsAhead reads)
+  pub range : code ≡ ASM_AHEAD → Holds agent (ReadsAhead reads)
   pub within : IsOneOf (ASM_DONE ∷ ASM_STALE ∷ ASM_SMALL ∷ ASM_MANY ∷ []) code → Holds agent (ReadsWithin reads)
   pub many : code ≡ ASM_MANY → ReadAsMoreReads reads
   pub not_json : code ≡ ASM_NOT_JSON → IsNoJson reads
   pub shape : code ≡ ASM_SHAPE → IsOtherJson AreReads reads
   pub empty : code ≡ ASM_EMPTY → HoldsNoAgent agent
-  pub kept : IsOneOf (ASM_EMPTY ∷ ASM_RANGE ∷ ASM_MANY ∷ ASM_NOT_JSON ∷ ASM_SHAPE ∷ []) code → after ≡ agent
+  pub kept : IsOneOf (ASM_EMPTY ∷ ASM_AHEAD ∷ ASM_MANY ∷ ASM_NOT_JSON ∷ ASM_SHAPE ∷ []) code → after ≡ agent
 
 -- the agent has looked on, and the other slot holds a step at so many moves; or the code tells why not, and what it held stays
 pub record Begins (agent after step step_after : Option Content) (number : ℕ) (code : ℤ) : Type 0 where

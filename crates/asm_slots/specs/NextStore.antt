@@ -4,7 +4,7 @@ use Rattle.asm_element.specs.Place.{Place}
 use Rattle.asm_update.specs.State.{IsProper, val}
 use Rattle.asm_storage.specs.Storage.{AgentAt, StorageView}
 use Rattle.asm_slots.specs.AgentCalls.{IsNoCapacity}
-use Rattle.asm_slots.specs.Codes.{IsOneOf, ASM_DONE, ASM_MEMORY, ASM_EMPTY, ASM_RANGE, ASM_NONE, ASM_TAKEN}
+use Rattle.asm_slots.specs.Codes.{IsOneOf, ASM_DONE, ASM_MEMORY, ASM_EMPTY, ASM_CAPACITY, ASM_NOT_FULL, ASM_TAKEN}
 use Rattle.asm_slots.specs.KeptJournal.{Leaves}
 use Rattle.asm_slots.specs.OwnState.{state_at}
 use Rattle.asm_slots.specs.Slots.{Holds, HoldsNoAgent, HoldsStore}
@@ -50,12 +50,12 @@ pub record GoesOnFrom (most : ℕ) (a : AgentAt Standard) (new : StoreView) : Ty
 
 -- the storage of the agent in the one slot goes on in the other; or the code tells why not
 pub record GoesOnWith (capacity : ℕ) (agent next after : Option Content) (code : ℤ) : Type 0 where
-  pub codes : IsOneOf (ASM_DONE ∷ ASM_MEMORY ∷ ASM_EMPTY ∷ ASM_RANGE ∷ ASM_NONE ∷ ASM_TAKEN ∷ []) code
+  pub codes : IsOneOf (ASM_DONE ∷ ASM_MEMORY ∷ ASM_EMPTY ∷ ASM_CAPACITY ∷ ASM_NOT_FULL ∷ ASM_TAKEN ∷ []) code
   pub opened : code ≡ ASM_DONE → Holds agent (λ a. HoldsStore after (GoesOnFrom capacity a))
   pub refused : code ≢ ASM_DONE → after ≡ next
   pub taken : (code ≡ ASM_TAKEN) ↔ (next ≢ None)
   pub empty : code ≡ ASM_EMPTY → HoldsNoAgent agent
-  pub none : code ≡ ASM_NONE → Holds agent (λ a. ¬ IsAtEnd a)
-  pub at_end : IsOneOf (ASM_MEMORY ∷ ASM_RANGE ∷ []) code → Holds agent IsAtEnd
-  pub range : code ≡ ASM_RANGE → IsNoCapacity capacity
+  pub none : code ≡ ASM_NOT_FULL → Holds agent (λ a. ¬ IsAtEnd a)
+  pub at_end : IsOneOf (ASM_MEMORY ∷ ASM_CAPACITY ∷ []) code → Holds agent IsAtEnd
+  pub range : code ≡ ASM_CAPACITY → IsNoCapacity capacity
   pub sized : IsOneOf (ASM_DONE ∷ ASM_MEMORY ∷ []) code → ¬ IsNoCapacity capacity

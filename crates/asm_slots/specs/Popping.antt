@@ -5,7 +5,7 @@ use Rattle.asm_aggregate.specs.declared.composition.ComposeError.{ComposeError}
 use Rattle.asm_aggregate.specs.declared.composition.ComposeError.TheVariants.{Clash, Large, ManyInstructions, Memory}
 use Rattle.asm_storage.specs.Storage.{AgentAt}
 use Rattle.asm_step.specs.Popped.{IsOneOf, KeepsTurns}
-use Rattle.asm_slots.specs.Codes.{ASM_CLASH, ASM_LARGE, ASM_MANY, ASM_MEMORY}
+use Rattle.asm_slots.specs.Codes.{ASM_CLASH, ASM_LARGE, ASM_LONG_MOVE, ASM_MANY, ASM_MEMORY}
 use Rattle.asm_slots.specs.Standard.{Standard, standard, part}
 use Rattle.asm_slots.specs.StepCalls.{IsStepOn, WouldTakeMany}
 use Rattle.asm_slots.specs.StepView.{StepView}
@@ -20,7 +20,7 @@ IsComposedLast s r = (a : AgentAt Standard) (groups : List (List Move)) (group :
 abbrev pub TellsUncomposed : ComposeError → ℤ → Type 0
 TellsUncomposed (Clash c) code = code ≡ ASM_CLASH
 TellsUncomposed (Large l) code = code ≡ ASM_LARGE
-TellsUncomposed ManyInstructions code = code ≡ ASM_MANY
+TellsUncomposed ManyInstructions code = code ≡ ASM_LONG_MOVE
 TellsUncomposed Memory code = code ≡ ASM_MEMORY
 
 -- the code tells why the moves of the step's last group don't compose

@@ -8,7 +8,7 @@ use Rattle.asm_slots.specs.Bytes.{ReadAsManyLocations, ReadAsManyReads}
 use Rattle.asm_slots.specs.AgentCalls.{HasTriedFire, HasLooked, HasRead, IsReplyCode, MayHaveLooked, MayHaveOffered}
 use Rattle.asm_slots.specs.AgentCalls.{MissedFew, MissedOne, SeesOn, WasBusy}
 use Rattle.asm_slots.specs.Codes.{IsOneOf, ASM_DONE, ASM_STALE, ASM_CLASH, ASM_MEMORY, ASM_FULL}
-use Rattle.asm_slots.specs.Codes.{ASM_EMPTY, ASM_RANGE, ASM_BUSY, ASM_MANY, ASM_NOT_JSON, ASM_SHAPE}
+use Rattle.asm_slots.specs.Codes.{ASM_EMPTY, ASM_AHEAD, ASM_BUSY, ASM_MANY, ASM_NOT_JSON, ASM_SHAPE}
 use Rattle.asm_slots.specs.Slots.{Goes, Holds, HoldsNoAgent}
 use Rattle.asm_slots.specs.declared.content.Content.{Content}
 use Rattle.asm_slots.specs.declared.read_and_fire.Numbers.{Numbers}
@@ -31,7 +31,7 @@ pub record Reads (locations : List ℕ) (agent after : Option Content) (code : �
 -- is told before the agent looks, and before more than 256 named reads are
 pub record Fires (call : List ℕ) (agent after : Option Content) (numbers : Numbers) (code : ℤ) : Type 0 where
   pub codes : IsOneOf (ASM_DONE ∷ ASM_STALE ∷ ASM_CLASH ∷ ASM_MEMORY ∷ ASM_FULL ∷ ASM_EMPTY
-      ∷ ASM_RANGE ∷ ASM_BUSY ∷ ASM_MANY ∷ ASM_NOT_JSON ∷ ASM_SHAPE ∷ []) code
+      ∷ ASM_AHEAD ∷ ASM_BUSY ∷ ASM_MANY ∷ ASM_NOT_JSON ∷ ASM_SHAPE ∷ []) code
   pub answered : IsReplyCode code → Goes agent after (HasTriedFire call code numbers.fired)
   pub unfired : code ≢ ASM_DONE → numbers.fired ≡ 0
   pub not_busy : code ≢ ASM_BUSY → (numbers.from ≡ 0) × (numbers.to ≡ 0)
@@ -39,7 +39,7 @@ pub record Fires (call : List ℕ) (agent after : Option Content) (numbers : Num
   pub missed : code ≡ ASM_DONE → Goes agent after MissedOne
   pub lost : code ≡ ASM_BUSY → numbers.from + offers_limit ≤ numbers.to
   pub memory : code ≡ ASM_MEMORY → Goes agent after MayHaveOffered
-  pub range : code ≡ ASM_RANGE → Holds agent (FiresAhead call)
+  pub range : code ≡ ASM_AHEAD → Holds agent (FiresAhead call)
   pub within : IsOneOf (ASM_DONE ∷ ASM_STALE ∷ ASM_CLASH ∷ ASM_FULL ∷ ASM_BUSY ∷ ASM_MANY ∷ []) code →
       Holds agent (FiresWithin call)
   pub many : code ≡ ASM_MANY → ReadAsManyReads call
@@ -50,4 +50,4 @@ pub record Fires (call : List ℕ) (agent after : Option Content) (numbers : Num
   pub same : code ≢ ASM_EMPTY → Goes agent after IsSameAgent
   pub seen : code ≢ ASM_EMPTY → Goes agent after SeesOn
   pub empty : code ≡ ASM_EMPTY → HoldsNoAgent agent
-  pub kept : IsOneOf (ASM_EMPTY ∷ ASM_RANGE ∷ ASM_MANY ∷ ASM_NOT_JSON ∷ ASM_SHAPE ∷ []) code → after ≡ agent
+  pub kept : IsOneOf (ASM_EMPTY ∷ ASM_AHEAD ∷ ASM_MANY ∷ ASM_NOT_JSON ∷ ASM_SHAPE ∷ []) code → after ≡ agent

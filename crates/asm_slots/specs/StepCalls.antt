@@ -19,7 +19,7 @@ use Rattle.asm_step.specs.Places.{AreEach}
 use Rattle.asm_step.specs.declared.error.StepError.{StepError}
 use Rattle.asm_step.specs.declared.error.StepError.TheVariants.{Clash, Large, Many, Deep, Memory}
 use Rattle.asm_slots.specs.Bytes.{ReadAsLocations, ReadAsMove}
-use Rattle.asm_slots.specs.Codes.{ASM_CLASH, ASM_MANY, ASM_LARGE, ASM_DEEP}
+use Rattle.asm_slots.specs.Codes.{ASM_CLASH, ASM_LONG_MOVE, ASM_MANY, ASM_LARGE, ASM_DEEP}
 use Rattle.asm_slots.specs.Composing.{clash_text, large_text}
 use Rattle.asm_slots.specs.OwnState.{IsTextOfState, of_name, state_at, values_text}
 use Rattle.asm_slots.specs.Standard.{Standard, standard, part}
@@ -177,7 +177,7 @@ HasGrown way bytes a old new = (M : Move) × ReadAsMove bytes M × IsGrown way M
 abbrev pub TellsRefusal : StepError → ℤ → List ℕ → Type 0
 TellsRefusal (Clash c) code text = (code ≡ ASM_CLASH) × (text ≡ clash_text c)
 TellsRefusal (Large l) code text = (code ≡ ASM_LARGE) × (text ≡ large_text l)
-TellsRefusal Many code text = (code ≡ ASM_MANY) × (text ≡ [])
+TellsRefusal Many code text = (code ≡ ASM_LONG_MOVE) × (text ≡ [])
 TellsRefusal Deep code text = (code ≡ ASM_DEEP) × (text ≡ [])
 TellsRefusal Memory code text = ⊥
 

@@ -3,7 +3,7 @@ use Rattle.std.specs.Prelude.{◌≡◌, ◌⊎◌, ℕ, ℤ, List, [], ◌∷�
 use Rattle.asm_journal.specs.Event.{IsMoveForm}
 use Rattle.asm_explain.specs.Bytes.{IsNoJson, IsOtherJson}
 use Rattle.asm_slots.specs.Codes.{IsOneOf, ASM_DONE, ASM_CLASH, ASM_MEMORY, ASM_EMPTY, ASM_SMALL}
-use Rattle.asm_slots.specs.Codes.{ASM_MANY, ASM_NOT_JSON, ASM_SHAPE, ASM_LARGE, ASM_MOVED, ASM_DEEP}
+use Rattle.asm_slots.specs.Codes.{ASM_MANY, ASM_NOT_JSON, ASM_SHAPE, ASM_LARGE, ASM_MOVED, ASM_DEEP, ASM_LONG_MOVE}
 use Rattle.asm_slots.specs.Slots.{HoldBoth, HoldsMove, HoldsNoMove, HoldsStep, LacksOne}
 use Rattle.asm_slots.specs.StepCalls.{HasGrown, IsElsewhere, IsGrown, IsNotGrown, IsRefused}
 use Rattle.asm_slots.specs.WrittenText.{TellsOneOf}
@@ -13,7 +13,7 @@ use Rattle.asm_slots.specs.declared.owned_step.Way.TheVariants as ways
 
 -- the codes of why a move is neither pushed nor extends the last one, each with a text
 abbrev pub refusals : List ℤ
-refusals = ASM_CLASH ∷ ASM_MANY ∷ ASM_LARGE ∷ ASM_DEEP ∷ []
+refusals = ASM_CLASH ∷ ASM_MANY ∷ ASM_LARGE ∷ ASM_DEEP ∷ ASM_LONG_MOVE ∷ []
 
 -- the codes with which the step changes: the move is taken, or refused, also where the text of the refusal is too long
 abbrev pub changes : List ℤ
@@ -23,7 +23,7 @@ changes = ASM_DONE ∷ ASM_SMALL ∷ refusals
 -- code, with the text that is written, tells why not, and the step has got what that tells of. An extension is never too deep
 pub record Grows (way : Way) (instrs : List ℕ) (agent step after : Option Content) (out out_after : List ℕ) (written : ℕ) (code : ℤ) : Type 0 where
   pub codes : IsOneOf (ASM_DONE ∷ ASM_CLASH ∷ ASM_MEMORY ∷ ASM_EMPTY ∷ ASM_SMALL ∷ ASM_MANY
-      ∷ ASM_NOT_JSON ∷ ASM_SHAPE ∷ ASM_LARGE ∷ ASM_MOVED ∷ ASM_DEEP ∷ []) code
+      ∷ ASM_NOT_JSON ∷ ASM_SHAPE ∷ ASM_LARGE ∷ ASM_MOVED ∷ ASM_DEEP ∷ ASM_LONG_MOVE ∷ []) code
   pub deep : code ≡ ASM_DEEP → way ≡ ways.Push
   pub grown : code ≡ ASM_DONE → HoldBoth agent step (λ a s. HoldsStep after (HasGrown way instrs a s))
   pub text : TellsOneOf refusals (λ c text. HoldBoth agent step (λ a s. HoldsStep after (λ t. IsNotGrown way instrs a s t c text)))
@@ -37,7 +37,7 @@ pub record Grows (way : Way) (instrs : List ℕ) (agent step after : Option Cont
 -- the same, of the move that a slot holds
 pub record GrowsBy (way : Way) (move agent step after : Option Content) (out out_after : List ℕ) (written : ℕ) (code : ℤ) : Type 0 where
   pub codes : IsOneOf (ASM_DONE ∷ ASM_CLASH ∷ ASM_MEMORY ∷ ASM_EMPTY ∷ ASM_SMALL ∷ ASM_MANY
-      ∷ ASM_LARGE ∷ ASM_MOVED ∷ ASM_DEEP ∷ []) code
+      ∷ ASM_LARGE ∷ ASM_MOVED ∷ ASM_DEEP ∷ ASM_LONG_MOVE ∷ []) code
   pub deep : code ≡ ASM_DEEP → way ≡ ways.Push
   pub grown : code ≡ ASM_DONE → HoldsMove move (λ M. HoldBoth agent step (λ a s. HoldsStep after (IsGrown way M a s)))
   pub text : TellsOneOf refusals (λ c text. HoldsMove move (λ M. HoldBoth agent step (λ a s. HoldsStep after

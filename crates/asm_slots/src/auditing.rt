@@ -3,13 +3,13 @@ ghost use Rattle.std.specs.Prelude.{◌≡◌, ◌≢◌, ◌∷◌, [], IfErr, 
 ghost use Rattle.asm_slots.specs.Audits.{Audits, AreNoNumbers, HasAudited, HasEnd, HasNoState, IsAuditState};
 ghost use Rattle.asm_slots.specs.Audits.{TellsAnswer, TellsAuditError, TellsEnd, counts_of};
 ghost use Rattle.asm_slots.specs.AuditView.{AuditView, WasFed};
-ghost use Rattle.asm_slots.specs.Codes.{IsOneOf, ASM_DONE, ASM_MEMORY, ASM_NONE, ASM_ILLEGAL};
-ghost use Rattle.asm_slots.specs.Codes.{ASM_NOT_JSON, ASM_SHAPE, ASM_VERSION, ASM_CUT, ASM_LARGE, ASM_APART};
+ghost use Rattle.asm_slots.specs.Codes.{IsOneOf, ASM_DONE, ASM_MEMORY, ASM_NO_PART, ASM_ILLEGAL};
+ghost use Rattle.asm_slots.specs.Codes.{ASM_NOT_JSON, ASM_SHAPE, ASM_VERSION, ASM_CUT, ASM_LONG_LINE, ASM_APART};
 ghost use Rattle.asm_slots.specs.Slots.{HoldsAudit, HoldsNoAudit, content_of};
 ghost use Rattle.asm_slots.specs.declared.content.Content.TheVariants as content;
 
 use crate::audit::{Audit, AuditNumbers};
-use crate::codes::{APART, DONE, ILLEGAL, LARGE, MEMORY, NONE, TAKEN};
+use crate::codes::{APART, DONE, ILLEGAL, LONG_LINE, MEMORY, NO_PART, TAKEN};
 use crate::content::Content;
 use crate::journals::code_of_error;
 use crate::slot::Slot;
@@ -55,7 +55,7 @@ impl AuditNumbers {
 
 // The code of the error, with its numbers.
 fn code_of_audit_error(error: AuditError) -> (i32, AuditNumbers)
-    ensures codes { IsOneOf (ASM_MEMORY ∷ ASM_NOT_JSON ∷ ASM_SHAPE ∷ ASM_VERSION ∷ ASM_CUT ∷ ASM_LARGE ∷ ASM_APART ∷ []) result.0 }
+    ensures codes { IsOneOf (ASM_MEMORY ∷ ASM_NOT_JSON ∷ ASM_SHAPE ∷ ASM_VERSION ∷ ASM_CUT ∷ ASM_LONG_LINE ∷ ASM_APART ∷ []) result.0 }
     ensures told { TellsAuditError error result.0 result.1 }
 {
     match error {
@@ -64,7 +64,7 @@ fn code_of_audit_error(error: AuditError) -> (i32, AuditNumbers)
             (code, AuditNumbers::at(part, line))
         }
         AuditError::Apart { part } => (APART, AuditNumbers::at(part, 0)),
-        AuditError::LongLine => (LARGE, AuditNumbers::none()),
+        AuditError::LongLine => (LONG_LINE, AuditNumbers::none()),
         AuditError::Memory => (MEMORY, AuditNumbers::none()),
     }
 }
@@ -78,7 +78,7 @@ fn feed(
     told: &mut AuditNumbers,
 ) -> i32
     ensures codes { IsOneOf (ASM_DONE ∷ ASM_MEMORY ∷ ASM_ILLEGAL ∷ ASM_NOT_JSON ∷ ASM_SHAPE ∷ ASM_VERSION ∷ ASM_CUT
-        ∷ ASM_LARGE ∷ ASM_APART ∷ []) result }
+        ∷ ASM_LONG_LINE ∷ ASM_APART ∷ []) result }
     ensures audited { HasAudited bytes.now taken.new told.new result audit.old audit.new }
 {
     let (count, answer) = audit.feed(alloc, bytes);
@@ -155,7 +155,7 @@ pub fn feed_first(
 /// What is told of the audit if no further byte comes, with its numbers.
 pub fn ended(alloc: Global, audit: &mut Audit) -> (i32, AuditNumbers)
     ensures codes { IsOneOf (ASM_DONE ∷ ASM_MEMORY ∷ ASM_NOT_JSON ∷ ASM_SHAPE ∷ ASM_VERSION ∷ ASM_CUT
-        ∷ ASM_LARGE ∷ ASM_APART ∷ []) result.0 }
+        ∷ ASM_LONG_LINE ∷ ASM_APART ∷ []) result.0 }
     ensures ends { HasEnd result.1 result.0 audit.old }
     ensures same { audit.new ≡ audit.old }
 {
@@ -168,12 +168,12 @@ pub fn ended(alloc: Global, audit: &mut Audit) -> (i32, AuditNumbers)
 /// The text of the state that the moves so far leave.
 pub fn audit_state(alloc: Global, audit: &Audit) -> Result<String, i32>
     ensures ok { IfOk result (λ text. IsAuditState audit.now (string_bytes text)) }
-    ensures codes { IfErr result (IsOneOf (ASM_MEMORY ∷ ASM_NONE ∷ [])) }
-    ensures none { IfErr result (λ code. code ≡ ASM_NONE → HasNoState audit.now) }
+    ensures codes { IfErr result (IsOneOf (ASM_MEMORY ∷ ASM_NO_PART ∷ [])) }
+    ensures none { IfErr result (λ code. code ≡ ASM_NO_PART → HasNoState audit.now) }
 {
     let left = match audit.state(alloc) {
         Ok(Some(left)) => left,
-        Ok(None) => return Err(NONE),
+        Ok(None) => return Err(NO_PART),
         Err(AllocError) => return Err(MEMORY),
     };
     match state_text(alloc, &left) {

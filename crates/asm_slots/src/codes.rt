@@ -1,6 +1,7 @@
 //! The codes that calls answer, and their texts.
-ghost use Rattle.std.specs.Prelude.{◌∷◌, [], ◌≡◌, ◌≢◌, ◌<◌, length, string_bytes};
-ghost use Rattle.asm_slots.specs.Codes.{IsOneOf, text_of_code, text_but_apart, ASM_DONE, ASM_SMALL};
+ghost use Rattle.std.specs.Prelude.{◌∷◌, [], ◌≡◌, ◌≢◌, ◌<◌, false, int_lt, length, string_bytes};
+ghost use Rattle.asm_slots.specs.Codes.{IsOneOf, first_texts, further, further_texts, text_among, text_of_code};
+ghost use Rattle.asm_slots.specs.Codes.{ASM_APART, ASM_DONE, ASM_SMALL};
 ghost use Rattle.asm_slots.specs.WrittenText.{Tells, TellsText};
 
 pub const DONE: i32 = 0;
@@ -15,7 +16,7 @@ pub const FULL: i32 = 4;
 
 pub const EMPTY: i32 = 5;
 
-pub const RANGE: i32 = 6;
+pub const CAPACITY: i32 = 6;
 
 pub const SMALL: i32 = 7;
 
@@ -23,7 +24,7 @@ pub const BUSY: i32 = 8;
 
 pub const MANY: i32 = 9;
 
-pub const NONE: i32 = 10;
+pub const NO_ANSWER: i32 = 10;
 
 pub const TAKEN: i32 = 11;
 
@@ -50,6 +51,30 @@ pub const MOVED: i32 = 21;
 pub const DEEP: i32 = 22;
 
 pub const APART: i32 = 23;
+
+pub const AGENTS: i32 = 24;
+
+pub const AHEAD: i32 = 25;
+
+pub const OPERAND: i32 = 26;
+
+pub const NO_FORM: i32 = 27;
+
+pub const NO_JOURNAL: i32 = 28;
+
+pub const NO_PUSH: i32 = 29;
+
+pub const NO_AGENT: i32 = 30;
+
+pub const NO_PART: i32 = 31;
+
+pub const NOT_FULL: i32 = 32;
+
+pub const MANY_CALLS: i32 = 33;
+
+pub const LONG_LINE: i32 = 34;
+
+pub const LONG_MOVE: i32 = 35;
 
 /// A text that is to be written, with its code.
 #[derive(Drop)]
@@ -89,15 +114,16 @@ pub fn written_as(told: &Told, out: &mut [u8], written: &mut usize) -> i32
 pub fn text_of_code(code: i32) -> &'static str
     ensures { result.now ≡ text_of_code code }
 {
-    if code == APART {
-        return "a part opens with another state than the one before it leaves";
+    if code < APART {
+        first_text(code)
+    } else {
+        further_text(code)
     }
-    text_but_apart(code)
 }
 
-// The text of any code but `APART`. All in one match are more than the prover looks through.
-fn text_but_apart(code: i32) -> &'static str
-    ensures { result.now ≡ text_but_apart code }
+// The text of a code before `APART`. All in one match are more than the prover looks through.
+fn first_text(code: i32) -> &'static str
+    ensures { result.now ≡ text_among first_texts code }
 {
     match code {
         DONE => "done",
@@ -106,24 +132,47 @@ fn text_but_apart(code: i32) -> &'static str
         MEMORY => "out of memory",
         FULL => "as many moves were fired as the capacity",
         EMPTY => "a slot holds nothing of this kind, or is passed twice",
-        RANGE =>
-            "a capacity, a number, a count, a form, a verb, a kind or an amount is out of range",
+        CAPACITY => "the capacity is not 1 to 1,048,576",
         SMALL => "the buffer is too small",
         BUSY => "64 offers were lost",
-        MANY => "more than 256 locations and scanned functions, or more than 4,096 instructions",
-        NONE => "there is no answer, journal, pushed move, agent or part, or there is room still",
+        MANY => "more than 256 locations, or locations and scanned functions",
+        NO_ANSWER => "no call was answered yet",
         TAKEN => "the slot that was to be filled holds something else",
         NUMBER => "an agent with this number was made before",
-        MISSING => "a move has no receipt among the agents that were given back",
+        MISSING => "a move has no receipt among the agents that were returned",
         OTHER => "the two slots are of two storages",
         ILLEGAL => "the journal is not legal",
         NOT_JSON => "not JSON",
         SHAPE => "JSON of another shape",
         VERSION => "a journal of another version",
         CUT => "the journal is cut off",
-        LARGE => "too many calls for a journal, too long a line, or too large an amount",
+        LARGE => "an amount or a sum is too large",
         MOVED => "the state of the agent is at another number of moves than the step",
         DEEP => "64 moves are pushed already",
+        _ => "no code of this library",
+    }
+}
+
+// The text of a code from `APART` on.
+fn further_text(code: i32) -> &'static str
+    requires { int_lt code ASM_APART ≡ false }
+    ensures { result.now ≡ text_among further_texts (further code) }
+{
+    match code {
+        APART => "a part opens with another state than the one before it leaves",
+        AGENTS => "the number of an agent is not below 256, or more than 256 agents are asked for",
+        AHEAD =>
+            "a location or a function is named at a number of moves that the agent has not seen",
+        OPERAND => "the verb, the kind, the number, the bytes and the amount make no instruction",
+        NO_FORM => "there is no such form",
+        NO_JOURNAL => "no journal was made since an agent was returned or taken",
+        NO_PUSH => "no move is pushed",
+        NO_AGENT => "no agent with this number was returned",
+        NO_PART => "no part has begun",
+        NOT_FULL => "the state of the agent is at fewer moves than the storage has room for",
+        MANY_CALLS => "more than the 4,294,967,295 calls of a journal",
+        LONG_LINE => "a line of more than 16,777,216 bytes",
+        LONG_MOVE => "a move of more than 4,096 instructions",
         _ => "no code of this library",
     }
 }

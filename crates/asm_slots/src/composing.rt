@@ -6,12 +6,12 @@ ghost use Rattle.asm_journal.specs.Event.{IsMoveForm};
 ghost use Rattle.asm_journal.specs.Shape.{one_of};
 ghost use Rattle.asm_journal.specs.Value.{IsStateForm};
 ghost use Rattle.asm_slots.specs.Bytes.{AreMisread};
-ghost use Rattle.asm_slots.specs.Codes.{IsOneOf, ASM_DONE, ASM_CLASH, ASM_MEMORY, ASM_MANY};
+ghost use Rattle.asm_slots.specs.Codes.{IsOneOf, ASM_DONE, ASM_CLASH, ASM_MEMORY, ASM_LONG_MOVE};
 ghost use Rattle.asm_slots.specs.Codes.{ASM_LARGE, ASM_NOT_JSON, ASM_SHAPE};
 ghost use Rattle.asm_slots.specs.Composing.{IsAggregated, IsComposed};
 ghost use Rattle.asm_slots.specs.Composing.{TellsAggregate, TellsComposition, clash_text, large_text};
 
-use crate::codes::{CLASH, DONE, LARGE, MANY, MEMORY, Told};
+use crate::codes::{CLASH, DONE, LARGE, LONG_MOVE, MEMORY, Told};
 use crate::parsing::{code_of_text_error, read_both};
 use asm_aggregate::{ComposeError, aggregate, compose, standard};
 use asm_element::Location;
@@ -62,7 +62,7 @@ fn told_updates(alloc: Global, answer: Result<UpdateSet, AggError>) -> Result<To
 
 fn told_move(alloc: Global, answer: Result<Instructions, ComposeError>) -> Result<Told, AllocError>
     ensures told { IfOk result (λ t. TellsComposition answer t.code (string_bytes t.text)) }
-    ensures codes { IfOk result (λ t. IsOneOf (ASM_DONE ∷ ASM_CLASH ∷ ASM_MANY ∷ ASM_LARGE ∷ []) t.code) }
+    ensures codes { IfOk result (λ t. IsOneOf (ASM_DONE ∷ ASM_CLASH ∷ ASM_LONG_MOVE ∷ ASM_LARGE ∷ []) t.code) }
 {
     match answer {
         Ok(instrs) => Ok(Told {
@@ -78,7 +78,7 @@ fn told_move(alloc: Global, answer: Result<Instructions, ComposeError>) -> Resul
             text: large_text(alloc, &at)?,
         }),
         Err(ComposeError::ManyInstructions) => Ok(Told {
-            code: MANY,
+            code: LONG_MOVE,
             text: String::new(alloc),
         }),
         Err(ComposeError::Memory) => Err(AllocError),
@@ -106,7 +106,7 @@ pub fn aggregated(alloc: Global, state: &[u8], instrs: &[u8]) -> Result<Told, i3
 /// What the composition of the moves of these bytes answers.
 pub fn composed(alloc: Global, first: &[u8], second: &[u8]) -> Result<Told, i32>
     ensures ok { IfOk result (λ t. IsComposed first.now second.now t.code (string_bytes t.text)) }
-    ensures few { IfOk result (λ t. IsOneOf (ASM_DONE ∷ ASM_CLASH ∷ ASM_MANY ∷ ASM_LARGE ∷ []) t.code) }
+    ensures few { IfOk result (λ t. IsOneOf (ASM_DONE ∷ ASM_CLASH ∷ ASM_LONG_MOVE ∷ ASM_LARGE ∷ []) t.code) }
     ensures err { IfErr result (λ code. IsOneOf (ASM_NOT_JSON ∷ ASM_SHAPE ∷ []) code →
         AreMisread IsMoveForm IsMoveForm first.now second.now code) }
     ensures codes { IfErr result (IsOneOf (ASM_MEMORY ∷ ASM_NOT_JSON ∷ ASM_SHAPE ∷ [])) }

@@ -1,9 +1,9 @@
 //! Whether a text reads as a form, and a sentence that says where and why it doesn't.
 ghost use Rattle.std.specs.Prelude.{◌≡◌, ◌≢◌, ◌<◌, ◌≤◌, ◌↔◌, ◌∷◌, [], length, IfSome, IfNone};
-ghost use Rattle.asm_slots.specs.Codes.{IsOneOf, ASM_DONE, ASM_MEMORY, ASM_RANGE, ASM_SMALL};
+ghost use Rattle.asm_slots.specs.Codes.{IsOneOf, ASM_DONE, ASM_MEMORY, ASM_NO_FORM, ASM_SMALL};
 ghost use Rattle.asm_slots.specs.Forms.{HasForm, IsNoForm, LacksForm, form_code};
 
-use crate::codes::{DONE, MEMORY, RANGE, copied};
+use crate::codes::{DONE, MEMORY, NO_FORM, copied};
 use asm_explain::Form;
 use std::alloc::Global;
 
@@ -25,21 +25,21 @@ fn form_of(form: i32) -> Option<Form>
 ///
 /// The forms are 0: locations, 1: a move with its reads, 2: a state, 3: an event, as a journal's lines behind
 /// the first, 4: a script. It tells what the readers of these accept, and nothing that another call is refused for:
-/// more than 256 locations are locations. Which sentence comes is tested. `ASM_RANGE`: no such form. `ASM_SMALL`:
+/// more than 256 locations are locations. Which sentence comes is tested. `ASM_NO_FORM`: no such form. `ASM_SMALL`:
 /// `written` is the room that it needs. `ASM_MEMORY`. What a code doesn't set is 0.
 pub fn explain(alloc: Global, form: i32, text: &[u8], out: &mut [u8], written: &mut usize) -> i32
-    ensures codes { IsOneOf (ASM_DONE ∷ ASM_MEMORY ∷ ASM_RANGE ∷ ASM_SMALL ∷ []) result }
+    ensures codes { IsOneOf (ASM_DONE ∷ ASM_MEMORY ∷ ASM_NO_FORM ∷ ASM_SMALL ∷ []) result }
     ensures accepted { result ≡ ASM_DONE → written.new ≡ 0 → HasForm form text.now }
     ensures refused { written.new ≢ 0 → LacksForm form text.now }
     ensures fits { result ≡ ASM_DONE → written.new ≤ length out.new }
     ensures small { result ≡ ASM_SMALL → length out.old < written.new }
-    ensures no_text { IsOneOf (ASM_MEMORY ∷ ASM_RANGE ∷ []) result → written.new ≡ 0 }
-    ensures range { (result ≡ ASM_RANGE) ↔ IsNoForm form }
+    ensures no_text { IsOneOf (ASM_MEMORY ∷ ASM_NO_FORM ∷ []) result → written.new ≡ 0 }
+    ensures range { (result ≡ ASM_NO_FORM) ↔ IsNoForm form }
     ensures unwritten { result ≢ ASM_DONE → out.new ≡ out.old }
 {
     *written = 0;
     let Some(form) = form_of(form) else {
-        return RANGE;
+        return NO_FORM;
     };
     match asm_explain::explain(alloc, form, text) {
         Ok(None) => DONE,

@@ -6,11 +6,11 @@ ghost use Rattle.asm_explain.specs.Bytes.{IsFireForm};
 ghost use Rattle.asm_slots.specs.AgentCalls.{HasLooked, IsReplyCode, MayHaveOffered, MissedFew, MissedOne, SeesOn, WasBusy};
 ghost use Rattle.asm_slots.specs.Bytes.{AreMisread, IsEitherMisread};
 ghost use Rattle.asm_slots.specs.Codes.{IsOneOf, ASM_DONE, ASM_STALE, ASM_CLASH, ASM_MEMORY, ASM_FULL};
-ghost use Rattle.asm_slots.specs.Codes.{ASM_RANGE, ASM_BUSY, ASM_MANY, ASM_NOT_JSON, ASM_SHAPE};
+ghost use Rattle.asm_slots.specs.Codes.{ASM_AHEAD, ASM_BUSY, ASM_MANY, ASM_NOT_JSON, ASM_SHAPE};
 ghost use Rattle.asm_slots.specs.FireOver.{AreScans, FiresOverAhead, FiresOverWithin, HasTriedFireOver};
 ghost use Rattle.asm_slots.specs.FireOver.{ReadAsFireOver, ReadAsManyOver};
 
-use crate::codes::{BUSY, MANY, MEMORY, RANGE};
+use crate::codes::{AHEAD, BUSY, MANY, MEMORY};
 use crate::owned_agent::OwnedAgent;
 use crate::parsing::code_of_text_error;
 use crate::read_and_fire::{Numbers, code_of_reply};
@@ -42,7 +42,7 @@ pub fn fire_over_in(
     call: &[u8],
     scans: &[u8],
 ) -> (i32, Numbers)
-    ensures codes { IsOneOf (ASM_DONE ∷ ASM_STALE ∷ ASM_CLASH ∷ ASM_MEMORY ∷ ASM_FULL ∷ ASM_RANGE ∷ ASM_BUSY ∷ ASM_MANY
+    ensures codes { IsOneOf (ASM_DONE ∷ ASM_STALE ∷ ASM_CLASH ∷ ASM_MEMORY ∷ ASM_FULL ∷ ASM_AHEAD ∷ ASM_BUSY ∷ ASM_MANY
         ∷ ASM_NOT_JSON ∷ ASM_SHAPE ∷ []) result.0 }
     ensures answered { IsReplyCode result.0 →
         HasTriedFireOver call.now scans.now result.0 result.1.fired agent.old agent.new }
@@ -57,20 +57,20 @@ pub fn fire_over_in(
     ensures few { MissedFew agent.old agent.new }
     ensures missed { result.0 ≡ ASM_DONE → MissedOne agent.old agent.new }
     ensures memory { result.0 ≡ ASM_MEMORY → MayHaveOffered agent.old agent.new }
-    ensures range { result.0 ≡ ASM_RANGE → FiresOverAhead call.now scans.now agent.old }
+    ensures range { result.0 ≡ ASM_AHEAD → FiresOverAhead call.now scans.now agent.old }
     ensures within { IsOneOf (ASM_DONE ∷ ASM_STALE ∷ ASM_CLASH ∷ ASM_FULL ∷ ASM_BUSY ∷ ASM_MANY ∷ []) result.0 →
         FiresOverWithin call.now scans.now agent.old }
     ensures many { result.0 ≡ ASM_MANY → ReadAsManyOver call.now scans.now }
     ensures misread { IsOneOf (ASM_NOT_JSON ∷ ASM_SHAPE ∷ []) result.0 →
         AreMisread IsFireForm AreScans call.now scans.now result.0 }
-    ensures kept { IsOneOf (ASM_RANGE ∷ ASM_MANY ∷ ASM_NOT_JSON ∷ ASM_SHAPE ∷ []) result.0 → agent.new ≡ agent.old }
+    ensures kept { IsOneOf (ASM_AHEAD ∷ ASM_MANY ∷ ASM_NOT_JSON ∷ ASM_SHAPE ∷ []) result.0 → agent.new ≡ agent.old }
 {
     let (fire, scans) = match fire_over_of(alloc, call, scans) {
         Ok(both) => both,
         Err(error) => return (code_of_text_error(error), Numbers::none()),
     };
     if agent.is_behind_over(fire.reads.as_slice(), &scans) {
-        return (RANGE, Numbers::none());
+        return (AHEAD, Numbers::none());
     }
     // So the receipt shares them, where it would copy them.
     let Ok(reads) = fire.reads.share(alloc) else {

@@ -2,13 +2,13 @@
 ghost use Rattle.std.specs.Prelude.{◌≡◌, ◌≢◌, ◌∷◌, [], None, Some};
 ghost use Rattle.asm_slots.specs.AgentCalls.{HasNumber, HasTaken};
 ghost use Rattle.asm_slots.specs.Codes.{IsOneOf, ASM_DONE, ASM_MEMORY};
-ghost use Rattle.asm_slots.specs.Codes.{ASM_NUMBER, ASM_MISSING, ASM_LARGE};
+ghost use Rattle.asm_slots.specs.Codes.{ASM_NUMBER, ASM_MISSING, ASM_MANY_CALLS};
 ghost use Rattle.asm_slots.specs.CloseFaults.{TellsUnclosed};
 ghost use Rattle.asm_slots.specs.Slots.{HoldsStore, content_of};
 ghost use Rattle.asm_slots.specs.declared.content.Content.TheVariants as content;
 ghost use Rattle.asm_slots.specs.declared.store_close.Unclosed.TheVariants as unclosed;
 
-use crate::codes::{DONE, LARGE, MEMORY, MISSING};
+use crate::codes::{DONE, MANY_CALLS, MEMORY, MISSING};
 use crate::content::Content;
 use crate::owned_agent::OwnedAgent;
 use crate::slot::Slot;
@@ -51,15 +51,15 @@ pub fn give_at(
 
 /// The code of the error, with the number of the move that has no receipt.
 pub fn code_of_unclosed(error: Unclosed) -> (i32, u32)
-    ensures codes { IsOneOf (ASM_MEMORY ∷ ASM_MISSING ∷ ASM_LARGE ∷ []) result.0 }
+    ensures codes { IsOneOf (ASM_MEMORY ∷ ASM_MISSING ∷ ASM_MANY_CALLS ∷ []) result.0 }
     ensures told { TellsUnclosed error result.0 result.1 }
     ensures missing { result.0 ≡ ASM_MISSING → error ≡ unclosed.Missing result.1 }
-    ensures large { result.0 ≡ ASM_LARGE → error ≡ unclosed.Large }
+    ensures large { result.0 ≡ ASM_MANY_CALLS → error ≡ unclosed.Large }
     ensures none { result.0 ≢ ASM_MISSING → result.1 ≡ 0 }
 {
     match error {
         Unclosed::Missing(missing) => (MISSING, missing),
-        Unclosed::Large => (LARGE, 0),
+        Unclosed::Large => (MANY_CALLS, 0),
         Unclosed::Memory => (MEMORY, 0),
     }
 }

@@ -1,7 +1,7 @@
 //! Moves that are gathered in slots, instruction by instruction.
 ghost use Rattle.std.specs.Prelude.{◌≡◌, ◌≢◌, ◌↔◌, ◌≤◌, ◌<◌, ◌+◌, ◌∷◌, ◌++◌, [], OnErr, OnOk, Some, length};
 ghost use Rattle.asm_update.specs.Limits.{instructions_limit};
-ghost use Rattle.asm_slots.specs.Codes.{IsOneOf, ASM_DONE, ASM_MEMORY, ASM_EMPTY, ASM_RANGE, ASM_MANY};
+ghost use Rattle.asm_slots.specs.Codes.{IsOneOf, ASM_DONE, ASM_MEMORY, ASM_EMPTY, ASM_OPERAND, ASM_LONG_MOVE};
 ghost use Rattle.asm_explain.specs.Bytes.{IsNoJson};
 ghost use Rattle.asm_slots.specs.Codes.{ASM_NOT_JSON, ASM_SHAPE};
 ghost use Rattle.asm_slots.specs.Kinds.{IsByJson, IsInstructed, IsMisshapen, IsNoAction};
@@ -9,7 +9,7 @@ ghost use Rattle.asm_slots.specs.Slots.{HasRoomForMove, HoldsLocation, HoldsMove
 ghost use Rattle.asm_slots.specs.Slots.{content_of, move_of};
 ghost use Rattle.asm_slots.specs.declared.content.Content.TheVariants as content;
 
-use crate::codes::{DONE, EMPTY, MANY, MEMORY};
+use crate::codes::{DONE, EMPTY, LONG_MOVE, MEMORY};
 use crate::content::Content;
 use crate::operands::action_of;
 use crate::prepared::location_in;
@@ -21,10 +21,10 @@ use std::alloc::{AllocError, Global};
 
 // Puts the instruction of the action at the location behind the others.
 fn append(alloc: Global, gathered: &mut Instructions, at: &Location, action: Action) -> i32
-    ensures codes { IsOneOf (ASM_DONE ∷ ASM_MEMORY ∷ ASM_MANY ∷ []) result }
+    ensures codes { IsOneOf (ASM_DONE ∷ ASM_MEMORY ∷ ASM_LONG_MOVE ∷ []) result }
     ensures done { result ≡ ASM_DONE →
         gathered.new ≡ gathered.old ++ record { at = at.now; action = action } ∷ [] }
-    ensures many { result ≡ ASM_MANY → length gathered.old ≡ instructions_limit }
+    ensures many { result ≡ ASM_LONG_MOVE → length gathered.old ≡ instructions_limit }
     ensures kept { result ≢ ASM_DONE → gathered.new ≡ gathered.old }
 {
     let Ok(at) = at.copy(alloc) else {
@@ -32,7 +32,7 @@ fn append(alloc: Global, gathered: &mut Instructions, at: &Location, action: Act
     };
     match gathered.push(Instruction { at, action }) {
         Ok(()) => DONE,
-        Err(InstructionsError::ManyInstructions) => MANY,
+        Err(InstructionsError::ManyInstructions) => LONG_MOVE,
         Err(InstructionsError::Memory) => MEMORY,
     }
 }
@@ -47,13 +47,13 @@ fn instruct_at(
     bytes: &[u8],
     amount: u32,
 ) -> i32
-    ensures codes { IsOneOf (ASM_DONE ∷ ASM_MEMORY ∷ ASM_RANGE ∷ ASM_MANY ∷ ASM_NOT_JSON ∷ ASM_SHAPE ∷ []) result }
+    ensures codes { IsOneOf (ASM_DONE ∷ ASM_MEMORY ∷ ASM_OPERAND ∷ ASM_LONG_MOVE ∷ ASM_NOT_JSON ∷ ASM_SHAPE ∷ []) result }
     ensures done { result ≡ ASM_DONE →
         IsInstructed at.now verb kind number bytes.now amount gathered.old gathered.new }
-    ensures range { result ≡ ASM_RANGE → IsNoAction verb kind number bytes.now amount }
+    ensures range { result ≡ ASM_OPERAND → IsNoAction verb kind number bytes.now amount }
     ensures not_json { result ≡ ASM_NOT_JSON → IsByJson kind × IsNoJson bytes.now }
     ensures shape { result ≡ ASM_SHAPE → IsMisshapen kind bytes.now }
-    ensures many { result ≡ ASM_MANY → length gathered.old ≡ instructions_limit }
+    ensures many { result ≡ ASM_LONG_MOVE → length gathered.old ≡ instructions_limit }
     ensures kept { result ≢ ASM_DONE → gathered.new ≡ gathered.old }
 {
     match action_of(alloc, verb, kind, number, bytes, amount) {
@@ -73,14 +73,14 @@ pub fn instruct_in(
     bytes: &[u8],
     amount: u32,
 ) -> i32
-    ensures codes { IsOneOf (ASM_DONE ∷ ASM_MEMORY ∷ ASM_EMPTY ∷ ASM_RANGE ∷ ASM_MANY ∷ ASM_NOT_JSON ∷ ASM_SHAPE ∷ []) result }
+    ensures codes { IsOneOf (ASM_DONE ∷ ASM_MEMORY ∷ ASM_EMPTY ∷ ASM_OPERAND ∷ ASM_LONG_MOVE ∷ ASM_NOT_JSON ∷ ASM_SHAPE ∷ []) result }
     ensures done { result ≡ ASM_DONE → HoldsLocation (content_of at.old)
         (λ l. IsInstructed l verb kind number bytes.now amount gathered.old gathered.new) }
     ensures empty { result ≡ ASM_EMPTY → HoldsNoLocation (content_of at.old) }
-    ensures range { result ≡ ASM_RANGE → IsNoAction verb kind number bytes.now amount }
+    ensures range { result ≡ ASM_OPERAND → IsNoAction verb kind number bytes.now amount }
     ensures not_json { result ≡ ASM_NOT_JSON → IsByJson kind × IsNoJson bytes.now }
     ensures shape { result ≡ ASM_SHAPE → IsMisshapen kind bytes.now }
-    ensures many { result ≡ ASM_MANY → length gathered.old ≡ instructions_limit }
+    ensures many { result ≡ ASM_LONG_MOVE → length gathered.old ≡ instructions_limit }
     ensures kept { result ≢ ASM_DONE → gathered.new ≡ gathered.old }
     ensures held { content_of at.new ≡ content_of at.old }
 {
@@ -116,11 +116,11 @@ pub fn instruct_first(
     bytes: &[u8],
     amount: u32,
 ) -> i32
-    ensures codes { IsOneOf (ASM_DONE ∷ ASM_MEMORY ∷ ASM_EMPTY ∷ ASM_RANGE ∷ ASM_NOT_JSON ∷ ASM_SHAPE ∷ []) result }
+    ensures codes { IsOneOf (ASM_DONE ∷ ASM_MEMORY ∷ ASM_EMPTY ∷ ASM_OPERAND ∷ ASM_NOT_JSON ∷ ASM_SHAPE ∷ []) result }
     ensures done { result ≡ ASM_DONE → HoldsLocation (content_of at.old) (λ l. HoldsMove (content_of instrs.new)
         (IsInstructed l verb kind number bytes.now amount [])) }
     ensures empty { result ≡ ASM_EMPTY → HoldsNoLocation (content_of at.old) }
-    ensures range { result ≡ ASM_RANGE → IsNoAction verb kind number bytes.now amount }
+    ensures range { result ≡ ASM_OPERAND → IsNoAction verb kind number bytes.now amount }
     ensures not_json { result ≡ ASM_NOT_JSON → IsByJson kind × IsNoJson bytes.now }
     ensures shape { result ≡ ASM_SHAPE → IsMisshapen kind bytes.now }
     ensures kept { result ≢ ASM_DONE → content_of instrs.new ≡ content_of instrs.old }
@@ -139,24 +139,24 @@ pub fn instruct_first(
 
 // Puts the instructions of the other move behind those of the move.
 fn append_all(gathered: &mut Instructions, other: &Instructions) -> i32
-    ensures codes { IsOneOf (ASM_DONE ∷ ASM_MEMORY ∷ ASM_MANY ∷ []) result }
+    ensures codes { IsOneOf (ASM_DONE ∷ ASM_MEMORY ∷ ASM_LONG_MOVE ∷ []) result }
     ensures done { result ≡ ASM_DONE → gathered.new ≡ gathered.old ++ other.now }
-    ensures many { (result ≡ ASM_MANY) ↔ (instructions_limit < length gathered.old + length other.now) }
+    ensures many { (result ≡ ASM_LONG_MOVE) ↔ (instructions_limit < length gathered.old + length other.now) }
     ensures kept { result ≢ ASM_DONE → gathered.new ≡ gathered.old }
 {
     match gathered.append(other) {
         Ok(()) => DONE,
-        Err(InstructionsError::ManyInstructions) => MANY,
+        Err(InstructionsError::ManyInstructions) => LONG_MOVE,
         Err(InstructionsError::Memory) => MEMORY,
     }
 }
 
 /// Puts the instructions of the move in the other slot behind those of the move; an empty slot has none.
 pub fn unite_in(alloc: Global, gathered: &mut Instructions, other: &mut Slot) -> i32
-    ensures codes { IsOneOf (ASM_DONE ∷ ASM_MEMORY ∷ ASM_EMPTY ∷ ASM_MANY ∷ []) result }
+    ensures codes { IsOneOf (ASM_DONE ∷ ASM_MEMORY ∷ ASM_EMPTY ∷ ASM_LONG_MOVE ∷ []) result }
     ensures done { result ≡ ASM_DONE → gathered.new ≡ gathered.old ++ move_of (content_of other.old) }
     ensures empty { (result ≡ ASM_EMPTY) ↔ ¬ HasRoomForMove (content_of other.old) }
-    ensures many { result ≡ ASM_MANY →
+    ensures many { result ≡ ASM_LONG_MOVE →
         instructions_limit < length gathered.old + length (move_of (content_of other.old)) }
     ensures few { result ≡ ASM_MEMORY →
         length gathered.old + length (move_of (content_of other.old)) ≤ instructions_limit }
@@ -176,11 +176,11 @@ pub fn unite_in(alloc: Global, gathered: &mut Instructions, other: &mut Slot) ->
 
 /// Puts a copy of the move in the other slot into an empty slot, or the move of no instructions where the other is empty too.
 pub fn unite_first(alloc: Global, instrs: &mut Slot, other: &mut Slot) -> i32
-    ensures codes { IsOneOf (ASM_DONE ∷ ASM_MEMORY ∷ ASM_EMPTY ∷ ASM_MANY ∷ []) result }
+    ensures codes { IsOneOf (ASM_DONE ∷ ASM_MEMORY ∷ ASM_EMPTY ∷ ASM_LONG_MOVE ∷ []) result }
     ensures done { result ≡ ASM_DONE →
         HoldsMove (content_of instrs.new) (λ united. united ≡ move_of (content_of other.old)) }
     ensures empty { (result ≡ ASM_EMPTY) ↔ ¬ HasRoomForMove (content_of other.old) }
-    ensures many { result ≡ ASM_MANY → instructions_limit < length (move_of (content_of other.old)) }
+    ensures many { result ≡ ASM_LONG_MOVE → instructions_limit < length (move_of (content_of other.old)) }
     ensures kept { result ≢ ASM_DONE → content_of instrs.new ≡ content_of instrs.old }
     ensures held { content_of other.new ≡ content_of other.old }
 {

@@ -6,7 +6,7 @@ ghost use Rattle.asm_explain.specs.Bytes.{AreLocations, IsNoJson, IsOtherJson};
 ghost use Rattle.asm_slots.specs.Bytes.{AreReads, ReadAsMoreReads};
 ghost use Rattle.asm_slots.specs.AgentCalls.{HasLooked, MayHaveLooked, SeesOn};
 ghost use Rattle.asm_slots.specs.Codes.{IsOneOf, ASM_DONE, ASM_STALE, ASM_MEMORY, ASM_SMALL};
-ghost use Rattle.asm_slots.specs.Codes.{ASM_RANGE, ASM_MANY, ASM_NOT_JSON, ASM_SHAPE};
+ghost use Rattle.asm_slots.specs.Codes.{ASM_AHEAD, ASM_MANY, ASM_NOT_JSON, ASM_SHAPE};
 ghost use Rattle.asm_slots.specs.OwnState.{AllStand, HasLookedOn, IsPeekOf};
 ghost use Rattle.asm_slots.specs.OwnState.{IsStaleText, values_text};
 ghost use Rattle.asm_slots.specs.Slots.{Holds, content_of};
@@ -14,7 +14,7 @@ ghost use Rattle.asm_slots.specs.WrittenText.{Tells};
 ghost use Rattle.asm_slots.specs.declared.content.Content.TheVariants as content;
 ghost use Rattle.asm_slots.specs.Looks.{IsStaleTold};
 
-use crate::codes::{DONE, MANY, MEMORY, RANGE, STALE, Told, written_as};
+use crate::codes::{AHEAD, DONE, MANY, MEMORY, STALE, Told, written_as};
 use crate::content::Content;
 use crate::owned_agent::OwnedAgent;
 use crate::parsing::{code_of_text_error, locations_of, reads_of};
@@ -100,7 +100,7 @@ pub fn stands_at(
     written: &mut usize,
 ) -> i32
     requires { written.old ≡ 0 }
-    ensures codes { IsOneOf (ASM_DONE ∷ ASM_STALE ∷ ASM_MEMORY ∷ ASM_RANGE ∷ ASM_SMALL ∷ ASM_MANY
+    ensures codes { IsOneOf (ASM_DONE ∷ ASM_STALE ∷ ASM_MEMORY ∷ ASM_AHEAD ∷ ASM_SMALL ∷ ASM_MANY
         ∷ ASM_NOT_JSON ∷ ASM_SHAPE ∷ []) result }
     ensures stand { result ≡ ASM_DONE → Holds (content_of slot.new) (AllStand reads.now) }
     ensures text { Tells (ASM_STALE ∷ []) (λ code. IsStaleTold reads.now (content_of slot.new))
@@ -111,12 +111,12 @@ pub fn stands_at(
     ensures refused { Holds (content_of slot.new) (HasLooked agent) }
     ensures same { Holds (content_of slot.new) (IsSameAgent agent) }
     ensures seen { Holds (content_of slot.new) (SeesOn agent) }
-    ensures range { result ≡ ASM_RANGE → ReadsAhead reads.now agent }
+    ensures range { result ≡ ASM_AHEAD → ReadsAhead reads.now agent }
     ensures within { IsOneOf (ASM_DONE ∷ ASM_STALE ∷ ASM_SMALL ∷ ASM_MANY ∷ []) result → ReadsWithin reads.now agent }
     ensures many { result ≡ ASM_MANY → ReadAsMoreReads reads.now }
     ensures not_json { result ≡ ASM_NOT_JSON → IsNoJson reads.now }
     ensures shape { result ≡ ASM_SHAPE → IsOtherJson AreReads reads.now }
-    ensures kept { IsOneOf (ASM_RANGE ∷ ASM_MANY ∷ ASM_NOT_JSON ∷ ASM_SHAPE ∷ []) result →
+    ensures kept { IsOneOf (ASM_AHEAD ∷ ASM_MANY ∷ ASM_NOT_JSON ∷ ASM_SHAPE ∷ []) result →
         content_of slot.new ≡ Some (content.Agent agent) }
 {
     let reads = match reads_of(alloc, reads) {
@@ -128,7 +128,7 @@ pub fn stands_at(
     };
     if agent.is_behind(&reads) {
         put_agent(slot, shell, agent);
-        return RANGE;
+        return AHEAD;
     }
     let (agent, stale) = agent.stale_of(alloc, &reads);
     put_agent(slot, shell, agent);

@@ -2,11 +2,11 @@
 ghost use Rattle.std.specs.Prelude.{◌≡◌, ◌∷◌, [], Some, IfOk, IfErr};
 ghost use Rattle.std.specs.Bool.{OnTrue, OnFalse};
 ghost use Rattle.asm_slots.specs.AgentCalls.{IsNoCapacity};
-ghost use Rattle.asm_slots.specs.Codes.{IsOneOf, ASM_MEMORY, ASM_RANGE, ASM_NONE};
+ghost use Rattle.asm_slots.specs.Codes.{IsOneOf, ASM_MEMORY, ASM_CAPACITY, ASM_NO_JOURNAL, ASM_NOT_FULL};
 ghost use Rattle.asm_slots.specs.NextStore.{GoesOn, GoesOnFrom, IsAtEnd, LacksJournal};
 ghost use Rattle.asm_slots.specs.Slots.{HoldsStore};
 
-use crate::codes::{MEMORY, NONE, RANGE};
+use crate::codes::{CAPACITY, MEMORY, NO_JOURNAL, NOT_FULL};
 use crate::content::Content;
 use crate::opening::{boxed_store, code_of_storage_error};
 use crate::owned_agent::OwnedAgent;
@@ -20,12 +20,12 @@ impl Store {
     /// The storage that goes on from the journal that is kept, in a slot's box.
     pub fn next(&self, alloc: Global, capacity: u32) -> Result<Box<Content>, i32>
         ensures ok { IfOk result (λ b. HoldsStore (Some b.value) (GoesOn capacity self.now)) }
-        ensures codes { IfErr result (IsOneOf (ASM_MEMORY ∷ ASM_RANGE ∷ ASM_NONE ∷ [])) }
-        ensures range { IfErr result (λ code. code ≡ ASM_RANGE → IsNoCapacity capacity) }
-        ensures none { IfErr result (λ code. code ≡ ASM_NONE → LacksJournal self.now) }
+        ensures codes { IfErr result (IsOneOf (ASM_MEMORY ∷ ASM_CAPACITY ∷ ASM_NO_JOURNAL ∷ [])) }
+        ensures range { IfErr result (λ code. code ≡ ASM_CAPACITY → IsNoCapacity capacity) }
+        ensures none { IfErr result (λ code. code ≡ ASM_NO_JOURNAL → LacksJournal self.now) }
     {
         let Some(journal) = &self.journal else {
-            return Err(NONE);
+            return Err(NO_JOURNAL);
         };
         match journal.next(alloc, capacity) {
             Ok(storage) => boxed_store(alloc, storage, capacity),
@@ -46,19 +46,19 @@ fn is_capacity(capacity: u32) -> bool
 /// storage has room for.
 pub fn gone_on(alloc: Global, agent: &OwnedAgent, capacity: u32) -> Result<Box<Content>, i32>
     ensures ok { IfOk result (λ b. HoldsStore (Some b.value) (GoesOnFrom capacity agent.now)) }
-    ensures codes { IfErr result (IsOneOf (ASM_MEMORY ∷ ASM_RANGE ∷ ASM_NONE ∷ [])) }
-    ensures none { IfErr result (λ code. code ≡ ASM_NONE → ¬ IsAtEnd agent.now) }
-    ensures at_end { IfErr result (λ code. IsOneOf (ASM_MEMORY ∷ ASM_RANGE ∷ []) code → IsAtEnd agent.now) }
-    ensures range { IfErr result (λ code. code ≡ ASM_RANGE → IsNoCapacity capacity) }
+    ensures codes { IfErr result (IsOneOf (ASM_MEMORY ∷ ASM_CAPACITY ∷ ASM_NOT_FULL ∷ [])) }
+    ensures none { IfErr result (λ code. code ≡ ASM_NOT_FULL → ¬ IsAtEnd agent.now) }
+    ensures at_end { IfErr result (λ code. IsOneOf (ASM_MEMORY ∷ ASM_CAPACITY ∷ []) code → IsAtEnd agent.now) }
+    ensures range { IfErr result (λ code. code ≡ ASM_CAPACITY → IsNoCapacity capacity) }
     ensures memory { IfErr result (λ code. code ≡ ASM_MEMORY → ¬ IsNoCapacity capacity) }
     ensures sized { IfOk result (λ b. ¬ IsNoCapacity capacity) }
 {
     let state = agent.state();
     if state.number() != agent.capacity() {
-        return Err(NONE);
+        return Err(NOT_FULL);
     }
     if !is_capacity(capacity) {
-        return Err(RANGE);
+        return Err(CAPACITY);
     }
     let Ok(left) = state.to_plain(alloc) else {
         return Err(MEMORY);

@@ -5,11 +5,11 @@ ghost use Rattle.asm_slots.specs.AgentCalls.{IsNoCapacity, IsOpened};
 ghost use Rattle.asm_storage.specs.declared.error.StorageError.TheVariants.{BadCapacity};
 ghost use Rattle.asm_journal.specs.Value.{IsStateForm};
 ghost use Rattle.asm_explain.specs.Bytes.{IsNoJson, IsOtherJson};
-ghost use Rattle.asm_slots.specs.Codes.{IsOneOf, ASM_MEMORY, ASM_RANGE, ASM_NOT_JSON, ASM_SHAPE};
+ghost use Rattle.asm_slots.specs.Codes.{IsOneOf, ASM_MEMORY, ASM_CAPACITY, ASM_NOT_JSON, ASM_SHAPE};
 ghost use Rattle.asm_slots.specs.Slots.{AreEmpty, HoldsStore};
 ghost use Rattle.asm_slots.specs.Store.{IsNew};
 
-use crate::codes::{MEMORY, RANGE};
+use crate::codes::{CAPACITY, MEMORY};
 use crate::content::Content;
 use crate::parsing::{code_of_text_error, state_of};
 use crate::shared::Shared;
@@ -47,11 +47,11 @@ pub(crate) fn boxed_store(
 
 /// The code of the error.
 pub(crate) fn code_of_storage_error(error: StorageError) -> i32
-    ensures codes { IsOneOf (ASM_MEMORY ∷ ASM_RANGE ∷ []) result }
-    ensures range { result ≡ ASM_RANGE → error ≡ BadCapacity }
+    ensures codes { IsOneOf (ASM_MEMORY ∷ ASM_CAPACITY ∷ []) result }
+    ensures range { result ≡ ASM_CAPACITY → error ≡ BadCapacity }
 {
     match error {
-        StorageError::BadCapacity => RANGE,
+        StorageError::BadCapacity => CAPACITY,
         StorageError::Memory => MEMORY,
     }
 }
@@ -59,8 +59,8 @@ pub(crate) fn code_of_storage_error(error: StorageError) -> i32
 /// A storage of which no move was fired.
 pub fn opened(alloc: Global, init: &[u8], capacity: u32) -> Result<Box<Content>, i32>
     ensures ok { IfOk result (λ b. HoldsStore (Some b.value) (IsOpened init.now capacity)) }
-    ensures err { IfErr result (IsOneOf (ASM_MEMORY ∷ ASM_RANGE ∷ ASM_NOT_JSON ∷ ASM_SHAPE ∷ [])) }
-    ensures range { IfErr result (λ code. code ≡ ASM_RANGE → IsNoCapacity capacity) }
+    ensures err { IfErr result (IsOneOf (ASM_MEMORY ∷ ASM_CAPACITY ∷ ASM_NOT_JSON ∷ ASM_SHAPE ∷ [])) }
+    ensures range { IfErr result (λ code. code ≡ ASM_CAPACITY → IsNoCapacity capacity) }
     ensures not_json { IfErr result (λ code. code ≡ ASM_NOT_JSON → IsNoJson init.now) }
     ensures shape { IfErr result (λ code. code ≡ ASM_SHAPE → IsOtherJson IsStateForm init.now) }
 {

@@ -3,13 +3,13 @@ ghost use Rattle.std.specs.Prelude.{◌≡◌, ◌≢◌, ◌∷◌, [], IsUtf8,
 ghost use Rattle.asm_element.specs.declared.element.Element.{Element};
 ghost use Rattle.asm_element.specs.declared.value.Value.TheVariants as values;
 ghost use Rattle.asm_explain.specs.Bytes.{IsNoJson, IsOtherJson};
-ghost use Rattle.asm_slots.specs.Codes.{IsOneOf, ASM_MEMORY, ASM_NOT_JSON, ASM_RANGE, ASM_SHAPE};
+ghost use Rattle.asm_slots.specs.Codes.{IsOneOf, ASM_MEMORY, ASM_NOT_JSON, ASM_OPERAND, ASM_SHAPE};
 ghost use Rattle.asm_slots.specs.Kinds.{IsAction, IsByJson, IsKindForm, IsMisshapen, IsNoAction, IsOperand, IsTextOrPlain, IsTold};
 ghost use Rattle.asm_slots.specs.Kinds.{ASM_INC, ASM_KIND_BOOL, ASM_KIND_TEXT, kind_of};
 ghost use Rattle.asm_slots.specs.Verbs.{CannotTake, IsActionOn, IsNoVerb, IsVerb, action_with};
 ghost use Rattle.asm_element.specs.declared.value.Value.{Value};
 
-use crate::codes::{MEMORY, RANGE, SHAPE};
+use crate::codes::{MEMORY, OPERAND, SHAPE};
 use crate::parsing::code_of_text_error;
 use crate::value_head::{BAG, BOOL, LIST, NUM, SET, TEXT, UNDEF, ValueHead};
 use asm_element::{ElemText, Element, Value};
@@ -65,13 +65,13 @@ fn plain_of(kind: i32, number: i64) -> Option<Element>
 
 fn text_of(alloc: Global, number: i64, bytes: &[u8]) -> Result<Element, i32>
     ensures ok { IfOk result (IsTextOrPlain ASM_KIND_TEXT number bytes.now) }
-    ensures codes { IfErr result (IsOneOf (ASM_MEMORY ∷ ASM_RANGE ∷ ASM_SHAPE ∷ [])) }
-    ensures range { IfErr result (λ code. code ≡ ASM_RANGE →
+    ensures codes { IfErr result (IsOneOf (ASM_MEMORY ∷ ASM_OPERAND ∷ ASM_SHAPE ∷ [])) }
+    ensures range { IfErr result (λ code. code ≡ ASM_OPERAND →
         (e : Element) → ¬ IsTextOrPlain ASM_KIND_TEXT number bytes.now e) }
     ensures shape { IfErr result (λ code. code ≡ ASM_SHAPE → ¬ IsUtf8 bytes.now) }
 {
     if number != 0 {
-        return Err(RANGE);
+        return Err(OPERAND);
     }
     let Ok(text) = str::from_utf8(bytes) else {
         return Err(SHAPE);
@@ -85,19 +85,19 @@ fn text_of(alloc: Global, number: i64, bytes: &[u8]) -> Result<Element, i32>
 // The element of this kind but a list, with this number and these bytes.
 fn element_of(alloc: Global, kind: i32, number: i64, bytes: &[u8]) -> Result<Element, i32>
     ensures ok { IfOk result (IsTextOrPlain kind number bytes.now) }
-    ensures codes { IfErr result (IsOneOf (ASM_MEMORY ∷ ASM_RANGE ∷ ASM_SHAPE ∷ [])) }
-    ensures range { IfErr result (λ code. code ≡ ASM_RANGE → (e : Element) → ¬ IsTextOrPlain kind number bytes.now e) }
+    ensures codes { IfErr result (IsOneOf (ASM_MEMORY ∷ ASM_OPERAND ∷ ASM_SHAPE ∷ [])) }
+    ensures range { IfErr result (λ code. code ≡ ASM_OPERAND → (e : Element) → ¬ IsTextOrPlain kind number bytes.now e) }
     ensures shape { IfErr result (λ code. code ≡ ASM_SHAPE → (kind ≡ ASM_KIND_TEXT) × ¬ IsUtf8 bytes.now) }
 {
     if kind == TEXT {
         return text_of(alloc, number, bytes);
     }
     if !bytes.is_empty() {
-        return Err(RANGE);
+        return Err(OPERAND);
     }
     match plain_of(kind, number) {
         Some(element) => Ok(element),
-        None => Err(RANGE),
+        None => Err(OPERAND),
     }
 }
 
@@ -106,13 +106,13 @@ fn read_value(alloc: Global, kind: i32, number: i64, bytes: &[u8]) -> Result<Val
     requires { IsByJson kind }
     ensures ok { IfOk result (IsOperand kind number bytes.now) }
     ensures kind { IfOk result (λ v. kind ≡ kind_of v) }
-    ensures codes { IfErr result (IsOneOf (ASM_MEMORY ∷ ASM_RANGE ∷ ASM_NOT_JSON ∷ ASM_SHAPE ∷ [])) }
-    ensures range { IfErr result (λ code. code ≡ ASM_RANGE → (v : Value) → ¬ IsOperand kind number bytes.now v) }
+    ensures codes { IfErr result (IsOneOf (ASM_MEMORY ∷ ASM_OPERAND ∷ ASM_NOT_JSON ∷ ASM_SHAPE ∷ [])) }
+    ensures range { IfErr result (λ code. code ≡ ASM_OPERAND → (v : Value) → ¬ IsOperand kind number bytes.now v) }
     ensures not_json { IfErr result (λ code. code ≡ ASM_NOT_JSON → IsNoJson bytes.now) }
     ensures shape { IfErr result (λ code. code ≡ ASM_SHAPE → IsOtherJson (IsKindForm kind) bytes.now) }
 {
     if number != 0 {
-        return Err(RANGE);
+        return Err(OPERAND);
     }
     let value = match read_quickly::<Value>(alloc, bytes) {
         Ok(value) => value,
@@ -128,8 +128,8 @@ fn read_value(alloc: Global, kind: i32, number: i64, bytes: &[u8]) -> Result<Val
 // The value of this kind, with this number and these bytes.
 fn value_of(alloc: Global, kind: i32, number: i64, bytes: &[u8]) -> Result<Value, i32>
     ensures ok { IfOk result (IsOperand kind number bytes.now) }
-    ensures codes { IfErr result (IsOneOf (ASM_MEMORY ∷ ASM_RANGE ∷ ASM_NOT_JSON ∷ ASM_SHAPE ∷ [])) }
-    ensures range { IfErr result (λ code. code ≡ ASM_RANGE → (v : Value) → ¬ IsOperand kind number bytes.now v) }
+    ensures codes { IfErr result (IsOneOf (ASM_MEMORY ∷ ASM_OPERAND ∷ ASM_NOT_JSON ∷ ASM_SHAPE ∷ [])) }
+    ensures range { IfErr result (λ code. code ≡ ASM_OPERAND → (v : Value) → ¬ IsOperand kind number bytes.now v) }
     ensures not_json { IfErr result (λ code. code ≡ ASM_NOT_JSON → IsByJson kind × IsNoJson bytes.now) }
     ensures shape { IfErr result (λ code. code ≡ ASM_SHAPE → IsMisshapen kind bytes.now) }
 {
@@ -201,10 +201,10 @@ fn action_on(verb: Verb, value: Value) -> Option<Action>
 
 fn increment_of(kind: i32, number: i64, bytes: &[u8], amount: u32) -> Result<Action, i32>
     ensures ok { IfOk result (IsAction ASM_INC kind number bytes.now amount) }
-    ensures err { IfErr result (λ code. (code ≡ ASM_RANGE) × IsNoAction ASM_INC kind number bytes.now amount) }
+    ensures err { IfErr result (λ code. (code ≡ ASM_OPERAND) × IsNoAction ASM_INC kind number bytes.now amount) }
 {
     if kind != NUM || amount != 0 || !bytes.is_empty() {
-        return Err(RANGE);
+        return Err(OPERAND);
     }
     Ok(Action::Increment(number))
 }
@@ -219,8 +219,8 @@ pub(crate) fn action_of(
     amount: u32,
 ) -> Result<Action, i32>
     ensures ok { IfOk result (IsAction verb kind number bytes.now amount) }
-    ensures codes { IfErr result (IsOneOf (ASM_MEMORY ∷ ASM_RANGE ∷ ASM_NOT_JSON ∷ ASM_SHAPE ∷ [])) }
-    ensures range { IfErr result (λ code. code ≡ ASM_RANGE → IsNoAction verb kind number bytes.now amount) }
+    ensures codes { IfErr result (IsOneOf (ASM_MEMORY ∷ ASM_OPERAND ∷ ASM_NOT_JSON ∷ ASM_SHAPE ∷ [])) }
+    ensures range { IfErr result (λ code. code ≡ ASM_OPERAND → IsNoAction verb kind number bytes.now amount) }
     ensures not_json { IfErr result (λ code. code ≡ ASM_NOT_JSON → IsByJson kind × IsNoJson bytes.now) }
     ensures shape { IfErr result (λ code. code ≡ ASM_SHAPE → IsMisshapen kind bytes.now) }
 {
@@ -228,7 +228,7 @@ pub(crate) fn action_of(
         return increment_of(kind, number, bytes, amount);
     }
     let Some(verb) = verb_of(verb, amount) else {
-        return Err(RANGE);
+        return Err(OPERAND);
     };
     let value = match value_of(alloc, kind, number, bytes) {
         Ok(value) => value,
@@ -236,6 +236,6 @@ pub(crate) fn action_of(
     };
     match action_on(verb, value) {
         Some(action) => Ok(action),
-        None => Err(RANGE),
+        None => Err(OPERAND),
     }
 }

@@ -5,13 +5,14 @@ ghost use Rattle.std.specs.Bool.{OnFalse, OnTrue};
 ghost use Rattle.std.specs.Prelude.{◌≡◌, ◌≢◌, ◌≤◌, ◌+◌, ◌∷◌, ◌++◌, [], Err, IfErr, IfOk, IfSome, IsNone, Ok, length};
 ghost use Rattle.asm_step.specs.Places.{AreEach};
 ghost use Rattle.asm_storage.specs.Limits.{reads_limit};
-ghost use Rattle.asm_slots.specs.Codes.{IsOneOf, ASM_CLASH, ASM_DONE, ASM_LARGE, ASM_MANY, ASM_MEMORY, ASM_NONE};
+ghost use Rattle.asm_slots.specs.Codes.{IsOneOf, ASM_CLASH, ASM_DONE, ASM_LARGE, ASM_LONG_MOVE, ASM_MANY, ASM_MEMORY};
+ghost use Rattle.asm_slots.specs.Codes.{ASM_NO_PUSH};
 ghost use Rattle.asm_slots.specs.Popping.{IsComposedLast, IsNotPoppedLast, TellsUncomposed};
 ghost use Rattle.asm_slots.specs.Slots.{HasRoomForMove, HoldsMove, content_of};
 ghost use Rattle.asm_slots.specs.StepCalls.{HasPoppedOver, WouldTakeMany, from_below};
 ghost use Rattle.asm_slots.specs.Tracked.{judged_last, resting_last};
 
-use crate::codes::{CLASH, DONE, LARGE, MANY, MEMORY, NONE};
+use crate::codes::{CLASH, DONE, LARGE, LONG_MOVE, MANY, MEMORY, NO_PUSH};
 use crate::content::Content;
 use crate::instructing::hold;
 use crate::owned_step::OwnedStep;
@@ -45,7 +46,7 @@ fn code_of_compose_error(error: &ComposeError) -> i32
     match error {
         ComposeError::Clash(_) => CLASH,
         ComposeError::Large(_) => LARGE,
-        ComposeError::ManyInstructions => MANY,
+        ComposeError::ManyInstructions => LONG_MOVE,
         ComposeError::Memory => MEMORY,
     }
 }
@@ -77,15 +78,15 @@ impl OwnedStep {
 /// Takes the move that was pushed last away, with those that extend it. Where these have partial updates that were judged on
 /// the state below, that is got.
 pub fn pop_in(alloc: Global, step: &mut OwnedStep) -> i32
-    ensures codes { IsOneOf (ASM_DONE ∷ ASM_MEMORY ∷ ASM_MANY ∷ ASM_NONE ∷ []) result }
+    ensures codes { IsOneOf (ASM_DONE ∷ ASM_MEMORY ∷ ASM_MANY ∷ ASM_NO_PUSH ∷ []) result }
     ensures popped { result ≡ ASM_DONE → HasPoppedOver (judged_last step.old) step.old step.new }
-    ensures none { result ≡ ASM_NONE → step.old.layers ≡ [] }
+    ensures none { result ≡ ASM_NO_PUSH → step.old.layers ≡ [] }
     ensures many { result ≡ ASM_MANY → WouldTakeMany (judged_last step.old) step.old }
     ensures kept { result ≢ ASM_DONE → step.new ≡ step.old }
 {
     let judged = match step.judged_last(alloc) {
         Ok(Some(judged)) => judged,
-        Ok(None) => return NONE,
+        Ok(None) => return NO_PUSH,
         Err(AllocError) => return MEMORY,
     };
     match tracked(alloc, step, judged) {
@@ -102,17 +103,17 @@ pub fn pop_in(alloc: Global, step: &mut OwnedStep) -> i32
 /// Takes the move that was pushed last away, with those that extend it, and puts the one that does what they do into the
 /// slot. Where these rest by themselves on the state below, that is got.
 pub fn pop_into(alloc: Global, step: &mut OwnedStep, instrs: &mut Slot) -> i32
-    ensures codes { IsOneOf (ASM_DONE ∷ ASM_CLASH ∷ ASM_MEMORY ∷ ASM_MANY ∷ ASM_LARGE ∷ ASM_NONE ∷ []) result }
+    ensures codes { IsOneOf (ASM_DONE ∷ ASM_CLASH ∷ ASM_MEMORY ∷ ASM_MANY ∷ ASM_LARGE ∷ ASM_NO_PUSH ∷ ASM_LONG_MOVE ∷ []) result }
     ensures popped { result ≡ ASM_DONE → HasPoppedOver (resting_last step.old) step.old step.new }
     ensures done { result ≡ ASM_DONE → HoldsMove (content_of instrs.new) (λ M. IsComposedLast step.old (Ok M)) }
-    ensures none { result ≡ ASM_NONE → step.old.layers ≡ [] }
-    ensures refused { IsOneOf (ASM_CLASH ∷ ASM_MANY ∷ ASM_LARGE ∷ []) result → IsNotPoppedLast step.old result }
+    ensures none { result ≡ ASM_NO_PUSH → step.old.layers ≡ [] }
+    ensures refused { IsOneOf (ASM_CLASH ∷ ASM_MANY ∷ ASM_LARGE ∷ ASM_LONG_MOVE ∷ []) result → IsNotPoppedLast step.old result }
     ensures kept { result ≢ ASM_DONE → step.new ≡ step.old }
     ensures held { result ≢ ASM_DONE → content_of instrs.new ≡ content_of instrs.old }
 {
     let one = match step.last_as_move(alloc) {
         Ok(Some(one)) => one,
-        Ok(None) => return NONE,
+        Ok(None) => return NO_PUSH,
         Err(error) => return code_of_compose_error(&error),
     };
     let got = match step.got_at_rest(alloc) {

@@ -5,7 +5,7 @@ ghost use Rattle.asm_step.specs.Places.{AreEach};
 ghost use Rattle.asm_storage.specs.Limits.{reads_limit};
 ghost use Rattle.asm_explain.specs.Bytes.{IsNoJson, IsOtherJson};
 ghost use Rattle.asm_slots.specs.Codes.{IsOneOf, ASM_DONE, ASM_CLASH, ASM_MEMORY, ASM_SMALL};
-ghost use Rattle.asm_slots.specs.Codes.{ASM_MANY, ASM_NOT_JSON, ASM_SHAPE, ASM_LARGE, ASM_MOVED, ASM_DEEP};
+ghost use Rattle.asm_slots.specs.Codes.{ASM_MANY, ASM_NOT_JSON, ASM_SHAPE, ASM_LARGE, ASM_MOVED, ASM_DEEP, ASM_LONG_MOVE};
 ghost use Rattle.asm_slots.specs.StepPush.{Grows, changes, refusals};
 ghost use Rattle.asm_slots.specs.Slots.{content_of};
 ghost use Rattle.asm_slots.specs.StepCalls.{HasGrown, IsElsewhere, IsGrown, IsNotGrown, IsRefused, TellsRefusal};
@@ -14,7 +14,7 @@ ghost use Rattle.asm_slots.specs.Tracked.{judged};
 ghost use Rattle.asm_slots.specs.WrittenText.{TellsOneOf};
 ghost use Rattle.asm_slots.specs.declared.owned_step.Way.TheVariants as ways;
 
-use crate::codes::{CLASH, DEEP, DONE, LARGE, MANY, MEMORY, MOVED, Told, written_as};
+use crate::codes::{CLASH, DEEP, DONE, LARGE, LONG_MOVE, MANY, MEMORY, MOVED, Told, written_as};
 use crate::composing::{clash_text, large_text};
 use crate::in_both;
 use crate::owned_agent::OwnedAgent;
@@ -30,7 +30,7 @@ use std::alloc::{AllocError, Global};
 
 fn told_refusal(alloc: Global, error: StepError) -> Result<Told, AllocError>
     ensures told { IfOk result (λ t. TellsRefusal error t.code (string_bytes t.text)) }
-    ensures codes { IfOk result (λ t. IsOneOf (ASM_CLASH ∷ ASM_MANY ∷ ASM_LARGE ∷ ASM_DEEP ∷ []) t.code) }
+    ensures codes { IfOk result (λ t. IsOneOf (ASM_CLASH ∷ ASM_MANY ∷ ASM_LARGE ∷ ASM_DEEP ∷ ASM_LONG_MOVE ∷ []) t.code) }
     ensures deep { IfOk result (λ t. t.code ≡ ASM_DEEP → error ≡ StepError.Deep) }
 {
     match error {
@@ -43,7 +43,7 @@ fn told_refusal(alloc: Global, error: StepError) -> Result<Told, AllocError>
             text: large_text(alloc, &at)?,
         }),
         StepError::Many => Ok(Told {
-            code: MANY,
+            code: LONG_MOVE,
             text: String::new(alloc),
         }),
         StepError::Deep => Ok(Told {
@@ -68,7 +68,7 @@ fn refusal_of(
     error: StepError,
 ) -> Result<Refused, GetError>
     ensures told { IfOk result (λ r. TellsRefusal error r.told.code (string_bytes r.told.text)) }
-    ensures codes { IfOk result (λ r. IsOneOf (ASM_CLASH ∷ ASM_MANY ∷ ASM_LARGE ∷ ASM_DEEP ∷ []) r.told.code) }
+    ensures codes { IfOk result (λ r. IsOneOf (ASM_CLASH ∷ ASM_MANY ∷ ASM_LARGE ∷ ASM_DEEP ∷ ASM_LONG_MOVE ∷ []) r.told.code) }
     ensures deep { IfOk result (λ r. r.told.code ≡ ASM_DEEP → error ≡ StepError.Deep) }
     ensures got { IfOk result (λ r. AreEach (step.now.got ++ from_below step.now (judged instrs.now error)) r.got.items) }
     ensures few { IfOk result (λ r. length r.got.items + length step.now.scanned ≤ reads_limit) }
@@ -89,7 +89,7 @@ fn refuse(
     written: &mut usize,
 ) -> i32
     requires { written.old ≡ 0 }
-    ensures codes { IsOneOf (ASM_CLASH ∷ ASM_MEMORY ∷ ASM_SMALL ∷ ASM_MANY ∷ ASM_LARGE ∷ ASM_DEEP ∷ []) result }
+    ensures codes { IsOneOf (ASM_CLASH ∷ ASM_MEMORY ∷ ASM_SMALL ∷ ASM_MANY ∷ ASM_LARGE ∷ ASM_DEEP ∷ ASM_LONG_MOVE ∷ []) result }
     ensures text { TellsOneOf refusals (TellsTracked instrs.now step.old step.new error) out.old out.new written.new result }
     ensures deep { result ≡ ASM_DEEP → error ≡ StepError.Deep }
     ensures stays { result ≡ ASM_MEMORY → step.new ≡ step.old }
@@ -116,7 +116,7 @@ pub(crate) fn grow_by(
 ) -> i32
     requires { written.old ≡ 0 }
     ensures codes { IsOneOf (ASM_DONE ∷ ASM_CLASH ∷ ASM_MEMORY ∷ ASM_SMALL ∷ ASM_MANY
-        ∷ ASM_LARGE ∷ ASM_MOVED ∷ ASM_DEEP ∷ []) result }
+        ∷ ASM_LARGE ∷ ASM_MOVED ∷ ASM_DEEP ∷ ASM_LONG_MOVE ∷ []) result }
     ensures grown { result ≡ ASM_DONE → IsGrown way instrs.now agent.now step.old step.new }
     ensures text { TellsOneOf refusals (IsRefused way instrs.now agent.now step.old step.new) out.old out.new written.new result }
     ensures moved { result ≡ ASM_MOVED → IsElsewhere agent.now step.old }
@@ -145,7 +145,7 @@ fn grow_in(
 ) -> i32
     requires { written.old ≡ 0 }
     ensures codes { IsOneOf (ASM_DONE ∷ ASM_CLASH ∷ ASM_MEMORY ∷ ASM_SMALL ∷ ASM_MANY
-        ∷ ASM_NOT_JSON ∷ ASM_SHAPE ∷ ASM_LARGE ∷ ASM_MOVED ∷ ASM_DEEP ∷ []) result }
+        ∷ ASM_NOT_JSON ∷ ASM_SHAPE ∷ ASM_LARGE ∷ ASM_MOVED ∷ ASM_DEEP ∷ ASM_LONG_MOVE ∷ []) result }
     ensures grown { result ≡ ASM_DONE → HasGrown way instrs.now agent.now step.old step.new }
     ensures text { TellsOneOf refusals (IsNotGrown way instrs.now agent.now step.old step.new) out.old out.new written.new result }
     ensures moved { result ≡ ASM_MOVED → IsElsewhere agent.now step.old }

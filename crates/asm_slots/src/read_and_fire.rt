@@ -10,11 +10,11 @@ ghost use Rattle.asm_slots.specs.AgentCalls.{HasTriedFire, HasLooked, HasRead, I
 ghost use Rattle.asm_slots.specs.AgentCalls.{MayHaveLooked, MayHaveOffered, MissedFew, MissedOne, SeesOn};
 ghost use Rattle.asm_slots.specs.AgentCalls.{code_of, number_of};
 ghost use Rattle.asm_slots.specs.Codes.{IsOneOf, ASM_DONE, ASM_STALE, ASM_CLASH, ASM_MEMORY, ASM_FULL};
-ghost use Rattle.asm_slots.specs.Codes.{ASM_RANGE, ASM_BUSY, ASM_MANY, ASM_NOT_JSON, ASM_SHAPE};
+ghost use Rattle.asm_slots.specs.Codes.{ASM_AHEAD, ASM_BUSY, ASM_MANY, ASM_NOT_JSON, ASM_SHAPE};
 ghost use Rattle.asm_slots.specs.Slots.{Holds, content_of};
 ghost use Rattle.asm_slots.specs.declared.content.Content.TheVariants as content;
 
-use crate::codes::{BUSY, CLASH, DONE, FULL, MANY, MEMORY, RANGE, STALE};
+use crate::codes::{AHEAD, BUSY, CLASH, DONE, FULL, MANY, MEMORY, STALE};
 use crate::content::Content;
 use crate::owned_agent::OwnedAgent;
 use crate::parsing::{code_of_text_error, locations_of};
@@ -104,7 +104,7 @@ pub(crate) fn code_of_reply(reply: Reply) -> (i32, u32)
 
 /// Fires the move of these bytes.
 pub fn fire_in(alloc: Global, agent: &mut OwnedAgent, call: &[u8]) -> (i32, Numbers)
-    ensures codes { IsOneOf (ASM_DONE ∷ ASM_STALE ∷ ASM_CLASH ∷ ASM_MEMORY ∷ ASM_FULL ∷ ASM_RANGE ∷ ASM_BUSY ∷ ASM_MANY
+    ensures codes { IsOneOf (ASM_DONE ∷ ASM_STALE ∷ ASM_CLASH ∷ ASM_MEMORY ∷ ASM_FULL ∷ ASM_AHEAD ∷ ASM_BUSY ∷ ASM_MANY
         ∷ ASM_NOT_JSON ∷ ASM_SHAPE ∷ []) result.0 }
     ensures answered { IsReplyCode result.0 → HasTriedFire call.now result.0 result.1.fired agent.old agent.new }
     ensures unfired { result.0 ≢ ASM_DONE → result.1.fired ≡ 0 }
@@ -118,20 +118,20 @@ pub fn fire_in(alloc: Global, agent: &mut OwnedAgent, call: &[u8]) -> (i32, Numb
     ensures few { MissedFew agent.old agent.new }
     ensures missed { result.0 ≡ ASM_DONE → MissedOne agent.old agent.new }
     ensures memory { result.0 ≡ ASM_MEMORY → MayHaveOffered agent.old agent.new }
-    ensures range { result.0 ≡ ASM_RANGE → FiresAhead call.now agent.old }
+    ensures range { result.0 ≡ ASM_AHEAD → FiresAhead call.now agent.old }
     ensures within { IsOneOf (ASM_DONE ∷ ASM_STALE ∷ ASM_CLASH ∷ ASM_FULL ∷ ASM_BUSY ∷ ASM_MANY ∷ []) result.0 →
         FiresWithin call.now agent.old }
     ensures many { result.0 ≡ ASM_MANY → ReadAsManyReads call.now }
     ensures not_json { result.0 ≡ ASM_NOT_JSON → IsNoJson call.now }
     ensures shape { result.0 ≡ ASM_SHAPE → IsOtherJson IsFireForm call.now }
-    ensures kept { IsOneOf (ASM_RANGE ∷ ASM_MANY ∷ ASM_NOT_JSON ∷ ASM_SHAPE ∷ []) result.0 → agent.new ≡ agent.old }
+    ensures kept { IsOneOf (ASM_AHEAD ∷ ASM_MANY ∷ ASM_NOT_JSON ∷ ASM_SHAPE ∷ []) result.0 → agent.new ≡ agent.old }
 {
     let fire = match fire_of(alloc, call) {
         Ok(fire) => fire,
         Err(error) => return (code_of_text_error(error), Numbers::none()),
     };
     if agent.is_behind(fire.reads.as_slice()) {
-        return (RANGE, Numbers::none());
+        return (AHEAD, Numbers::none());
     }
     // So the receipt shares them, where it would copy them.
     let Ok(reads) = fire.reads.share(alloc) else {

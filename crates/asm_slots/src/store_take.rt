@@ -2,10 +2,10 @@
 ghost use Rattle.std.specs.Prelude.{◌≡◌, ◌≢◌, ◌<◌, ◌∷◌, [], All, IfErr, IfNone, IfOk, IfSome, OnErr, Some, length, slice_get};
 ghost use Rattle.asm_storage.specs.declared.part.AgentPart.{AgentPart};
 ghost use Rattle.asm_slots.specs.AgentCalls.{HasLost, HasNumber};
-ghost use Rattle.asm_slots.specs.Codes.{IsOneOf, ASM_MEMORY, ASM_NONE};
+ghost use Rattle.asm_slots.specs.Codes.{IsOneOf, ASM_MEMORY, ASM_NO_AGENT};
 ghost use Rattle.asm_slots.specs.Slots.{Holds};
 
-use crate::codes::{MEMORY, NONE};
+use crate::codes::{MEMORY, NO_AGENT};
 use crate::content::Content;
 use crate::owned_agent::OwnedAgent;
 use crate::store::Store;
@@ -32,13 +32,13 @@ impl Store {
     pub fn take_back(mut self, alloc: Global, number: u32) -> (Store, Result<Box<Content>, i32>)
         ensures lost { IfOk result.1 (λ b. Holds (Some b.value) (λ a. HasLost a self result.0)) }
         ensures numbered { IfOk result.1 (λ b. Holds (Some b.value) (λ a. a.account.id ≡ number)) }
-        ensures codes { IfErr result.1 (IsOneOf (ASM_MEMORY ∷ ASM_NONE ∷ [])) }
+        ensures codes { IfErr result.1 (IsOneOf (ASM_MEMORY ∷ ASM_NO_AGENT ∷ [])) }
         ensures kept { OnErr result.1 (result.0 ≡ self) }
-        ensures none { IfErr result.1 (λ code. code ≡ ASM_NONE → ¬ HasNumber self number) }
+        ensures none { IfErr result.1 (λ code. code ≡ ASM_NO_AGENT → ¬ HasNumber self number) }
         ensures there { IfErr result.1 (λ code. code ≡ ASM_MEMORY → HasNumber self number) }
     {
         let Some(at) = place_of(&self.parts, number) else {
-            return (self, Err(NONE));
+            return (self, Err(NO_AGENT));
         };
         let Ok(shared) = Arc::try_clone(&self.shared) else {
             return (self, Err(MEMORY));

@@ -1,5 +1,5 @@
 use Rattle.std.proofs.Common.{◌≡◌, [], ◌∷◌, Some, rules, subst, sym, ◌∙◌}
-use Rattle.asm_slots.specs.Codes.{IsOneOf, ASM_MEMORY, ASM_RANGE}
+use Rattle.asm_slots.specs.Codes.{IsOneOf, ASM_MEMORY, ASM_CAPACITY}
 use Rattle.asm_slots.specs.NextStore.{IsAtEnd}
 use Rattle.asm_slots.specs.Slots.{content_of}
 use Rattle.asm_slots.specs.declared.content.Content.TheVariants as content
@@ -20,7 +20,7 @@ returns-in-Err-clause-goes_on c =
       empty = search rules;
       none = λ is. holds (content_of c.args.agent.now) inner (λ a. ¬ IsAtEnd a) agent (c.in-Err.ensures.none (sym same ∙ is));
       at_end = λ one. holds (content_of c.args.agent.now) inner IsAtEnd agent
-          (c.in-Err.ensures.at_end (subst (IsOneOf (ASM_MEMORY ∷ ASM_RANGE ∷ [])) same one));
+          (c.in-Err.ensures.at_end (subst (IsOneOf (ASM_MEMORY ∷ ASM_CAPACITY ∷ [])) same one));
       range = search rules;
       sized = search rules;
     }
