@@ -133,6 +133,13 @@ extern "C" {
 #endif
 #endif
 
+/* A call under its old name, of which compilers warn. */
+#ifdef __GNUC__
+#define FOLUGBEN_DEPRECATED __attribute__((deprecated))
+#else
+#define FOLUGBEN_DEPRECATED
+#endif
+
 /* The version of this header, as asm_version returns that of the library: a million for each major
  * version, a thousand for each minor one. */
 #define FOLUGBEN_VERSION 2000
@@ -312,7 +319,7 @@ FOLUGBEN_NODISCARD int32_t asm_state(struct asm_agent *agent, uint32_t *number, 
 
 /* The same with the locations of one function name alone, which is passed in UTF-8 without quotes.
  * A fire that names each that was found doesn't notice that a further one is written later; one
- * over the scan does (asm_try_fire_over), as the commit of a step that reads them by asm_get_all.
+ * over the scan does (asm_try_fire_over), as the commit of a step that reads them by asm_step_scan.
  * ASM_EMPTY, ASM_SHAPE (the name isn't UTF-8), ASM_SMALL, ASM_MEMORY. */
 FOLUGBEN_NODISCARD int32_t asm_scan(struct asm_agent *agent, const uint8_t *name, size_t len,
     uint32_t *number, uint8_t *out, size_t room, size_t *written);
@@ -347,7 +354,7 @@ FOLUGBEN_NODISCARD int32_t asm_stands(struct asm_agent *agent, const uint8_t *re
  * steps that each add to one set don't make each other stale; what one move alone adds, removes or
  * increments is judged when it is fired.
  *
- * asm_get_all scans a function. The step then depends on all its locations, those that have a value
+ * asm_step_scan scans a function. The step then depends on all its locations, those that have a value
  * and those that have none, so that a value which comes to a further one makes the commit stale.
  * What is tracked and scanned takes at most 256 places: one for each location, and one for each
  * function, whatever its number of locations. A location that only a scan returned isn't tracked.
@@ -378,8 +385,15 @@ FOLUGBEN_NODISCARD int32_t asm_see(struct asm_agent *agent, struct asm_step *ste
  * which is passed in UTF-8 without quotes, any number of them. The function is scanned, also where
  * none is found. ASM_MANY: it isn't scanned yet, and 256 places are taken. ASM_SHAPE: the name isn't
  * UTF-8. Else as asm_get. */
-FOLUGBEN_NODISCARD int32_t asm_get_all(struct asm_agent *agent, struct asm_step *step,
+FOLUGBEN_NODISCARD int32_t asm_step_scan(struct asm_agent *agent, struct asm_step *step,
     const uint8_t *name, size_t len, uint8_t *out, size_t room, size_t *written);
+
+/* The name of asm_step_scan in version 0.2, which goes in the next one. */
+FOLUGBEN_NODISCARD FOLUGBEN_DEPRECATED static inline int32_t asm_get_all(
+    struct asm_agent *agent, struct asm_step *step, const uint8_t *name, size_t len, uint8_t *out,
+    size_t room, size_t *written) {
+    return asm_step_scan(agent, step, name, len, out, room, written);
+}
 
 /* Pushes the move [INSTR, ..]: what is got and pushed later is seen through what it leaves. A push
  * that is refused, or is popped, is a dry run, on which the step depends. ASM_CLASH, with the text

@@ -12,7 +12,7 @@ static void one_receipt(void) {
     push("[['put',['x'],8],['inc',['c'],2]]");
     gets("['x']", 0, "8");
     gets("['y']", 0, "9");
-    TELLS(ASM_DONE, "[[['c'],2]]", asm_get_all(&agents[0], &step, TEXT("c"), OUT));
+    TELLS(ASM_DONE, "[[['c'],2]]", asm_step_scan(&agents[0], &step, TEXT("c"), OUT));
     push("[['inc',['x'],1],['add',['s'],2]]");
     gets("['x']", 0, "9");
     TELLS(ASM_DONE, "{'number':0,'values':[7]}", asm_peek(&agents[0], TEXT("[['x']]"), OUT));
@@ -43,7 +43,7 @@ static void offers(void) {
     TELLS(ASM_DONE, "{'fire':[['inc',['c'],1]],'reads':[]}", asm_offer(&step, OUT));
     push("[['inc',['c'],2]]");
     gets("['none']", 0, "null");
-    TELLS(ASM_DONE, "[[['x'],7]]", asm_get_all(&agents[0], &step, TEXT("x"), OUT));
+    TELLS(ASM_DONE, "[[['x'],7]]", asm_step_scan(&agents[0], &step, TEXT("x"), OUT));
     TELLS(ASM_DONE, offer, asm_offer(&step, OUT));
     REQUIRE(asm_try_fire(&agents[1], TEXT(offer), &numbers) == ASM_DONE);
     REQUIRE(asm_try_fire(&agents[1], TEXT(offer), &numbers) == ASM_STALE);
@@ -110,7 +110,7 @@ static void moved(void) {
     uint32_t depth = asm_depth(&step);
     ANSWERS(ASM_MOVED, asm_get(&agents[0], &step, TEXT("[]"), OUT));
     ANSWERS(ASM_MOVED, asm_see(&agents[0], &step, TEXT("[]"), OUT));
-    ANSWERS(ASM_MOVED, asm_get_all(&agents[0], &step, TEXT("x"), OUT));
+    ANSWERS(ASM_MOVED, asm_step_scan(&agents[0], &step, TEXT("x"), OUT));
     ANSWERS(ASM_MOVED, asm_push(&agents[0], &step, TEXT("[]"), OUT));
     ANSWERS(ASM_MOVED, asm_extend(&agents[0], &step, TEXT("[['inc',['c'],1]]"), OUT));
     REQUIRE(is_same(agents[0], was[0]) && is_same(step, was[1]) && asm_depth(&step) == depth);
@@ -228,7 +228,7 @@ static void is_behind(void) {
     asm_slot was[2] = {agents[1].slot, step.slot};
     uint32_t depth = asm_depth(&step), seen = asm_seen(&agents[1]);
     ANSWERS(ASM_MOVED, asm_get(&agents[1], &step, TEXT("[['x']]"), OUT));
-    ANSWERS(ASM_MOVED, asm_get_all(&agents[1], &step, TEXT("x"), OUT));
+    ANSWERS(ASM_MOVED, asm_step_scan(&agents[1], &step, TEXT("x"), OUT));
     ANSWERS(ASM_MOVED, asm_get_at(&agents[1], &step, &at, &value, OUT));
     ANSWERS(ASM_MOVED, asm_push(&agents[1], &step, TEXT("[['inc',['x'],1]]"), OUT));
     ANSWERS(ASM_MOVED, asm_extend(&agents[1], &step, TEXT("[['inc',['x'],1]]"), OUT));
@@ -319,7 +319,7 @@ static void steady_memory(void) {
         if (round == ROUNDS / 10)
             before = kilobytes();
         gets("['x']", 0, "7");
-        TELLS(ASM_DONE, "[[['c'],0]]", asm_get_all(&agents[0], &step, TEXT("c"), OUT));
+        TELLS(ASM_DONE, "[[['c'],0]]", asm_step_scan(&agents[0], &step, TEXT("c"), OUT));
         push("[['add',['s'],2]]");
         gets("['s']", 0, "{'set':[1,2]}");
         pop();

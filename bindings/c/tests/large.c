@@ -198,7 +198,7 @@ static void grow(struct asm_agent *agent, struct asm_step *step, bool is_push, c
 /* The length of the text of the function, as it is seen through the step. */
 static size_t got(struct asm_agent *agent, struct asm_step *step, const char *name) {
     size_t length;
-    REQUIRE(asm_get_all(agent, step, bytes(name), strlen(name), NULL, 0, &length) == ASM_SMALL);
+    REQUIRE(asm_step_scan(agent, step, bytes(name), strlen(name), NULL, 0, &length) == ASM_SMALL);
     return length;
 }
 

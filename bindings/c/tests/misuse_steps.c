@@ -170,7 +170,7 @@ static void gets_all(unsigned at, unsigned of_step) {
     if (wanted.code == ASM_DONE)
         wanted.text = pairs(top_of(s).seen, false, name == 0, name == 1);
     int32_t code =
-        asm_get_all(ANY(at), ANY(of_step), *names[name] ? (const uint8_t *)names[name] : NULL,
+        asm_step_scan(ANY(at), ANY(of_step), *names[name] ? (const uint8_t *)names[name] : NULL,
                     strlen(names[name]), OUT(b));
     if (is_written(code, wanted, &b) && wanted.text) {
         /* A scan covers its function's locations, present or not. */

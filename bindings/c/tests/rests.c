@@ -89,7 +89,7 @@ static void seen(void) {
 }
 
 static void scans(const char *name, const char *wanted) {
-    TELLS(ASM_DONE, wanted, asm_get_all(&agents[0], &step, TEXT(name), OUT));
+    TELLS(ASM_DONE, wanted, asm_step_scan(&agents[0], &step, TEXT(name), OUT));
 }
 
 /* A step rests on all locations of a function that was scanned, those without a value too, until it

@@ -142,7 +142,7 @@ static void run_step(void) {
     REQUIRE(has(out, written, "{'clash':[['x'],'Kind']}"));
     REQUIRE(ON_STEP(asm_extend(&agents[0], &step, TEXT(bad), out, sizeof out, &written)) ==
             ASM_CLASH);
-    REQUIRE(ON_STEP(asm_get_all(&agents[0], &step, TEXT("y"), out, sizeof out, &written)) ==
+    REQUIRE(ON_STEP(asm_step_scan(&agents[0], &step, TEXT("y"), out, sizeof out, &written)) ==
             ASM_DONE);
     REQUIRE(has(out, written, "[[['y'],'why']]"));
     REQUIRE(ON_STEP(asm_see(&agents[0], &step, TEXT("[['y']]"), out, sizeof out, &written)) ==

@@ -75,7 +75,7 @@ static void on_nothing(struct asm_agent *agent, struct asm_step *of_step) {
     ANSWERS(ASM_EMPTY, asm_get(agent, of_step, TEXT("[]"), OUT));
     ANSWERS(ASM_EMPTY, asm_get(agent, of_step, NULL, 0, OUT));
     ANSWERS(ASM_EMPTY, asm_see(agent, of_step, TEXT("[]"), OUT));
-    ANSWERS(ASM_EMPTY, asm_get_all(agent, of_step, TEXT("y"), OUT));
+    ANSWERS(ASM_EMPTY, asm_step_scan(agent, of_step, TEXT("y"), OUT));
     ANSWERS(ASM_EMPTY, asm_push(agent, of_step, TEXT("[]"), OUT));
     ANSWERS(ASM_EMPTY, asm_extend(agent, of_step, TEXT("[]"), OUT));
     REQUIRE(asm_commit(agent, of_step, &numbers) == ASM_EMPTY);
@@ -192,7 +192,7 @@ static void gets(void) {
         ANSWERS(ASM_NOT_JSON, asm_get(&agents[0], &step, TEXT("[['x']"), OUT));
         ANSWERS(ASM_SHAPE, asm_get(&agents[0], &step, TEXT("['x']"), OUT));
         ANSWERS(ASM_SHAPE, asm_get(&agents[0], &step, TEXT("[['1']]"), OUT));
-        ANSWERS(ASM_SHAPE, asm_get_all(&agents[0], &step, TEXT("y\xc3"), OUT));
+        ANSWERS(ASM_SHAPE, asm_step_scan(&agents[0], &step, TEXT("y\xc3"), OUT));
     });
     /* Five are got by now. Neither what is refused nor what doesn't fit is. */
     REQUIRE(get_places(2, 250, 4 * LONGEST) == ASM_DONE);
@@ -201,7 +201,7 @@ static void gets(void) {
     REQUIRE(get_places(253, 1, 4 * LONGEST) == ASM_DONE);
     REQUIRE(get_places(252, 1, 4 * LONGEST) == ASM_MANY);
     REQUIRE(get_places(2, 250, 4 * LONGEST) == ASM_DONE);
-    KEEPS(ANSWERS(ASM_MANY, asm_get_all(&agents[0], &step, TEXT("y"), OUT)));
+    KEEPS(ANSWERS(ASM_MANY, asm_step_scan(&agents[0], &step, TEXT("y"), OUT)));
     begins(&agents[0], &step, ASM_DONE);
     REQUIRE(get_places(0, 257, 4 * LONGEST) == ASM_MANY);
     REQUIRE(get_places(0, 256, 4 * LONGEST) == ASM_DONE);
@@ -251,7 +251,7 @@ static const char *puts_to(int count) {
 static int32_t get_all_puts(void) {
     static uint8_t out[4 * LONGEST];
     size_t written;
-    return asm_get_all(&agents[0], &step, TEXT("w"), out, sizeof out, &written);
+    return asm_step_scan(&agents[0], &step, TEXT("w"), out, sizeof out, &written);
 }
 
 /* All locations with a name are seen through the pushed moves, however many they are; the function
@@ -262,14 +262,14 @@ static void gets_all(void) {
     uint32_t number;
     begin_all();
     TELLS(ASM_DONE, "[[['y',1],'one'],[['y',2],'two']]",
-          asm_get_all(&agents[0], &step, TEXT("y"), OUT));
-    TELLS(ASM_DONE, "[]", asm_get_all(&agents[0], &step, TEXT("nothing"), OUT));
-    TELLS(ASM_DONE, "[]", asm_get_all(&agents[0], &step, NULL, 0, OUT));
+          asm_step_scan(&agents[0], &step, TEXT("y"), OUT));
+    TELLS(ASM_DONE, "[]", asm_step_scan(&agents[0], &step, TEXT("nothing"), OUT));
+    TELLS(ASM_DONE, "[]", asm_step_scan(&agents[0], &step, NULL, 0, OUT));
     REQUIRE(push("[['put',['y',2],null],['put',['y',0],0],['put',['z'],1]]") == ASM_DONE);
     TELLS(ASM_DONE, "[[['y',0],0],[['y',1],'one']]",
-          asm_get_all(&agents[0], &step, TEXT("y"), OUT));
+          asm_step_scan(&agents[0], &step, TEXT("y"), OUT));
     REQUIRE(push("[['put',['y',2],2],['put',['y',1],null]]") == ASM_DONE);
-    TELLS(ASM_DONE, "[[['y',0],0],[['y',2],2]]", asm_get_all(&agents[0], &step, TEXT("y"), OUT));
+    TELLS(ASM_DONE, "[[['y',0],0],[['y',2],2]]", asm_step_scan(&agents[0], &step, TEXT("y"), OUT));
     REQUIRE(asm_pop(&step) == ASM_DONE && asm_pop(&step) == ASM_DONE);
     begins(&agents[0], &step, ASM_DONE);
     look();
@@ -280,7 +280,7 @@ static void gets_all(void) {
     KEEPS(REQUIRE(get_places(2, 251, 4 * LONGEST) == ASM_MANY));
     REQUIRE(get_places(2, 250, 4 * LONGEST) == ASM_DONE);
     REQUIRE(get_places(252, 1, 4 * LONGEST) == ASM_MANY);
-    KEEPS(ANSWERS(ASM_MANY, asm_get_all(&agents[0], &step, TEXT("y"), OUT)));
+    KEEPS(ANSWERS(ASM_MANY, asm_step_scan(&agents[0], &step, TEXT("y"), OUT)));
     REQUIRE(get_all_puts() == ASM_DONE);
     REQUIRE(asm_commit(&agents[0], &step, &numbers) == ASM_DONE && numbers.fired == 1);
     /* So it is where the state has them all, and the step fires. */
@@ -288,7 +288,7 @@ static void gets_all(void) {
     REQUIRE(get_all_puts() == ASM_DONE);
     REQUIRE(get_places(0, 256, 4 * LONGEST) == ASM_MANY);
     REQUIRE(get_places(0, 255, 4 * LONGEST) == ASM_DONE);
-    ANSWERS(ASM_MANY, asm_get_all(&agents[0], &step, TEXT("y"), OUT));
+    ANSWERS(ASM_MANY, asm_step_scan(&agents[0], &step, TEXT("y"), OUT));
     REQUIRE(asm_commit(&agents[0], &step, &numbers) == ASM_DONE && numbers.fired == 2);
     end_all();
 }

@@ -16,7 +16,7 @@ use std::alloc::Global;
 /// the name isn't UTF-8. `ASM_MOVED`, `ASM_SMALL`, `ASM_EMPTY` and `ASM_MEMORY` come as of `asm_get`; after each of
 /// these the step's slot is as it was. The step has to be one of the agent's storage.
 #[unsafe(no_mangle)]
-pub extern "C" fn asm_get_all(
+pub extern "C" fn asm_step_scan(
     alloc: Global,
     agent: &mut Slot,
     step: &mut Slot,
