@@ -36,8 +36,8 @@ public final class Agent extends AgentCalls implements Actor {
         byte[] call = Texts.utf8(locations, "locations");
         takeState();
         synchronized (slot) {
-            int code = slot.read(call);
-            if (code == FolugbenException.MANY)
+            Code code = slot.read(call);
+            if (code == Code.MANY)
                 throw ManyException.places(
                         JsonReader.locations(locations).size(), "locations are read");
             FolugbenException.expectRead(held(code), Storage.Form.LOCATIONS, call);
@@ -136,14 +136,14 @@ public final class Agent extends AgentCalls implements Actor {
         byte[] call = Texts.utf8(move, "the move");
         byte[] both = Texts.utf8(move + Texts.oneValue(scans, "scans"), "the move");
         synchronized (slot) {
-            int code = slot.fireOver(both, call.length);
-            if (code == FolugbenException.NOT_JSON || code == FolugbenException.SHAPE)
+            Code code = slot.fireOver(both, call.length);
+            if (code == Code.NOT_JSON || code == Code.SHAPE)
                 FolugbenException.expectFire(code, call);
-            if (code == FolugbenException.MANY)
+            if (code == Code.MANY)
                 throw ManyException.places(
                         JsonReader.reads(reads).size() + JsonReader.scans(scans).size(),
                         "locations and scanned functions are named");
-            if (code == FolugbenException.RANGE)
+            if (code == Code.RANGE)
                 throw FolugbenException.ahead(reads, scans, Calls.asm_seen(slot.at));
             Reply reply = reply(code, false);
             player.fires(instructions, reads, scans, reply);
@@ -322,11 +322,11 @@ public final class Agent extends AgentCalls implements Actor {
         Turns.Player.look(this).depends();
         Objects.requireNonNull(other, "other");
         if (other.storage != storage)
-            FolugbenException.expect(FolugbenException.OTHER);
+            FolugbenException.expect(Code.OTHER);
         // Of two with one number, one of which was given back, the locks have no other order.
         synchronized (LEARNING) {
             withBoth(other, () -> {
-                int code = Calls.asm_learn(slot.at, other.slot.at);
+                Code code = Code.of(Calls.asm_learn(slot.at, other.slot.at));
                 other.held(code);
                 expect(code);
             });

@@ -11,7 +11,7 @@ public final class LargeException extends FolugbenException {
     private static final long serialVersionUID = 1;
 
     LargeException(String said, String answer) {
-        super(LARGE, 0, said, "", answer);
+        super(Code.LARGE, 0, said, "", answer);
     }
 
     /** Of a line of so many bytes, which something would make. */

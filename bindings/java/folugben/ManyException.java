@@ -8,7 +8,7 @@ public final class ManyException extends FolugbenException {
     private static final long serialVersionUID = 1;
 
     ManyException(String said) {
-        super(MANY, 0, said, "", null);
+        super(Code.MANY, 0, said, "", null);
     }
 
     /** Of so many places, where at most 256 may be. */
@@ -17,14 +17,14 @@ public final class ManyException extends FolugbenException {
     }
 
     /** Of a step that would rest on too many. */
-    static void expectPlaces(int code) {
-        if (code == MANY)
+    static void expectPlaces(Code code) {
+        if (code == Code.MANY)
             throw new ManyException("the step would rest on more than 256 locations and functions");
     }
 
     /** Of a move that would have too many instructions. */
-    static void expectMove(int code, String what) {
-        if (code == MANY)
+    static void expectMove(Code code, String what) {
+        if (code == Code.MANY)
             throw new ManyException(what + " would have more than 4,096 instructions");
     }
 }

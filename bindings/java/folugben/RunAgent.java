@@ -117,7 +117,7 @@ public final class RunAgent implements Actor {
             if (part.isOverWith((int) agent.seen()))
                 return null;
             Reply reply = agent.tryFire(move, named(rests));
-            if (reply.code() != FolugbenException.FULL)
+            if (reply.code() != Code.FULL)
                 return reply.orThrow();
             agent.follow();
             part.passOn(agent);

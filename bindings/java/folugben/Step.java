@@ -257,7 +257,7 @@ public sealed class Step extends StepCalls implements AutoCloseable permits Shar
     public void pop() {
         Turns.Player.call(this);
         synchronized (agent.slot) {
-            FolugbenException.expect(Calls.asm_pop(slot().at));
+            FolugbenException.expect(Code.of(Calls.asm_pop(slot().at)));
         }
     }
 

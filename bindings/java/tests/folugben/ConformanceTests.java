@@ -86,7 +86,7 @@ final class ConformanceTests {
             numbers.add("" + error.number());
         if (error instanceof AuditException audit)
             numbers.add("" + audit.part());
-        return "{\"error\":" + quoted(error.kind().name()) + ",\"said\":" + quoted(error.getMessage())
+        return "{\"error\":" + quoted(error.code().name()) + ",\"said\":" + quoted(error.getMessage())
                 + ",\"numbers\":[" + String.join(",", numbers) + "]}";
     }
 
