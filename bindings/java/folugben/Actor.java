@@ -115,36 +115,31 @@ public sealed interface Actor extends AutoCloseable permits Agent, RunAgent, Sha
      * tells whether it was a step that was fired, and `isOfRun` whether it was an agent of a {@link
      * Run} or a {@link SharedRun}.
      */
-    record Reply(int code, long move, long from, long to, String answer, boolean isOfStep,
+    record Reply(Code code, long move, long from, long to, String answer, boolean isOfStep,
             boolean isOfRun) {
         /** What became of a fire that was none of a step, or of reads. */
-        public Reply(int code, long move, long from, long to, String answer) {
+        public Reply(Code code, long move, long from, long to, String answer) {
             this(code, move, from, to, answer, false, false);
         }
 
         /** What became of a fire, or of reads, on an agent that is none of a run. */
-        public Reply(int code, long move, long from, long to, String answer, boolean isOfStep) {
+        public Reply(Code code, long move, long from, long to, String answer, boolean isOfStep) {
             this(code, move, from, to, answer, isOfStep, false);
-        }
-
-        /** Its code, for a switch. */
-        public Code kind() {
-            return Code.of(code);
         }
 
         /** Whether a move was fired; `move` is then its number, from 1 up. */
         public boolean isFired() {
-            return code == FolugbenException.DONE && move != 0;
+            return code == Code.DONE && move != 0;
         }
 
         /** Whether a named location was written since it was read. */
         public boolean isStale() {
-            return code == FolugbenException.STALE;
+            return code == Code.STALE;
         }
 
         /** Whether the updates clash. */
         public boolean isClash() {
-            return code == FolugbenException.CLASH;
+            return code == Code.CLASH;
         }
 
         /**
@@ -153,8 +148,8 @@ public sealed interface Actor extends AutoCloseable permits Agent, RunAgent, Sha
          * of a run whether its part is full, as another step goes on in the next one.
          */
         public boolean shouldRetry() {
-            return isStale() || code == FolugbenException.BUSY || (isOfStep && isClash())
-                    || (isOfRun && code == FolugbenException.FULL);
+            return isStale() || code == Code.BUSY || (isOfStep && isClash())
+                    || (isOfRun && code == Code.FULL);
         }
 
         /** The least location that is stale or clashes; else null. */
@@ -176,7 +171,7 @@ public sealed interface Actor extends AutoCloseable permits Agent, RunAgent, Sha
          *         PartException} for a {@link FullException}
          */
         public long orThrow() {
-            if (code != FolugbenException.DONE)
+            if (code != Code.DONE)
                 throw FolugbenException.of(this);
             return move;
         }

@@ -36,8 +36,8 @@ public final class Agent extends AgentCalls implements Actor {
         byte[] call = Texts.utf8(locations, "locations");
         takeState();
         synchronized (slot) {
-            int code = slot.read(call);
-            if (code == FolugbenException.MANY)
+            Code code = slot.read(call);
+            if (code == Code.MANY)
                 throw ManyException.places(
                         JsonReader.locations(locations).size(), "locations are read");
             FolugbenException.expectRead(held(code), Storage.Form.LOCATIONS, call);
@@ -94,7 +94,7 @@ public final class Agent extends AgentCalls implements Actor {
      * it has learnt. After {@link Storage#next} numbers begin anew: keep none.
      *
      * @throws FolugbenException as a {@link ManyException} if there are more reads; SHAPE if there
-     *         are more instructions; RANGE, which says of which location, if a number is above that
+     *         are more instructions; AHEAD, which says of which location, if a number is above that
      *         of the moves that the agent has seen, as it would guard nothing
      */
     public Reply tryFire(List<? extends Instruction> instructions, List<Named> reads) {
@@ -116,7 +116,7 @@ public final class Agent extends AgentCalls implements Actor {
     /**
      * Fires the instructions [INSTR, ..], which rest on the reads [NAMED, ..].
      *
-     * @throws FolugbenException NOT_JSON, which names the argument, if one isn't one value; RANGE
+     * @throws FolugbenException NOT_JSON, which names the argument, if one isn't one value; AHEAD
      *         as of reads that are objects
      */
     public Reply tryFire(String instructions, String reads) {
@@ -136,14 +136,14 @@ public final class Agent extends AgentCalls implements Actor {
         byte[] call = Texts.utf8(move, "the move");
         byte[] both = Texts.utf8(move + Texts.oneValue(scans, "scans"), "the move");
         synchronized (slot) {
-            int code = slot.fireOver(both, call.length);
-            if (code == FolugbenException.NOT_JSON || code == FolugbenException.SHAPE)
+            Code code = slot.fireOver(both, call.length);
+            if (code == Code.NOT_JSON || code == Code.SHAPE)
                 FolugbenException.expectFire(code, call);
-            if (code == FolugbenException.MANY)
+            if (code == Code.MANY)
                 throw ManyException.places(
                         JsonReader.reads(reads).size() + JsonReader.scans(scans).size(),
                         "locations and scanned functions are named");
-            if (code == FolugbenException.RANGE)
+            if (code == Code.AHEAD)
                 throw FolugbenException.ahead(reads, scans, Calls.asm_seen(slot.at));
             Reply reply = reply(code, false);
             player.fires(instructions, reads, scans, reply);
@@ -282,7 +282,7 @@ public final class Agent extends AgentCalls implements Actor {
      * stand: the reply is DONE, or STALE for the least location that was written since. A fire may
      * still be refused, by a move that comes in between.
      *
-     * @throws FolugbenException RANGE, which says of which location, if a number is above that of
+     * @throws FolugbenException AHEAD, which says of which location, if a number is above that of
      *         the moves that the agent had seen
      */
     public Reply stands(String reads) {
@@ -311,7 +311,7 @@ public final class Agent extends AgentCalls implements Actor {
      * is closed and no other agent waits; the journals of both, one after the other, tell one run.
      * Its agents start anew, as numbers do.
      *
-     * @throws FolugbenException NONE if the own state stands at fewer moves
+     * @throws FolugbenException NOT_FULL if the own state stands at fewer moves
      */
     public Storage goOn(int capacity) {
         return Storage.behind(this, capacity);
@@ -322,11 +322,11 @@ public final class Agent extends AgentCalls implements Actor {
         Turns.Player.look(this).depends();
         Objects.requireNonNull(other, "other");
         if (other.storage != storage)
-            FolugbenException.expect(FolugbenException.OTHER);
+            FolugbenException.expect(Code.OTHER);
         // Of two with one number, one of which was given back, the locks have no other order.
         synchronized (LEARNING) {
             withBoth(other, () -> {
-                int code = Calls.asm_learn(slot.at, other.slot.at);
+                Code code = Code.of(Calls.asm_learn(slot.at, other.slot.at));
                 other.held(code);
                 expect(code);
             });

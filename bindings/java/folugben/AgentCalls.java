@@ -13,8 +13,8 @@ abstract sealed class AgentCalls permits Agent {
     volatile Run.Chained chain;
     int vain;
     /** Tells that it was given back, if this code was answered for that; to be called with its lock. */
-    int held(int code) {
-        if (code != FolugbenException.EMPTY || slot.isFull())
+    Code held(Code code) {
+        if (code != Code.EMPTY || slot.isFull())
             return code;
         if (isPast())
             throw PartException.full();
@@ -26,7 +26,7 @@ abstract sealed class AgentCalls permits Agent {
         return own != null && own.isOver();
     }
     /** What is expected of the code of a call on it. */
-    void expect(int code) {
+    void expect(Code code) {
         FolugbenException.expect(held(code));
     }
     /** The values of a reading, without the number. */
@@ -34,25 +34,25 @@ abstract sealed class AgentCalls permits Agent {
         return reading.substring(reading.indexOf(','));
     }
     /** The code of a fire, FULL where it came too late for the part of a run. */
-    int inTime(int code) {
-        boolean isTooLate = code == FolugbenException.EMPTY && !slot.isFull() && isPast();
-        return isTooLate ? FolugbenException.FULL : code;
+    Code inTime(Code code) {
+        boolean isTooLate = code == Code.EMPTY && !slot.isFull() && isPast();
+        return isTooLate ? Code.FULL : code;
     }
     /** What became of a fire with this code, on which the agent's lock is still held. */
-    Actor.Reply reply(int told, boolean isOfStep) {
-        int code = inTime(told);
+    Actor.Reply reply(Code told, boolean isOfStep) {
+        Code code = inTime(told);
         long before = before();
-        long move = code == FolugbenException.DONE ? before + room.number(0) : 0;
+        long move = code == Code.DONE ? before + room.number(0) : 0;
         long from = before + room.number(1);
         long to = before + room.number(2);
         String answer = null;
         switch (code) {
-            case FolugbenException.STALE, FolugbenException.CLASH -> {
+            case STALE, CLASH -> {
                 vain++;
                 answer = lastAnswer();
             }
-            case FolugbenException.FULL -> vain++;
-            case FolugbenException.BUSY -> {}
+            case FULL -> vain++;
+            case BUSY -> {}
             default -> expect(code);
         }
         return new Actor.Reply(code, move, from, to, answer, isOfStep, chain != null);
@@ -146,15 +146,15 @@ abstract sealed class AgentCalls permits Agent {
         byte[] call = Texts.utf8(reads, "reads");
         synchronized (slot) {
             Calls.Told told = slot.stands(call);
-            if (told.code() == FolugbenException.STALE || told.code() == FolugbenException.DONE) {
+            if (told.code() == Code.STALE || told.code() == Code.DONE) {
                 player.readsNamed(reads);
                 player.hears(told.text());
             }
-            if (told.code() == FolugbenException.STALE)
+            if (told.code() == Code.STALE)
                 return new Actor.Reply(told.code(), 0, 0, 0, told.text());
-            if (told.code() == FolugbenException.MANY)
+            if (told.code() == Code.MANY)
                 throw ManyException.places(JsonReader.reads(reads).size(), "locations are named");
-            if (told.code() == FolugbenException.RANGE)
+            if (told.code() == Code.AHEAD)
                 throw FolugbenException.ahead(reads, Calls.asm_seen(slot.at));
             FolugbenException.expectReads(held(told.code()), reads);
             return new Actor.Reply(told.code(), 0, 0, 0, null);

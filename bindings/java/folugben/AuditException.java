@@ -2,7 +2,7 @@ package folugben;
 
 /**
  * What an audit tells of a run that isn't legal, or isn't whole: the first wrong answer as ILLEGAL,
- * the first fault as NOT_JSON, SHAPE, VERSION, CUT or APART, and as LARGE a line of more than
+ * the first fault as NOT_JSON, SHAPE, VERSION, CUT or APART, and as LONG_LINE a line of more than
  * 1,073,741,824 bytes.
  */
 public final class AuditException extends FolugbenException {
@@ -11,13 +11,13 @@ public final class AuditException extends FolugbenException {
     /** The number of the part. */
     private final long part;
 
-    AuditException(int code, long part, long number) {
-        super(code, number, code == LARGE ? "a line of more than 1,073,741,824 bytes" : "",
+    AuditException(Code code, long part, long number) {
+        super(code, number, code == Code.LONG_LINE ? "a line of more than 1,073,741,824 bytes" : "",
                 "part " + part + place(code, number), null);
         this.part = part;
     }
 
-    private static String place(int code, long number) {
+    private static String place(Code code, long number) {
         String name = numberName(code);
         return name == null ? "" : ", " + name + " " + number;
     }
@@ -29,11 +29,11 @@ public final class AuditException extends FolugbenException {
 
     /** Of ILLEGAL the number of the call in its part, from 0; else -1. */
     public long call() {
-        return code() == ILLEGAL ? number() : -1;
+        return code() == Code.ILLEGAL ? number() : -1;
     }
 
     /** Of NOT_JSON and SHAPE the number of the line in its part, from 1; else 0. */
     public long line() {
-        return code() == NOT_JSON || code() == SHAPE ? number() : 0;
+        return code() == Code.NOT_JSON || code() == Code.SHAPE ? number() : 0;
     }
 }

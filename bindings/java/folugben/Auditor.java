@@ -83,16 +83,16 @@ public final class Auditor implements AutoCloseable {
 
     /** To be called with its lock, as those below. */
     private void take(byte[] bytes, int at, int length) {
-        int code = asked(bytes, at, length);
+        Code code = asked(bytes, at, length);
         taken += room.written();
         Counts told = told();
-        if (code != FolugbenException.DONE && asked(NOTHING, 0, 0) == FolugbenException.DONE)
+        if (code != Code.DONE && asked(NOTHING, 0, 0) == Code.DONE)
             counts = told();
         expect(code, told);
         counts = told;
     }
 
-    private int asked(byte[] bytes, int at, int length) {
+    private Code asked(byte[] bytes, int at, int length) {
         return room.make(bytes, at, length,
                 (text, out, size, written)
                         -> Calls.asm_audit(slot.at, text, length, written, room.numbers()));
@@ -102,11 +102,11 @@ public final class Auditor implements AutoCloseable {
         return new Counts(room.wide(0), room.wide(1), room.wide(2));
     }
 
-    private void expect(int code, Counts told) {
+    private void expect(Code code, Counts told) {
         switch (code) {
-            case FolugbenException.DONE, FolugbenException.MEMORY -> FolugbenException.expect(code);
+            case DONE, MEMORY -> FolugbenException.expect(code);
             // Of such a line no number is told; those of the audit are these.
-            case FolugbenException.LARGE -> throw new AuditException(code, counts.parts(), 0);
+            case LONG_LINE -> throw new AuditException(code, counts.parts(), 0);
             default -> throw new AuditException(code, told.parts(), told.calls());
         }
     }
@@ -182,7 +182,7 @@ public final class Auditor implements AutoCloseable {
     public Counts end() {
         synchronized (slot) {
             expectOpen();
-            int code = Calls.asm_audited(slot.at, room.numbers());
+            Code code = Code.of(Calls.asm_audited(slot.at, room.numbers()));
             expect(code, told());
             return told();
         }
@@ -191,7 +191,7 @@ public final class Auditor implements AutoCloseable {
     /**
      * The state [PAIR, ..] that the moves so far leave.
      *
-     * @throws FolugbenException NONE if no part has begun
+     * @throws FolugbenException NO_PART if no part has begun
      */
     public String state() {
         synchronized (slot) {

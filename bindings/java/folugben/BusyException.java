@@ -10,7 +10,7 @@ public final class BusyException extends ConflictException {
     private final long to;
 
     BusyException(long from, long to) {
-        super(BUSY, 0, "",
+        super(Code.BUSY, 0, "",
                 "the agent had seen " + from + " moves at the start of the call and " + to
                         + " at its end",
                 null);

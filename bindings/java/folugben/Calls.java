@@ -100,7 +100,7 @@ final class Calls {
     static native int asm_see(
             long agent, long step, long locations, long len, long out, long room, long written);
 
-    static native int asm_get_all(
+    static native int asm_step_scan(
             long agent, long step, long name, long len, long out, long room, long written);
 
     static native int asm_push(
@@ -220,7 +220,7 @@ final class Calls {
     }
 
     /** The code of a call, and the text that it wrote with it. */
-    record Told(int code, String text) {}
+    record Told(Code code, String text) {}
 
     /**
      * What a call tells, which is made with a buffer with so much room, and again with a larger one
@@ -229,12 +229,12 @@ final class Calls {
     static Told told(Writer call, int room) {
         byte[] out = new byte[room];
         long[] written = new long[1];
-        int code = call.write(out, out.length, written);
-        while (code == FolugbenException.SMALL) {
+        Code code = Code.of(call.write(out, out.length, written));
+        while (code == Code.SMALL) {
             if (written[0] > MOST)
                 throw tooLong(written[0]);
             out = new byte[(int) written[0]];
-            code = call.write(out, out.length, written);
+            code = Code.of(call.write(out, out.length, written));
         }
         return new Told(code, new String(out, 0, (int) written[0], StandardCharsets.UTF_8));
     }

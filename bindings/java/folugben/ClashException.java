@@ -8,7 +8,7 @@ public final class ClashException extends FolugbenException {
     private static final long serialVersionUID = 1;
 
     ClashException(String answer) {
-        super(CLASH, 0, answer, "", answer);
+        super(Code.CLASH, 0, answer, "", answer);
     }
 
     /** The least location at which they clash. */

@@ -1,73 +1,105 @@
 package folugben;
 
+import java.nio.charset.StandardCharsets;
+
 /** What a call answers, as {@link FolugbenException} and {@link Agent.Reply} tell it. */
 public enum Code {
     /** The call was answered; a fire fired its move. */
-    DONE,
+    DONE(0),
     /** A named location was written since it was read. */
-    STALE,
+    STALE(1),
     /** The updates clash. */
-    CLASH,
+    CLASH(2),
     /** Memory is short: the call throws an OutOfMemoryError, and may be made again. */
-    MEMORY,
+    MEMORY(3),
     /** As many moves were fired as the capacity. */
-    FULL,
+    FULL(4),
     /** What is called on was closed, given back or fired. */
-    EMPTY,
-    /** A capacity, a number, a count or an amount is out of its range. */
-    RANGE,
+    EMPTY(5),
+    /** The capacity of a storage is none, which no call here tells. */
+    CAPACITY(6),
     /** A buffer is too small, which no call here tells. */
-    SMALL,
+    SMALL(7),
     /** 64 offers were lost to other agents. */
-    BUSY,
-    /** There are more than 256 locations, or more than 4,096 instructions. */
-    MANY,
-    /**
-     * There is no answer, no pushed move, no closed journal or no part yet; an agent's own state
-     * stands at fewer moves than the capacity; or no agent of a number was given back.
-     */
-    NONE,
+    BUSY(8),
+    /** There are more than 256 locations, or locations and scanned functions. */
+    MANY(9),
+    /** No call was answered yet. */
+    NO_ANSWER(10),
     /** A slot is in use already, which no call here tells. */
-    TAKEN,
+    TAKEN(11),
     /** The storage made an agent with this number before. */
-    NUMBER,
+    NUMBER(12),
     /** A move has no receipt among the agents that were given back. */
-    MISSING,
+    MISSING(13),
     /** An agent is of another storage. */
-    OTHER,
+    OTHER(14),
     /** An answer of a journal is another than a storage of one thread gives. */
-    ILLEGAL,
+    ILLEGAL(15),
     /** A text is not JSON. */
-    NOT_JSON,
+    NOT_JSON(16),
     /** A text is JSON of another shape. */
-    SHAPE,
+    SHAPE(17),
     /** A journal has a version that is not known. */
-    VERSION,
+    VERSION(18),
     /** A journal, or the last part of a run, ends too early. */
-    CUT,
-    /** An amount, a sum or a number of calls is too large. */
-    LARGE,
+    CUT(19),
+    /** An amount or a sum is too large. */
+    LARGE(20),
     /** The agent moved on since the step began. */
-    MOVED,
+    MOVED(21),
     /** 64 moves are pushed. */
-    DEEP,
+    DEEP(22),
     /** A part of a run opens with another state than the one before it leaves. */
-    APART;
+    APART(23),
+    /** The number of an agent is out of its range, or there are too many agents. */
+    AGENTS(24),
+    /** A location or a function is named at a number above that of the moves that are seen. */
+    AHEAD(25),
+    /** A verb, a kind and an operand make no instruction, which no call here tells. */
+    OPERAND(26),
+    /** There is no such form, which no call here tells. */
+    NO_FORM(27),
+    /** No journal was made since an agent was given back or taken. */
+    NO_JOURNAL(28),
+    /** No move is pushed. */
+    NO_PUSH(29),
+    /** No agent with this number was given back. */
+    NO_AGENT(30),
+    /** No part of a run has begun. */
+    NO_PART(31),
+    /** An agent's own state is at fewer moves than its storage has room for. */
+    NOT_FULL(32),
+    /** There are more calls than the 4,294,967,295 that a journal holds. */
+    MANY_CALLS(33),
+    /** A line has more bytes than an audit reads. */
+    LONG_LINE(34),
+    /** A move has more than 4,096 instructions. */
+    LONG_MOVE(35);
 
     private static final Code[] ALL = values();
+
+    private final int number;
+
+    Code(int number) {
+        this.number = number;
+    }
 
     /** The code with a number of include/folugben.h. */
     static Code of(int number) {
         return ALL[number];
     }
 
-    /** Its number, which is the constant of its name in FolugbenException. */
+    /** Its number in include/folugben.h. */
     public int number() {
-        return ordinal();
+        return number;
     }
 
     /** What it means, in a line. */
     public String text() {
-        return FolugbenException.errorText(ordinal());
+        byte[] out = new byte[256];
+        long[] written = new long[1];
+        Calls.asm_error_text(number, out, out.length, written);
+        return new String(out, 0, (int) written[0], StandardCharsets.UTF_8);
     }
 }

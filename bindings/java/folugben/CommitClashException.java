@@ -8,7 +8,7 @@ public final class CommitClashException extends ConflictException {
     private static final long serialVersionUID = 1;
 
     CommitClashException(String answer) {
-        super(CLASH, 0, answer, "", answer);
+        super(Code.CLASH, 0, answer, "", answer);
     }
 
     /** The least location at which they clash. */

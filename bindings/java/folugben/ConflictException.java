@@ -8,7 +8,7 @@ public abstract sealed class ConflictException extends FolugbenException
         permits BusyException, CommitClashException, PartException, StaleException {
     private static final long serialVersionUID = 1;
 
-    ConflictException(int code, long number, String said, String where, String answer) {
+    ConflictException(Code code, long number, String said, String where, String answer) {
         super(code, number, said, where, answer);
     }
 }

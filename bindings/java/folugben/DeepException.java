@@ -5,6 +5,6 @@ public final class DeepException extends FolugbenException {
     private static final long serialVersionUID = 1;
 
     DeepException() {
-        super(DEEP, 0, "", "", null);
+        super(Code.DEEP, 0, "", "", null);
     }
 }

@@ -9,54 +9,6 @@ public sealed class FolugbenException extends RuntimeException
                 LargeException, ManyException, MovedException {
     private static final long serialVersionUID = 1;
 
-    /** The number of {@link Code#DONE}. */
-    public static final int DONE = 0;
-    /** The number of {@link Code#STALE}. */
-    public static final int STALE = 1;
-    /** The number of {@link Code#CLASH}. */
-    public static final int CLASH = 2;
-    /** The number of {@link Code#MEMORY}. */
-    public static final int MEMORY = 3;
-    /** The number of {@link Code#FULL}. */
-    public static final int FULL = 4;
-    /** The number of {@link Code#EMPTY}. */
-    public static final int EMPTY = 5;
-    /** The number of {@link Code#RANGE}. */
-    public static final int RANGE = 6;
-    /** The number of {@link Code#SMALL}. */
-    public static final int SMALL = 7;
-    /** The number of {@link Code#BUSY}. */
-    public static final int BUSY = 8;
-    /** The number of {@link Code#MANY}. */
-    public static final int MANY = 9;
-    /** The number of {@link Code#NONE}. */
-    public static final int NONE = 10;
-    /** The number of {@link Code#TAKEN}. */
-    public static final int TAKEN = 11;
-    /** The number of {@link Code#NUMBER}. */
-    public static final int NUMBER = 12;
-    /** The number of {@link Code#MISSING}. */
-    public static final int MISSING = 13;
-    /** The number of {@link Code#OTHER}. */
-    public static final int OTHER = 14;
-    /** The number of {@link Code#ILLEGAL}. */
-    public static final int ILLEGAL = 15;
-    /** The number of {@link Code#NOT_JSON}. */
-    public static final int NOT_JSON = 16;
-    /** The number of {@link Code#SHAPE}. */
-    public static final int SHAPE = 17;
-    /** The number of {@link Code#VERSION}. */
-    public static final int VERSION = 18;
-    /** The number of {@link Code#CUT}. */
-    public static final int CUT = 19;
-    /** The number of {@link Code#LARGE}. */
-    public static final int LARGE = 20;
-    /** The number of {@link Code#MOVED}. */
-    public static final int MOVED = 21;
-    /** The number of {@link Code#DEEP}. */
-    public static final int DEEP = 22;
-    /** The number of {@link Code#APART}. */
-    public static final int APART = 23;
 
     private static final String SCAN =
             "a scan is an array of a function's name and a number, from 0 to 4,294,967,295";
@@ -64,14 +16,13 @@ public sealed class FolugbenException extends RuntimeException
     /** How deep brackets are nested in no text whose lists are within their limit. */
     private static final int DEEPEST = 32;
 
-    /** The number of its code. */
-    private final int code;
+    private final Code code;
     /** What the code counts; else 0. */
     private final long number;
     /** The text that was answered; else null. */
     private final String answer;
 
-    FolugbenException(int code, long number, String said, String where, String answer) {
+    FolugbenException(Code code, long number, String said, String where, String answer) {
         super(message(code, said) + (where.isEmpty() ? "" : " (" + where + ")"));
         this.code = code;
         this.number = number;
@@ -80,12 +31,12 @@ public sealed class FolugbenException extends RuntimeException
     }
 
     /** The exception of a code without an answer, of its own class where it has one. */
-    private static FolugbenException of(int code, long number, String said, String where) {
+    private static FolugbenException of(Code code, long number, String said, String where) {
         return switch (code) {
-            case MANY -> new ManyException(said);
+            case MANY, LONG_MOVE, AGENTS -> new ManyException(code, said);
             case DEEP -> new DeepException();
             case MOVED -> new MovedException();
-            case LARGE -> new LargeException(said, null);
+            case LARGE, LONG_LINE, MANY_CALLS -> new LargeException(code, said, null);
             default -> new FolugbenException(code, number, said, where, null);
         };
     }
@@ -121,29 +72,24 @@ public sealed class FolugbenException extends RuntimeException
             if (scan.number() > seen)
                 return ahead("scan " + place + ": " + scan.name(), scan.number(), seen);
         }
-        return of(RANGE, 0, "", "");
+        return of(Code.AHEAD, 0, "", "");
     }
 
     private static FolugbenException ahead(String what, long number, long seen) {
-        return of(RANGE, 0,
+        return of(Code.AHEAD, 0,
                 what + " is named at " + number + ", and the agent has seen " + seen, "");
     }
 
     /** What the code means, with what is said of the text that is refused. */
-    private static String message(int code, String said) {
+    private static String message(Code code, String said) {
         if (said.isEmpty())
-            return errorText(code);
-        return code == NOT_JSON ? said : errorText(code) + ": " + said;
-    }
-
-    /** The number of its code, one of the constants above. */
-    public int code() {
-        return code;
+            return code.text();
+        return code == Code.NOT_JSON ? said : code.text() + ": " + said;
     }
 
     /** Its code, for a switch. */
-    public Code kind() {
-        return Code.of(code);
+    public Code code() {
+        return code;
     }
 
     /**
@@ -163,7 +109,7 @@ public sealed class FolugbenException extends RuntimeException
     }
 
     /** What the number of a code counts; null where a code has none. */
-    static String numberName(int code) {
+    static String numberName(Code code) {
         switch (code) {
             case MISSING:
                 return "move";
@@ -177,22 +123,14 @@ public sealed class FolugbenException extends RuntimeException
         }
     }
 
-    /** What a code means, in a line. */
-    public static String errorText(int code) {
-        byte[] out = new byte[256];
-        long[] written = new long[1];
-        Calls.asm_error_text(code, out, out.length, written);
-        return new String(out, 0, (int) written[0], java.nio.charset.StandardCharsets.UTF_8);
-    }
-
-    static void expect(int code, long... numbers) {
+    static void expect(Code code, long... numbers) {
         expect(code, "", numbers);
     }
 
-    private static void expect(int code, String said, long... numbers) {
-        if (code == MEMORY)
-            throw new OutOfMemoryError(errorText(code));
-        if (code == DONE)
+    private static void expect(Code code, String said, long... numbers) {
+        if (code == Code.MEMORY)
+            throw new OutOfMemoryError(code.text());
+        if (code == Code.DONE)
             return;
         String name = numbers.length > 0 ? numberName(code) : null;
         if (name == null)
@@ -201,32 +139,32 @@ public sealed class FolugbenException extends RuntimeException
     }
 
     /** What is expected of the code of a call that was passed a text of this form. */
-    static void expectRead(int code, Storage.Form form, byte[] text) {
+    static void expectRead(Code code, Storage.Form form, byte[] text) {
         expect(code, isMisread(code) ? Calls.explain(form, text) : "");
     }
 
     /** What is expected of the code of a fire that was passed this move, and scans. */
-    static void expectFire(int code, byte[] call) {
+    static void expectFire(Code code, byte[] call) {
         String said = isMisread(code) ? Calls.explain(Storage.Form.MOVE, call) : "";
-        expect(code, code == SHAPE && said.isEmpty() ? SCAN : said);
+        expect(code, code == Code.SHAPE && said.isEmpty() ? SCAN : said);
     }
 
-    private static boolean isMisread(int code) {
-        return code == NOT_JSON || code == SHAPE;
+    private static boolean isMisread(Code code) {
+        return code == Code.NOT_JSON || code == Code.SHAPE;
     }
 
     /** What is expected of the code of a call that was passed a move [INSTR, ..]. */
-    static void expectMove(int code, String move, String name) {
+    static void expectMove(Code code, String move, String name) {
         expectPart(code, move, withoutReads(move), name);
     }
 
     /** What is expected of the code of a call that was passed named reads [NAMED, ..]. */
-    static void expectReads(int code, String reads) {
+    static void expectReads(Code code, String reads) {
         expectPart(code, reads, "{\"fire\":[],\"reads\":" + reads + "}", "");
     }
 
     /** What is expected of the code of a call on a state and a move, in this order. */
-    static void expectStateAndMove(int code, String state, String move) {
+    static void expectStateAndMove(Code code, String state, String move) {
         String said = isMisread(code) ? explain(Storage.Form.STATE, state) : "";
         if (!said.isEmpty())
             throw of(code, 0, said, "state");
@@ -234,18 +172,18 @@ public sealed class FolugbenException extends RuntimeException
     }
 
     /** What is expected of the code of a call on two moves, in this order. */
-    static void expectMoves(int code, String first, String second) {
+    static void expectMoves(Code code, String first, String second) {
         if (isMisread(code) && !explain(Storage.Form.MOVE, withoutReads(first)).isEmpty())
             expectMove(code, first, "first");
         expectMove(code, second, "second");
     }
 
     /** What is expected of the code of a call that was passed a location LOC. */
-    static void expectLocation(int code, String location) {
+    static void expectLocation(Code code, String location) {
         if (isMisread(code))
             throw of(code, 0,
                     explain(Storage.Form.LOCATIONS,
-                            code == NOT_JSON ? location : "[" + location + "]"),
+                            code == Code.NOT_JSON ? location : "[" + location + "]"),
                     "");
         expect(code);
     }
@@ -264,26 +202,26 @@ public sealed class FolugbenException extends RuntimeException
      * A part of a move's text, if it is JSON, is explained within the whole; the byte at which it
      * isn't is one of its own.
      */
-    private static void expectPart(int code, String part, String whole, String name) {
+    private static void expectPart(Code code, String part, String whole, String name) {
         if (!isMisread(code)) {
             expect(code);
             return;
         }
-        String said = code == NOT_JSON ? explain(Storage.Form.LOCATIONS, part)
+        String said = code == Code.NOT_JSON ? explain(Storage.Form.LOCATIONS, part)
                                        : explain(Storage.Form.MOVE, whole);
         throw of(code, 0, said, name);
     }
 
     /** What is expected of a call that may tell why a move can't be made. */
     static void expectNoObjection(Calls.Told told) {
-        if (told.code() == CLASH)
+        if (told.code() == Code.CLASH)
             throw new ClashException(told.text());
-        if (told.code() == LARGE)
-            throw new LargeException(told.text(), told.text());
+        if (told.code() == Code.LARGE)
+            throw new LargeException(Code.LARGE, told.text(), told.text());
     }
 
     /** What is expected of the code of a call on a journal, with the number of a call or a line. */
-    static void expectJournal(int code, byte[] journal, long number) {
+    static void expectJournal(Code code, byte[] journal, long number) {
         boolean isLine = isMisread(code) && number > 1;
         String said = isLine ? Calls.explain(Storage.Form.EVENT, Texts.line(journal, number)) : "";
         expect(code, said, number);
@@ -291,27 +229,27 @@ public sealed class FolugbenException extends RuntimeException
 
     /** The exception for what is closed, as is said. */
     static FolugbenException closed(String said) {
-        return of(EMPTY, 0, said, "");
+        return of(Code.EMPTY, 0, said, "");
     }
 
     /** The exception for a number that an agent has or had. */
     static FolugbenException numberTaken(int agent) {
-        return of(NUMBER, 0, "agent " + agent, "");
+        return of(Code.NUMBER, 0, "agent " + agent, "");
     }
 
     /** The exception for a number that an agent of another process has. */
     static FolugbenException numberHeld(int agent) {
-        return of(NUMBER, 0, "agent " + agent + " is in use by another process", "");
+        return of(Code.NUMBER, 0, "agent " + agent + " is in use by another process", "");
     }
 
     /** The exception for a journal that lacks a move, with what is said of the agents. */
     static FolugbenException missing(int move, String said) {
-        String where = numberName(MISSING) + " " + move;
-        return of(MISSING, move, said, said.endsWith(where) ? "" : where);
+        String where = numberName(Code.MISSING) + " " + move;
+        return of(Code.MISSING, move, said, said.endsWith(where) ? "" : where);
     }
 
     /** The exception for an argument that isn't one value of JSON. */
     static FolugbenException notJson(String argument) {
-        return of(NOT_JSON, 0, "", argument);
+        return of(Code.NOT_JSON, 0, "", argument);
     }
 }

@@ -5,6 +5,6 @@ public final class FullException extends FolugbenException {
     private static final long serialVersionUID = 1;
 
     FullException() {
-        super(FULL, 0, "", "", null);
+        super(Code.FULL, 0, "", "", null);
     }
 }

@@ -241,8 +241,8 @@ public final class Move implements AutoCloseable {
                 expectOpen();
                 other.expectOpen();
                 isCutOff = true;
-                int code = Calls.asm_unite(slot.at, other.slot.at);
-                if (code == FolugbenException.DONE)
+                Code code = Code.of(Calls.asm_unite(slot.at, other.slot.at));
+                if (code == Code.DONE)
                     size += other.size;
                 bytes += other.bytes;
                 isCutOff = false;
@@ -283,8 +283,8 @@ public final class Move implements AutoCloseable {
             expectOpen();
             synchronized (at.slot) {
                 isCutOff = true;
-                took(at, 0, Calls.asm_instruct(
-                        slot.at, at.slot.at, verb, kind, number, 0, 0, (int) amount));
+                took(at, 0, Code.of(Calls.asm_instruct(
+                        slot.at, at.slot.at, verb, kind, number, 0, 0, (int) amount)));
             }
         }
         return this;
@@ -301,27 +301,27 @@ public final class Move implements AutoCloseable {
             expectOpen();
             synchronized (at.slot) {
                 isCutOff = true;
-                took(at, bytes.length, Calls.asm_instruct(slot.at, at.slot.at, verb, kind, 0, bytes,
-                        bytes.length, (int) amount));
+                took(at, bytes.length, Code.of(Calls.asm_instruct(slot.at, at.slot.at, verb, kind, 0, bytes,
+                        bytes.length, (int) amount)));
             }
         }
         return this;
     }
 
     /** Takes what the step pops, in the place of its instructions. To be called with its lock. */
-    int takePopped(long step) {
+    Code takePopped(long step) {
         expectOpen();
         isCutOff = true;
-        int code = Calls.asm_pop_move(step, slot.at);
-        if (code == FolugbenException.DONE)
+        Code code = Code.of(Calls.asm_pop_move(step, slot.at));
+        if (code == Code.DONE)
             size = 1;
         isCutOff = false;
         return code;
     }
 
     /** Counts the instruction, if the code says that it was taken. */
-    private void took(PreparedLocation at, int operand, int code) {
-        if (code == FolugbenException.DONE)
+    private void took(PreparedLocation at, int operand, Code code) {
+        if (code == Code.DONE)
             size++;
         this.bytes += at.length() + operand;
         isCutOff = false;

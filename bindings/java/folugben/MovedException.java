@@ -8,6 +8,6 @@ public final class MovedException extends FolugbenException {
     private static final long serialVersionUID = 1;
 
     MovedException() {
-        super(MOVED, 0, "", "", null);
+        super(Code.MOVED, 0, "", "", null);
     }
 }

@@ -220,7 +220,7 @@ final class Noted extends Turns.Player {
         isMove = reply.isFired();
         if (reply.isClash())
             now.reads.add(reply.at());
-        if (reply.code() == FolugbenException.FULL)
+        if (reply.code() == Code.FULL)
             readsAll();
         hears(reply.code() + " " + reply.answer());
     }
@@ -243,9 +243,9 @@ final class Noted extends Turns.Player {
 
     @Override
     void hears(FolugbenException thrown) {
-        if (thrown.code() == FolugbenException.CLASH)
+        if (thrown.code() == Code.CLASH)
             now.reads.add(JsonReader.objection(thrown.answer()).at());
-        if (thrown.code() == FolugbenException.FULL)
+        if (thrown.code() == Code.FULL)
             readsAll();
         hears(thrown.code() + " " + thrown.answer());
     }

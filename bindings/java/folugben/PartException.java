@@ -7,18 +7,18 @@ package folugben;
 public final class PartException extends ConflictException {
     private static final long serialVersionUID = 1;
 
-    private PartException(int code, String said) {
+    private PartException(Code code, String said) {
         super(code, 0, said, "", null);
     }
 
     /** Of a call in a part that is over. */
     static PartException full() {
-        return new PartException(FULL, "the run goes on in its next part");
+        return new PartException(Code.FULL, "the run goes on in its next part");
     }
 
     /** Of a number of a part that is over. */
     static PartException past(Named read, long begin) {
-        return new PartException(RANGE,
+        return new PartException(Code.FULL,
                 read.location() + " is named at " + read.number() + ", and that part has ended at "
                         + begin + ", so read again");
     }

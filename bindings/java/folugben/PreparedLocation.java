@@ -21,7 +21,7 @@ public final class PreparedLocation implements AutoCloseable {
     public PreparedLocation(String location) {
         byte[] bytes = Texts.utf8(location, "location");
         synchronized (slot) {
-            int code = Calls.asm_location(bytes, bytes.length, slot.at);
+            Code code = Code.of(Calls.asm_location(bytes, bytes.length, slot.at));
             FolugbenException.expectLocation(code, location);
         }
         text = location;
@@ -33,8 +33,8 @@ public final class PreparedLocation implements AutoCloseable {
     }
 
     /** What is expected of the code of a call on it and on other slots. */
-    void expect(int code) {
-        if (code == FolugbenException.EMPTY)
+    void expect(Code code) {
+        if (code == Code.EMPTY)
             synchronized (slot) {
                 if (!slot.isFull())
                     throw FolugbenException.closed("the location was closed");

@@ -70,7 +70,7 @@ final class Replica {
 
     /** The reply to a call whose segment had ended. */
     private static Actor.Reply past() {
-        return new Actor.Reply(FolugbenException.FULL, 0, 0, 0, null, true, true);
+        return new Actor.Reply(Code.FULL, 0, 0, 0, null, true, true);
     }
 
     private Answer fire(SharedLog.Call call, boolean isOwn) {
@@ -80,22 +80,22 @@ final class Replica {
         System.arraycopy(scans, 0, both, move.length, scans.length);
         Agent applier = era.applier;
         synchronized (applier.slot) {
-            int code;
+            Code code;
             do code = applier.slot.fireOver(both, move.length);
-            while (code == FolugbenException.MEMORY);
-            boolean isEvent = code == FolugbenException.DONE || code == FolugbenException.STALE
-                    || code == FolugbenException.CLASH;
+            while (code == Code.MEMORY);
+            boolean isEvent = code == Code.DONE || code == Code.STALE
+                    || code == Code.CLASH;
             if (isEvent)
                 era.note(call.agent());
-            if (code == FolugbenException.DONE)
+            if (code == Code.DONE)
                 fired = applier.slot.room.number(0);
             return isOwn ? answer(applier, code, move) : null;
         }
     }
 
-    private Answer answer(Agent applier, int code, byte[] move) {
+    private Answer answer(Agent applier, Code code, byte[] move) {
         try {
-            FolugbenException.expectFire(isReply(code) ? FolugbenException.DONE : code, move);
+            FolugbenException.expectFire(isReply(code) ? Code.DONE : code, move);
             Actor.Reply own = applier.reply(code, true);
             return new Answer(new Actor.Reply(code, own.move() == 0 ? 0 : era.base + own.move(), 0, 0,
                                       own.answer(), true, true),
@@ -105,9 +105,9 @@ final class Replica {
         }
     }
 
-    private static boolean isReply(int code) {
-        return code == FolugbenException.STALE || code == FolugbenException.CLASH
-                || code == FolugbenException.BUSY;
+    private static boolean isReply(Code code) {
+        return code == Code.STALE || code == Code.CLASH
+                || code == Code.BUSY;
     }
 
     private Ended end() {
@@ -199,7 +199,7 @@ final class Replica {
         Agent agent() {
             Integer own = free.poll();
             if (own == null)
-                throw new ManyException("one process has at most 255 agents of a shared run");
+                throw new ManyException(Code.AGENTS, "one process has at most 255 agents of a shared run");
             Agent taken = wasMade[own] ? storage.take(own) : storage.agent(own);
             wasMade[own] = true;
             return taken;

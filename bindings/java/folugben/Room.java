@@ -63,30 +63,31 @@ final class Room {
     }
 
     /** The code of the call, which is made again where the room for its text was too small. */
-    int make(byte[] text, Call call) {
+    Code make(byte[] text, Call call) {
         return make(text, 0, text.length, call);
     }
 
     /** The same of a text that is a part of an array. */
-    int make(byte[] text, int offset, int length, Call call) {
+    Code make(byte[] text, int offset, int length, Call call) {
         begin = TEXT + length;
         for (long size = (long) begin + Calls.ROOM;; size = begin + written()) {
             reserve(size);
             bytes.put(TEXT, text, offset, length);
-            int code = call.make(at + TEXT, at + begin, bytes.capacity() - begin, at + WRITTEN);
-            if (code != FolugbenException.SMALL)
+            Code code = Code.of(
+                    call.make(at + TEXT, at + begin, bytes.capacity() - begin, at + WRITTEN));
+            if (code != Code.SMALL)
                 return code;
         }
     }
 
     /** The same of a call that is passed no text. */
-    int make(Call call) {
+    Code make(Call call) {
         return make(NO_TEXT, call);
     }
 
     /** What such a call told. */
     Calls.Told told(byte[] text, Call call) {
-        int code = make(text, call);
+        Code code = make(text, call);
         return new Calls.Told(code, text());
     }
 

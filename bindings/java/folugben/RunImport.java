@@ -56,7 +56,7 @@ final class RunImport implements AutoCloseable {
         try (InputStream in = new BufferedInputStream(Files.newInputStream(file), 1 << 16)) {
             readParts(in);
         } catch (AuditException fault) {
-            boolean isCut = switch (fault.kind()) {
+            boolean isCut = switch (fault.code()) {
                 case CUT, NOT_JSON, SHAPE -> true;
                 default -> false;
             };

@@ -103,26 +103,26 @@ class Slot extends Memory {
         }
 
         /** Notes the code of a call that looks on, by which the state is as new as any. */
-        private int looked(int code) {
+        private Code looked(Code code) {
             isIdle = false;
-            if (code == FolugbenException.DONE)
+            if (code == Code.DONE)
                 isLent = false;
             return code;
         }
 
         /** Looks on where the state is older than it was, before it is shown. */
-        private int catchUp() {
-            return isLent ? follow() : FolugbenException.DONE;
+        private Code catchUp() {
+            return isLent ? follow() : Code.DONE;
         }
 
-        int read(byte[] locations) {
+        Code read(byte[] locations) {
             return looked(room.make(locations,
                     (text, out, length, written) -> Calls.asm_read(at, text, locations.length)));
         }
 
         /** The code of a fire of a move, whose text has so many bytes, over the scans behind it. */
-        int fireOver(byte[] both, int move) {
-            int code = room.make(both,
+        Code fireOver(byte[] both, int move) {
+            Code code = room.make(both,
                     (text, out, length, written)
                             -> Calls.asm_try_fire_over(
                                     at, text, move, text + move, both.length - move, room.numbers()));
@@ -130,12 +130,12 @@ class Slot extends Memory {
             return code;
         }
 
-        int begin(StepSlot step) {
-            return looked(Calls.asm_begin(at, step.at, room.numbers()));
+        Code begin(StepSlot step) {
+            return looked(Code.of(Calls.asm_begin(at, step.at, room.numbers())));
         }
 
-        int follow() {
-            return looked(Calls.asm_follow(at, room.numbers()));
+        Code follow() {
+            return looked(Code.of(Calls.asm_follow(at, room.numbers())));
         }
 
         Calls.Told stands(byte[] reads) {
@@ -147,39 +147,39 @@ class Slot extends Memory {
         }
 
         Calls.Told peek(byte[] locations) {
-            int code = catchUp();
-            return code != FolugbenException.DONE ? new Calls.Told(code, "") : room.told(locations,
+            Code code = catchUp();
+            return code != Code.DONE ? new Calls.Told(code, "") : room.told(locations,
                     (text, out, length, written)
                             -> Calls.asm_peek(at, text, locations.length, out, length, written));
         }
 
         /** Tells the value into the room, at the first number there. */
-        int peek(PreparedLocation location) {
-            int code = catchUp();
-            return code != FolugbenException.DONE ? code : room.make(
+        Code peek(PreparedLocation location) {
+            Code code = catchUp();
+            return code != Code.DONE ? code : room.make(
                     (text, out, length, written)
                             -> Calls.asm_peek_at(at, location.slot.at, room.numbers(), room.value(), out,
                                     length, written));
         }
 
         Calls.Told state() {
-            int code = catchUp();
-            return code != FolugbenException.DONE ? new Calls.Told(code, "") : room.told(
+            Code code = catchUp();
+            return code != Code.DONE ? new Calls.Told(code, "") : room.told(
                     (text, out, length, written)
                             -> Calls.asm_state(at, room.numbers(), out, length, written));
         }
 
         Calls.Told scan(byte[] name) {
-            int code = catchUp();
-            return code != FolugbenException.DONE ? new Calls.Told(code, "") : room.told(name,
+            Code code = catchUp();
+            return code != Code.DONE ? new Calls.Told(code, "") : room.told(name,
                     (text, out, length, written)
                             -> Calls.asm_scan(
                                     at, text, name.length, room.numbers(), out, length, written));
         }
 
-        int goOn(int capacity, Slot next) {
-            int code = catchUp();
-            return code != FolugbenException.DONE ? code : Calls.asm_go_on(at, capacity, next.at);
+        Code goOn(int capacity, Slot next) {
+            Code code = catchUp();
+            return code != Code.DONE ? code : Code.of(Calls.asm_go_on(at, capacity, next.at));
         }
 
         Calls.Told answer() {

@@ -5,7 +5,7 @@ public final class StaleException extends ConflictException {
     private static final long serialVersionUID = 1;
 
     StaleException(String answer) {
-        super(STALE, 0, answer, "", answer);
+        super(Code.STALE, 0, answer, "", answer);
     }
 
     /** The least such location. */

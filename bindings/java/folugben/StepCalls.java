@@ -78,7 +78,7 @@ abstract sealed class StepCalls permits Step {
         Objects.requireNonNull(location, "location");
         long step = slot().at;
         synchronized (location.slot) {
-            int code = room.make((text, out, length, written)
+            Code code = room.make((text, out, length, written)
                                          -> Calls.asm_get_at(agent.slot.at, step, location.slot.at,
                                                  room.value(), out, length, written));
             ManyException.expectPlaces(code);
@@ -132,9 +132,9 @@ abstract sealed class StepCalls permits Step {
             return told.text();
         }
     }
-    int committed() {
-        int code = Calls.asm_commit(agent.slot.at, slot().at, room.numbers());
-        if (code == FolugbenException.DONE)
+    Code committed() {
+        Code code = Code.of(Calls.asm_commit(agent.slot.at, slot().at, room.numbers()));
+        if (code == Code.DONE)
             end();
         return code;
     }
@@ -186,7 +186,7 @@ abstract sealed class StepCalls permits Step {
     final Actor.State scanned(String name) {
         byte[] text = Texts.utf8(name, "name");
         Turns.Player player = Turns.Player.call(this);
-        Calls.Told told = told(Calls::asm_get_all, text);
+        Calls.Told told = told(Calls::asm_step_scan, text);
         ManyException.expectPlaces(told.code());
         FolugbenException.expect(told.code());
         player.stepScans(name);
@@ -202,7 +202,7 @@ abstract sealed class StepCalls permits Step {
             long step = slot().at;
             synchronized (into.slot) {
                 into.bytes = size;
-                int code = agent.held(into.takePopped(step));
+                Code code = agent.held(into.takePopped(step));
                 ManyException.expectMove(code, "the one move of those that are popped");
                 FolugbenException.expect(code);
             }

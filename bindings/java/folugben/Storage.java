@@ -62,7 +62,7 @@ public final class Storage implements AutoCloseable {
         byte[] state = Texts.utf8(init, "init");
         expectCapacity(capacity);
         synchronized (slot) {
-            int code = Calls.asm_open(state, state.length, capacity, slot.at);
+            Code code = Code.of(Calls.asm_open(state, state.length, capacity, slot.at));
             FolugbenException.expectRead(code, Form.STATE, state);
         }
     }
@@ -112,8 +112,8 @@ public final class Storage implements AutoCloseable {
         Agent agent = new Agent(this, number);
         synchronized (slot) {
             synchronized (agent.slot) {
-                int code = Calls.asm_agent(slot.at, number, agent.slot.at);
-                if (code == FolugbenException.NUMBER)
+                Code code = Code.of(Calls.asm_agent(slot.at, number, agent.slot.at));
+                if (code == Code.NUMBER)
                     throw FolugbenException.numberTaken(number);
                 expect(code);
             }
@@ -126,14 +126,14 @@ public final class Storage implements AutoCloseable {
      * An agent that was given back, taken out again: it goes on where it was, with its number and
      * what it did. A journal that was closed before is discarded.
      *
-     * @throws FolugbenException NONE if no agent with this number was given back
+     * @throws FolugbenException NO_AGENT if no agent with this number was given back
      */
     public Agent take(int number) {
         expectNumber(number);
         Agent agent = new Agent(this, number);
         synchronized (slot) {
             synchronized (agent.slot) {
-                expect(Calls.asm_take(slot.at, number, agent.slot.at));
+                expect(Code.of(Calls.asm_take(slot.at, number, agent.slot.at)));
             }
             agents[number] = agent;
         }
@@ -150,8 +150,8 @@ public final class Storage implements AutoCloseable {
     }
 
     /** What is expected of the code of a call on it, with its lock. */
-    private void expect(int code) {
-        if (code == FolugbenException.EMPTY && !slot.isFull())
+    private void expect(Code code) {
+        if (code == Code.EMPTY && !slot.isFull())
             throw FolugbenException.closed("the storage was closed");
         FolugbenException.expect(code);
     }
@@ -160,7 +160,7 @@ public final class Storage implements AutoCloseable {
     public int moves() {
         int[] moves = new int[1];
         synchronized (slot) {
-            expect(Calls.asm_moves(slot.at, moves));
+            expect(Code.of(Calls.asm_moves(slot.at, moves)));
         }
         return moves[0];
     }
@@ -169,7 +169,7 @@ public final class Storage implements AutoCloseable {
     public void give(Agent agent) {
         Objects.requireNonNull(agent, "agent");
         if (agent.storage() != this)
-            FolugbenException.expect(FolugbenException.OTHER);
+            FolugbenException.expect(Code.OTHER);
         synchronized (slot) {
             synchronized (agent.slot) {
                 takeBack(agent);
@@ -178,7 +178,7 @@ public final class Storage implements AutoCloseable {
     }
 
     private void takeBack(Agent agent) {
-        int code = Calls.asm_give(slot.at, agent.slot.at);
+        Code code = Code.of(Calls.asm_give(slot.at, agent.slot.at));
         if (slot.isFull())
             agent.expect(code);
         else
@@ -222,8 +222,8 @@ public final class Storage implements AutoCloseable {
 
     private void closeAll() {
         int[] missing = new int[1];
-        int code = Calls.asm_close(slot.at, missing);
-        if (code == FolugbenException.MISSING)
+        Code code = Code.of(Calls.asm_close(slot.at, missing));
+        if (code == Code.MISSING)
             throw FolugbenException.missing(missing[0], whoIsOut(missing[0]));
         expect(code);
     }
@@ -252,7 +252,7 @@ public final class Storage implements AutoCloseable {
      * ended: it opens with the state that the journal's moves leave, and its agents start anew, as
      * numbers do. The journals of both, one after the other, tell one run.
      *
-     * @throws FolugbenException NONE if no journal was closed since an agent was given back
+     * @throws FolugbenException NO_JOURNAL if no journal was closed since an agent was given back
      */
     public Storage next(int capacity) {
         return next(new Storage((Path) null), capacity);
@@ -267,7 +267,7 @@ public final class Storage implements AutoCloseable {
         expectCapacity(capacity);
         synchronized (slot) {
             synchronized (next.slot) {
-                expect(Calls.asm_next(slot.at, capacity, next.slot.at));
+                expect(Code.of(Calls.asm_next(slot.at, capacity, next.slot.at)));
             }
         }
         return next;
@@ -279,7 +279,7 @@ public final class Storage implements AutoCloseable {
         Storage next = new Storage((Path) null);
         synchronized (agent.slot) {
             synchronized (next.slot) {
-                int code = agent.slot.goOn(capacity, next.slot);
+                Code code = agent.slot.goOn(capacity, next.slot);
                 agent.expect(code);
             }
         }
@@ -323,7 +323,7 @@ public final class Storage implements AutoCloseable {
         byte[] text = Texts.utf8(journal, "journal");
         long[] calls = new long[1];
         int[] moves = new int[1];
-        int code = Calls.asm_check(text, text.length, calls, moves);
+        Code code = Code.of(Calls.asm_check(text, text.length, calls, moves));
         FolugbenException.expectJournal(code, text, calls[0]);
         return new Checked(calls[0], moves[0]);
     }
@@ -338,10 +338,10 @@ public final class Storage implements AutoCloseable {
         byte[] text = Texts.utf8(journal, "journal");
         long[] line = new long[1];
         return Calls.text((out, room, written) -> {
-            int code = call.answer(text, text.length, out, room, written, line);
-            if (code != FolugbenException.SMALL)
+            Code code = Code.of(call.answer(text, text.length, out, room, written, line));
+            if (code != Code.SMALL)
                 FolugbenException.expectJournal(code, text, line[0]);
-            return code;
+            return code.number();
         }, Calls.room((long) times * text.length));
     }
 

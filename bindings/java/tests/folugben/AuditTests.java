@@ -54,7 +54,7 @@ final class AuditTests {
         for (int most : new int[] {1, 7, 1000}) {
             try (Auditor auditor = new Auditor()) {
                 equal(auditor.counts(), new Auditor.Counts(0, 0, 0));
-                refused(FolugbenException.NONE, auditor::state);
+                refused(Code.NO_PART, auditor::state);
                 for (int at = 0; at < run.length;) {
                     int length = Math.min(1 + random.nextInt(most), run.length - at);
                     auditor.feed(run, at, length);
@@ -100,36 +100,34 @@ final class AuditTests {
         throw new IllegalStateException("not told as at fault");
     }
 
-    private static void faultIs(String run, int code, long part, long call, long line, String told) {
+    private static void faultIs(String run, Code code, long part, long call, long line, String told) {
         AuditException fault = fault(run);
         equal(fault.code(), code);
         equal(fault.part(), part);
         equal(fault.call(), call);
         equal(fault.line(), line);
-        equal(fault.getMessage(), FolugbenException.errorText(code) + told);
+        equal(fault.getMessage(), code.text() + told);
     }
 
     static void faultsAreToldWithTheirPlace() {
         List<String> parts = parts(3, 2);
         String first = parts.get(0);
         String second = parts.get(1);
-        faultIs("", FolugbenException.CUT, 0, -1, 0, " (part 0)");
-        faultIs(first + second.substring(0, second.length() - 1), FolugbenException.CUT, 1, -1, 0,
+        faultIs("", Code.CUT, 0, -1, 0, " (part 0)");
+        faultIs(first + second.substring(0, second.length() - 1), Code.CUT, 1, -1, 0,
                 " (part 1)");
         faultIs(first + second.replace("\"fired\":2", "\"fired\":1") + parts.get(2),
-                FolugbenException.ILLEGAL, 1, 2, 0, " (part 1, call 2)");
+                Code.ILLEGAL, 1, 2, 0, " (part 1, call 2)");
         faultIs(first + second.replace("\"reply\":{\"fired\":1}", "\"reply\":{"),
-                FolugbenException.NOT_JSON, 1, -1, 3, " (part 1, line 3)");
-        faultIs(first + "7\n", FolugbenException.SHAPE, 1, -1, 1, " (part 1, line 1)");
+                Code.NOT_JSON, 1, -1, 3, " (part 1, line 3)");
+        faultIs(first + "7\n", Code.SHAPE, 1, -1, 1, " (part 1, line 1)");
         faultIs(first + second.replace("\"version\":2", "\"version\":3"),
-                FolugbenException.VERSION, 1, -1, 0, " (part 1)");
-        faultIs(first + parts.get(2), FolugbenException.APART, 1, -1, 0, " (part 1)");
-        equal(fault(first + parts.get(2)).kind(), Code.APART);
-        faultIs(first + "x".repeat(16_777_217), FolugbenException.NOT_JSON, 1, -1, 1,
-                " (part 1, line 1)");
-        equal(new AuditException(FolugbenException.LARGE, 1, 0).getMessage(),
-                FolugbenException.errorText(FolugbenException.LARGE)
-                        + ": a line of more than 1,073,741,824 bytes (part 1)");
+                Code.VERSION, 1, -1, 0, " (part 1)");
+        faultIs(first + parts.get(2), Code.APART, 1, -1, 0, " (part 1)");
+        equal(fault(first + parts.get(2)).code(), Code.APART);
+        faultIs(first + "x".repeat(16_777_217), Code.NOT_JSON, 1, -1, 1, " (part 1, line 1)");
+        equal(new AuditException(Code.LONG_LINE, 1, 0).getMessage(),
+                Code.LONG_LINE.text() + ": a line of more than 1,073,741,824 bytes (part 1)");
     }
 
     /** What comes before a fault is taken, and is told again for what isn't. */
@@ -137,12 +135,12 @@ final class AuditTests {
         List<String> parts = parts(2, 2);
         String wrong = parts.get(0) + parts.get(1).replace("\"fired\":2", "\"fired\":1");
         try (Auditor auditor = new Auditor()) {
-            refused(FolugbenException.ILLEGAL, () -> auditor.feed(bytes(wrong)));
+            refused(Code.ILLEGAL, () -> auditor.feed(bytes(wrong)));
             equal(auditor.counts(), new Auditor.Counts(1, 5, 3));
             equal(auditor.taken(), (long) wrong.length() - 1);
             equal(auditor.values(), Map.of(COUNT, Element.of(3)));
-            refused(FolugbenException.ILLEGAL, () -> auditor.feed(bytes("\n")));
-            refused(FolugbenException.CUT, auditor::end);
+            refused(Code.ILLEGAL, () -> auditor.feed(bytes("\n")));
+            refused(Code.CUT, auditor::end);
         }
     }
 
@@ -150,11 +148,11 @@ final class AuditTests {
         Auditor auditor = new Auditor();
         auditor.close();
         auditor.close();
-        String told = FolugbenException.errorText(FolugbenException.EMPTY)
+        String told = Code.EMPTY.text()
                 + ": the auditor was closed";
         for (Runnable call : List.<Runnable>of(auditor::end, auditor::state,
                      () -> auditor.feed(new byte[0]), () -> auditor.feed(new byte[1])))
-            equal(refused(FolugbenException.EMPTY, call).getMessage(), told);
+            equal(refused(Code.EMPTY, call).getMessage(), told);
         Class<? extends RuntimeException> kind = NullPointerException.class;
         thrown(kind, "bytes", () -> new Auditor().feed((byte[]) null));
         thrown(IndexOutOfBoundsException.class, "Range [1, 1 + 2) out of bounds for length 2",
@@ -167,23 +165,23 @@ final class AuditTests {
             Agent agent = storage.agent(0);
             List<Instruction> up = List.of(Instruction.inc(COUNT, 1));
             agent.fire(up, List.of());
-            refused(FolugbenException.NONE, () -> agent.goOn(5));
+            refused(Code.NOT_FULL, () -> agent.goOn(5));
             agent.give();
-            refused(FolugbenException.NONE, () -> storage.take(7));
-            refused(FolugbenException.NONE, () -> storage.take(1));
+            refused(Code.NO_AGENT, () -> storage.take(7));
+            refused(Code.NO_AGENT, () -> storage.take(1));
             outOfRange(() -> storage.take(256));
             Agent taken = storage.take(0);
             equal(taken.number(), 0);
             equal(taken.won(), 1);
             equal(taken.answer(), "{\"fired\":1}");
-            refused(FolugbenException.NONE, () -> storage.take(0));
+            refused(Code.NO_AGENT, () -> storage.take(0));
             taken.fire(up, List.of());
-            refused(FolugbenException.NONE, () -> other.goOn(5));
+            refused(Code.NOT_FULL, () -> other.goOn(5));
             other.follow();
             outOfRange(() -> other.goOn(0));
             taken.give();
-            equal(refused(FolugbenException.EMPTY, () -> taken.goOn(3)).getMessage(),
-                    FolugbenException.errorText(FolugbenException.EMPTY)
+            equal(refused(Code.EMPTY, () -> taken.goOn(3)).getMessage(),
+                    Code.EMPTY.text()
                             + ": the agent was given back");
             try (Storage next = other.goOn(3); Agent behind = next.agent(0)) {
                 equal(behind.read(List.of(COUNT)).value(COUNT), Element.of(2));
@@ -253,7 +251,7 @@ final class AuditTests {
             equal(told.get(2).values(), second);
             equal(told.get(4).values(), Storage.replayed(journal));
             equal(told.get(3).values(), told.get(4).values());
-            refused(FolugbenException.NOT_JSON, () -> Journals.states("{\n"));
+            refused(Code.NOT_JSON, () -> Journals.states("{\n"));
         }
 
         private static void aTableIsWritten() {

@@ -223,7 +223,7 @@ final class ObjectTests {
     static void refusals() {
         List<Instruction> most = Collections.nCopies(4096, Instruction.put(X, 1));
         List<Instruction> more = Collections.nCopies(4097, Instruction.put(X, 1));
-        int shape = FolugbenException.SHAPE;
+        Code shape = Code.SHAPE;
         refusedAt(shape, 0, ": a location stands twice",
                 () -> Storage.open(List.of(Pair.of(X, 1), Pair.of(Y, 1), Pair.of(X, 1)), 8));
         outOfRange(() -> Storage.open(Map.of(), 0));

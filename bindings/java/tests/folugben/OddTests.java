@@ -83,25 +83,25 @@ final class OddTests {
     }
 
     static void whatIsOverIsTold() {
-        String over = FolugbenException.errorText(FolugbenException.EMPTY) + ": ";
+        String over = Code.EMPTY.text() + ": ";
         Storage storage = Storage.open(Map.of(), 10);
         Agent agent = storage.agent(3);
         try (Step step = agent.step(); PreparedLocation x = X.prepare(); Move move = new Move()) {
             step.push(Instruction.put(X, 1));
-            refusedAt(FolugbenException.NUMBER, 0, ": agent 3", () -> storage.agent(3));
+            refusedAt(Code.NUMBER, 0, ": agent 3", () -> storage.agent(3));
             step.commit();
             for (Runnable call : List.<Runnable>of(step::commit, step::pop, () -> step.get(X),
                          () -> step.get(x), () -> step.scan("x"), step::push, () -> step.push(move)))
-                equal(refused(FolugbenException.EMPTY, call).getMessage(),
+                equal(refused(Code.EMPTY, call).getMessage(),
                         over + "the step is over: it was fired or closed");
-            refusedAt(FolugbenException.MISSING, 1, ": agent 3 was not given back: it fired move 1",
+            refusedAt(Code.MISSING, 1, ": agent 3 was not given back: it fired move 1",
                     storage::closeJournal);
             storage.agent(4).abandon(); // which may have fired it
-            refusedAt(FolugbenException.MISSING, 1, ": agent 3 was not given back (move 1)",
+            refusedAt(Code.MISSING, 1, ": agent 3 was not given back (move 1)",
                     storage::closeJournal);
             Agent other = storage.agent(9);
             other.fire(List.of(), List.of());
-            refusedAt(FolugbenException.MISSING, 1, ": agents 3, 9 were not given back (move 1)",
+            refusedAt(Code.MISSING, 1, ": agents 3, 9 were not given back (move 1)",
                     storage::closeJournal);
             other.close();
             Step open = agent.step();
@@ -111,14 +111,14 @@ final class OddTests {
                          () -> agent.fire("[]", "[]"), () -> agent.peek(x), () -> agent.scan("x"),
                          () -> agent.stands("[]"), () -> open.get(X), () -> open.get(x),
                          () -> open.push(move), open::push, open::commit))
-                equal(refused(FolugbenException.EMPTY, call).getMessage(),
+                equal(refused(Code.EMPTY, call).getMessage(),
                         over + "the agent was given back");
             open.close();
         }
         storage.close();
         for (Runnable call : List.<Runnable>of(storage::moves, storage::closeJournal,
                      () -> storage.agent(1), () -> storage.next(1)))
-            equal(refused(FolugbenException.EMPTY, call).getMessage(),
+            equal(refused(Code.EMPTY, call).getMessage(),
                     over + "the storage was closed");
     }
 
@@ -144,7 +144,7 @@ final class OddTests {
         try {
             Calls.text((out, room, written) -> {
                 written[0] = 3L << 30;
-                return FolugbenException.SMALL;
+                return Code.SMALL.number();
             }, 1);
         } catch (OutOfMemoryError error) {
             equal(error.getMessage(),

@@ -168,20 +168,20 @@ final class PlainTests {
                 Step step = agent.step(); PreparedLocation x = X.prepare();
                 Move move = new Move()) {
             for (int i = 0; i < 4096; i++) move.put(x, 1);
-            refused(FolugbenException.MANY, () -> move.put(x, 1));
-            refused(FolugbenException.MANY, () -> move.put(x, "1"));
+            refused(Code.LONG_MOVE, () -> move.put(x, 1));
+            refused(Code.LONG_MOVE, () -> move.put(x, "1"));
             equal(move.size(), 4096);
             step.push(move);
             move.clear().inc(x, Long.MAX_VALUE);
-            equal(refused(FolugbenException.CLASH, () -> step.extend(move)).answer(),
+            equal(refused(Code.CLASH, () -> step.extend(move)).answer(),
                     "{\"clash\":[[\"x\"],\"Large\"]}");
             equal(move.clear().size(), 0);
             for (int i = 1; i < 64; i++) step.push(move);
             equal(step.depth(), 64);
-            refused(FolugbenException.DEEP, () -> step.push(move));
+            refused(Code.DEEP, () -> step.push(move));
             step.extend(move);
             move.put(x, 7);
-            refused(FolugbenException.DEEP, () -> step.push(move));
+            refused(Code.DEEP, () -> step.push(move));
             step.extend(move);
             equal(step.getNumber(x), 7L);
             for (int i = 1; i <= 256; i++)
@@ -189,8 +189,8 @@ final class PlainTests {
                     equal(step.get(w).isUndef(), true);
                 }
             try (PreparedLocation w = Location.of("w", 0).prepare()) {
-                refused(FolugbenException.MANY, () -> step.get(w));
-                refused(FolugbenException.MANY, () -> step.getNumber(w));
+                refused(Code.MANY, () -> step.get(w));
+                refused(Code.MANY, () -> step.getNumber(w));
                 equal(agent.peek(w).value().isUndef(), true);
             }
             equal(step.tryCommit().move(), 1);
@@ -215,11 +215,11 @@ final class PlainTests {
             thrown(kind, "value", () -> move.put(x, (Value) null));
             equal(move.size(), 1);
         }
-        refusedAt(FolugbenException.NOT_JSON, 0, " at byte 2", () -> new PreparedLocation("[nul]"));
-        refusedAt(FolugbenException.SHAPE, 0,
+        refusedAt(Code.NOT_JSON, 0, " at byte 2", () -> new PreparedLocation("[nul]"));
+        refusedAt(Code.SHAPE, 0,
                 ": location 1: a location is an array of a name and at most 8 arguments",
                 () -> new PreparedLocation("7"));
-        refused(FolugbenException.NOT_JSON, () -> new PreparedLocation("[\"x\"],[\"y\"]"));
+        refused(Code.NOT_JSON, () -> new PreparedLocation("[\"x\"],[\"y\"]"));
         thrown(NullPointerException.class, "location", () -> new PreparedLocation(null));
     }
 
@@ -229,7 +229,7 @@ final class PlainTests {
                 Agent agent = storage.agent(0); PreparedLocation x = X.prepare();
                 Move move = new Move()) {
             try (Step step = agent.step()) {
-                refused(FolugbenException.NONE, step::popMove);
+                refused(Code.NO_PUSH, step::popMove);
                 step.push(Instruction.put(X, 2));
                 step.push(Instruction.inc(X, 3), Instruction.add(S, Element.list(1)));
                 step.extend(Instruction.inc(X, 4), Instruction.add(S, "two"));
@@ -249,10 +249,10 @@ final class PlainTests {
                     equal(step.get(x), Value.bag(Map.of("e", 2)));
                 }
                 equal(step.commit(), 1);
-                refused(FolugbenException.EMPTY, step::popMove);
+                refused(Code.EMPTY, step::popMove);
             }
             try (Step step = agent.step()) {
-                refused(FolugbenException.CLASH, () -> step.push(move));
+                refused(Code.CLASH, () -> step.push(move));
                 step.push(Instruction.put(S, Value.set()), Instruction.put(X, 1));
                 for (int half = 0; half < 2; half++) {
                     Instruction[] adds = new Instruction[3000];
@@ -262,7 +262,7 @@ final class PlainTests {
                     else
                         step.extend(adds);
                 }
-                refused(FolugbenException.MANY, () -> step.popMove(move));
+                refused(Code.LONG_MOVE, () -> step.popMove(move));
                 equal(step.depth(), 2);
                 equal(move.size(), 2);
                 step.pop();
@@ -270,7 +270,7 @@ final class PlainTests {
                 equal(step.getNumber(x), 18L);
                 Move closed = new Move();
                 closed.close();
-                refused(FolugbenException.EMPTY, () -> step.popMove(closed));
+                refused(Code.EMPTY, () -> step.popMove(closed));
                 equal(step.depth(), 2);
             }
         }
@@ -285,21 +285,21 @@ final class PlainTests {
             Step step = agent.step();
             rival.tryFire(List.of(Instruction.put(X, 2)), List.of());
             agent.follow();
-            refused(FolugbenException.MOVED, () -> step.get(x));
-            refused(FolugbenException.MOVED, () -> step.push(move));
-            refused(FolugbenException.MOVED, () -> step.extend(move));
+            refused(Code.MOVED, () -> step.get(x));
+            refused(Code.MOVED, () -> step.push(move));
+            refused(Code.MOVED, () -> step.extend(move));
             equal(step.tryCommit().move(), 2);
-            refused(FolugbenException.EMPTY, () -> step.get(x));
-            refused(FolugbenException.EMPTY, () -> step.push(move));
-            refused(FolugbenException.EMPTY, step::commit);
+            refused(Code.EMPTY, () -> step.get(x));
+            refused(Code.EMPTY, () -> step.push(move));
+            refused(Code.EMPTY, step::commit);
             Step next = agent.step();
             x.close();
             x.close();
-            String told = FolugbenException.errorText(FolugbenException.EMPTY) + ": the ";
+            String told = Code.EMPTY.text() + ": the ";
             for (Runnable call : List.<Runnable>of(() -> next.get(x), () -> next.getNumber(x),
                          () -> agent.peek(x), () -> agent.peekNumber(x), () -> move.put(x, 1),
                          () -> move.put(x, "text")))
-                equal(refused(FolugbenException.EMPTY, call).getMessage(), told + "location was closed");
+                equal(refused(Code.EMPTY, call).getMessage(), told + "location was closed");
             next.push(move);
             equal(next.get(X), Element.of(5));
             move.close();
@@ -307,13 +307,13 @@ final class PlainTests {
             try (PreparedLocation y = Location.of("y").prepare()) {
                 for (Runnable call : List.<Runnable>of(() -> next.push(move),
                              () -> next.extend(move), () -> move.put(y, 1), move::clear))
-                    equal(refused(FolugbenException.EMPTY, call).getMessage(), told + "move was closed");
+                    equal(refused(Code.EMPTY, call).getMessage(), told + "move was closed");
                 equal(move.size(), 0);
                 equal(next.depth(), 1);
                 agent.give();
-                refused(FolugbenException.EMPTY, () -> next.get(y));
-                refused(FolugbenException.EMPTY, () -> agent.peek(y));
-                refused(FolugbenException.EMPTY, next::commit);
+                refused(Code.EMPTY, () -> next.get(y));
+                refused(Code.EMPTY, () -> agent.peek(y));
+                refused(Code.EMPTY, next::commit);
                 next.close();
             }
         }
@@ -332,13 +332,13 @@ final class PlainTests {
                 equal(step.tryCommit().move(), 0);
             }
             try (Step step = agent.step()) {
-                refused(FolugbenException.CLASH, () -> step.push(move));
+                refused(Code.CLASH, () -> step.push(move));
                 step.push(move.clear().put(x, "all"));
                 equal(step.tryCommit().move(), 2);
             }
             try (Step step = agent.step()) {
                 equal(step.getText(x), "all");
-                refused(FolugbenException.FULL, step::commit);
+                refused(Code.FULL, step::commit);
             }
         }
     }

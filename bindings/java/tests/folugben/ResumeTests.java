@@ -204,7 +204,7 @@ final class ResumeTests {
                 Run.resume(path, check).close();
                 throw new IllegalStateException("a run that isn't legal is resumed");
             } catch (AuditException fault) {
-                equal(fault.kind(), Code.ILLEGAL);
+                equal(fault.code(), Code.ILLEGAL);
                 equal(fault.part(), 3L);
             }
     }
@@ -359,7 +359,7 @@ final class ResumeTests {
             }
             Path bad = path.resolveSibling("bad");
             Files.writeString(file, whole.replace("\"fired\":2", "\"fired\":1"));
-            Test.Checks.refused(FolugbenException.ILLEGAL, () -> Run.importFile(file, bad));
+            Test.Checks.refused(Code.ILLEGAL, () -> Run.importFile(file, bad));
             equal(Files.exists(bad), false);
         }
 

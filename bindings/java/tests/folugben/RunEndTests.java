@@ -26,10 +26,10 @@ final class RunEndTests {
         step.push(RunTests.up());
         run.close();
         run.close();
-        String told = FolugbenException.errorText(FolugbenException.EMPTY) + ": the run was closed";
+        String told = Code.EMPTY.text() + ": the run was closed";
         for (Runnable call : List.<Runnable>of(agent::step, agent::follow, agent::state,
                      () -> run.agent(1), step::commit, () -> step.get(COUNT), () -> RunTests.count(agent)))
-            equal(refused(FolugbenException.EMPTY, call).getMessage(), told);
+            equal(refused(Code.EMPTY, call).getMessage(), told);
         step.close();
         agent.close();
         equal(agent.won(), 1L);
@@ -76,9 +76,9 @@ final class RunEndTests {
         lost.abandon();
         RunException told = failsInTime(agent);
         equal(told.part(), 3L);
-        equal(((FolugbenException) told.getCause()).kind(), Code.MISSING);
+        equal(((FolugbenException) told.getCause()).code(), Code.MISSING);
         equal(told.getMessage(), "part 3 of the run can't be written: "
-                + FolugbenException.errorText(FolugbenException.MISSING)
+                + Code.MISSING.text()
                 + ": an agent was abandoned (move 1)");
         toldByAll(run, told, List.of(agent));
         equal(RunTests.counted(path, 4), new Auditor.Counts(3, 4, 4));
@@ -173,7 +173,7 @@ final class RunEndTests {
     /** A state of more bytes than a line may have is refused before anything is made. */
     private static void linesAreShort(Path path) throws IOException {
         String state = "[[[\"a\"],\"" + "x".repeat(Texts.Lines.LIMIT) + "\"]]";
-        equal(refused(FolugbenException.LARGE, () -> Run.open(state, path, 5, 9)).getClass(),
+        equal(refused(Code.LONG_LINE, () -> Run.open(state, path, 5, 9)).getClass(),
                 LargeException.class);
         equal(Files.exists(path), false);
     }
@@ -187,16 +187,16 @@ final class RunEndTests {
             List<Instruction> both = List.of(Instruction.put(text, half),
                     Instruction.put(Location.of("u"), half));
             Class<LargeException> kind = LargeException.class;
-            equal(refused(FolugbenException.LARGE, () -> agent.fire(both, List.of())).getClass(), kind);
+            equal(refused(Code.LONG_LINE, () -> agent.fire(both, List.of())).getClass(), kind);
             try (Step step = agent.step()) {
                 step.push(both);
-                equal(refused(FolugbenException.LARGE, step::commit).getClass(), kind);
+                equal(refused(Code.LONG_LINE, step::commit).getClass(), kind);
             }
             try (Step step = agent.step()) {
                 step.push(move.put(at, half).put(at, half));
                 step.pop();
                 step.push(move.clear().put(at, half + half));
-                equal(refused(FolugbenException.LARGE, step::tryCommit).getClass(), kind);
+                equal(refused(Code.LONG_LINE, step::tryCommit).getClass(), kind);
             }
             RunTests.count(agent);
             agent.play(step -> {
@@ -205,7 +205,7 @@ final class RunEndTests {
             });
             agent.fire(both.subList(1, 2), List.of());
             // The state is too long for the part that comes next: the move that comes there is refused.
-            equal(refused(FolugbenException.LARGE, agent::step).getClass(), kind);
+            equal(refused(Code.LONG_LINE, agent::step).getClass(), kind);
             equal(agent.won(), 3L);
             equal(Auditor.audit(path).moves(), 0L);
         }

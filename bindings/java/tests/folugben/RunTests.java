@@ -176,9 +176,9 @@ final class RunTests {
     }
 
     private static void isFull(Agent.Reply reply) {
-        equal(reply.kind(), Code.FULL);
+        equal(reply.code(), Code.FULL);
         equal(reply.isOfRun() && reply.shouldRetry(), true);
-        equal(refused(FolugbenException.FULL, reply::orThrow) instanceof PartException, true);
+        equal(refused(Code.FULL, reply::orThrow) instanceof PartException, true);
     }
 
     /** A step in a part that is full finds that out as it is fired, and in a while in any case. */
@@ -198,7 +198,7 @@ final class RunTests {
                 while (run.parts() < 5) Thread.sleep(1);
                 for (Runnable call : List.<Runnable>of(() -> step.get(COUNT),
                              () -> step.push(up()), () -> step.scan("count"), step::commit))
-                    equal(refused(FolugbenException.FULL, call) instanceof PartException, true);
+                    equal(refused(Code.FULL, call) instanceof PartException, true);
                 isFull(step.tryCommit());
             }
             int[] tries = new int[1];
@@ -210,7 +210,7 @@ final class RunTests {
             }).told() > 20, true);
             equal(tries[0], 3);
             PartException own = PartException.full();
-            equal(refused(FolugbenException.FULL, () -> slow.play(step -> {
+            equal(refused(Code.FULL, () -> slow.play(step -> {
                 throw own;
             })) == own, true);
         }
@@ -223,26 +223,26 @@ final class RunTests {
         try (Run run = open(path, 2); RunAgent slow = run.agent(0); RunAgent agent = run.agent(1)) {
             List<Named> first = slow.peek(List.of(COUNT)).named();
             equal(slow.fire(List.of(Instruction.put(COUNT, 1)), first), 1L);
-            refused(FolugbenException.STALE,
+            refused(Code.STALE,
                     () -> slow.fire(List.of(Instruction.put(COUNT, 9)), first));
             List<Named> old = slow.peek(List.of(COUNT)).named();
             equal(old, List.of(new Named(COUNT, 1)));
-            refused(FolugbenException.RANGE,
+            refused(Code.AHEAD,
                     () -> slow.fire(List.of(up()), List.of(new Named(COUNT, 2))));
             try (Step step = slow.step()) {
                 step.push(up());
                 count(agent);
                 count(agent);
-                FolugbenException told = refused(FolugbenException.FULL, step::commit);
+                FolugbenException told = refused(Code.FULL, step::commit);
                 equal(told instanceof PartException && told instanceof ConflictException, true);
                 try (Step next = slow.step()) {
                     equal(next.number(), 3L);
                     equal(next.get(COUNT), Element.of(3));
-                    refused(FolugbenException.FULL, () -> step.get(COUNT));
-                    refused(FolugbenException.FULL, step::commit);
+                    refused(Code.FULL, () -> step.get(COUNT));
+                    refused(Code.FULL, step::commit);
                 }
             }
-            FolugbenException told = refused(FolugbenException.RANGE,
+            FolugbenException told = refused(Code.FULL,
                     () -> slow.fire(List.of(Instruction.put(COUNT, 9)), old));
             equal(told instanceof PartException, true);
             equal(told.getMessage().endsWith(
@@ -266,7 +266,7 @@ final class RunTests {
                     step.get(COUNT);
                     count(rival);
                     step.push(Instruction.put(COUNT, 0));
-                    equal(step.tryCommit().kind(), Code.STALE);
+                    equal(step.tryCommit().code(), Code.STALE);
                 }
             Step open = rival.step();
             CountDownLatch isDone = new CountDownLatch(1);
@@ -289,7 +289,7 @@ final class RunTests {
             Thread.sleep(30);
             equal(open.get(COUNT), Element.of(4));
             open.push(Instruction.put(COUNT, 4));
-            return open.tryCommit().code() == FolugbenException.DONE;
+            return open.tryCommit().code() == Code.DONE;
         } catch (PartException late) {
             return false;
         } finally {
@@ -306,7 +306,7 @@ final class RunTests {
             for (int i = 0; i < 3; i++) count(agent);
             equal(agent.fire(List.of(up()), List.of()), 4L);
             equal(count(agent), new RunAgent.Played<>(5, 4L, 0));
-            equal(refused(FolugbenException.FULL, () -> step.get(COUNT)) instanceof PartException,
+            equal(refused(Code.FULL, () -> step.get(COUNT)) instanceof PartException,
                     true);
             isFull(step.tryCommit());
             step.close();
@@ -330,12 +330,12 @@ final class RunTests {
         try (Run run = open(path, 3)) {
             RunAgent agent = run.agent(7);
             count(agent);
-            refusedAt(FolugbenException.NUMBER, 0, ": agent 7", () -> run.agent(7));
+            refusedAt(Code.NUMBER, 0, ": agent 7", () -> run.agent(7));
             outOfRange(() -> run.agent(256));
             agent.close();
             agent.close();
-            equal(refused(FolugbenException.EMPTY, agent::step).getMessage(),
-                    FolugbenException.errorText(FolugbenException.EMPTY)
+            equal(refused(Code.EMPTY, agent::step).getMessage(),
+                    Code.EMPTY.text()
                             + ": the agent was closed");
             try (RunAgent again = run.agent(7)) {
                 equal(again.won(), 0L);
@@ -379,7 +379,7 @@ final class RunTests {
         outOfRange(() -> open(path, 0));
         thrown(kind, "check", () -> Run.resume(path, null));
         outOfRange(() -> Run.resume(path, 1_048_577));
-        refused(FolugbenException.NOT_JSON, () -> Run.open("[", path, 5, 9));
+        refused(Code.NOT_JSON, () -> Run.open("[", path, 5, 9));
         equal(Files.exists(path), false);
         try (Run run = open(path, 5); RunAgent agent = run.agent(0)) {
             thrown(kind, "rule", () -> agent.play(null));
@@ -390,7 +390,7 @@ final class RunTests {
                 step.push(up());
                 throw new IllegalStateException("no");
             }));
-            refused(FolugbenException.CLASH, () -> agent.play(step -> {
+            refused(Code.CLASH, () -> agent.play(step -> {
                 step.push(Instruction.put(COUNT, 1), Instruction.put(COUNT, 2));
                 return null;
             }));

@@ -54,7 +54,7 @@ final class ScopeTests {
                 step.push(put(1), put(2));
                 return 0;
             });
-            refused(FolugbenException.CLASH, clash);
+            refused(Code.CLASH, clash);
             thrown(NullPointerException.class, "rule", () -> agent.play(null));
         }
     }
@@ -66,14 +66,14 @@ final class ScopeTests {
                 step.get(COUNT);
                 put(rival, 1);
                 step.push(put(2));
-                FolugbenException stale = refused(FolugbenException.STALE, step::commit);
+                FolugbenException stale = refused(Code.STALE, step::commit);
                 equal(stale instanceof ConflictException, true);
             }
             try (Step step = agent.step()) {
                 step.push(put(2));
                 equal(step.commit(), 2);
             }
-            refused(FolugbenException.STALE,
+            refused(Code.STALE,
                     () -> rival.fire(List.of(put(3)), List.of(new Named(COUNT, 1))));
         }
     }
@@ -84,17 +84,17 @@ final class ScopeTests {
             Agent agent = storage.agent(0);
             try (agent) {
                 put(agent, 1);
-                refusedAt(FolugbenException.MISSING, 1, ": agent 0 was not given back: it fired move 1", storage::closeJournal);
+                refusedAt(Code.MISSING, 1, ": agent 0 was not given back: it fired move 1", storage::closeJournal);
             }
             agent.close();
             equal(Storage.check(storage.closeJournal()), new Storage.Checked(1, 1));
             Agent late = storage.agent(1);
             put(late, 2);
-            refused(FolugbenException.OTHER, () -> other.give(late));
-            refused(FolugbenException.OTHER, () -> other.agent(0).learn(late));
+            refused(Code.OTHER, () -> other.give(late));
+            refused(Code.OTHER, () -> other.agent(0).learn(late));
             storage.close();
             late.close();
-            refused(FolugbenException.EMPTY, () -> put(late, 3));
+            refused(Code.EMPTY, () -> put(late, 3));
         }
     }
 
@@ -113,7 +113,7 @@ final class ScopeTests {
                 }
             });
             equal(Storage.check(Files.readString(path)).moves(), 2);
-            refused(FolugbenException.MISSING, () -> {
+            refused(Code.MISSING, () -> {
                 try (Storage storage = new Storage("[]", 10, path); Agent agent = storage.agent(0)) {
                     put(agent, 1);
                     agent.abandon();

@@ -150,7 +150,7 @@ final class SharedTests {
                 Actor.Reply reply = step.tryCommit();
                 equal(reply.isStale() && reply.shouldRetry(), true);
                 equal(reply.at(), COUNT);
-                refused(FolugbenException.STALE, step::commit);
+                refused(Code.STALE, step::commit);
             }
             try (Step step = agent.step()) {
                 equal(step.getAll("task").size(), 0);
@@ -159,14 +159,14 @@ final class SharedTests {
                     own.push(Instruction.put(task, true));
                     return null;
                 });
-                refused(FolugbenException.STALE, step::commit);
+                refused(Code.STALE, step::commit);
             }
             try (Step one = agent.step(); Step two = rival.step()) {
                 one.push(Instruction.inc(COUNT, 2));
                 two.push(Instruction.inc(COUNT, 3));
                 equal(one.commit(), 3L);
                 equal(two.commit(), 4L);
-                refused(FolugbenException.EMPTY, () -> one.get(COUNT));
+                refused(Code.EMPTY, () -> one.get(COUNT));
             }
             equal(run.state().values().get(COUNT), Element.of(6));
         }
@@ -180,8 +180,8 @@ final class SharedTests {
                 for (int i = 0; i < 4; i++) raise(quick);
                 equal(step.get(COUNT), Element.of(1));
                 equal(step.number(), 0L);
-                equal(step.tryCommit().kind(), Code.FULL);
-                equal(refused(FolugbenException.FULL, step::commit) instanceof PartException, true);
+                equal(step.tryCommit().code(), Code.FULL);
+                equal(refused(Code.FULL, step::commit) instanceof PartException, true);
             }
             equal(raise(slow), new Actor.Played<>(5, 4L, 0));
             equal(slow.seen(), 5L);
@@ -201,13 +201,13 @@ final class SharedTests {
         try (SharedRun run = SharedRun.open(INIT, target); SharedRun other = SharedRun.join(target)) {
             ended = run;
             SharedAgent agent = run.agent(3);
-            equal(refused(FolugbenException.NUMBER, () -> run.agent(3)).getMessage()
+            equal(refused(Code.NUMBER, () -> run.agent(3)).getMessage()
                             .endsWith("agent 3"), true);
-            equal(refused(FolugbenException.NUMBER, () -> other.agent(3)).getMessage()
+            equal(refused(Code.NUMBER, () -> other.agent(3)).getMessage()
                             .endsWith("agent 3 is in use by another process"), true);
             agent.close();
             agent.close();
-            refused(FolugbenException.EMPTY, agent::step);
+            refused(Code.EMPTY, agent::step);
             try (SharedAgent again = other.agent(3)) {
                 equal(raise(again).move(), 1L);
             }
@@ -216,7 +216,7 @@ final class SharedTests {
                     again.peek(List.of(COUNT));
                 }
         }
-        refused(FolugbenException.EMPTY, () -> ended.agent(3));
+        refused(Code.EMPTY, () -> ended.agent(3));
     }
 
     private static void whatIsToldMustFit(String target) throws Exception {

@@ -39,23 +39,23 @@ final class StepTests {
             equal(agent.scan("x"), new Agent.State(1, "[[[\"x\"],8]]"));
             equal(agent.scan("y"), new Agent.State(1, "[[[\"y\",1],\"one\"]]"));
             equal(agent.scan(""), new Agent.State(1, "[]"));
-            equal(agent.stands("[[[\"x\"],1]]"), new Agent.Reply(0, 0, 0, 0, null));
+            equal(agent.stands("[[[\"x\"],1]]"), new Agent.Reply(Code.DONE, 0, 0, 0, null));
             equal(agent.stands("[[[\"x\"],1]]").isFired(), false);
             rival.tryFire(put("z", "1"), "[]");
             Agent.Reply stale = agent.stands("[[[\"z\"],1],[[\"x\"],0]]");
-            equal(stale, new Agent.Reply(FolugbenException.STALE, 0, 0, 0, "{\"stale\":[\"x\"]}"));
+            equal(stale, new Agent.Reply(Code.STALE, 0, 0, 0, "{\"stale\":[\"x\"]}"));
             equal(stale.isStale() && stale.shouldRetry(), true);
             equal(agent.state().number(), 2);
-            refused(FolugbenException.NONE, agent::answer);
-            refusedAt(FolugbenException.NOT_JSON, 0, " at byte 2", () -> agent.peek("[nul]"));
-            refusedAt(FolugbenException.NOT_JSON, 0, " at byte 2", () -> agent.stands("[nul]"));
-            refused(FolugbenException.SHAPE, () -> agent.stands("[[\"x\"]]"));
-            refused(FolugbenException.SHAPE, () -> agent.peek("7"));
+            refused(Code.NO_ANSWER, agent::answer);
+            refusedAt(Code.NOT_JSON, 0, " at byte 2", () -> agent.peek("[nul]"));
+            refusedAt(Code.NOT_JSON, 0, " at byte 2", () -> agent.stands("[nul]"));
+            refused(Code.SHAPE, () -> agent.stands("[[\"x\"]]"));
+            refused(Code.SHAPE, () -> agent.peek("7"));
             agent.give();
-            refused(FolugbenException.EMPTY, agent::follow);
-            refused(FolugbenException.EMPTY, agent::state);
-            refused(FolugbenException.EMPTY, agent::step);
-            refused(FolugbenException.EMPTY, () -> agent.scan("x"));
+            refused(Code.EMPTY, agent::follow);
+            refused(Code.EMPTY, agent::state);
+            refused(Code.EMPTY, agent::step);
+            refused(Code.EMPTY, () -> agent.scan("x"));
         }
     }
 
@@ -74,17 +74,17 @@ final class StepTests {
             equal(stale.at(), Location.of("y", 2));
             equal(agent.scan("y").number(), 2);
             equal(agent.fire(inc("x", 1), "[]", "[[\"y\",2],[\"z\",0]]"), 3);
-            refusedAt(FolugbenException.RANGE, 0, 
+            refusedAt(Code.AHEAD, 0, 
                     ": scan 2: y is named at 4, and the agent has seen 3",
                     () -> agent.tryFire("[]", "[]", "[[\"x\",0],[\"y\",4]]"));
-            refusedAt(FolugbenException.SHAPE, 0,
+            refusedAt(Code.SHAPE, 0,
                     ": a scan is an array of a function's name and a number, from 0 to 4,294,967,295",
                     () -> agent.tryFire("[]", "[]", "[[\"y\"]]"));
-            refusedAt(FolugbenException.SHAPE, 0,
+            refusedAt(Code.SHAPE, 0,
                     ": read 1: a read is an array of a location and a number",
                     () -> agent.tryFire("[]", "[[7]]", "[[\"y\"]]"));
-            refused(FolugbenException.NOT_JSON, () -> agent.tryFire("[]", "[]", "[nul]"));
-            refused(FolugbenException.MANY,
+            refused(Code.NOT_JSON, () -> agent.tryFire("[]", "[]", "[nul]"));
+            refused(Code.MANY,
                     () -> agent.fire(List.of(), List.of(), Collections.nCopies(257, scans.get(0))));
         }
     }
@@ -104,12 +104,12 @@ final class StepTests {
             step.push(put("x", "0"));
             step.pop();
             equal(step.depth(), 2);
-            equal(step.tryCommit(), new Agent.Reply(0, 1, 0, 0, null, true));
+            equal(step.tryCommit(), new Agent.Reply(Code.DONE, 1, 0, 0, null, true));
             equal(agent.answer(), "{\"fired\":1}");
             equal(step.depth(), 0);
-            refused(FolugbenException.EMPTY, step::commit);
-            refused(FolugbenException.EMPTY, step::pop);
-            refused(FolugbenException.EMPTY, () -> step.get("[]"));
+            refused(Code.EMPTY, step::commit);
+            refused(Code.EMPTY, step::pop);
+            refused(Code.EMPTY, () -> step.get("[]"));
             step.close();
             step.close();
             try (Step abandoned = agent.step()) {
@@ -126,14 +126,14 @@ final class StepTests {
     }
 
     /** The call is refused with this code and this answer, which the message tells too. */
-    static void told(int code, String answer, Runnable call) {
+    static void told(Code code, String answer, Runnable call) {
         FolugbenException error = refused(code, call);
         equal(error.answer(), answer);
-        equal(error.getMessage(), FolugbenException.errorText(code) + ": " + answer);
+        equal(error.getMessage(), code.text() + ": " + answer);
     }
 
     /** The same of a call on a step, which is as it was. */
-    static void objection(Step step, int code, String answer, Runnable call) {
+    static void objection(Step step, Code code, String answer, Runnable call) {
         int depth = step.depth();
         String seen = step.get("[[\"x\"],[\"s\"]]");
         told(code, answer, call);
@@ -146,31 +146,31 @@ final class StepTests {
         String nested = "[[\"add\",[\"s\"],1],[\"put\",[\"s\"],{\"set\":[{\"set\":[]}]}]]";
         try (Storage storage = new Storage(INIT, 8); Agent agent = storage.agent(0);
                 Step step = agent.step()) {
-            refused(FolugbenException.NONE, step::pop);
-            objection(step, FolugbenException.CLASH, clash, () -> step.push(inc("s", 1)));
+            refused(Code.NO_PUSH, step::pop);
+            objection(step, Code.CLASH, clash, () -> step.push(inc("s", 1)));
             step.push(inc("x", 1));
-            objection(step, FolugbenException.CLASH, clash, () -> step.push(inc("s", 1)));
-            objection(step, FolugbenException.CLASH, clash, () -> step.extend(inc("s", 1)));
-            refusedAt(FolugbenException.SHAPE, 0, ": instruction 2: a set can't hold a set",
+            objection(step, Code.CLASH, clash, () -> step.push(inc("s", 1)));
+            objection(step, Code.CLASH, clash, () -> step.extend(inc("s", 1)));
+            refusedAt(Code.SHAPE, 0, ": instruction 2: a set can't hold a set",
                     () -> step.push(nested));
-            refusedAt(FolugbenException.NOT_JSON, 0, " at byte 3", () -> step.extend("[[nul]]"));
-            refused(FolugbenException.NOT_JSON, () -> step.push("[],\"reads\":[]"));
-            refused(FolugbenException.NOT_JSON, () -> step.get("[["));
-            refused(FolugbenException.SHAPE, () -> step.get("[7]"));
+            refusedAt(Code.NOT_JSON, 0, " at byte 3", () -> step.extend("[[nul]]"));
+            refused(Code.NOT_JSON, () -> step.push("[],\"reads\":[]"));
+            refused(Code.NOT_JSON, () -> step.get("[["));
+            refused(Code.SHAPE, () -> step.get("[7]"));
             for (int i = 1; i < 64; i++) step.push(inc("x", 1));
-            equal(refused(FolugbenException.DEEP, () -> step.push("[]")).answer() == null, true);
+            equal(refused(Code.DEEP, () -> step.push("[]")).answer() == null, true);
             for (int i = 0; i < 1000; i++) step.extend(inc("x", 1));
             equal(step.get("[[\"x\"]]"), seen(0, "1071"));
             equal(step.depth(), 64);
             StringBuilder many = new StringBuilder("[[\"w\",0]");
             for (int i = 1; i < 256; i++) many.append(",[\"w\"," + i + "]");
-            refused(FolugbenException.MANY, () -> step.get(many + "]"));
+            refused(Code.MANY, () -> step.get(many + "]"));
             try (Step another = agent.step()) {
                 another.get(many + "]");
                 another.push(inc("x", 1));
                 another.push(inc("x", 1));
-                refused(FolugbenException.MANY, another::commit);
-                refused(FolugbenException.MANY, () -> another.pop());
+                refused(Code.MANY, another::commit);
+                refused(Code.MANY, () -> another.pop());
             }
             try (Step another = agent.step()) {
                 another.get(many + "]");
@@ -197,12 +197,12 @@ final class StepTests {
                 equal(step.offer(), new Step.Offer(List.of(Instruction.inc(x, 3)), reads));
                 equal(step.offerText(),
                         "{\"fire\":[[\"inc\",[\"x\"],3]],\"reads\":[[[\"z\"],0]]}");
-                refused(FolugbenException.SHAPE, () -> step.see("[7]"));
-                refused(FolugbenException.NOT_JSON, () -> step.see("[["));
+                refused(Code.SHAPE, () -> step.see("[7]"));
+                refused(Code.NOT_JSON, () -> step.see("[["));
                 rival.tryFire(put("x", "20"), "[]");
                 equal(step.commit(), 2);
-                refused(FolugbenException.EMPTY, () -> step.see("[]"));
-                refused(FolugbenException.EMPTY, step::offer);
+                refused(Code.EMPTY, () -> step.see("[]"));
+                refused(Code.EMPTY, step::offer);
             }
             try (Step step = agent.step()) {
                 step.see(x);
@@ -210,7 +210,7 @@ final class StepTests {
                 Step.Offer offer = step.offer();
                 rival.tryFire(put("x", "0"), "[]");
                 equal(step.tryCommit().isStale(), true);
-                refused(FolugbenException.MOVED, () -> step.see(x));
+                refused(Code.MOVED, () -> step.see(x));
                 equal(agent.tryFire(offer.fire(), offer.reads()).isStale(), true);
             }
         }
@@ -224,25 +224,25 @@ final class StepTests {
             step.push(inc("x", 1));
             rival.tryFire(put("x", "70"), "[]");
             equal(step.get("[[\"x\"]]"), seen(0, "8"));
-            equal(step.tryCommit(), new Agent.Reply(FolugbenException.STALE, 0, 0, 0,
+            equal(step.tryCommit(), new Agent.Reply(Code.STALE, 0, 0, 0,
                                        "{\"stale\":[\"x\"]}", true));
             equal(step.depth(), 1);
-            refused(FolugbenException.MOVED, () -> step.get("[]"));
-            refused(FolugbenException.MOVED, () -> step.push("[]"));
-            refused(FolugbenException.MOVED, () -> step.scan("x"));
+            refused(Code.MOVED, () -> step.get("[]"));
+            refused(Code.MOVED, () -> step.push("[]"));
+            refused(Code.MOVED, () -> step.scan("x"));
             step.close();
             try (Step other = agent.step()) {
                 equal(other.number(), 1);
                 rival.tryFire(put("z", "1"), "[]");
                 other.push(inc("x", 1));
                 agent.follow();
-                refused(FolugbenException.MOVED, () -> other.extend("[]"));
+                refused(Code.MOVED, () -> other.extend("[]"));
                 equal(other.tryCommit().move(), 3);
             }
             try (Step last = agent.step()) {
                 last.push(inc("x", 1));
                 rival.tryFire("[]", "[]");
-                equal(last.tryCommit(), new Agent.Reply(FolugbenException.FULL, 0, 0, 0, null, true));
+                equal(last.tryCommit(), new Agent.Reply(Code.FULL, 0, 0, 0, null, true));
                 equal(last.depth(), 1);
             }
         }
@@ -268,25 +268,25 @@ final class StepTests {
             Agent.Reply taken = rival.tryFire(one, "[]");
             equal(taken.isFired() && !taken.shouldRetry() && !taken.isClash(), true);
             Agent.Reply clash = step.tryCommit();
-            equal(clash, new Agent.Reply(FolugbenException.CLASH, 0, 0, 0,
+            equal(clash, new Agent.Reply(Code.CLASH, 0, 0, 0,
                                  "{\"clash\":[[\"b\"],\"Short\"]}", true));
             equal(clash.isClash() && clash.shouldRetry(), true);
-            equal(refused(FolugbenException.CLASH, clash::orThrow).answer(), clash.answer());
+            equal(refused(Code.CLASH, clash::orThrow).answer(), clash.answer());
             equal(step.tryCommit().move(), 0);
             equal(step.depth(), 1);
-            refused(FolugbenException.MOVED, () -> step.get("[]"));
+            refused(Code.MOVED, () -> step.get("[]"));
             // Of a move that is fired alone its caller decides.
             Agent.Reply alone = agent.tryFire(one, "[]");
             equal(alone.isClash() && !alone.shouldRetry(), true);
             try (Step again = agent.step()) {
-                refused(FolugbenException.CLASH, () -> again.push(one));
+                refused(Code.CLASH, () -> again.push(one));
             }
         }
     }
 
     /** A number above what the agent has seen is refused, with its location. */
     static void numbersToCome() {
-        int range = FolugbenException.RANGE;
+        Code range = Code.AHEAD;
         String seen = " is named at 1, and the agent has seen 0";
         String reads = "[[[\"s\"],0], [[\"y\",1],1]]";
         try (Storage storage = new Storage(INIT, 8); Agent agent = storage.agent(0);
@@ -329,7 +329,7 @@ final class StepTests {
             storage.close();
             rival.tryFire(inc("x", 1), "[]");
             // Nothing was written above this number, so that the rival's update would be lost.
-            refusedAt(FolugbenException.RANGE, 0,
+            refusedAt(Code.AHEAD, 0,
                     ": read 1: [\"x\"] is named at 1, and the agent has seen 0",
                     () -> agent.tryFire(raised, kept.named()));
             equal(agent.read(List.of(x)).value(x).asLong(), 9L);
@@ -344,29 +344,29 @@ final class StepTests {
         equal(Moves.compose(put("x", "1"), inc("x", 2)), put("x", "3"));
         String all = "[[\"bagremove\",[\"b\"],1,4294967295]]";
         String one = "[[\"bagremove\",[\"b\"],1,1]]";
-        told(FolugbenException.CLASH, clash, () -> Moves.aggregate("[]", two));
-        told(FolugbenException.CLASH, clash, () -> Moves.compose("[]", two));
-        told(FolugbenException.LARGE, "{\"large\":[\"b\"]}", () -> Moves.compose(all, one));
-        refusedAt(FolugbenException.SHAPE, 0, ": a location stands twice (state)",
+        told(Code.CLASH, clash, () -> Moves.aggregate("[]", two));
+        told(Code.CLASH, clash, () -> Moves.compose("[]", two));
+        told(Code.LARGE, "{\"large\":[\"b\"]}", () -> Moves.compose(all, one));
+        refusedAt(Code.SHAPE, 0, ": a location stands twice (state)",
                 () -> Moves.aggregate("[[[\"x\"],1],[[\"x\"],2]]", "7"));
-        refusedAt(FolugbenException.NOT_JSON, 0, " at byte 3 (move)",
+        refusedAt(Code.NOT_JSON, 0, " at byte 3 (move)",
                 () -> Moves.aggregate("[]", "[[nul]]"));
-        refusedAt(FolugbenException.NOT_JSON, 0, " at byte 3 (first)",
+        refusedAt(Code.NOT_JSON, 0, " at byte 3 (first)",
                 () -> Moves.compose("[[nul]]", "7"));
-        refusedAt(FolugbenException.NOT_JSON, 0, " (second)", () -> Moves.compose("7", "[["));
+        refusedAt(Code.NOT_JSON, 0, " (second)", () -> Moves.compose("7", "[["));
         String twice = ": instruction 1: an element stands twice in a set";
-        refusedAt(FolugbenException.SHAPE, 0, twice + " (first)",
+        refusedAt(Code.SHAPE, 0, twice + " (first)",
                 () -> Moves.compose(TWICE, "[nul]"));
-        refusedAt(FolugbenException.SHAPE, 0, twice + " (second)",
+        refusedAt(Code.SHAPE, 0, twice + " (second)",
                 () -> Moves.compose("[]", TWICE));
-        refusedAt(FolugbenException.SHAPE, 0, twice + " (move)",
+        refusedAt(Code.SHAPE, 0, twice + " (move)",
                 () -> Moves.aggregate("[]", TWICE));
     }
 
     /** A run goes on in a storage that opens with what the one before left. */
     static void goingOn() {
         Storage storage = new Storage(INIT, 1);
-        refused(FolugbenException.NONE, () -> storage.next(1));
+        refused(Code.NO_JOURNAL, () -> storage.next(1));
         try (Agent agent = storage.agent(0)) {
             agent.tryFire(inc("x", 1), "[]");
             agent.give();
@@ -375,7 +375,7 @@ final class StepTests {
         outOfRange(() -> storage.next(0));
         try (Storage next = storage.next(1); Agent agent = next.agent(0)) {
             storage.close();
-            refused(FolugbenException.EMPTY, () -> storage.next(1));
+            refused(Code.EMPTY, () -> storage.next(1));
             equal(agent.state(), new Agent.State(0, left));
             equal(agent.tryFire(inc("x", 1), "[]").move(), 1);
             agent.give();

@@ -47,11 +47,11 @@ final class TakeTests {
             }
             third.gather(Instruction.inc(X, 1));
             equal(one.unite(other).size(), 4096);
-            refused(FolugbenException.MANY, () -> one.unite(third));
+            refused(Code.LONG_MOVE, () -> one.unite(third));
             equal(one.size(), 4096);
             other.close();
-            refused(FolugbenException.EMPTY, () -> one.unite(other));
-            refused(FolugbenException.EMPTY, () -> other.unite(one));
+            refused(Code.EMPTY, () -> one.unite(other));
+            refused(Code.EMPTY, () -> other.unite(one));
         }
     }
 
@@ -179,9 +179,9 @@ final class TakeTests {
                 step.push(Instruction.put(X, -1));
                 return null;
             };
-            refused(FolugbenException.STALE, () -> one.play(spoiled, 3, Duration.ofDays(1)));
+            refused(Code.STALE, () -> one.play(spoiled, 3, Duration.ofDays(1)));
             equal(tries[0], 3);
-            refused(FolugbenException.STALE, () -> one.play(spoiled, 1000, Duration.ZERO));
+            refused(Code.STALE, () -> one.play(spoiled, 1000, Duration.ZERO));
             equal(tries[0], 4);
             Actor.Played<Object> played = one.play(step -> {
                 if (tries[0]++ < 6)
@@ -202,17 +202,17 @@ final class TakeTests {
         try (Storage storage = Storage.open(Map.of(bag, Map.of("e", 1)), 10);
                 Agent one = storage.agent(0); Agent rival = storage.agent(1);
                 Step step = one.step()) {
-            ClashException push = (ClashException) refused(FolugbenException.CLASH,
+            ClashException push = (ClashException) refused(Code.CLASH,
                     () -> step.push(Instruction.put(X, 1), Instruction.put(X, 2)));
             equal(push.at(), X);
             step.push(Instruction.bagRemove(bag, "e", 1));
             rival.fire(List.of(Instruction.bagRemove(bag, "e", 1)), List.of());
             CommitClashException commit =
-                    (CommitClashException) refused(FolugbenException.CLASH, step::commit);
+                    (CommitClashException) refused(Code.CLASH, step::commit);
             equal(commit.at(), bag);
             equal(commit.cause(), Cause.SHORT);
             equal(step.tryCommit().shouldRetry(), true);
-            refused(FolugbenException.CLASH,
+            refused(Code.CLASH,
                     () -> rival.fire(List.of(Instruction.put(X, 1), Instruction.put(X, 2)), List.of()));
         }
     }

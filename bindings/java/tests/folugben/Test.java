@@ -17,18 +17,18 @@ public final class Test {
                 Agent second = storage.agent(1)) {
             equal(first.read("[[\"count\"]]"), "{\"number\":0,\"values\":[0]}");
             equal(first.tryFire("[[\"put\",[\"count\"],1]]", "[[[\"count\"],0]]"),
-                    new Agent.Reply(0, 1, 0, 0, null));
+                    new Agent.Reply(Code.DONE, 1, 0, 0, null));
             equal(first.answer(), "{\"fired\":1}");
             Agent.Reply stale = second.tryFire("[[\"put\",[\"count\"],9]]", "[[[\"count\"],0]]");
             equal(stale.shouldRetry(), true);
             equal(stale.answer(), "{\"stale\":[\"count\"]}");
             equal(second.answer(), stale.answer());
             Agent.Reply clash = second.tryFire("[[\"put\",[\"x\"],1],[\"put\",[\"x\"],2]]", "[]");
-            equal(clash.code(), FolugbenException.CLASH);
+            equal(clash.code(), Code.CLASH);
             equal(clash.answer(), "{\"clash\":[[\"x\"],\"Two\"]}");
             equal(second.answer(), clash.answer());
             equal(second.tryFire("[]", "[]").move(), 2);
-            equal(second.tryFire("[]", "[]").code(), FolugbenException.FULL);
+            equal(second.tryFire("[]", "[]").code(), Code.FULL);
             equal(second.answer(), "\"full\"");
             first.learn(second);
             equal(first.seen(), 2);
@@ -41,42 +41,42 @@ public final class Test {
         Agent agent = storage.agent(0);
         Agent stranger = other.agent(1);
         outOfRange(() -> new Storage("[]", 0));
-        refused(FolugbenException.NOT_JSON, () -> new Storage("[", 1));
-        refused(FolugbenException.SHAPE, () -> new Storage("7", 1));
+        refused(Code.NOT_JSON, () -> new Storage("[", 1));
+        refused(Code.SHAPE, () -> new Storage("7", 1));
         outOfRange(() -> storage.agent(256));
-        refused(FolugbenException.NONE, agent::answer);
-        refused(FolugbenException.SHAPE, () -> agent.read("[7]"));
-        refused(FolugbenException.OTHER, () -> storage.give(stranger));
-        refused(FolugbenException.OTHER, () -> agent.learn(stranger));
-        refused(FolugbenException.EMPTY, () -> agent.learn(agent));
+        refused(Code.NO_ANSWER, agent::answer);
+        refused(Code.SHAPE, () -> agent.read("[7]"));
+        refused(Code.OTHER, () -> storage.give(stranger));
+        refused(Code.OTHER, () -> agent.learn(stranger));
+        refused(Code.EMPTY, () -> agent.learn(agent));
         agent.tryFire("[]", "[]");
         agent.give();
-        refused(FolugbenException.EMPTY, () -> agent.read("[]"));
-        refused(FolugbenException.NUMBER, () -> storage.agent(0));
+        refused(Code.EMPTY, () -> agent.read("[]"));
+        refused(Code.NUMBER, () -> storage.agent(0));
         storage.agent(7).close();
-        refused(FolugbenException.NUMBER, () -> storage.agent(7));
+        refused(Code.NUMBER, () -> storage.agent(7));
         String journal = storage.closeJournal();
         equal(Storage.check(journal), new Storage.Checked(1, 1));
-        refusedAt(FolugbenException.CUT, 0, "",
+        refusedAt(Code.CUT, 0, "",
                 () -> Storage.check(journal.substring(0, journal.length() - 1)));
-        refusedAt(FolugbenException.ILLEGAL, 0, " (call 0)",
+        refusedAt(Code.ILLEGAL, 0, " (call 0)",
                 () -> Storage.check(journal.replace("\"fired\":1", "\"fired\":2")));
         String event = ": an event is an object with the members agent, call and reply";
-        refusedAt(FolugbenException.SHAPE, 3, event + " (line 3)",
+        refusedAt(Code.SHAPE, 3, event + " (line 3)",
                 () -> Storage.check(journal + "7\n"));
-        refusedAt(FolugbenException.SHAPE, 2, event + " (line 2)",
+        refusedAt(Code.SHAPE, 2, event + " (line 2)",
                 () -> Storage.replay(journal.replace("\"agent\"", "\"Agent\"")));
-        refusedAt(FolugbenException.NOT_JSON, 1, " (line 1)", () -> Storage.replay("{\n"));
-        refusedAt(FolugbenException.NOT_JSON, 1, " (line 1)", () -> Storage.trace("{\n"));
+        refusedAt(Code.NOT_JSON, 1, " (line 1)", () -> Storage.replay("{\n"));
+        refusedAt(Code.NOT_JSON, 1, " (line 1)", () -> Storage.trace("{\n"));
         List<String> trace = Storage.trace(journal.replace("\"fired\":1", "\"fired\":2"));
         equal(trace.size(), 2);
         equal(trace.get(0).endsWith("\"trace\":1}"), true);
         String told = "\"right\":{\"fired\":1},\"updates\":[";
         equal(trace.get(1).contains(told), true);
-        refusedAt(FolugbenException.NOT_JSON, 0, ": cut off after byte 1",
+        refusedAt(Code.NOT_JSON, 0, ": cut off after byte 1",
                 () -> new Storage("[", 1));
         storage.close();
-        refused(FolugbenException.EMPTY, () -> storage.agent(1));
+        refused(Code.EMPTY, () -> storage.agent(1));
         other.close();
         stranger.close();
     }
@@ -90,10 +90,10 @@ public final class Test {
                 lost.abandon();
             }
             equal(storage.moves(), 1);
-            refusedAt(FolugbenException.MISSING, 1, ": an agent was abandoned (move 1)", storage::closeJournal);
+            refusedAt(Code.MISSING, 1, ": an agent was abandoned (move 1)", storage::closeJournal);
             reader.read("[]");
             reader.give();
-            refusedAt(FolugbenException.MISSING, 1, ": an agent was abandoned (move 1)", storage::closeJournal);
+            refusedAt(Code.MISSING, 1, ": an agent was abandoned (move 1)", storage::closeJournal);
         }
     }
 
@@ -143,7 +143,7 @@ public final class Test {
             equal(Calls.text((out, length, written) -> {
                 calls[0]++;
                 written[0] = 3;
-                return length < 3 ? FolugbenException.SMALL : FolugbenException.DONE;
+                return length < 3 ? Code.SMALL.number() : Code.DONE.number();
             }, room), "\0\0\0");
             equal(calls[0], room < 3 ? 2 : 1);
         }
@@ -251,7 +251,7 @@ public final class Test {
                 throw new IllegalStateException("told " + told + ", wanted " + wanted);
         }
 
-        static FolugbenException refused(int code, Runnable call) {
+        static FolugbenException refused(Code code, Runnable call) {
             try {
                 call.run();
             } catch (FolugbenException error) {
@@ -262,10 +262,10 @@ public final class Test {
         }
 
         /** The call is refused with this number, which the message tells too, as what it counts. */
-        static void refusedAt(int code, long number, String told, Runnable call) {
+        static void refusedAt(Code code, long number, String told, Runnable call) {
             FolugbenException error = refused(code, call);
             equal(error.number(), number);
-            equal(error.getMessage(), FolugbenException.errorText(code) + told);
+            equal(error.getMessage(), code.text() + told);
         }
 
         /** The call throws an exception of this class, which tells this. */

@@ -13,13 +13,13 @@ final class TextTests {
     static void explained() {
         String nested = "[[\"add\",[\"s\"],1],[\"put\",[\"s\"],{\"set\":[{\"set\":[]}]}]]";
         try (Storage storage = new Storage("[]", 8); Agent agent = storage.agent(0)) {
-            refusedAt(FolugbenException.SHAPE, 0, ": instruction 2: a set can't hold a set",
+            refusedAt(Code.SHAPE, 0, ": instruction 2: a set can't hold a set",
                     () -> agent.tryFire(nested, "[]"));
-            refusedAt(FolugbenException.SHAPE, 0,
+            refusedAt(Code.SHAPE, 0,
                     ": location 1: a location is an array of a name and at most 8 arguments",
                     () -> agent.read("[7]"));
-            refusedAt(FolugbenException.NOT_JSON, 0, " at byte 3", () -> agent.read("[[nul]]"));
-            refusedAt(FolugbenException.SHAPE, 0, ": a location stands twice",
+            refusedAt(Code.NOT_JSON, 0, " at byte 3", () -> agent.read("[[nul]]"));
+            refusedAt(Code.SHAPE, 0, ": a location stands twice",
                     () -> new Storage("[[[\"x\"],1],[[\"x\"],2]]", 8));
         }
         equal(Storage.explain(Storage.Form.LOCATIONS, "[[\"x\"]]"), "");
@@ -61,8 +61,8 @@ final class TextTests {
                     thrown(kind, "move" + at + 14, () -> step.extend(put));
                 }
             }
-            refused(FolugbenException.NOT_JSON, () -> agent.read("[[\"k\",\"\\ud83d\"]]"));
-            refused(FolugbenException.NONE, agent::answer);
+            refused(Code.NOT_JSON, () -> agent.read("[[\"k\",\"\\ud83d\"]]"));
+            refused(Code.NO_ANSWER, agent::answer);
             equal(agent.read("[[\"k\",\"\ud83d\ude00\"],[\"k\",\"\\ud83d\\ude00\"]]"),
                     "{\"number\":0,\"values\":[2,2]}");
         }
@@ -80,20 +80,20 @@ final class TextTests {
                 "[\"\n\"]"};
         try (Storage storage = new Storage("[]", 8); Agent agent = storage.agent(0)) {
             for (String text : none) {
-                String told = FolugbenException.errorText(FolugbenException.NOT_JSON);
+                String told = Code.NOT_JSON.text();
                 thrown(FolugbenException.class, told + " (instructions)",
                         () -> agent.tryFire(text, "[]"));
                 thrown(FolugbenException.class, told + " (reads)", () -> agent.tryFire(put, text));
             }
             for (String text : wrong) {
-                refused(FolugbenException.SHAPE, () -> agent.tryFire(text, "[]"));
-                refused(FolugbenException.SHAPE, () -> agent.tryFire(put, text));
+                refused(Code.SHAPE, () -> agent.tryFire(text, "[]"));
+                refused(Code.SHAPE, () -> agent.tryFire(put, text));
             }
             for (String text : broken) {
-                refused(FolugbenException.NOT_JSON, () -> agent.tryFire(text, "[]"));
-                refused(FolugbenException.NOT_JSON, () -> agent.tryFire(put, text));
+                refused(Code.NOT_JSON, () -> agent.tryFire(text, "[]"));
+                refused(Code.NOT_JSON, () -> agent.tryFire(put, text));
             }
-            refused(FolugbenException.NONE, agent::answer);
+            refused(Code.NO_ANSWER, agent::answer);
             equal(agent.seen(), 0);
             String spaced = " [ [\"put\",[\"x\"],\"],\\\"fire\\\":[\\\\\"] ]\r\n";
             equal(agent.tryFire(spaced, "\t[\n[ [\"x\"] , 0 ]]").move(), 1);
@@ -107,13 +107,13 @@ final class TextTests {
                 Agent agent = storage.agent(0)) {
             equal(agent.read("[[\"k\",\"\\u0000\"],[\"k\",\"\"]]"),
                     "{\"number\":0,\"values\":[1,null]}");
-            refused(FolugbenException.NOT_JSON, () -> agent.read("[[\"k\",\"\u0000\"]]"));
-            refused(FolugbenException.NOT_JSON, () -> agent.read("[]\u0000"));
+            refused(Code.NOT_JSON, () -> agent.read("[[\"k\",\"\u0000\"]]"));
+            refused(Code.NOT_JSON, () -> agent.read("[]\u0000"));
             agent.tryFire("[[\"put\",[\"k\",\"\\u0000\"],\"a\\u0000b\"]]", "[]");
             agent.give();
             String journal = storage.closeJournal();
             equal(Storage.replay(journal), "[[[\"k\",\"\\u0000\"],\"a\\u0000b\"]]");
-            refused(FolugbenException.SHAPE, () -> Storage.check(journal + "\u0000"));
+            refused(Code.SHAPE, () -> Storage.check(journal + "\u0000"));
         }
     }
 

@@ -5,6 +5,10 @@ import static folugben.Test.Checks.refused;
 import static folugben.Test.Checks.refusedValue;
 import static folugben.Test.Checks.thrown;
 
+import java.io.IOException;
+import java.io.UncheckedIOException;
+import java.nio.file.Files;
+import java.nio.file.Path;
 import java.util.ArrayList;
 import java.util.Arrays;
 import java.util.Collections;
@@ -15,6 +19,8 @@ import java.util.List;
 import java.util.Map;
 import java.util.Random;
 import java.util.Set;
+import java.util.regex.Matcher;
+import java.util.regex.Pattern;
 import java.util.stream.IntStream;
 
 /** Tests of values, locations and instructions by themselves. */
@@ -197,7 +203,7 @@ final class ValueTests {
         private KindTests() {}
 
         /** The exception of this class and code that the call throws. */
-        static <T extends FolugbenException> T kind(Class<T> kind, int code, Runnable call) {
+        static <T extends FolugbenException> T kind(Class<T> kind, Code code, Runnable call) {
             FolugbenException error = refused(code, call);
             equal(error.getClass(), kind);
             return kind.cast(error);
@@ -205,7 +211,7 @@ final class ValueTests {
 
         /** The updates clash at the location for the cause, wherever they are played. */
         static void clash(Location at, Cause cause, Instruction... move) {
-            int code = FolugbenException.CLASH;
+            Code code = Code.CLASH;
             List<Instruction> all = List.of(move);
             try (Storage storage = Storage.open(INIT, 8); Agent agent = storage.agent(0);
                     Step step = agent.step()) {
@@ -220,7 +226,7 @@ final class ValueTests {
                     equal(error.at(), at);
                     equal(error.cause(), cause);
                     equal(error.getMessage(),
-                            FolugbenException.errorText(code) + ": " + error.answer());
+                            code.text() + ": " + error.answer());
                     equal(error.answer(), reply.answer());
                 }
                 equal(step.depth(), 0);
@@ -252,49 +258,63 @@ final class ValueTests {
                         () -> agent.stands(reads).orThrow());
                 for (Runnable call : calls) {
                     StaleException error =
-                            kind(StaleException.class, FolugbenException.STALE, call);
+                            kind(StaleException.class, Code.STALE, call);
                     equal(error.at(), S);
                     equal(error.answer(), "{\"stale\":[\"s\",\"a\\\"b\"]}");
-                    equal(error.getMessage(), FolugbenException.errorText(FolugbenException.STALE)
+                    equal(error.getMessage(), Code.STALE.text()
                                     + ": " + error.answer());
                 }
                 equal(step.tryCommit().cause() == null, true);
-                kind(MovedException.class, FolugbenException.MOVED, () -> step.get(S));
-                kind(MovedException.class, FolugbenException.MOVED, () -> step.getAll("s"));
-                kind(MovedException.class, FolugbenException.MOVED, step::push);
-                kind(MovedException.class, FolugbenException.MOVED, step::extend);
+                kind(MovedException.class, Code.MOVED, () -> step.get(S));
+                kind(MovedException.class, Code.MOVED, () -> step.getAll("s"));
+                kind(MovedException.class, Code.MOVED, step::push);
+                kind(MovedException.class, Code.MOVED, step::extend);
             }
+        }
+
+        /** The codes of the header, by name, where it is known where that lies; else none. */
+        private static Map<String, Integer> ofHeader() {
+            String root = System.getProperty("folugben.root");
+            Map<String, Integer> codes = new java.util.TreeMap<>();
+            if (root == null)
+                return codes;
+            try {
+                String header = Files.readString(Path.of(root, "include/folugben.h"));
+                String table = header.substring(header.indexOf("ASM_DONE = 0"));
+                Matcher found = Pattern.compile("ASM_(\\w+) = (\\d+)")
+                                        .matcher(table.substring(0, table.indexOf("};")));
+                while (found.find()) codes.put(found.group(1), Integer.valueOf(found.group(2)));
+            } catch (IOException fault) {
+                throw new UncheckedIOException(fault);
+            }
+            equal(codes.size(), Code.values().length);
+            return codes;
         }
 
         static void codes() {
             for (Code code : Code.values()) {
                 equal(Code.of(code.number()), code);
-                equal(code.text(), FolugbenException.errorText(code.number()));
-                try {
-                    equal(FolugbenException.class.getField(code.name()).getInt(null), code.number());
-                } catch (ReflectiveOperationException error) {
-                    throw new IllegalStateException(error);
-                }
+                equal(code.text().isEmpty(), false);
             }
-            equal(Code.values().length, FolugbenException.APART + 1);
+            ofHeader().forEach((name, number) -> equal(Code.valueOf(name).number(), number));
             try (Storage storage = Storage.open(INIT, 8); Agent agent = storage.agent(0)) {
-                equal(agent.tryFire("[]", "[]").kind(), Code.DONE);
-                equal(agent.tryFire(List.of(Instruction.add(X, 2)), List.of()).kind(), Code.CLASH);
-                equal(refused(FolugbenException.RANGE, () -> agent.fire("[]", "[[[\"x\"],9]]")).kind(), Code.RANGE);
+                equal(agent.tryFire("[]", "[]").code(), Code.DONE);
+                equal(agent.tryFire(List.of(Instruction.add(X, 2)), List.of()).code(), Code.CLASH);
+                equal(refused(Code.AHEAD, () -> agent.fire("[]", "[[[\"x\"],9]]")).code(), Code.AHEAD);
             }
         }
 
         static void large() {
             Instruction all = Instruction.bagRemove(B, 2, Value.MAX_COUNT);
-            LargeException error = kind(LargeException.class, FolugbenException.LARGE,
+            LargeException error = kind(LargeException.class, Code.LARGE,
                     () -> Moves.compose(List.of(all), List.of(Instruction.bagRemove(B, 2, 1))));
             equal(error.at(), B);
             equal(error.answer(), "{\"large\":[\"b\"]}");
-            equal(new LargeException("", null).at() == null, true);
+            equal(new LargeException(Code.LARGE, "", null).at() == null, true);
         }
 
         static void many() {
-            int code = FolugbenException.MANY;
+            Code code = Code.MANY;
             List<Location> places =
                     IntStream.range(0, 257).mapToObj(own -> Location.of("w", own)).toList();
             List<Instruction> most =
@@ -309,10 +329,10 @@ final class ValueTests {
                 kind(ManyException.class, code, () -> agent.stands(reads));
                 kind(ManyException.class, code, () -> agent.tryFire(List.of(), reads));
                 kind(ManyException.class, code, () -> step.get(places));
-                kind(ManyException.class, code, () -> Moves.compose(most, one));
+                kind(ManyException.class, Code.LONG_MOVE, () -> Moves.compose(most, one));
                 equal(Moves.compose(most, List.of()), most);
                 for (int depth = 0; depth < 64; depth++) step.push();
-                kind(DeepException.class, FolugbenException.DEEP, () -> step.push(one));
+                kind(DeepException.class, Code.DEEP, () -> step.push(one));
                 step.extend(Instruction.put(X, 2));
                 equal(step.get(X).asLong(), 2L);
             }
@@ -324,15 +344,15 @@ final class ValueTests {
                 Agent.Reply reply = agent.tryFire(List.of(), List.of());
                 equal(reply.at() == null && reply.cause() == null, true);
                 FullException full =
-                        kind(FullException.class, FolugbenException.FULL, reply::orThrow);
-                equal(full.getMessage(), FolugbenException.errorText(FolugbenException.FULL));
+                        kind(FullException.class, Code.FULL, reply::orThrow);
+                equal(full.getMessage(), Code.FULL.text());
             }
-            Agent.Reply reply = new Agent.Reply(FolugbenException.BUSY, 0, 3, 70, null);
-            BusyException busy = kind(BusyException.class, FolugbenException.BUSY, reply::orThrow);
+            Agent.Reply reply = new Agent.Reply(Code.BUSY, 0, 3, 70, null);
+            BusyException busy = kind(BusyException.class, Code.BUSY, reply::orThrow);
             equal(busy.from(), 3);
             equal(busy.to(), 70);
             String seen = " (the agent had seen 3 moves at the start of the call and 70 at its end)";
-            equal(busy.getMessage(), FolugbenException.errorText(FolugbenException.BUSY) + seen);
+            equal(busy.getMessage(), Code.BUSY.text() + seen);
         }
 
         static void all() {

@@ -172,7 +172,7 @@ public final class EngineTests {
             equal(step.depth(), 1);
             rival.fire(List.of(Instruction.put(COUNT, "no number")), List.of());
             Agent.Reply reply = step.tryCommit();
-            equal(reply.kind(), Code.STALE);
+            equal(reply.code(), Code.STALE);
             equal(reply.at(), COUNT);
         }
     }
