@@ -108,8 +108,8 @@ class error : public std::runtime_error {
     std::string text_;
 };
 
-// A fire of a step that met another agent's moves (code::stale, code::clash or code::busy): the step is to be begun again, as
-// `play` does.
+// A commit that met another agent's moves (code::stale, code::clash or code::busy): the step is to be begun again, as `play` does.
+// It is all that a loop by hand catches.
 class conflict : public error {
   public:
     using error::error;
@@ -1131,6 +1131,7 @@ class agent {
 
     // Lets the agent go without giving it back: what it fired is missing in each journal.
     void abandon() noexcept { asm_free_agent(get()); }
+    // For one call of folugben.h, in this thread.
     struct asm_agent *get() const noexcept { return seat_ ? seat_->get() : detail::nothing<struct asm_agent>(); }
 
   private:
