@@ -65,11 +65,11 @@ enum class [[nodiscard]] code : std::int32_t {
     memory = ASM_MEMORY,
     full = ASM_FULL,
     empty = ASM_EMPTY,
-    range = ASM_RANGE,
+    capacity = ASM_CAPACITY,
     small = ASM_SMALL,
     busy = ASM_BUSY,
     many = ASM_MANY,
-    none = ASM_NONE,
+    no_answer = ASM_NO_ANSWER,
     taken = ASM_TAKEN,
     number = ASM_NUMBER,
     missing = ASM_MISSING,
@@ -83,6 +83,18 @@ enum class [[nodiscard]] code : std::int32_t {
     moved = ASM_MOVED,
     deep = ASM_DEEP,
     apart = ASM_APART,
+    agents = ASM_AGENTS,
+    ahead = ASM_AHEAD,
+    operand = ASM_OPERAND,
+    no_form = ASM_NO_FORM,
+    no_journal = ASM_NO_JOURNAL,
+    no_push = ASM_NO_PUSH,
+    no_agent = ASM_NO_AGENT,
+    no_part = ASM_NO_PART,
+    not_full = ASM_NOT_FULL,
+    many_calls = ASM_MANY_CALLS,
+    long_line = ASM_LONG_LINE,
+    long_move = ASM_LONG_MOVE,
 };
 
 // What a code means, in a line of English.
@@ -108,20 +120,20 @@ class error : public std::runtime_error {
     std::string text_;
 };
 
-// A fire of a step that met another agent's moves (code::stale, code::clash or code::busy): the step is to be begun again, as
-// `play` does.
+// A commit that met another agent's moves (code::stale, code::clash or code::busy): the step is to be begun again, as `play` does.
+// It is all that a loop by hand catches.
 class conflict : public error {
   public:
     using error::error;
 };
-// What a commit came to: with code::done the number of the move. A conflict is code::stale, code::clash or code::busy: the step
-// is to be begun again.
+// What a commit came to: with code::done the number of the move. A conflict is code::stale, code::clash or code::busy, and
+// code::moved of a recording agent: the step is to be begun again.
 struct [[nodiscard]] outcome {
     folugben::code code = folugben::code::done;
     std::uint32_t number = 0;
     explicit operator bool() const noexcept { return code == folugben::code::done; }
     bool is_conflict() const noexcept {
-        return code == folugben::code::stale || code == folugben::code::clash || code == folugben::code::busy;
+        return code == folugben::code::stale || code == folugben::code::clash || code == folugben::code::busy || code == folugben::code::moved;
     }
 };
 // A push whose updates clash on what the step sees; and a fire of a move without a step, which would clash again.
@@ -176,24 +188,15 @@ inline const std::uint8_t *bytes(std::string_view text) noexcept { return reinte
 }
 
 // A number is out of its range.
-[[noreturn]] inline void fail_range(std::string_view what, std::uint64_t number, std::uint64_t least, std::uint64_t most) {
-    throw error(code::range, std::string(what) + " is " + std::to_string(number) + ", and has to be " + std::to_string(least) + " to " +
+[[noreturn]] inline void fail_range(code it, std::string_view what, std::uint64_t number, std::uint64_t least, std::uint64_t most) {
+    throw error(it, std::string(what) + " is " + std::to_string(number) + ", and has to be " + std::to_string(least) + " to " +
                                  std::to_string(most));
 }
 inline void expect_capacity(code it, std::uint32_t capacity) {
-    if (it == code::range) fail_range("the capacity", capacity, 1, 1048576);
+    if (it == code::capacity) fail_range(it, "the capacity", capacity, 1, 1048576);
 }
-constexpr const char *too_many_places = "more than 256 locations and functions";
-constexpr const char *too_long_move = "more than 4,096 instructions in a move";
-constexpr const char *too_long_step = "more than 4,096 instructions in the one move of the step, or 256 places in its read set";
-
 inline std::string ahead_of(std::uint32_t seen) {
     return "a number is above the " + std::to_string(seen) + " moves that the agent has seen";
-}
-
-// Throws where the code is of a limit.
-inline void expect_few(code it, const char *limit) {
-    if (it == code::many) throw error(it, limit);
 }
 
 // Whether a list in the text is nested too deep. A text nested deeper than any may be is else said to be no JSON.
@@ -678,7 +681,7 @@ class instructions {
     instructions &bag_remove(const location &at, const operand &what, std::uint32_t n) { return with(ASM_BAGREMOVE, at, what, n); }
     instructions &inc(const location &at, std::int64_t by) { return with(ASM_INC, at, by); }
     // Appends the other's instructions: it is then the move that does what both do at once. What is more than 4,096 instructions is
-    // code::many, and itself, or what was moved from, code::empty; then nothing changes.
+    // code::long_move, and itself, or what was moved from, code::empty; then nothing changes.
     [[nodiscard]] code try_unite(const instructions &other) noexcept {
         if (!slot_ || !other.slot_ || &other == this) return code::empty;
         if (other.size_ == 0) return code::done;
@@ -688,7 +691,6 @@ class instructions {
     }
     instructions &unite(const instructions &other) {
         const code it = try_unite(other);
-        detail::expect_few(it, detail::too_long_move);
         detail::done(it);
         return *this;
     }
@@ -705,9 +707,8 @@ class instructions {
     friend class step;
     instructions &with(asm_verb verb, const location &at, const operand &what, std::uint32_t amount = 0) {
         const code it = try_instruct(verb, at, what, amount);
-        detail::expect_few(it, detail::too_long_move);
-        if (it == code::range && (verb == ASM_BAGADD || verb == ASM_BAGREMOVE) && amount == 0)
-            detail::fail_range("the amount", amount, 1, UINT32_MAX);
+        if (it == code::operand && (verb == ASM_BAGADD || verb == ASM_BAGREMOVE) && amount == 0)
+            detail::fail_range(it, "the amount", amount, 1, UINT32_MAX);
         detail::done(it, detail::is_refused(it) ? what.refusal() : std::string());
         return *this;
     }
@@ -901,14 +902,12 @@ class step {
     void push(const instructions &move) {
         std::string text;
         const code it = try_push(move, text);
-        detail::expect_few(it, detail::too_long_step);
         detail::done(it, std::move(text));
     }
     [[nodiscard]] code try_extend(const instructions &move, std::string &text) noexcept;
     void extend(const instructions &move) {
         std::string text;
         const code it = try_extend(move, text);
-        detail::expect_few(it, detail::too_long_step);
         detail::done(it, std::move(text));
     }
     // The moves [INSTR, ..], with sets, bags and lists.
@@ -1079,7 +1078,6 @@ class agent {
         begin_turn();
         const code it{asm_read(get(), detail::bytes(locations), locations.size())};
         if (detail::is_refused(it)) detail::fail(it, detail::explained(ASM_FORM_LOCATIONS, locations));
-        detail::expect_few(it, detail::too_many_places);
         detail::done(it);
         return answer();
     }
@@ -1096,8 +1094,7 @@ class agent {
         const code it = try_fire_json(call, scans, numbers);
         if (detail::is_refused(it)) detail::fail(it, detail::explained(ASM_FORM_MOVE, call));
         if (it == code::stale || it == code::clash) detail::fail(it, answer());
-        if (it == code::range) throw error(it, detail::ahead_of(seen()));
-        detail::expect_few(it, detail::too_many_places);
+        if (it == code::ahead) throw error(it, detail::ahead_of(seen()));
         detail::done(it);
         return numbers.fired;
     }
@@ -1111,12 +1108,16 @@ class agent {
             },
             text);
         if (detail::is_refused(it)) text = detail::explained(ASM_FORM_MOVE, detail::within("{\"fire\":[],\"reads\":", reads, "}"));
-        if (it == code::range) text = detail::ahead_of(seen());
-        detail::expect_few(it, detail::too_many_places);
+        if (it == code::ahead) text = detail::ahead_of(seen());
         detail::done(it, std::move(text));
     }
     // What the last answered call was answered.
     std::string answer() { return detail::answer(get()); }
+
+    // Has the agent record what its steps get, or no longer; off at first. Directly before the fire of each commit its journal then has
+    // a read of what the step rests on, by which `check` tests what was got; scans and what was seen aren't recorded. With
+    // FOLUGBEN_RECORD defined each agent records from the start.
+    void record(bool on = true) { detail::done(asm_record(get(), on)); }
 
     // Takes in what the other agent of the same storage has seen.
     void learn(agent &other) {
@@ -1126,11 +1127,12 @@ class agent {
 
     // A storage for 1 to 1,048,576 moves that goes on where the agent's own is full and the agent has looked on to its end, as
     // `follow` does: it opens with what all moves leave, and its agents and numbers begin anew. No other agent waits. Else it is
-    // code::none.
+    // code::not_full.
     storage go_on(std::uint32_t capacity);
 
     // Lets the agent go without giving it back: what it fired is missing in each journal.
     void abandon() noexcept { asm_free_agent(get()); }
+    // For one call of folugben.h, in this thread.
     struct asm_agent *get() const noexcept { return seat_ ? seat_->get() : detail::nothing<struct asm_agent>(); }
 
   private:
@@ -1184,7 +1186,6 @@ inline code step::try_get(const location &at, value &what) noexcept {
 inline value step::get(const location &at) {
     value what;
     const code it = try_get(at, what);
-    detail::expect_few(it, detail::too_many_places);
     detail::done(it);
     return what;
 }
@@ -1197,7 +1198,6 @@ template <class Call> std::string step::tell_json(Call call, std::string_view lo
         },
         text);
     if (detail::is_refused(it)) detail::fail(it, detail::explained(ASM_FORM_LOCATIONS, locations));
-    detail::expect_few(it, detail::too_many_places);
     detail::done(it);
     return text;
 }
@@ -1216,10 +1216,9 @@ inline std::string step::scan_json(std::string_view name) {
     std::string text;
     const code it = detail::told(
         [&](auto *out, auto room, auto *written) {
-            return asm_get_all(get_agent(), slot_.get(), detail::bytes(name), name.size(), out, room, written);
+            return asm_step_scan(get_agent(), slot_.get(), detail::bytes(name), name.size(), out, room, written);
         },
         text);
-    detail::expect_few(it, detail::too_many_places);
     detail::done(it);
     return text;
 }
@@ -1255,7 +1254,6 @@ template <class Call> void step::grow_json(Call call, std::string_view move) {
         text);
     if (detail::is_refused(it))
         text = detail::explained_move(move);
-    detail::expect_few(it, detail::too_long_step);
     detail::done(it, std::move(text));
 }
 
@@ -1275,12 +1273,14 @@ inline code step::try_fire(asm_numbers &numbers) noexcept {
     return it.code;
 }
 
-inline void step::fail_conflict() { throw conflict(last_.code, last_.code == code::busy ? "" : detail::answer(get_agent())); }
+inline void step::fail_conflict() {
+    const bool is_answered = last_.code == code::stale || last_.code == code::clash;
+    throw conflict(last_.code, is_answered ? detail::answer(get_agent()) : std::string());
+}
 
 inline std::uint32_t step::commit() {
     last_ = try_commit();
     if (last_.is_conflict()) fail_conflict();
-    detail::expect_few(last_.code, detail::too_many_places);
     detail::done(last_.code);
     return last_.number;
 }
@@ -1343,7 +1343,6 @@ inline std::string compose_json(std::string_view first, std::string_view second)
         text = detail::explained_move(first);
         if (text.empty()) text = detail::explained_move(second);
     }
-    detail::expect_few(it, detail::too_long_move);
     detail::done(it, text);
     return text;
 }
@@ -1367,19 +1366,19 @@ class storage {
         auto seat = std::make_shared<detail::seat>(shared_);
         std::lock_guard<std::mutex> guard(own().lock);
         const code it{asm_agent(own().storage.get(), number, seat->get())};
-        if (it == code::range) detail::fail_range("the agent's number", number, 0, 255);
+        if (it == code::agents) detail::fail_range(it, "the agent's number", number, 0, 255);
         detail::done(it);
-        return agent(std::move(seat));
+        return made(std::move(seat));
     }
 
-    // The agent with this number that was given back, to go on where it was; code::none where none was, or it was taken since. The
+    // The agent with this number that was given back, to go on where it was; code::no_agent where none was, or it was taken since. The
     // journal of an earlier `close` is discarded.
     agent take(std::uint32_t number) {
         auto seat = std::make_shared<detail::seat>(shared_);
         std::lock_guard<std::mutex> guard(own().lock);
         detail::done(own().give_waiting());
         detail::done(asm_take(own().storage.get(), number, seat->get()));
-        return agent(std::move(seat));
+        return made(std::move(seat));
     }
 
     std::uint32_t moves() const {
@@ -1419,6 +1418,13 @@ class storage {
         if (!shared_) detail::fail(code::empty, {});
         return *shared_;
     }
+    static agent made(std::shared_ptr<detail::seat> seat) {
+        agent it(std::move(seat));
+#ifdef FOLUGBEN_RECORD
+        it.record();
+#endif
+        return it;
+    }
     storage() : shared_(std::make_shared<detail::shared>()) {}
     std::shared_ptr<detail::shared> shared_;
 };
@@ -1447,7 +1453,7 @@ class auditor {
             if (it == code::done || it == code::memory) return it;
             fault_ = it;
             at_ = told;
-            if (it == code::large) at_.parts = whole_parts(); // which comes without numbers
+            if (it == code::long_line) at_.parts = whole_parts(); // which comes without numbers
         }
         told = at_;
         return fault_;
@@ -1477,14 +1483,14 @@ class auditor {
         judge(it == code::empty ? code::cut : it, told);
         return told;
     }
-    // The state that the moves so far leave, and the same as [PAIR, ..]; code::none before a part has begun.
+    // The state that the moves so far leave, and the same as [PAIR, ..]; code::no_part before a part has begun.
     std::vector<entry> state() { return detail::entries(state_json()); }
     std::string state_json() {
         if (!slot_) detail::fail(code::empty, {});
         std::string text;
         auto call = [&](auto *out, auto room, auto *written) { return asm_audit_state(slot_.get(), out, room, written); };
         const code it = detail::told(call, text);
-        detail::done(it == code::empty ? code::none : it);
+        detail::done(it == code::empty ? code::no_part : it);
         return text;
     }
 

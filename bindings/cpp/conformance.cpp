@@ -64,11 +64,17 @@ struct refusal {
 
 const char *name_of(code it) {
     static const std::map<code, const char *> names = {
-        {code::memory, "MEMORY"}, {code::full, "FULL"},     {code::empty, "EMPTY"},       {code::range, "RANGE"},
-        {code::busy, "BUSY"},     {code::many, "MANY"},     {code::none, "NONE"},         {code::taken, "TAKEN"},
-        {code::number, "NUMBER"}, {code::other, "OTHER"},   {code::not_json, "NOT_JSON"}, {code::shape, "SHAPE"},
-        {code::cut, "CUT"},       {code::version, "VERSION"}, {code::large, "LARGE"},     {code::moved, "MOVED"},
-        {code::deep, "DEEP"},     {code::apart, "APART"},   {code::illegal, "ILLEGAL"},   {code::missing, "MISSING"},
+        {code::memory, "MEMORY"},       {code::full, "FULL"},             {code::empty, "EMPTY"},
+        {code::capacity, "CAPACITY"},   {code::busy, "BUSY"},             {code::many, "MANY"},
+        {code::no_answer, "NO_ANSWER"}, {code::taken, "TAKEN"},           {code::number, "NUMBER"},
+        {code::other, "OTHER"},         {code::not_json, "NOT_JSON"},     {code::shape, "SHAPE"},
+        {code::cut, "CUT"},             {code::version, "VERSION"},       {code::large, "LARGE"},
+        {code::moved, "MOVED"},         {code::deep, "DEEP"},             {code::apart, "APART"},
+        {code::illegal, "ILLEGAL"},     {code::missing, "MISSING"},       {code::agents, "AGENTS"},
+        {code::ahead, "AHEAD"},         {code::operand, "OPERAND"},       {code::no_form, "NO_FORM"},
+        {code::no_journal, "NO_JOURNAL"}, {code::no_push, "NO_PUSH"},     {code::no_agent, "NO_AGENT"},
+        {code::no_part, "NO_PART"},     {code::not_full, "NOT_FULL"},     {code::many_calls, "MANY_CALLS"},
+        {code::long_line, "LONG_LINE"}, {code::long_move, "LONG_MOVE"},
     };
     return names.at(it);
 }

@@ -40,9 +40,9 @@ void storages_go_on_from_agents() {
         by.play([&](folugben::step &step) { step.push(folugben::instructions().inc(count, 1)); });
     };
     raise(agent);
-    WANTED(REFUSED(folugben::error, agent.go_on(5)).code() == code::none);
+    WANTED(REFUSED(folugben::error, agent.go_on(5)).code() == code::not_full);
     raise(agent);
-    WANTED(agent.follow() == 2 && REFUSED(folugben::error, agent.go_on(0)).code() == code::range);
+    WANTED(agent.follow() == 2 && REFUSED(folugben::error, agent.go_on(0)).code() == code::capacity);
     folugben::storage next = agent.go_on(5);
     folugben::agent later = next.make_agent(0);
     WANTED(later.peek(count).number() == 9 && next.moves() == 0);
@@ -53,17 +53,72 @@ void storages_go_on_from_agents() {
 
 void agents_that_came_back_are_taken() {
     folugben::storage storage(COUNT, 10);
-    WANTED(REFUSED(folugben::error, storage.take(4)).code() == code::none);
+    WANTED(REFUSED(folugben::error, storage.take(4)).code() == code::no_agent);
     storage.make_agent(4).play(empty_move);
     WANTED(folugben::check(storage.close()).calls == 1);
     {
         folugben::agent agent = storage.take(4);
-        WANTED(agent.won() == 1 && REFUSED(folugben::error, storage.take(4)).code() == code::none);
+        WANTED(agent.won() == 1 && REFUSED(folugben::error, storage.take(4)).code() == code::no_agent);
         WANTED(REFUSED(folugben::missing, storage.close()).number() == 1);
         agent.play(empty_move);
     }
     auto told = folugben::check(storage.close());
     WANTED(told.is_legal && told.calls == 2 && told.moves == 2);
+}
+
+// How often the text is in the other.
+std::size_t count_of(const std::string &text, const std::string &all) {
+    std::size_t count = 0;
+    for (std::size_t at = all.find(text); at != std::string::npos; at = all.find(text, at + 1)) ++count;
+    return count;
+}
+
+void recording_agents_write_what_their_steps_get() {
+    folugben::storage storage(COUNT, 10);
+    folugben::location count("count");
+    {
+        folugben::agent agent = storage.make_agent(0), other = storage.make_agent(1);
+        auto raise = [&](folugben::agent &by) {
+            return by.play([&](folugben::step &it) { it.push(folugben::instructions().put(count, it.get(count).number() + 1)); });
+        };
+        agent.record();
+        other.record(false);
+        raise(agent);
+        raise(other);
+        // It polls within its step, so that the state at the step's beginning isn't there any more.
+        int tries = 0;
+        const auto played = agent.play([&](folugben::step &it) {
+            it.push(folugben::instructions().put(count, it.get(count).number() + 1));
+            if (++tries > 1) return;
+            other.play([](folugben::step &it) { it.push_json(R"([["put",["x"],1]])"); });
+            agent.follow();
+        });
+        WANTED(played.retries == 1 && tries == 2 && played.number == 4);
+        folugben::step late = agent.begin();
+        (void)late.get(count);
+        late.push_json(R"([["put",["y"],1]])");
+        other.play([](folugben::step &it) { it.push_json(R"([["put",["x"],2]])"); });
+        agent.follow();
+        WANTED(REFUSED(folugben::conflict, late.commit()).code() == code::moved);
+        agent.record(false);
+        raise(agent);
+    }
+    const std::string journal = storage.close();
+    const auto told = folugben::check(journal);
+    const std::size_t reads = count_of("\"read\":", journal);
+#ifdef FOLUGBEN_RECORD
+    WANTED(reads >= 2);
+#else
+    WANTED(reads == 2 && told.calls == 8);
+#endif
+    WANTED(told.is_legal && told.moves == 6);
+    // What it says was got is checked.
+    const std::string got = R"("number":0,"values":[7])";
+    WANTED(count_of(got, journal) == 1);
+    WANTED(!folugben::check(std::string(journal).replace(journal.find(got), got.size(), R"("number":0,"values":[6])")).is_legal);
+    // An agent that is taken again doesn't record.
+    folugben::agent again = storage.take(0);
+    again.record();
 }
 
 // Two parts: 2 calls and 2 moves, and 1 call without a move.
@@ -84,7 +139,7 @@ void runs_are_audited_as_their_bytes_come() {
     const std::string run = two_parts();
     folugben::auditor auditor;
     WANTED(REFUSED(folugben::audit_error, auditor.end()).code() == code::cut);
-    WANTED(REFUSED(folugben::error, auditor.state_json()).code() == code::none && auditor.counts().calls == 0);
+    WANTED(REFUSED(folugben::error, auditor.state_json()).code() == code::no_part && auditor.counts().calls == 0);
     std::uint64_t lines = 0;
     for (char byte : run) {
         auditor.feed(std::string_view(&byte, 1));
@@ -240,6 +295,7 @@ int main() {
     agents_come_back_when_they_are_destroyed();
     storages_go_on_from_agents();
     agents_that_came_back_are_taken();
+    recording_agents_write_what_their_steps_get();
     runs_are_audited_as_their_bytes_come();
     the_first_fault_of_a_run_is_told_with_its_place();
     steps_go_on_where_their_agents_move();

@@ -197,7 +197,7 @@ void moves_are_popped_seen_and_offered() {
     folugben::agent agent = storage.make_agent(0), other = storage.make_agent(1);
     folugben::location count("count");
     folugben::step step = agent.begin();
-    WANTED(REFUSED(folugben::error, step.pop_move()).code() == code::none);
+    WANTED(REFUSED(folugben::error, step.pop_move()).code() == code::no_push);
     step.push(folugben::instructions().inc(count, 1));
     step.extend(folugben::instructions().inc(count, 2));
     WANTED(step.see_json(R"([["count"]])") == R"({"number":0,"values":[10]})");
@@ -233,7 +233,7 @@ void moves_are_united() {
     WANTED(one.try_unite(one) == code::empty && one.size() == 2);
     folugben::instructions many, gone = std::move(none);
     for (int i = 0; i < 4095; ++i) many.inc(n, 1);
-    WANTED(REFUSED(folugben::error, many |= one).code() == code::many && many.size() == 4095);
+    WANTED(REFUSED(folugben::error, many |= one).code() == code::long_move && many.size() == 4095);
     WANTED(many.inc(n, 1).size() == 4096 && many.try_unite(none) == code::empty && none.try_unite(one) == code::empty);
     WANTED(gone.try_unite(folugben::instructions()) == code::done && step.commit() == 1);
 }
@@ -300,8 +300,9 @@ void refusals_say_which_limit_and_range() {
     WANTED(said([&] { agent.fire_json(R"({"fire":[],"reads":[[["x"],3]]})"); }) == "a number is above the 0 moves that the agent has seen");
     std::string many = "[[\"x\"]";
     for (int i = 0; i < 256; ++i) many += ",[\"x\"," + std::to_string(i) + "]";
-    WANTED(said([&] { agent.read_json(many + "]"); }) == "more than 256 locations and functions");
-    WANTED(said([&] { agent.begin().get_json(many + "]"); }) == "more than 256 locations and functions");
+    const std::string limit = REFUSED(folugben::error, agent.read_json(many + "]")).what();
+    WANTED(limit == folugben::meaning(code::many) && limit.find("256") != std::string::npos);
+    WANTED(REFUSED(folugben::error, agent.begin().get_json(many + "]")).what() == limit);
     folugben::list nested;
     for (int i = 0; i < 8; ++i) nested = folugben::list{nested};
     WANTED(said([&] { folugben::location("f", "{\"list\"", nested); }) == "lists nest at most 8 deep");
@@ -310,7 +311,7 @@ void refusals_say_which_limit_and_range() {
 }
 
 void refusals_say_what_is_wrong() {
-    WANTED(REFUSED(folugben::error, folugben::storage("[]", 0)).code() == code::range);
+    WANTED(REFUSED(folugben::error, folugben::storage("[]", 0)).code() == code::capacity);
     WANTED(!REFUSED(folugben::error, folugben::storage("[", 1)).text().empty());
     WANTED(!REFUSED(folugben::error, folugben::location("no name")).text().empty());
     folugben::storage storage(COUNT, 1);

@@ -7,7 +7,6 @@ use crate::instruction::Move;
 use crate::json::{Json, ToJson};
 use crate::number::{AgentNumber, MoveNumber};
 use crate::play::{Attempt, Patience, Played};
-use crate::prepared::{Prepared, value_of};
 use crate::step::Step;
 use crate::storage::{Shared, Storage};
 use crate::sys;
@@ -54,7 +53,11 @@ pub struct Agent {
 impl Agent {
     pub(crate) fn new(agent: Held, shared: &Arc<Shared>, number: AgentNumber) -> Agent {
         let slots = Arc::new(AgentSlots::new(agent, Arc::as_ptr(shared).addr()));
-        Agent { slots, shared: Arc::clone(shared), number, in_one_thread: PhantomData }
+        let agent = Agent { slots, shared: Arc::clone(shared), number, in_one_thread: PhantomData };
+        if cfg!(feature = "record") {
+            agent.set_recording(true);
+        }
+        agent
     }
 
     pub(crate) fn is_of(&self, shared: &Arc<Shared>) -> bool {
@@ -86,6 +89,33 @@ impl Agent {
     pub fn misses(&self) -> u64 {
         // SAFETY: the slots are held by this agent, no call is at work on them, and the texts and numbers outlive the call.
         unsafe { sys::asm_misses(self.slots.agent()) }
+    }
+
+    /// Has it record what its steps get, or no longer; off at first, unless the feature `record` is on.
+    ///
+    /// Directly before the fire of each commit the journal then has a read of what the step rests on, so that
+    /// [`Journal::check`](crate::Journal::check) tests what was got. Scans and what was seen aren't recorded.
+    ///
+    /// ```
+    /// use folugben::{Error, Storage};
+    /// # fn main() -> Result<(), Error> {
+    /// let storage = Storage::open([("n".into(), 1.into())], 10)?;
+    /// let mut agent = storage.agent(0)?;
+    /// agent.record(true);
+    /// agent.play(|step| step.put("n", step.get("n")?.as_num().unwrap_or(0) + 1))?;
+    /// drop(agent);
+    /// let journal = String::from_utf8(storage.close()?.into_bytes()).unwrap();
+    /// assert!(journal.contains(r#"{"read":[["n"]]},"reply":{"number":0,"values":[1]}"#));
+    /// # Ok(())
+    /// # }
+    /// ```
+    pub fn record(&mut self, on: bool) {
+        self.set_recording(on);
+    }
+
+    pub(crate) fn set_recording(&self, on: bool) {
+        // SAFETY: the slots are held by this agent, no call is at work on them. It is there, so no other code comes.
+        let _ = unsafe { sys::asm_record(self.slots.agent(), on) };
     }
 
     /// Looks on, and begins a step on the state that it then sees.
@@ -249,84 +279,12 @@ impl Agent {
         self.poll()
     }
 
-    fn poll(&self) -> Result<u32, Error> {
+    pub(crate) fn poll(&self) -> Result<u32, Error> {
         self.slots.begin_turn();
         let mut number = 0;
         // SAFETY: the slots are held by this agent, no call is at work on them, and the texts and numbers outlive the call.
         done(unsafe { sys::asm_follow(self.slots.agent(), &raw mut number) })?;
         Ok(number)
-    }
-
-    /// Before its own state is shown: polls if another agent took that since the last commit.
-    fn catch_up(&self) -> Result<(), Error> {
-        if self.slots.is_behind() { self.poll().map(drop) } else { Ok(()) }
-    }
-
-    /// The values of the locations in its own state, without a look and without a receipt.
-    ///
-    /// Only where the last call was a commit or a fire, and another agent has acted in this thread since, it polls first; so for
-    /// all that shows its own state.
-    ///
-    /// # Errors
-    ///
-    /// [`Error::Refused`], [`Error::Memory`].
-    pub fn peek(&self, places: &[Location]) -> Result<Reading, Error> {
-        self.catch_up()?;
-        let text = places.json();
-        // SAFETY: the slots are held by this agent, no call is at work on them, and the texts and numbers outlive the call.
-        let (code, told) = told(|out, room, written| unsafe {
-            sys::asm_peek(self.slots.agent(), text.as_ptr(), text.len(), out, room, written)
-        });
-        done_with(code, sys::FORM_LOCATIONS, &text)?;
-        answer(&told, Reading::of)
-    }
-
-    /// The value of a prepared location in its own state, with the number of moves of that state.
-    ///
-    /// # Errors
-    ///
-    /// [`Error::Memory`].
-    pub fn peek_at(&self, place: &Prepared) -> Result<(MoveNumber, Value), Error> {
-        self.catch_up()?;
-        let (mut number, mut head) = (0, sys::Value::default());
-        // SAFETY: the slots are held by this agent, no call is at work on them, and the texts and numbers outlive the call.
-        let (code, bytes) = told(|out, room, written| unsafe {
-            sys::asm_peek_at(self.slots.agent(), place.slot.at(), &raw mut number, &raw mut head, out, room, written)
-        });
-        done(code)?;
-        Ok((number.into(), value_of(&head, &bytes)?))
-    }
-
-    /// Its own state, in ascending order of locations, with its number of moves.
-    ///
-    /// # Errors
-    ///
-    /// [`Error::Memory`].
-    pub fn state(&self) -> Result<(MoveNumber, Vec<(Location, Value)>), Error> {
-        self.catch_up()?;
-        let mut number = 0;
-        // SAFETY: the slots are held by this agent, no call is at work on them, and the texts and numbers outlive the call.
-        let (code, text) = told(|out, room, written| unsafe {
-            sys::asm_state(self.slots.agent(), &raw mut number, out, room, written)
-        });
-        done(code)?;
-        Ok((number.into(), answer(&text, Json::pairs)?))
-    }
-
-    /// All locations of a function in its own state, with the number of moves of that state.
-    ///
-    /// # Errors
-    ///
-    /// [`Error::Memory`].
-    pub fn scan(&self, name: &str) -> Result<(MoveNumber, Vec<(Location, Value)>), Error> {
-        self.catch_up()?;
-        let mut number = 0;
-        // SAFETY: the slots are held by this agent, no call is at work on them, and the texts and numbers outlive the call.
-        let (code, text) = told(|out, room, written| unsafe {
-            sys::asm_scan(self.slots.agent(), name.as_ptr(), name.len(), &raw mut number, out, room, written)
-        });
-        done(code)?;
-        Ok((number.into(), answer(&text, Json::pairs)?))
     }
 
     /// Looks on, and checks that none of the named locations was written since. It leaves no receipt, and a fire may still be
@@ -369,8 +327,8 @@ impl Agent {
         let next = Held::empty();
         // SAFETY: the slots are held by this agent, no call is at work on them, and the texts and numbers outlive the call.
         match unsafe { sys::asm_go_on(self.slots.agent(), capacity, next.at()) } {
-            sys::NONE => Err(Error::NotFull),
-            sys::RANGE => Err(OutOfRange::capacity(capacity)),
+            sys::NOT_FULL => Err(Error::NotFull),
+            sys::CAPACITY => Err(OutOfRange::capacity(capacity)),
             code => {
                 done(code)?;
                 Storage::of(next)

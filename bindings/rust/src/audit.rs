@@ -76,7 +76,7 @@ pub enum AuditError {
 }
 
 impl AuditError {
-    /// What a code of the audit tells, but `DONE`, and `LARGE`, which comes without numbers.
+    /// What a code of the audit tells, but `DONE`, and `LONG_LINE`, which comes without numbers.
     fn of(code: i32, numbers: sys::AuditNumbers) -> AuditError {
         let sys::AuditNumbers { parts: part, calls, .. } = numbers;
         let journal = |fault| AuditError::Journal { part, fault };
@@ -203,7 +203,7 @@ impl Auditor {
             told(|out, room, written| unsafe { sys::asm_audit_state(self.slot.at(), out, room, written) });
         match code {
             sys::DONE => Ok(Some(text)),
-            sys::NONE | sys::EMPTY => Ok(None),
+            sys::NO_PART | sys::EMPTY => Ok(None),
             code => Err(plain(code)),
         }
     }
@@ -234,7 +234,7 @@ impl io::Write for Auditor {
                     self.counts = Counts::of(numbers);
                 }
                 let fault = match code {
-                    sys::LARGE => AuditError::LongLine { part: self.counts.parts },
+                    sys::LONG_LINE => AuditError::LongLine { part: self.counts.parts },
                     code => AuditError::of(code, numbers),
                 };
                 self.fault = Some(fault);

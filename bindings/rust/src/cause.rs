@@ -70,6 +70,8 @@ pub enum Conflict {
     Busy,
     /// The part of a run in which the step began has ended.
     Past,
+    /// The agent records, and its state has moved on since the step began.
+    Moved,
 }
 
 impl fmt::Display for Conflict {
@@ -78,6 +80,7 @@ impl fmt::Display for Conflict {
             Conflict::Stale(at) => write!(f, "{at} was written since"),
             Conflict::Clash { at, cause } => write!(f, "the updates clash at {at} by now: {cause}"),
             Conflict::Busy => f.write_str("64 offers in a row were lost to other agents"),
+            Conflict::Moved => f.write_str("the state of the recording agent has moved on"),
             Conflict::Past => f.write_str("the part of the run has ended, so begin another step"),
         }
     }
@@ -128,10 +131,8 @@ impl fmt::Display for OutOfRange {
 pub enum Limit {
     /// At most 256 locations and functions in a read, a fire or a step's read set: how many there were, where that is known.
     Places(Option<usize>),
-    /// At most 4,096 instructions in a move.
+    /// At most 4,096 instructions in a move, or in the one move of a step.
     Instructions,
-    /// At most 4,096 instructions in the one move of a step, or else 256 places in its read set.
-    Step,
 }
 
 impl fmt::Display for Limit {
@@ -140,9 +141,6 @@ impl fmt::Display for Limit {
             Limit::Places(Some(count)) => write!(f, "{count} locations and functions, at most 256"),
             Limit::Places(None) => f.write_str("more than 256 locations and functions"),
             Limit::Instructions => f.write_str("more than 4,096 instructions in a move"),
-            Limit::Step => {
-                f.write_str("more than 4,096 instructions in the one move of the step, or 256 places in its read set")
-            }
         }
     }
 }

@@ -3,8 +3,8 @@ use crate::holder::{Holder, commit};
 use crate::instruction::{Instruction, Move};
 use crate::json::{Json, ToJson, read};
 use crate::{
-    Agent, AuditError, Auditor, Cause, Conflict, Error, Journal, JournalError, Legality, Location, MoveNumber, Step,
-    Storage, aggregate, compose, sys,
+    Agent, AuditError, Auditor, Cause, Conflict, Error, Journal, JournalError, Legality, Limit, Location, MoveNumber,
+    Step, Storage, aggregate, compose, sys,
 };
 use std::collections::BTreeMap;
 use std::io::Write;
@@ -116,8 +116,13 @@ impl Replayer {
     fn of_agent(&mut self, name: &str, number: u8, mut words: impl Iterator<Item = Json>) -> Told {
         let mut next = || words.next().unwrap();
         match name {
-            "agent" => drop(self.agents.insert(number, self.storage().agent(number)?)),
-            "take" => drop(self.agents.insert(number, self.storage().take(number)?)),
+            "agent" | "take" => {
+                let storage = self.storage();
+                let agent = if name == "agent" { storage.agent(number)? } else { storage.take(number)? };
+                // The table is that of agents which don't record.
+                agent.set_recording(false);
+                self.agents.insert(number, agent);
+            }
             "give" => drop(self.agents.remove(&number)),
             "learn" => {
                 let other_number = next().number().unwrap();
@@ -217,7 +222,7 @@ fn of_audit(error: &AuditError) -> (&'static str, Vec<u64>) {
             (name, numbers)
         }
         AuditError::Apart { part } => ("APART", vec![*part]),
-        AuditError::LongLine { part } => ("LARGE", vec![*part]),
+        AuditError::LongLine { part } => ("LONG_LINE", vec![*part]),
         AuditError::Memory => ("MEMORY", vec![]),
     }
 }
@@ -230,10 +235,15 @@ fn of_call(error: &Error) -> Result<(&'static str, Vec<u64>), String> {
         Error::Conflict(Conflict::Clash { at, cause }) | Error::Clash { at, cause } => return Err(clash(at, *cause)),
         Error::Large(at) => return Err(format!("{{\"large\":{}}}", at.json())),
         Error::Full => ("FULL", vec![]),
-        Error::Many(_) => ("MANY", vec![]),
+        Error::Many(Limit::Places(_)) => ("MANY", vec![]),
+        Error::Many(Limit::Instructions) => ("LONG_MOVE", vec![]),
         Error::Deep => ("DEEP", vec![]),
-        Error::Range(_) => ("RANGE", vec![]),
-        Error::NoMove | Error::NoJournal | Error::NotGiven(_) | Error::NotFull => ("NONE", vec![]),
+        Error::Range(it) if it.what == "the capacity" => ("CAPACITY", vec![]),
+        Error::Range(it) if it.what == "the number of a read" => ("AHEAD", vec![]),
+        Error::NoMove => ("NO_PUSH", vec![]),
+        Error::NoJournal => ("NO_JOURNAL", vec![]),
+        Error::NotGiven(_) => ("NO_AGENT", vec![]),
+        Error::NotFull => ("NOT_FULL", vec![]),
         Error::NumberTaken(_) => ("NUMBER", vec![]),
         Error::Missing(number) => ("MISSING", vec![number.get()]),
         Error::OtherStorage => ("OTHER", vec![]),
@@ -249,7 +259,7 @@ fn is_so(told: &Told, wanted: &str) -> bool {
     let refusal = match told {
         Ok(told) => return read(told.as_bytes()) == read(wanted.as_bytes()),
         Err(Refusal::Untyped) => {
-            return ["SHAPE", "RANGE"].iter().any(|it| wanted.starts_with(&format!("{{\"error\":\"{it}\"")));
+            return ["SHAPE", "AGENTS"].iter().any(|it| wanted.starts_with(&format!("{{\"error\":\"{it}\"")));
         }
         Err(refusal) => refusal,
     };

@@ -205,6 +205,7 @@ pub(crate) fn plain(code: i32) -> Error {
         sys::FULL => Error::Full,
         sys::BUSY => Conflict::Busy.into(),
         sys::MANY => Error::Many(Limit::Places(None)),
+        sys::LONG_MOVE => Error::Many(Limit::Instructions),
         sys::DEEP => Error::Deep,
         sys::OTHER => Error::OtherStorage,
         code => Error::Unknown(code),

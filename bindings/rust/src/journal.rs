@@ -1,5 +1,4 @@
 //! Journals, and what is told of moves without a storage.
-use crate::cause::Limit;
 use crate::error::{Error, answer, done_or_told, done_with};
 use crate::held::told;
 use crate::instruction::{Instruction, Move};
@@ -224,9 +223,6 @@ pub fn compose(first: &Move, second: &Move) -> Result<Move, Error> {
     let (code, told) = told(|out, room, written| unsafe {
         sys::asm_compose(one.as_ptr(), one.len(), other.as_ptr(), other.len(), out, room, written)
     });
-    if code == sys::MANY {
-        return Err(Error::Many(Limit::Instructions));
-    }
     is_ok(code, &told, &[first, second])?;
     let instructions: Option<Vec<Instruction>> =
         answer(&told, |it| Some(it.list()?.into_iter().map(Json::instruction).collect()))?;

@@ -66,6 +66,7 @@ mod journal;
 mod json;
 mod number;
 mod old_names;
+mod own_state;
 mod play;
 mod prepared;
 mod run;

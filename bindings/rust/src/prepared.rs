@@ -1,5 +1,5 @@
 //! Locations and moves that are prepared once, for steps that write and read no text.
-use crate::cause::{Limit, OutOfRange};
+use crate::cause::OutOfRange;
 use crate::error::{Error, answer, done, done_with};
 use crate::held::Held;
 use crate::json::{Json, ToJson};
@@ -122,8 +122,7 @@ impl PreparedMove {
                 let call = format!("{{\"fire\":[[\"put\",{},{bytes}]],\"reads\":[]}}", at.location.json());
                 done_with(code, sys::FORM_MOVE, &call)?;
             }
-            sys::MANY => return Err(Error::Many(Limit::Instructions)),
-            sys::RANGE => {
+            sys::OPERAND => {
                 let most = u32::MAX.into();
                 return Err(Error::Range(OutOfRange { what: "the amount", value: amount.into(), least: 1, most }));
             }
@@ -218,10 +217,7 @@ impl PreparedMove {
             return Ok(self);
         }
         // SAFETY: the slots are held by this thread, and are two.
-        match unsafe { sys::asm_unite(self.slot.at(), other.slot.at()) } {
-            sys::MANY => return Err(Error::Many(Limit::Instructions)),
-            code => done(code)?,
-        }
+        done(unsafe { sys::asm_unite(self.slot.at(), other.slot.at()) })?;
         self.len += other.len;
         self.size += other.size;
         Ok(self)

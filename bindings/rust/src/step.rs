@@ -1,6 +1,5 @@
 //! Steps.
 use crate::agent::Reading;
-use crate::cause::Limit;
 use crate::error::{Error, answer, done, done_or_told, done_with};
 use crate::held::told;
 use crate::holder::{Holder, commit, offer_text};
@@ -112,7 +111,7 @@ impl Step<'_> {
     pub fn scan(&self, name: &str) -> Result<Vec<(Location, Value)>, Error> {
         // SAFETY: the slots are of one agent and its step, which this thread alone has, and the texts and numbers outlive the call.
         let (code, text) = self.told(|slot, step, out, room, written| unsafe {
-            sys::asm_get_all(slot, step, name.as_ptr(), name.len(), out, room, written)
+            sys::asm_step_scan(slot, step, name.as_ptr(), name.len(), out, room, written)
         })?;
         done(code)?;
         answer(&text, Json::pairs)
@@ -153,7 +152,7 @@ impl Step<'_> {
                 let call = format!("{{\"fire\":{text},\"reads\":[]}}");
                 done_with(code, sys::FORM_MOVE, &call)
             }
-            code => grown(code, &told),
+            code => done_or_told(code, &told),
         }
     }
 
@@ -185,7 +184,7 @@ impl Step<'_> {
             call(slot, step, instructions.slot.at(), out, room, written)
         })?;
         self.agent.count(instructions.size);
-        grown(code, &told)
+        done_or_told(code, &told)
     }
 
     /// Puts the value, in a move that joins what was pushed last.
@@ -256,7 +255,7 @@ impl Step<'_> {
     pub fn pop(&mut self) -> Result<(), Error> {
         // SAFETY: the slots are of one agent and its step, which this thread alone has, and the texts and numbers outlive the call.
         self.agent.with(|agent| match unsafe { sys::asm_pop(agent.slots.step()) } {
-            sys::NONE => Err(Error::NoMove),
+            sys::NO_PUSH => Err(Error::NoMove),
             code => done(code),
         })
     }
@@ -275,8 +274,7 @@ impl Step<'_> {
         PreparedMove::put_by(|slot| {
             // SAFETY: the slots are of one agent and its step, which this thread alone has, and the texts and numbers outlive the call.
             self.agent.with(|agent| match unsafe { sys::asm_pop_move(agent.slots.step(), slot) } {
-                sys::NONE => Err(Error::NoMove),
-                sys::MANY => Err(Error::Many(Limit::Step)),
+                sys::NO_PUSH => Err(Error::NoMove),
                 code => done(code),
             })
         })
@@ -350,14 +348,6 @@ impl Step<'_> {
             Err(Error::Conflict(conflict)) => Ok(Outcome::Conflict(conflict)),
             Err(error) => Err(error),
         }
-    }
-}
-
-/// The answer to a push or an extension.
-fn grown(code: i32, told: &[u8]) -> Result<(), Error> {
-    match code {
-        sys::MANY => Err(Error::Many(Limit::Step)),
-        code => done_or_told(code, told),
     }
 }
 

@@ -111,7 +111,7 @@ impl Storage {
         let storage = Held::empty();
         // SAFETY: the storage is held under its lock, the agent by this thread, and the texts and numbers outlive the call.
         let code = unsafe { sys::asm_open(text.as_ptr(), text.len(), capacity, storage.at()) };
-        if code == sys::RANGE {
+        if code == sys::CAPACITY {
             return Err(OutOfRange::capacity(capacity));
         }
         done_with(code, sys::FORM_STATE, &text)?;
@@ -123,7 +123,7 @@ impl Storage {
         let storage = Held::empty();
         // SAFETY: the storage is held under its lock, the agent by this thread, and the texts and numbers outlive the call.
         match unsafe { sys::asm_open(state.as_ptr(), state.len(), capacity, storage.at()) } {
-            sys::RANGE => return Err(OutOfRange::capacity(capacity)),
+            sys::CAPACITY => return Err(OutOfRange::capacity(capacity)),
             code => done(code)?,
         }
         Storage::of(storage)
@@ -170,7 +170,7 @@ impl Storage {
         // SAFETY: the storage is held under its lock, the agent by this thread, and the texts and numbers outlive the call.
         match unsafe { sys::asm_take(slots.storage.at(), number.into(), agent.at()) } {
             sys::DONE => Ok(self.holder(agent, number)),
-            sys::NONE => Err(Error::NotGiven(number)),
+            sys::NO_AGENT => Err(Error::NotGiven(number)),
             code => Err(plain(code)),
         }
     }
@@ -241,8 +241,8 @@ impl Storage {
         // SAFETY: the storage is held under its lock, the agent by this thread, and the texts and numbers outlive the call.
         let code = unsafe { sys::asm_next(self.shared.slots().storage.at(), capacity, next.at()) };
         match code {
-            sys::NONE => Err(Error::NoJournal),
-            sys::RANGE => Err(OutOfRange::capacity(capacity)),
+            sys::NO_JOURNAL => Err(Error::NoJournal),
+            sys::CAPACITY => Err(OutOfRange::capacity(capacity)),
             code => {
                 done(code)?;
                 Storage::of(next)

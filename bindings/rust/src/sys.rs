@@ -107,7 +107,7 @@ unsafe extern "C" {
         room: usize,
         written: *mut usize,
     ) -> i32;
-    pub(crate) fn asm_get_all(
+    pub(crate) fn asm_step_scan(
         agent: *mut Slot,
         step: *mut Slot,
         name: *const u8,
@@ -136,6 +136,7 @@ unsafe extern "C" {
     ) -> i32;
     pub(crate) fn asm_pop(step: *mut Slot) -> i32;
     pub(crate) fn asm_pop_move(step: *mut Slot, instrs: *mut Slot) -> i32;
+    pub(crate) fn asm_record(agent: *mut Slot, on: bool) -> i32;
     pub(crate) fn asm_offer(step: *mut Slot, out: *mut u8, room: usize, written: *mut usize) -> i32;
     pub(crate) fn asm_depth(step: *mut Slot) -> u32;
     pub(crate) fn asm_commit(agent: *mut Slot, step: *mut Slot, numbers: *mut Numbers) -> i32;
@@ -256,11 +257,10 @@ pub(crate) const CLASH: i32 = 2;
 pub(crate) const MEMORY: i32 = 3;
 pub(crate) const FULL: i32 = 4;
 pub(crate) const EMPTY: i32 = 5;
-pub(crate) const RANGE: i32 = 6;
+pub(crate) const CAPACITY: i32 = 6;
 pub(crate) const SMALL: i32 = 7;
 pub(crate) const BUSY: i32 = 8;
 pub(crate) const MANY: i32 = 9;
-pub(crate) const NONE: i32 = 10;
 pub(crate) const NUMBER: i32 = 12;
 pub(crate) const MISSING: i32 = 13;
 pub(crate) const OTHER: i32 = 14;
@@ -270,10 +270,17 @@ pub(crate) const SHAPE: i32 = 17;
 pub(crate) const VERSION: i32 = 18;
 pub(crate) const CUT: i32 = 19;
 pub(crate) const LARGE: i32 = 20;
-#[cfg(test)]
 pub(crate) const MOVED: i32 = 21;
 pub(crate) const DEEP: i32 = 22;
 pub(crate) const APART: i32 = 23;
+pub(crate) const OPERAND: i32 = 26;
+pub(crate) const NO_JOURNAL: i32 = 28;
+pub(crate) const NO_PUSH: i32 = 29;
+pub(crate) const NO_AGENT: i32 = 30;
+pub(crate) const NO_PART: i32 = 31;
+pub(crate) const NOT_FULL: i32 = 32;
+pub(crate) const LONG_LINE: i32 = 34;
+pub(crate) const LONG_MOVE: i32 = 35;
 
 pub(crate) const KIND_UNDEF: i32 = 0;
 pub(crate) const KIND_BOOL: i32 = 1;

@@ -262,7 +262,7 @@ fn a_popped_move_is_pushed_elsewhere() {
     let adds = |from: i64| (from..from + 3000).fold(Move::new(), |adds, i| adds.add(count(), i));
     step.push(&adds(0)).unwrap();
     step.extend(&adds(3000)).unwrap();
-    assert_eq!((step.pop_move().err(), step.depth()), (Some(Error::Many(Limit::Step)), 2));
+    assert_eq!((step.pop_move().err(), step.depth()), (Some(Error::Many(Limit::Instructions)), 2));
 }
 
 #[test]

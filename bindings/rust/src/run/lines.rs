@@ -1,5 +1,7 @@
 //! How long the lines of a run's segments may be, so that an audit reads each of them.
+use crate::agent::Agent;
 use crate::error::{Error, answer};
+use crate::holder::offer_text;
 use crate::instruction::Instruction;
 use crate::json::{Json, ToJson};
 use crate::storage::Storage;
@@ -39,13 +41,20 @@ pub(crate) fn events(journal: &[u8]) -> Result<u64, Error> {
     Ok(lines - 1)
 }
 
-/// Expects that the line of a fire of this offer is short enough, whatever its reply is.
-pub(crate) fn expect_call(offer: &[u8]) -> Result<(), Error> {
-    if 2 * offer.len() + ROOM <= *MOST {
+/// Expects that the line of what the agent's step would fire is short enough, whatever its reply is, and that of the read before
+/// it, where that is recorded.
+pub(crate) fn expect_call(agent: &Agent, records: bool) -> Result<(), Error> {
+    let offer = offer_text(agent)?;
+    if !records && 2 * offer.len() + ROOM <= *MOST {
         return Ok(());
     }
-    let (instructions, reads) = answer(offer, Json::offer)?;
+    let (instructions, reads) = answer(&offer, Json::offer)?;
     let places = instructions.instructions().iter().map(Instruction::at).chain(reads.iter().map(|(at, _)| at));
     let longest = places.map(|it| it.json().len()).max().unwrap_or(0);
-    if offer.len() + longest + ROOM <= *MOST { Ok(()) } else { Err(Error::TooLong) }
+    if offer.len() + longest + ROOM > *MOST {
+        return Err(Error::TooLong);
+    }
+    let read: Vec<_> = reads.into_iter().map(|(at, _)| at).collect();
+    let told = if records { agent.peek(&read)?.values.as_slice().json().len() } else { 0 };
+    if offer.len() + told + ROOM <= *MOST { Ok(()) } else { Err(Error::TooLong) }
 }

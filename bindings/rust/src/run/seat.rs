@@ -2,7 +2,7 @@
 use crate::agent::Agent;
 use crate::cause::Conflict;
 use crate::error::Error;
-use crate::holder::{commit, offer_text};
+use crate::holder::commit;
 use crate::number::AgentNumber;
 use crate::run::lines::{expect_call, short};
 use crate::run::part::Part;
@@ -195,8 +195,8 @@ impl<'a> Lent<'a> {
     pub(crate) fn commit(&self) -> Result<u32, Error> {
         let part = self.part();
         let told = self.with(|agent| {
-            if self.size.get() >= short() {
-                expect_call(&offer_text(agent)?)?;
+            if self.size.get() >= short() || self.core.records() {
+                expect_call(agent, self.core.records())?;
             }
             part.count_receipt();
             commit(agent)
