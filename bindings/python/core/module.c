@@ -42,7 +42,7 @@ static PyObject *audit_feed(Audit *self, PyObject *chunk)
     if (code == ASM_MEMORY)
         return PyErr_NoMemory();
     /* What would be told if no further byte came is of the part that the long line is in. */
-    if (code == ASM_LARGE && asm_audited(SLOT(self), &told) == ASM_MEMORY)
+    if (code == ASM_LONG_LINE && asm_audited(SLOT(self), &told) == ASM_MEMORY)
         return PyErr_NoMemory();
     return numbers_of(code, &told);
 }
@@ -140,7 +140,7 @@ static PyObject *core_told(PyObject *Py_UNUSED(module), PyObject *words)
     Py_ssize_t len = 0, two_len = 0;
     uint64_t number = 0;
     uint32_t moves = 0;
-    int32_t code = ASM_RANGE;
+    int32_t code = ASM_NO_FORM;
     Room room;
     if (!PyArg_ParseTuple(words, "ii|y#y#", &call, &form, &one, &len, &two, &two_len))
         return NULL;

@@ -211,7 +211,7 @@ static PyObject *storage_next(Storage *self, PyObject *words, PyObject *named)
     else if (moves == self->closed)
         return (PyObject *)next;
     else
-        refuse(self->held.core, ASM_NONE, "fired_behind", "(IL)", (unsigned)moves, (long long)self->closed);
+        refuse(self->held.core, ASM_NO_JOURNAL, "fired_behind", "(IL)", (unsigned)moves, (long long)self->closed);
     Py_DECREF((PyObject *)next);
     return NULL;
 }
@@ -250,7 +250,7 @@ static PyMethodDef methods[] = {
         "agent($self, number, /)\n--\n\nReturn an agent with this number, below 256, of which none was made before."},
     {"take", (PyCFunction)storage_take, METH_O,
         "take($self, number, /)\n--\n\nReturn the agent with this number that was given back, with what it has seen and its receipts.\n\n"
-        "A journal that was closed before is dropped. `Error` with the code NONE where no such agent was given back."},
+        "A journal that was closed before is dropped. `Error` with the code NO_AGENT where no such agent was given back."},
     {"moves", (PyCFunction)storage_moves, METH_NOARGS, "moves($self, /)\n--\n\nReturn how many moves were fired on it."},
     {"give", (PyCFunction)storage_give, METH_O, "give($self, agent, /)\n--\n\nTake an agent back."},
     {"close_journal", (PyCFunction)storage_close_journal, METH_NOARGS,
@@ -258,7 +258,7 @@ static PyMethodDef methods[] = {
     {"next", METHOD(storage_next), METH_VARARGS | METH_KEYWORDS,
         "next($self, capacity=4096, journal=None)\n--\n\nReturn a storage that goes on where this one ended; its agents start anew.\n\n"
         "Its opening state is what the moves of the closed journal leave, and the journals of both, one after the other, tell one run.\n"
-        "`Error` with the code NONE where no journal was made since an agent was given back, or since a move was fired."},
+        "`Error` with the code NO_JOURNAL where no journal was made since an agent was given back, or since a move was fired."},
     {"free", (PyCFunction)held_free, METH_NOARGS, "free($self, /)\n--\n\nRelease it; it may be called again."},
     {"_opened", (PyCFunction)storage_opened, METH_VARARGS | METH_CLASS, NULL},
     {"_close", (PyCFunction)storage_close, METH_NOARGS, NULL},
