@@ -23,11 +23,13 @@ static int waits_for_both(Agent *self)
 static int32_t comes(Agent *self, int is_taken, int is_made)
 {
     Storage *storage = self->storage;
-    int32_t code = is_taken ? asm_take(SLOT(storage), self->own, SLOT(self)) : ASM_NONE;
-    if (code == ASM_NONE && is_made)
+    int32_t code = is_taken ? asm_take(SLOT(storage), self->own, SLOT(self)) : ASM_NO_AGENT;
+    if (code == ASM_NO_AGENT && is_made)
         code = asm_agent(SLOT(storage), self->own, SLOT(self));
     if (code != ASM_DONE)
         return code;
+    if (self->records)
+        (void)asm_record(SLOT(self), true);
     self->seen = asm_seen(SLOT(self));
     self->next = storage->first;
     self->before = &storage->first;
@@ -72,7 +74,7 @@ int32_t agent_give(Agent *self)
 
 static PyObject *cannot_come(Agent *self, int32_t code)
 {
-    if (code == ASM_NUMBER || code == ASM_NONE)
+    if (code == ASM_NUMBER || code == ASM_NO_AGENT)
         return refuse(self->held.core, code, "no_such_agent", "(iI)", (int)code, (unsigned)self->own);
     return storage_refused(self->storage, code);
 }
@@ -88,6 +90,7 @@ static Agent *made(PyTypeObject *type, Storage *storage, PyObject *number)
     if (self) {
         self->storage = (Storage *)Py_NewRef((PyObject *)storage);
         self->own = own;
+        self->records = storage->records;
     }
     return self;
 }
@@ -106,9 +109,17 @@ static PyObject *filled(Agent *self, int is_taken)
     return NULL;
 }
 
-PyObject *agent_made(Storage *storage, PyObject *number, int is_taken)
+PyObject *agent_made(Storage *storage, PyObject *words, PyObject *named, int is_taken)
 {
-    return filled(made(storage->held.core->agent, storage, number), is_taken);
+    static char *names[] = {"", "record", NULL};
+    PyObject *number, *record = Py_None;
+    if (!PyArg_ParseTupleAndKeywords(words, named, "O|$O", names, &number, &record))
+        return NULL;
+    int records = record == Py_None ? storage->records : PyObject_IsTrue(record);
+    Agent *self = records < 0 ? NULL : made(storage->held.core->agent, storage, number);
+    if (self)
+        self->records = (char)records;
+    return self ? filled(self, is_taken) : NULL;
 }
 
 /* Its slot stays empty where a third word says so, for an agent of a run. */
@@ -310,7 +321,7 @@ static PyMethodDef methods[] = {
         "these scans, pairs of a function's name and a number. Return the number of the move.\n\n"
         "`StaleError` where one of the locations, or any location of one of the functions, was written since that number of moves; `ClashError`\n"
         "where the updates clash, `FullError` where as many moves were fired as the capacity, `BusyError` where 64 offers were lost to other\n"
-        "agents, `ManyError` for more than 256 reads and scans. A number that the agent hasn't seen is an `Error` with the code RANGE."},
+        "agents, `ManyError` for more than 256 reads and scans. A number that the agent hasn't seen is an `Error` with the code AHEAD."},
     {"answer", (PyCFunction)agent_answer, METH_NOARGS, "answer($self, /)\n--\n\nReturn the answer to the last answered call."},
     {"learn", (PyCFunction)agent_learn, METH_O,
         "learn($self, other, /)\n--\n\nTake in what another agent of the storage has seen."},
@@ -326,7 +337,7 @@ static PyMethodDef methods[] = {
         "stands($self, reads, /)\n--\n\nLook, and return the least of the named locations that was written since its number of moves, or None."},
     {"go_on", METHOD(agent_go_on), METH_VARARGS | METH_KEYWORDS,
         "go_on($self, capacity=4096, journal=None)\n--\n\nReturn a storage that opens with its own state, where that has all moves that its storage has room for.\n\n"
-        "No journal is needed, and no other agent has to come back. `Error` with the code NONE where its own state has fewer moves."},
+        "No journal is needed, and no other agent has to come back. `Error` with the code NOT_FULL where its own state has fewer moves."},
     {"_fire", (PyCFunction)agent_fire_texts, METH_VARARGS, NULL},
     {"_peek_length", (PyCFunction)agent_peek_length, METH_O, NULL},
     {"_state_text", (PyCFunction)agent_state_text, METH_NOARGS, NULL},
@@ -351,6 +362,7 @@ static PyMemberDef members[] = {
     {"_thread", T_ULONG, offsetof(Agent, thread), READONLY, NULL},
     {"_base", T_ULONGLONG, offsetof(Agent, base), 0, NULL},
     {"_is_taken", T_BOOL, offsetof(Agent, is_taken), 0, NULL},
+    {"records", T_BOOL, offsetof(Agent, records), READONLY, "Whether its commits record what their steps have read."},
     {0},
 };
 static PyType_Slot slots[] = {

@@ -299,10 +299,11 @@ PyObject *agent_go_on(Agent *self, PyObject *words, PyObject *named)
         Py_XDECREF((PyObject *)next);
         return NULL;
     }
+    next->records = self->storage->records;
     RUN(&self->held, 1, if ((code = agent_catches_up(self)) == ASM_DONE) code = asm_go_on(SLOT(self), capacity, SLOT(next)));
     if (code == ASM_DONE)
         return (PyObject *)next;
-    if (code == ASM_NONE)
+    if (code == ASM_NOT_FULL)
         refuse(self->held.core, code, "not_full", "(I)", (unsigned)asm_seen(SLOT(self)));
     else
         agent_refused(self, code);

@@ -192,7 +192,7 @@ int number_of(Core *core, PyObject *value, const char *what, uint32_t least, uin
     int is_over;
     long long told = PyLong_AsLongLongAndOverflow(whole, &is_over);
     if (is_over || told < least || told > most)
-        refuse(core, ASM_RANGE, "out_of_range", "(sOII)", what, whole, (unsigned)least, (unsigned)most);
+        refuse(core, ASM_OPERAND, "out_of_range", "(sOII)", what, whole, (unsigned)least, (unsigned)most);
     else
         *number = (uint32_t)told;
     Py_DECREF(whole);

@@ -42,7 +42,7 @@ static PyObject *audit_feed(Audit *self, PyObject *chunk)
     if (code == ASM_MEMORY)
         return PyErr_NoMemory();
     /* What would be told if no further byte came is of the part that the long line is in. */
-    if (code == ASM_LARGE && asm_audited(SLOT(self), &told) == ASM_MEMORY)
+    if (code == ASM_LONG_LINE && asm_audited(SLOT(self), &told) == ASM_MEMORY)
         return PyErr_NoMemory();
     return numbers_of(code, &told);
 }
@@ -100,6 +100,16 @@ static PyObject *core_use(PyObject *module, PyObject *refusals)
     return Py_NewRef(Py_None);
 }
 
+/* Has storages record where nobody says so. */
+static PyObject *core_record(PyObject *module, PyObject *is_on)
+{
+    int records = PyObject_IsTrue(is_on);
+    if (records < 0)
+        return NULL;
+    ((Core *)PyModule_GetState(module))->records = records;
+    return Py_NewRef(Py_None);
+}
+
 static PyObject *core_encoded(PyObject *module, PyObject *words)
 {
     PyObject *value, *told = NULL;
@@ -140,7 +150,7 @@ static PyObject *core_told(PyObject *Py_UNUSED(module), PyObject *words)
     Py_ssize_t len = 0, two_len = 0;
     uint64_t number = 0;
     uint32_t moves = 0;
-    int32_t code = ASM_RANGE;
+    int32_t code = ASM_NO_FORM;
     Room room;
     if (!PyArg_ParseTuple(words, "ii|y#y#", &call, &form, &one, &len, &two, &two_len))
         return NULL;
@@ -248,6 +258,7 @@ static void core_free(void *module)
 
 static PyMethodDef methods[] = {
     {"use", core_use, METH_O, NULL},
+    {"record", core_record, METH_O, NULL},
     {"encoded", core_encoded, METH_VARARGS, NULL},
     {"decoded", core_decoded, METH_O, NULL},
     {"owned", core_owned, METH_VARARGS, NULL},

@@ -98,7 +98,7 @@ static int read_operand(Core *core, PyObject *value, Change *its)
         its->kind = ASM_KIND_NUM;
         its->number = PyLong_AsLongLongAndOverflow(value, &is_odd);
         if (ODD(is_odd))
-            refuse(core, ASM_RANGE, "out_of_range", "(sOII)", "number", value, 0, 0);
+            refuse(core, ASM_OPERAND, "out_of_range", "(sOII)", "number", value, 0, 0);
     } else if (PyUnicode_Check(value)) {
         its->kind = ASM_KIND_TEXT;
         its->at = (const uint8_t *)PyUnicode_AsUTF8AndSize(value, &len);

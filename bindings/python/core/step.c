@@ -136,7 +136,7 @@ int64_t step_fires(Step *self, int is_try)
         return (int64_t)(agent->base + numbers.fired);
     }
     self->is_tried |= code != ASM_EMPTY;
-    int is_vain = is_try && (code == ASM_STALE || code == ASM_CLASH || code == ASM_BUSY);
+    int is_vain = is_try && (code == ASM_STALE || code == ASM_CLASH || code == ASM_BUSY || code == ASM_MOVED);
     if (!is_vain && code == ASM_EMPTY)
         step_refused(self, code);
     else if (!is_vain)
@@ -255,7 +255,7 @@ static PyMethodDef methods[] = {
     {"extend", (PyCFunction)step_extend, METH_O,
         "extend($self, instructions, /)\n--\n\nThe same, but the move joins the one that was pushed last, and is popped with it."},
     {"pop", (PyCFunction)step_pop, METH_NOARGS,
-        "pop($self, /)\n--\n\nTake away the move that was pushed last, with those that extend it. `Error` with the code NONE without one."},
+        "pop($self, /)\n--\n\nTake away the move that was pushed last, with those that extend it. `Error` with the code NO_PUSH without one."},
     {"pop_move", (PyCFunction)step_pop_move, METH_NOARGS,
         "pop_move($self, /)\n--\n\nThe same, and return the one move that does what the popped ones do in turn. `ManyError` where that has more\n"
         "than 4,096 instructions; nothing is popped then."},

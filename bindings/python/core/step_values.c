@@ -92,7 +92,7 @@ PyObject *step_scan(Step *self, PyObject *name)
     if (!text || UNREADY(&self->agent->held))
         return NULL;
     room_begin(&room);
-    int32_t code = told(self, asm_get_all, text, (size_t)len, &room);
+    int32_t code = told(self, asm_step_scan, text, (size_t)len, &room);
     PyObject *pairs = code == ASM_DONE ? read_own_text(self->held.core, room.at, room.written, 0) : step_refused(self, code);
     room_end(&room);
     return pairs;

@@ -63,8 +63,8 @@ except ImportError as error:
 
 from ._auditor import Auditor, Counts
 from ._core import Agent, Location, Move, Played, Step, Storage
-from ._errors import BadJournalError, BrokenError, BusyError, ClashError, CommitClashError, ConflictError, DamagedError, DeepError
-from ._errors import Error, FullError, LargeError, ManyError, MismatchError, MissingError, MovedError, OverError, PastError
+from ._errors import BadJournalError, BrokenError, BusyError, ClashError, CommitClashError, CommitMovedError, ConflictError
+from ._errors import DamagedError, DeepError, Error, FullError, LargeError, ManyError, MismatchError, MissingError, MovedError, OverError, PastError
 from ._errors import StaleError, TooLongError, UnknownError, error_text, explain
 from ._explore import DiffersError, Explored, explore
 from ._functions import aggregate, check, compose, replay, trace, version
@@ -82,7 +82,8 @@ from ._types import Element, Place, Update, Value
 __version__ = "0.2.0"
 
 __all__ = [
-    "Agent", "Auditor", "BadJournalError", "BrokenError", "BusyError", "ClashError", "Code", "CommitClashError", "ConflictError",
+    "Agent", "Auditor", "BadJournalError", "BrokenError", "BusyError", "ClashError", "Code", "CommitClashError",
+    "CommitMovedError", "ConflictError",
     "Counts", "DamagedError", "DeepError", "DiffersError", "Element", "EndlessError", "Error", "Explored", "ForkedError", "FullError",
     "LargeError", "Location", "ManyError", "MismatchError", "MissingError", "Move", "MovedError", "NestedError", "OverError",
     "PastError", "Place", "Played", "Run", "RunAgent", "SharedAgent", "SharedRun", "StaleError", "Step", "Storage", "TextForm", "TooLongError",

@@ -69,14 +69,14 @@ class Auditor(Audit):
         return Counts(calls, moves, parts)
 
     def state(self) -> list[Any]:
-        """The state that the moves so far leave, as a list of pairs. `Error` with the code NONE where no part has begun."""
+        """The state that the moves so far leave, as a list of pairs. `Error` with the code NO_PART where no part has begun."""
         self._expect_sound()
         pairs: list[Any] = owned(self._state())
         return pairs
 
     @staticmethod
     def _bad(code: int, part: int, number: int) -> BadJournalError:
-        bad = BadJournalError(code, (number,), f"a line has more than {LINE_LIMIT:,} bytes" if code == Code.LARGE else "")
+        bad = BadJournalError(code, (number,), f"a line has more than {LINE_LIMIT:,} bytes" if code == Code.LONG_LINE else "")
         bad.part = part
         return bad
 

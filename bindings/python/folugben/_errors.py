@@ -8,6 +8,8 @@ from . import _core
 from ._library import Code, ERROR_TEXT, EXPLAIN, TextForm
 
 CODES = frozenset(Code)
+# The codes whose own line says less than what an error says.
+_SAID = frozenset({Code.NOT_JSON, Code.CAPACITY, Code.AGENTS, Code.AHEAD, Code.OPERAND, Code.NO_FORM, Code.MANY, Code.LONG_MOVE})
 
 # A text in UTF-8, or as Python has it.
 Text: TypeAlias = bytes | bytearray | memoryview | str
@@ -60,9 +62,7 @@ class Error(Exception):
     def __str__(self) -> str:
         text = error_text(self.code)
         if self.said:
-            # Of these the code's own line says less.
-            is_said = self.code in (Code.NOT_JSON, Code.RANGE, Code.MANY)
-            text = self.said if is_said else f"{text}: {self.said}"
+            text = self.said if self.code in _SAID else f"{text}: {self.said}"
         where = NUMBERS[self.code].format(*self.numbers) if self.numbers else ""
         return text if text.endswith(where) else f"{text} ({where})"
 
@@ -122,6 +122,10 @@ class DeepError(Error):
 
 class MovedError(Error):
     """The agent's own state doesn't stand at the number of the step, as it has moved on since: begin another step."""
+
+
+class CommitMovedError(MovedError, ConflictError):
+    """A recording agent's own state has moved on since the step began, which it commits: begin another step."""
 
 
 class PastError(ConflictError):
@@ -205,7 +209,7 @@ class BadJournalError(Error):
 # The exceptions of codes that have one of their own.
 KINDS: dict[int, type[Error]] = {
     Code.STALE: StaleError, Code.CLASH: ClashError, Code.FULL: FullError, Code.BUSY: BusyError, Code.MANY: ManyError,
-    Code.MISSING: MissingError, Code.LARGE: LargeError, Code.MOVED: MovedError, Code.DEEP: DeepError,
+    Code.LONG_MOVE: ManyError, Code.MISSING: MissingError, Code.LARGE: LargeError, Code.MOVED: MovedError, Code.DEEP: DeepError,
 }
 
 
@@ -248,8 +252,8 @@ def ahead(reads: Iterable[Any], seen: int, scans: Iterable[Any] = ()) -> Error:
         for place, (at, number) in enumerate(those, 1):
             if number > seen:
                 said = f"{kind} {place}: {json.dumps(at)} is named at {number}, and the agent has seen {seen}"
-                return Error(Code.RANGE, said=said)
-    return Error(Code.RANGE)
+                return Error(Code.AHEAD, said=said)
+    return Error(Code.AHEAD)
 
 
 def exact(text: Text, name: str) -> bytes:
@@ -268,7 +272,7 @@ def explain(form: int, text: Text) -> str:
     """Where and why a text isn't of a form, LOCATIONS, MOVE, STATE, EVENT or SCRIPT; empty for a text that is."""
     form, text = int.__index__(operator.index(form)), exact(text, "a text")
     if form not in frozenset(TextForm):
-        raise Error(Code.RANGE, said=f"a form is one of TextForm, 0 to {len(TextForm) - 1}, and not {form}")
+        raise Error(Code.NO_FORM, said=f"a form is one of TextForm, 0 to {len(TextForm) - 1}, and not {form}")
     code, said, *_ = _core.told(EXPLAIN, form, text)
     expect(code)
     return said.decode()

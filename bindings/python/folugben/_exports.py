@@ -149,7 +149,7 @@ def write_itf(journal: bytes, out: TextIO, source: str = "", first: int = 0, las
         written += len(text)
         if written > ITF_LIMIT:
             said = f"the states of moves {first} to {told['index']} have more than {ITF_LIMIT:,} characters"
-            raise TooLongError(Code.LARGE, said=f"{said}: take fewer by --from and --to")
+            raise TooLongError(Code.LONG_LINE, said=f"{said}: take fewer by --from and --to")
         out.write(text)
     out.write("]}\n")
 

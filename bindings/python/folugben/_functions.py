@@ -73,7 +73,7 @@ def compose(first: Sequence[Form], second: Sequence[Form]) -> list[Any]:
 
 def _answered(code: int, told: bytes, move: bytes) -> list[Any]:
     """What a call on a move told, or raises what its code says."""
-    expect(code, said="the one move would have more than 4,096 instructions") if code == Code.MANY else None
+    expect(code, said="the one move would have more than 4,096 instructions") if code == Code.LONG_MOVE else None
     if code in (Code.CLASH, Code.LARGE):
         raise refusal(code, told)
     expect_part(code, INSTRUCTIONS, move)

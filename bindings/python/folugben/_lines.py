@@ -15,7 +15,7 @@ SHORT = LINE_LIMIT // 16
 
 def too_long(what: str, length: int) -> TooLongError:
     """Return the error of something that would be too long."""
-    return TooLongError(Code.LARGE, said=f"{what} would make a line of about {length:,} bytes, and an audit reads {LINE_LIMIT:,}")
+    return TooLongError(Code.LONG_LINE, said=f"{what} would make a line of about {length:,} bytes, and an audit reads {LINE_LIMIT:,}")
 
 
 def expect_call(call: bytes) -> None:

@@ -6,7 +6,7 @@ import sys
 from typing import TYPE_CHECKING, Any, NoReturn
 
 from . import _core
-from ._errors import INSTRUCTIONS, READS, BusyError, ClashError, CommitClashError, Error, MissingError, OverError, ahead, expect
+from ._errors import INSTRUCTIONS, READS, BusyError, ClashError, CommitClashError, CommitMovedError, Error, MissingError, OverError, ahead, expect
 from ._errors import expect_part, expect_read, expect_scans, explain, refusal
 from ._held import ForkedError
 from ._library import Code, INC, TEXT, TextForm
@@ -20,15 +20,17 @@ __all__ = ["back_off", "no_rule", "play"]
 
 _WORDS = (b"put", b"add", b"remove", b"bagadd", b"bagremove", b"inc")
 _RANGES = {
-    "number": f"a number is {-2**63:,} to {2**63 - 1:,}, not {{value}}",
-    "amount": f"an amount is 1 to {2**32 - 1:,}, not {{value}}",
-    "agent": "agent {value}: numbers are below 256",
-    "capacity": "a capacity is 1 to {most:,}, not {value}",
+    "number": (Code.OPERAND, f"a number is {-2**63:,} to {2**63 - 1:,}, not {{value}}"),
+    "amount": (Code.OPERAND, f"an amount is 1 to {2**32 - 1:,}, not {{value}}"),
+    "move": (Code.AHEAD, f"a move's number is 0 to {2**32 - 1:,}, not {{value}}"),
+    "agent": (Code.AGENTS, "agent {value}: numbers are below 256"),
+    "capacity": (Code.CAPACITY, "a capacity is 1 to {most:,}, not {value}"),
 }
 
 
 def out_of_range(what: str, value: int, least: int, most: int) -> NoReturn:
-    raise Error(Code.RANGE, said=_RANGES[what].format(value=int.__index__(value), most=most))
+    code, said = _RANGES[what]
+    raise Error(code, said=said.format(value=int.__index__(value), most=most))
 
 
 def number_of(what: str, value: int, least: int, most: int) -> int:
@@ -93,11 +95,11 @@ def missing(move: int, agents: bytes, is_abandoned: bool) -> NoReturn:
 
 
 def fired_behind(fired: int, closed: int) -> NoReturn:
-    raise Error(Code.NONE, said=f"{fired} moves were fired, and the journal tells {closed}: close it again")
+    raise Error(Code.NO_JOURNAL, said=f"{fired} moves were fired, and the journal tells {closed}: close it again")
 
 
 def not_full(seen: int) -> NoReturn:
-    raise Error(Code.NONE, said=f"the agent's own state stands at {seen} moves, and its storage has room for more")
+    raise Error(Code.NOT_FULL, said=f"the agent's own state stands at {seen} moves, and its storage has room for more")
 
 
 def leave(storage: "Storage", path: str, error: BaseException | None) -> None:
@@ -117,7 +119,7 @@ def read(code: int, form: int, text: bytes) -> None:
 
 
 def stands(code: int, agent: "Agent", reads: bytes) -> None:
-    if code == Code.RANGE:
+    if code == Code.AHEAD:
         raise ahead(json.loads(reads), agent.seen)
     if code == Code.MANY:
         expect(code, said=f"{len(json.loads(reads)):,} reads: at most 256")
@@ -125,7 +127,7 @@ def stands(code: int, agent: "Agent", reads: bytes) -> None:
 
 
 def fired(code: int, agent: "Agent", told: bytes, from_: int, to: int, call: bytes, scans: bytes) -> None:
-    if code == Code.RANGE:
+    if code == Code.AHEAD:
         raise ahead(json.loads(call)["reads"], agent.seen, json.loads(scans))
     if code == Code.SHAPE and not explain(TextForm.MOVE, call):
         expect_scans(code, json.loads(scans))
@@ -137,10 +139,15 @@ def fired(code: int, agent: "Agent", told: bytes, from_: int, to: int, call: byt
 
 
 def no_part(code: int) -> None:
-    expect(code, said="no part has begun" if code == Code.NONE else "the audit was freed")
+    expect(code, said="no part has begun" if code == Code.NO_PART else "the audit was freed")
 
 
 # Of steps, locations and moves.
+
+_STEP_LIMITS: dict[int, str] = {
+    Code.MANY: "a step depends on at most 256 locations and functions",
+    Code.LONG_MOVE: "the pushed moves come to more than 4,096 instructions as one",
+}
 
 
 def over(code: int, step: "Step") -> NoReturn:
@@ -155,7 +162,7 @@ def step(code: int, it: "Step") -> None:
     agent, said = it._agent, ""
     if code == Code.MOVED and it._thread != agent._thread:
         said = f"agent {agent.number} is used by two threads"
-    expect(code, said="a step depends on at most 256 locations and functions" if code == Code.MANY else said)
+    expect(code, said=_STEP_LIMITS.get(code, said))
 
 
 def answered(code: int, told: bytes, from_: int, to: int, clash: type[ClashError]) -> None:
@@ -167,7 +174,7 @@ def answered(code: int, told: bytes, from_: int, to: int, clash: type[ClashError
 
 def committed(code: int, told: bytes, from_: int, to: int) -> None:
     answered(code, told, from_, to, CommitClashError)
-    expect(code)
+    expect(code, CommitMovedError if code == Code.MOVED else None)
 
 
 def pushed(code: int, move: bytes, told: bytes, step: "Step") -> None:
@@ -177,15 +184,17 @@ def pushed(code: int, move: bytes, told: bytes, step: "Step") -> None:
             (value,) = step.see([raised.at])
             raised.there = "nothing" if value is None else f"{value!r:.60}"
         raise raised
-    if code == Code.MANY:
+    if code == Code.LONG_MOVE:
         count = f"{len(json.loads(move)):,} more: " if move else ""
-        expect(code, said=f"{count}the moves of a step come to at most 4,096 instructions, and it depends on at most 256 locations")
+        expect(code, said=f"{count}the moves of a step come to at most 4,096 instructions")
+    if code == Code.MANY:
+        expect(code, said="a step depends on at most 256 locations and functions")
     expect_part(code, INSTRUCTIONS, move)
 
 
 def united(code: int, own: int, others: int) -> None:
     many = f"{own:,} instructions and {others:,} more: a move has at most 4,096"
-    expect(code, said=many if code == Code.MANY else "")
+    expect(code, said=many if code == Code.LONG_MOVE else "")
 
 
 def location(code: int, text: bytes) -> None:
@@ -195,9 +204,9 @@ def location(code: int, text: bytes) -> None:
 def instructed(code: int, place: bytes, verb: int, kind: int, number: int, text: bytes | None, amount: int) -> None:
     if kind > TEXT and code in (Code.NOT_JSON, Code.SHAPE):
         expect_part(code, INSTRUCTIONS, b'[["%b",%b,%b%b]]' % (_WORDS[verb], place, text or b"", b",%d" % amount if amount else b""))
-    if code == Code.RANGE:
+    if code == Code.OPERAND:
         expect(code, said="inc takes a whole number" if verb == INC else "a set or a bag can be put, and is no element")
-    expect(code, said="a move has at most 4,096 instructions" if code == Code.MANY else "")
+    expect(code, said="a move has at most 4,096 instructions" if code == Code.LONG_MOVE else "")
 
 
 _core.use(sys.modules[__name__])

@@ -167,7 +167,7 @@ class RunAgent:
 
     def _expect_seen(self, named: list[Form], error: Error, functions: Iterable[Form] = ()) -> None:
         """Tells the numbers of the run, where a read or a scan is named at one that is yet to come."""
-        if type(error) is Error and error.code == Code.RANGE:
+        if type(error) is Error and error.code == Code.AHEAD:
             raise ahead(named, self.seen, functions) from None
 
     @staticmethod
@@ -188,7 +188,7 @@ class RunAgent:
                 own.append([read[0], number - agent.part.base])
             else:
                 said = f"{kind} {place} names {json.dumps(read[0])} at {number}, and that part has ended at {agent.part.base}"
-                raise PastError(Code.RANGE, said=f"{said}, so read again")
+                raise PastError(Code.AHEAD, said=f"{said}, so read again")
         return own
 
     def _go_on(self) -> None:

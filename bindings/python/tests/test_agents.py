@@ -182,20 +182,20 @@ class Agents(unittest.TestCase):
 
     def test_numbers_that_have_no_32_bits(self):
         for number in (2**32, 2**32 + 1, 2**64 + 1, -1):
-            self.assertEqual(self.code_of(self.storage.agent, number), folugben.Code.RANGE)
-            self.assertEqual(self.code_of(Storage, (), number), folugben.Code.RANGE)
+            self.assertEqual(self.code_of(self.storage.agent, number), folugben.Code.AGENTS)
+            self.assertEqual(self.code_of(Storage, (), number), folugben.Code.CAPACITY)
         self.assertRaises(TypeError, self.storage.agent, 0.5)
-        self.assertEqual(folugben.error_text(2**32), folugben.error_text(24))
+        self.assertEqual(folugben.error_text(2**32), folugben.error_text(36))
 
     def test_codes(self):
         agent, other = self.storage.agent(0), Storage()
         self.addCleanup(other.free)
-        self.assertEqual(self.code_of(Storage, (), 0), folugben.Code.RANGE)
+        self.assertEqual(self.code_of(Storage, (), 0), folugben.Code.CAPACITY)
         self.assertEqual(self.code_of(Storage, [1]), folugben.Code.SHAPE)
-        self.assertEqual(self.code_of(self.storage.agent, 256), folugben.Code.RANGE)
+        self.assertEqual(self.code_of(self.storage.agent, 256), folugben.Code.AGENTS)
         self.assertEqual(self.code_of(agent.read, COUNT * 257), folugben.Code.MANY)
         self.assertEqual(self.code_of(agent.read, [["1"]]), folugben.Code.SHAPE)
-        self.assertEqual(self.code_of(agent.answer), folugben.Code.NONE)
+        self.assertEqual(self.code_of(agent.answer), folugben.Code.NO_ANSWER)
         self.assertEqual(self.code_of(other.give, agent), folugben.Code.OTHER)
         self.assertEqual(self.code_of(agent.learn, other.agent(1)), folugben.Code.OTHER)
         self.assertEqual(self.code_of(agent.learn, agent), folugben.Code.EMPTY)
@@ -260,12 +260,12 @@ class Agents(unittest.TestCase):
             'agent 0 step 0 block 0 instruction 1: unknown word "putt"',
         )
         for form in (-1, 5, 2**32):
-            self.assertEqual(self.code_of(folugben.explain, form, b"[]"), folugben.Code.RANGE)
+            self.assertEqual(self.code_of(folugben.explain, form, b"[]"), folugben.Code.NO_FORM)
 
     def test_texts_of_codes(self):
-        texts = [folugben.error_text(code) for code in range(25)]
-        self.assertEqual(len(set(texts)), 25)
-        self.assertEqual(folugben.error_text(-1), texts[24])
+        texts = [folugben.error_text(code) for code in range(37)]
+        self.assertEqual(len(set(texts)), 37)
+        self.assertEqual(folugben.error_text(-1), texts[36])
         self.assertEqual(folugben.version(), 2000)
         major, minor, patch = map(int, folugben.__version__.split("."))
         self.assertEqual(folugben.version(), 1_000_000 * major + 1_000 * minor + patch)

@@ -19,8 +19,8 @@ from folugben import _auditor
 from random_moves import INIT, move
 from threads import in_threads
 
-APART, CUT, EMPTY, ILLEGAL, LARGE, NONE, NOT_JSON, SHAPE, VERSION = map(
-    Code.__getitem__, "APART CUT EMPTY ILLEGAL LARGE NONE NOT_JSON SHAPE VERSION".split())
+APART, CUT, EMPTY, ILLEGAL, LONG_LINE, NO_PART, NOT_JSON, SHAPE, VERSION = map(
+    Code.__getitem__, "APART CUT EMPTY ILLEGAL LONG_LINE NO_PART NOT_JSON SHAPE VERSION".split())
 
 
 def parts_of_a_run(seed: int, count: int = 4) -> list[bytes]:
@@ -122,7 +122,7 @@ class Audits(unittest.TestCase):
         with self.assertRaises(BadJournalError) as caught:
             for _ in range(1025):
                 auditor.feed(b" " * (1 << 20))
-        self.assertEqual((caught.exception.code, caught.exception.part), (LARGE, 4))
+        self.assertEqual((caught.exception.code, caught.exception.part), (LONG_LINE, 4))
         self.assertIn("1,073,741,824 bytes", str(caught.exception))
 
     def test_a_fault_is_told_at_its_line_and_ever_after(self):
@@ -146,7 +146,7 @@ class Audits(unittest.TestCase):
         self.assertEqual(auditor.counts, Counts(0, 0, 0))
         with self.assertRaises(Error) as caught:
             auditor.state()
-        self.assertEqual((caught.exception.code, "no part has begun" in str(caught.exception)), (NONE, True))
+        self.assertEqual((caught.exception.code, "no part has begun" in str(caught.exception)), (NO_PART, True))
         total = Counts(0, 0, 0)
         for number, journal in enumerate(self.journals, 1):
             header, *events = journal.splitlines(keepends=True)

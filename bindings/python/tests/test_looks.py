@@ -68,7 +68,7 @@ class Looks(unittest.TestCase):
             for call, *arguments in [(self.agent.fire, [], reads), (self.agent.stands, reads)]:
                 with self.assertRaises(Error) as caught:
                     call(*arguments)
-                self.assertEqual(caught.exception.code, folugben.Code.RANGE)
+                self.assertEqual(caught.exception.code, folugben.Code.AHEAD)
                 self.assertEqual(str(caught.exception), said + '["f", 1] is named at 1, and the agent has seen 0')
             # It is none that the agent has seen, though it was fired.
             self.rival.fire([])
@@ -76,7 +76,7 @@ class Looks(unittest.TestCase):
         self.assertEqual(self.agent.follow(), 2)
         self.assertIsNone(self.agent.stands(reads))
         self.assertEqual(self.agent.fire([], reads), 3)
-        self.assertEqual(self.code_of(self.rival.stands, [[["g"], 3]] + [[["g"], 0]] * 256), folugben.Code.RANGE)
+        self.assertEqual(self.code_of(self.rival.stands, [[["g"], 3]] + [[["g"], 0]] * 256), folugben.Code.AHEAD)
         self.rival.learn(self.agent)
         self.assertIsNone(self.rival.stands([[["g"], 3]]))
 
@@ -125,7 +125,7 @@ class Next(unittest.TestCase):
         with Storage(STATE, 2) as first:
             with self.assertRaises(Error) as caught:
                 first.next()
-            self.assertEqual(caught.exception.code, folugben.Code.NONE)
+            self.assertEqual(caught.exception.code, folugben.Code.NO_JOURNAL)
             with first.agent(0) as agent:
                 agent.fire([["put", ["count"], 5], ["add", ["f", True], "more"]])
                 agent.fire([["put", ["g"], None]])
@@ -159,7 +159,7 @@ class Next(unittest.TestCase):
             # Nothing was written above this number, so that the rival's update would be lost.
             with self.assertRaises(Error) as caught:
                 agent.fire([["put", ["count"], count + 1]], [[["count"], number]])
-            self.assertEqual(caught.exception.code, folugben.Code.RANGE)
+            self.assertEqual(caught.exception.code, folugben.Code.AHEAD)
             self.assertIn('read 1: ["count"] is named at 2, and the agent has seen 0', str(caught.exception))
             number, (count,) = agent.read(COUNT)
             self.assertEqual(agent.fire([["put", ["count"], count + 1]], [[["count"], number]]), 2)
@@ -173,7 +173,7 @@ class Next(unittest.TestCase):
         for capacity in (0, 2**20 + 1, 2**32 + 1, -1):
             with self.assertRaises(Error) as caught:
                 storage.next(capacity)
-            self.assertEqual(caught.exception.code, folugben.Code.RANGE)
+            self.assertEqual(caught.exception.code, folugben.Code.CAPACITY)
         self.assertRaises(TypeError, storage.next, 0.5)
         with storage.next() as following:
             self.assertIsInstance(following, Storage)

@@ -11,6 +11,7 @@ from enum import Enum
 
 import folugben
 import own
+from checkout import unrecorded
 from folugben import ClashError, DeepError, Error, FullError, Location, ManyError, Move, MovedError, OverError, StaleError, Storage, check
 from threads import in_threads
 
@@ -56,6 +57,7 @@ class Plain(unittest.TestCase):
                     self.assertEqual(self.agent.peek(at)[0], 1)
             self.assertIsNone(step.get(Location(["none", {"list": ["ä"]}])))
 
+    @unrecorded
     def test_a_gathered_move_does_what_a_list_does(self):
         rng, clashes, places = random.Random(7), 0, {}
         words = {"s": ["add", "remove"], "b": ["bagadd", "bagremove"], "n": ["inc"]}
@@ -126,6 +128,7 @@ class Plain(unittest.TestCase):
                 step.pop()
                 step.pop()
 
+    @unrecorded
     def test_a_step_reads_and_writes_single_locations(self):
         init = {"count": 1, ("s", 1): {1}, ("b", "x"): Counter("a"), "l": (1, (2,))}
         with Storage(init, 9) as storage, storage.agent(0) as agent:
@@ -148,9 +151,9 @@ class Plain(unittest.TestCase):
                     step.add("count", 1)
                 self.assertEqual((caught.exception.at, caught.exception.cause), (("count",), "Kind"))
                 self.assertEqual(self.code_of(step.put, "1", 1)[0], folugben.Code.SHAPE)
-                self.assertEqual(self.code_of(step.inc, "count", "1")[0], folugben.Code.RANGE)
+                self.assertEqual(self.code_of(step.inc, "count", "1")[0], folugben.Code.OPERAND)
                 self.assertEqual(self.code_of(lambda: step[()])[0], folugben.Code.SHAPE)
-                self.assertEqual(self.code_of(step.bag_add, "b", 1, 0)[0], folugben.Code.RANGE)
+                self.assertEqual(self.code_of(step.bag_add, "b", 1, 0)[0], folugben.Code.OPERAND)
                 self.assertRaises(TypeError, step.put, "x")
                 self.assertRaises(TypeError, step.put, "x", [1])
                 self.assertEqual((step.commit(), step.depth), (1, 0))
@@ -214,7 +217,7 @@ class Plain(unittest.TestCase):
     def test_what_cannot_be_popped_stays(self):
         at = Location(["s"])
         with self.agent.step() as step:
-            self.assertEqual(self.code_of(step.pop_move)[0], folugben.Code.NONE)
+            self.assertEqual(self.code_of(step.pop_move)[0], folugben.Code.NO_PUSH)
             step.push([])
             nothing = step.pop_move()
             step.push(nothing)
@@ -258,9 +261,9 @@ class Plain(unittest.TestCase):
         for value in ({"set": []}, {"bag": []}, {1}, Counter("a")):
             for call in (move.add, move.remove, lambda *words: move.bagadd(*words, 1)):
                 told = self.code_of(call, at, value)
-                self.assertEqual(told, (folugben.Code.RANGE, "a set or a bag can be put, and is no element"))
-            self.assertEqual(self.code_of(move.inc, at, value)[0], folugben.Code.RANGE)
-        self.assertEqual(self.code_of(move.inc, at, {"list": []})[0], folugben.Code.RANGE)
+                self.assertEqual(told, (folugben.Code.OPERAND, "a set or a bag can be put, and is no element"))
+            self.assertEqual(self.code_of(move.inc, at, value)[0], folugben.Code.OPERAND)
+        self.assertEqual(self.code_of(move.inc, at, {"list": []})[0], folugben.Code.OPERAND)
         said = "instruction 1: a set can't hold a set"
         self.assertEqual(self.code_of(move.put, at, {"set": [{"set": []}]}), (folugben.Code.SHAPE, said))
         for value in ({"list": [1.5]}, {"set": [1, 1]}, {"bag": [["a", 0]]}, {"bag": [["a", 2**32]]}, {"list": [], "x": 1},
@@ -271,13 +274,13 @@ class Plain(unittest.TestCase):
         self.assertEqual(self.code_of(move.put, at, "\ud83d")[0], folugben.Code.SHAPE)
         for number in (2**63, -(2**63) - 1, 10**30):
             for call in (move.put, move.add, move.inc):
-                self.assertEqual(self.code_of(call, at, number)[0], folugben.Code.RANGE)
+                self.assertEqual(self.code_of(call, at, number)[0], folugben.Code.OPERAND)
         for amount in (0, -1, 2**32, 2**40):
             for call in (move.bagadd, move.bagremove):
-                self.assertEqual(self.code_of(call, at, 1, amount)[0], folugben.Code.RANGE)
+                self.assertEqual(self.code_of(call, at, 1, amount)[0], folugben.Code.OPERAND)
         self.assertRaises(TypeError, move.bagadd, at, 1, "1")
         for value in (True, None, "1"):
-            self.assertEqual(self.code_of(move.inc, at, value)[0], folugben.Code.RANGE)
+            self.assertEqual(self.code_of(move.inc, at, value)[0], folugben.Code.OPERAND)
         self.assertEqual(len(move.put(["count"], 1).inc("count", 1)), 3)
         for words in ((), (at,), (at, 1, 2)):
             self.assertRaises(TypeError, move.put, *words)
@@ -290,6 +293,7 @@ class Plain(unittest.TestCase):
         self.assertEqual(self.code_of(Location, ["x", 2**63])[0], folugben.Code.SHAPE)
         self.assertEqual(self.code_of(Location, ["x", float("nan")])[0], folugben.Code.SHAPE)
 
+    @unrecorded
     def test_what_is_over_or_freed_or_moved_on(self):
         at, move = Location(["count"]), Move()
         move.put(at, 1)
@@ -319,6 +323,7 @@ class Plain(unittest.TestCase):
         for call, *arguments in ((step.get, Location(["x"])), (self.agent.peek, Location(["x"])), (step.try_commit,)):
             self.assertEqual(self.code_of(call, *arguments), (folugben.Code.EMPTY, "the agent was given back"))
 
+    @unrecorded
     def test_a_fire_that_may_be_in_vain(self):
         count, move = Location(["count"]), Move()
         with self.agent.step() as step:

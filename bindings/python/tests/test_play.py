@@ -124,7 +124,7 @@ class Said(unittest.TestCase):
         self.said(ManyError, "^a move has at most 4,096 instructions$", move.put, "y", 1)
         with agent.step() as step:
             step.push(move)
-            self.said(ManyError, "^2 more: the moves of a step come to at most 4,096 instructions", step.push, [("put", "y", 1), ("put", "z", 1)])
+            self.said(ManyError, "^2 more: the moves of a step come to at most 4,096 instructions$", step.push, [("put", "y", 1), ("put", "z", 1)])
             step.get([("x", "a", k) for k in range(256)])
             self.said(ManyError, "^a step depends on at most 256 locations and functions$", step.scan, "f")
             step.pop()

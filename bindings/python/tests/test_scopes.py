@@ -109,7 +109,7 @@ class Scopes(unittest.TestCase):
         agents.pop().give()
         with self.assertRaises(MissingError) as caught:
             self.storage.close_journal()
-        self.assertTrue(str(caught.exception).endswith("given back: agent 3 was not given back: it fired move 1"))
+        self.assertTrue(str(caught.exception).endswith("returned: agent 3 was not given back: it fired move 1"))
         self.storage.agent(10).abandon()  # which may have fired it
         with self.assertRaises(MissingError) as caught:
             self.storage.close_journal()
@@ -177,7 +177,7 @@ class Scopes(unittest.TestCase):
                 self.storage.take(number)
         with self.assertRaises(Error) as caught:
             self.storage.next()  # which needs another journal
-        self.assertEqual(caught.exception.code, folugben.Code.NONE)
+        self.assertEqual(caught.exception.code, folugben.Code.NO_JOURNAL)
         again.give()
         with self.storage.take(3) as third:
             put(third, 3)
@@ -190,7 +190,7 @@ class Scopes(unittest.TestCase):
                 put(first, value)
             with self.assertRaisesRegex(Error, "stands at 0 moves") as caught:
                 second.go_on(5)
-            self.assertEqual(caught.exception.code, folugben.Code.NONE)
+            self.assertEqual(caught.exception.code, folugben.Code.NOT_FULL)
             second.follow()
             with second.go_on(5) as further, further.agent(0) as agent:
                 self.assertEqual(agent.read([COUNT]), (0, [3]))
