@@ -111,7 +111,7 @@ class Audits(unittest.TestCase):
         auditor.feed(self.text)
         for _ in range(17):
             auditor.feed(b" " * (1 << 20))
-        with self.assertRaises(BadJournal) as caught:
+        with self.assertRaises(BadJournalError) as caught:
             auditor.feed(b"\n")
         self.assertEqual((caught.exception.code, caught.exception.part), (NOT_JSON, 4))
 
