@@ -116,9 +116,8 @@ impl<'s, A: Aggregator + Sync + Drop> Agent<'s, A> {
         self.part.receipts.as_slice()
     }
 
-    /// A mark of what it has seen, which another agent of the storage can learn.
-    ///
-    /// It always answers `Ok`: a mark takes no memory of its own.
+    /// A mark of what it has seen, which another agent of the storage can learn. It always answers `Ok`: a mark takes no
+    /// memory of its own.
     pub fn mark(&self, alloc: Global) -> Result<Mark, AllocError>
         ensures made { IsOk result }
         ensures holds { IfOk result (λ m. m ≡ record { row = self.now.storage.row; seen = self.now.account.seen }) }
@@ -192,9 +191,7 @@ impl<'s, A: Aggregator + Sync + Drop> Agent<'s, A> {
     }
 
     /// The values of the locations in its own state, with the number of moves at which it stands, without a look
-    /// and without a receipt.
-    ///
-    /// `AllocError` comes only where memory was refused.
+    /// and without a receipt. `AllocError` comes only where memory was refused.
     pub fn peek(&self, alloc: Global, places: &[Location]) -> Result<Reading, AllocError>
         ensures { IfOk result (IsPeek A.meaning self.now places.now) }
     {
@@ -255,11 +252,7 @@ impl<'s, A: Aggregator + Sync + Drop> Agent<'s, A> {
         Ok(reading)
     }
 
-    /// Adds a receipt of a read of at most 256 locations from its own state: their values after the moves that the state
-    /// has followed, with their number.
-    ///
-    /// It makes no look and follows nothing, so the history also has what was looked up in the state. After a `follow`, a
-    /// `read` or a `stands` it succeeds until the agent fires a move.
+    /// Adds a receipt of a read of at most 256 locations from its own state, at the number of that, without a look.
     ///
     /// `RecallError::ManyLocations` comes exactly for more locations, before anything else; `Behind` exactly where the
     /// state hasn't followed all moves on which the agent's receipts rest, such as one that it fired itself; `Memory`
