@@ -224,9 +224,7 @@ public final class Agent extends AgentCalls implements Actor {
     public Peeked peek(PreparedLocation location) {
         Turns.Player player = Turns.Player.call(this);
         synchronized (slot) {
-            look(location);
-            player.reads(location);
-            player.hears(room);
+            look(location, player);
             return new Peeked(room.number(0), room.told());
         }
     }
@@ -239,9 +237,7 @@ public final class Agent extends AgentCalls implements Actor {
     public long peekNumber(PreparedLocation location) {
         Turns.Player player = Turns.Player.call(this);
         synchronized (slot) {
-            look(location);
-            player.reads(location);
-            player.hears(room);
+            look(location, player);
             return room.kind() == Room.NUM ? room.number() : room.told().asLong();
         }
     }
@@ -385,8 +381,8 @@ public final class Agent extends AgentCalls implements Actor {
     @Override
     public String toString() {
         synchronized (slot) {
-            return "agent " + number
-                    + (slot.isFull() ? ", at " + (before() + Calls.asm_seen(slot.at)) + " moves" : ", given back");
+            long seen = before() + Calls.asm_seen(slot.at);
+            return "agent " + number + (slot.isFull() ? ", at " + seen + " moves" : ", given back");
         }
     }
 }
