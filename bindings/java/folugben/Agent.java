@@ -94,7 +94,7 @@ public final class Agent extends AgentCalls implements Actor {
      * it has learnt. After {@link Storage#next} numbers begin anew: keep none.
      *
      * @throws FolugbenException as a {@link ManyException} if there are more reads; SHAPE if there
-     *         are more instructions; RANGE, which says of which location, if a number is above that
+     *         are more instructions; AHEAD, which says of which location, if a number is above that
      *         of the moves that the agent has seen, as it would guard nothing
      */
     public Reply tryFire(List<? extends Instruction> instructions, List<Named> reads) {
@@ -116,7 +116,7 @@ public final class Agent extends AgentCalls implements Actor {
     /**
      * Fires the instructions [INSTR, ..], which rest on the reads [NAMED, ..].
      *
-     * @throws FolugbenException NOT_JSON, which names the argument, if one isn't one value; RANGE
+     * @throws FolugbenException NOT_JSON, which names the argument, if one isn't one value; AHEAD
      *         as of reads that are objects
      */
     public Reply tryFire(String instructions, String reads) {
@@ -143,7 +143,7 @@ public final class Agent extends AgentCalls implements Actor {
                 throw ManyException.places(
                         JsonReader.reads(reads).size() + JsonReader.scans(scans).size(),
                         "locations and scanned functions are named");
-            if (code == Code.RANGE)
+            if (code == Code.AHEAD)
                 throw FolugbenException.ahead(reads, scans, Calls.asm_seen(slot.at));
             Reply reply = reply(code, false);
             player.fires(instructions, reads, scans, reply);
@@ -278,7 +278,7 @@ public final class Agent extends AgentCalls implements Actor {
      * stand: the reply is DONE, or STALE for the least location that was written since. A fire may
      * still be refused, by a move that comes in between.
      *
-     * @throws FolugbenException RANGE, which says of which location, if a number is above that of
+     * @throws FolugbenException AHEAD, which says of which location, if a number is above that of
      *         the moves that the agent had seen
      */
     public Reply stands(String reads) {
@@ -307,7 +307,7 @@ public final class Agent extends AgentCalls implements Actor {
      * is closed and no other agent waits; the journals of both, one after the other, tell one run.
      * Its agents start anew, as numbers do.
      *
-     * @throws FolugbenException NONE if the own state stands at fewer moves
+     * @throws FolugbenException NOT_FULL if the own state stands at fewer moves
      */
     public Storage goOn(int capacity) {
         return Storage.behind(this, capacity);

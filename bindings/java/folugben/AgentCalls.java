@@ -156,7 +156,7 @@ abstract sealed class AgentCalls permits Agent {
                 return new Actor.Reply(told.code(), 0, 0, 0, told.text());
             if (told.code() == Code.MANY)
                 throw ManyException.places(JsonReader.reads(reads).size(), "locations are named");
-            if (told.code() == Code.RANGE)
+            if (told.code() == Code.AHEAD)
                 throw FolugbenException.ahead(reads, Calls.asm_seen(slot.at));
             FolugbenException.expectReads(held(told.code()), reads);
             return new Actor.Reply(told.code(), 0, 0, 0, null);

@@ -2,7 +2,7 @@ package folugben;
 
 /**
  * What an audit tells of a run that isn't legal, or isn't whole: the first wrong answer as ILLEGAL,
- * the first fault as NOT_JSON, SHAPE, VERSION, CUT or APART, and as LARGE a line of more than
+ * the first fault as NOT_JSON, SHAPE, VERSION, CUT or APART, and as LONG_LINE a line of more than
  * 16,777,216 bytes.
  */
 public final class AuditException extends FolugbenException {
@@ -12,7 +12,7 @@ public final class AuditException extends FolugbenException {
     private final long part;
 
     AuditException(Code code, long part, long number) {
-        super(code, number, code == Code.LARGE ? "a line of more than 16,777,216 bytes" : "",
+        super(code, number, code == Code.LONG_LINE ? "a line of more than 16,777,216 bytes" : "",
                 "part " + part + place(code, number), null);
         this.part = part;
     }

@@ -106,7 +106,7 @@ public final class Auditor implements AutoCloseable {
         switch (code) {
             case DONE, MEMORY -> FolugbenException.expect(code);
             // Of such a line no number is told; those of the audit are these.
-            case LARGE -> throw new AuditException(code, counts.parts(), 0);
+            case LONG_LINE -> throw new AuditException(code, counts.parts(), 0);
             default -> throw new AuditException(code, told.parts(), told.calls());
         }
     }
@@ -191,7 +191,7 @@ public final class Auditor implements AutoCloseable {
     /**
      * The state [PAIR, ..] that the moves so far leave.
      *
-     * @throws FolugbenException NONE if no part has begun
+     * @throws FolugbenException NO_PART if no part has begun
      */
     public String state() {
         synchronized (slot) {

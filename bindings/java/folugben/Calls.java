@@ -100,7 +100,7 @@ final class Calls {
     static native int asm_see(
             long agent, long step, long locations, long len, long out, long room, long written);
 
-    static native int asm_get_all(
+    static native int asm_step_scan(
             long agent, long step, long name, long len, long out, long room, long written);
 
     static native int asm_push(

@@ -16,19 +16,16 @@ public enum Code {
     FULL(4),
     /** What is called on was closed, given back or fired. */
     EMPTY(5),
-    /** A capacity, a number, a count or an amount is out of its range. */
-    RANGE(6),
+    /** The capacity of a storage is none, which no call here tells. */
+    CAPACITY(6),
     /** A buffer is too small, which no call here tells. */
     SMALL(7),
     /** 64 offers were lost to other agents. */
     BUSY(8),
-    /** There are more than 256 locations, or more than 4,096 instructions. */
+    /** There are more than 256 locations, or locations and scanned functions. */
     MANY(9),
-    /**
-     * There is no answer, no pushed move, no closed journal or no part yet; an agent's own state
-     * stands at fewer moves than the capacity; or no agent of a number was given back.
-     */
-    NONE(10),
+    /** No call was answered yet. */
+    NO_ANSWER(10),
     /** A slot is in use already, which no call here tells. */
     TAKEN(11),
     /** The storage made an agent with this number before. */
@@ -47,14 +44,38 @@ public enum Code {
     VERSION(18),
     /** A journal, or the last part of a run, ends too early. */
     CUT(19),
-    /** An amount, a sum or a number of calls is too large. */
+    /** An amount or a sum is too large. */
     LARGE(20),
     /** The agent moved on since the step began. */
     MOVED(21),
     /** 64 moves are pushed. */
     DEEP(22),
     /** A part of a run opens with another state than the one before it leaves. */
-    APART(23);
+    APART(23),
+    /** The number of an agent is out of its range, or there are too many agents. */
+    AGENTS(24),
+    /** A location or a function is named at a number above that of the moves that are seen. */
+    AHEAD(25),
+    /** A verb, a kind and an operand make no instruction, which no call here tells. */
+    OPERAND(26),
+    /** There is no such form, which no call here tells. */
+    NO_FORM(27),
+    /** No journal was made since an agent was given back or taken. */
+    NO_JOURNAL(28),
+    /** No move is pushed. */
+    NO_PUSH(29),
+    /** No agent with this number was given back. */
+    NO_AGENT(30),
+    /** No part of a run has begun. */
+    NO_PART(31),
+    /** An agent's own state is at fewer moves than its storage has room for. */
+    NOT_FULL(32),
+    /** There are more calls than the 4,294,967,295 that a journal holds. */
+    MANY_CALLS(33),
+    /** A line has more bytes than an audit reads. */
+    LONG_LINE(34),
+    /** A move has more than 4,096 instructions. */
+    LONG_MOVE(35);
 
     private static final Code[] ALL = values();
 

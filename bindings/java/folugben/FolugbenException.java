@@ -33,10 +33,10 @@ public sealed class FolugbenException extends RuntimeException
     /** The exception of a code without an answer, of its own class where it has one. */
     private static FolugbenException of(Code code, long number, String said, String where) {
         return switch (code) {
-            case MANY -> new ManyException(said);
+            case MANY, LONG_MOVE, AGENTS -> new ManyException(code, said);
             case DEEP -> new DeepException();
             case MOVED -> new MovedException();
-            case LARGE -> new LargeException(said, null);
+            case LARGE, LONG_LINE, MANY_CALLS -> new LargeException(code, said, null);
             default -> new FolugbenException(code, number, said, where, null);
         };
     }
@@ -72,11 +72,11 @@ public sealed class FolugbenException extends RuntimeException
             if (scan.number() > seen)
                 return ahead("scan " + place + ": " + scan.name(), scan.number(), seen);
         }
-        return of(Code.RANGE, 0, "", "");
+        return of(Code.AHEAD, 0, "", "");
     }
 
     private static FolugbenException ahead(String what, long number, long seen) {
-        return of(Code.RANGE, 0,
+        return of(Code.AHEAD, 0,
                 what + " is named at " + number + ", and the agent has seen " + seen, "");
     }
 
@@ -217,7 +217,7 @@ public sealed class FolugbenException extends RuntimeException
         if (told.code() == Code.CLASH)
             throw new ClashException(told.text());
         if (told.code() == Code.LARGE)
-            throw new LargeException(told.text(), told.text());
+            throw new LargeException(Code.LARGE, told.text(), told.text());
     }
 
     /** What is expected of the code of a call on a journal, with the number of a call or a line. */

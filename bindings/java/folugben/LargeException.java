@@ -10,13 +10,13 @@ import java.util.Locale;
 public final class LargeException extends FolugbenException {
     private static final long serialVersionUID = 1;
 
-    LargeException(String said, String answer) {
-        super(Code.LARGE, 0, said, "", answer);
+    LargeException(Code code, String said, String answer) {
+        super(code, 0, said, "", answer);
     }
 
     /** Of a line of so many bytes, which something would make. */
     static LargeException line(String what, long length) {
-        return new LargeException(String.format(Locale.ROOT,
+        return new LargeException(Code.LONG_LINE, String.format(Locale.ROOT,
                 "%s would make a line of about %,d bytes, and an audit reads %,d", what, length,
                 Texts.Lines.LIMIT), null);
     }

@@ -55,7 +55,7 @@ public final class Moves {
      * then.
      *
      * @throws FolugbenException where on no state both fire: CLASH, whose answer is
-     *         {"clash":[LOC,CAUSE]}, or LARGE, whose answer is {"large":LOC}; MANY where the move
+     *         {"clash":[LOC,CAUSE]}, or LARGE, whose answer is {"large":LOC}; LONG_MOVE where the move
      *         would have more than 4,096 instructions
      */
     public static String compose(String first, String second) {

@@ -18,7 +18,7 @@ public final class PartException extends ConflictException {
 
     /** Of a number of a part that is over. */
     static PartException past(Named read, long begin) {
-        return new PartException(Code.RANGE,
+        return new PartException(Code.FULL,
                 read.location() + " is named at " + read.number() + ", and that part has ended at "
                         + begin + ", so read again");
     }

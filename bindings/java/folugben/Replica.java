@@ -199,7 +199,7 @@ final class Replica {
         Agent agent() {
             Integer own = free.poll();
             if (own == null)
-                throw new ManyException("one process has at most 255 agents of a shared run");
+                throw new ManyException(Code.AGENTS, "one process has at most 255 agents of a shared run");
             Agent taken = wasMade[own] ? storage.take(own) : storage.agent(own);
             wasMade[own] = true;
             return taken;

@@ -201,7 +201,8 @@ public final class Run implements AutoCloseable {
      * An agent with this number, 0 to 255, which no open agent of the run has: once one is closed,
      * another may have its number.
      *
-     * @throws FolugbenException RANGE, or NUMBER if an open agent has it
+     * @throws IllegalArgumentException for another number
+     * @throws FolugbenException NUMBER if an open agent has it
      * @throws RunException if a part of the run couldn't be written
      */
     public RunAgent agent(int number) {

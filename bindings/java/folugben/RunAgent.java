@@ -103,7 +103,7 @@ public final class RunAgent implements Actor {
      *
      * @throws FolugbenException as a {@link PartException} where something was read in a part that
      *         is over: read again; as a {@link StaleException}, {@link BusyException} or {@link
-     *         ClashException}; as a {@link ManyException}; RANGE if a number is above that of the
+     *         ClashException}; as a {@link ManyException}; AHEAD if a number is above that of the
      *         moves that the agent has seen
      * @throws LargeException if the move's line would be longer than an audit reads
      * @throws RunException if a part of the run couldn't be written

@@ -182,7 +182,7 @@ public sealed class Step extends StepCalls implements AutoCloseable permits Shar
      * move that is refused, or popped, was a dry run.
      *
      * @throws FolugbenException CLASH, whose answer is {"clash":[LOC,CAUSE]}, if its updates clash
-     *         on what is seen; MOVED; DEEP if 64 moves are pushed; MANY if the one move of all
+     *         on what is seen; MOVED; DEEP if 64 moves are pushed; LONG_MOVE if the one move of all
      *         would have more than 4,096 instructions
      */
     public void push(String move) {
@@ -252,7 +252,7 @@ public sealed class Step extends StepCalls implements AutoCloseable permits Shar
     /**
      * Takes away the move that was pushed last, and what it rests on; what was got stays got.
      *
-     * @throws FolugbenException NONE if no move is pushed
+     * @throws FolugbenException NO_PUSH if no move is pushed
      */
     public void pop() {
         Turns.Player.call(this);
@@ -265,7 +265,7 @@ public sealed class Step extends StepCalls implements AutoCloseable permits Shar
      * As pop, and the one move that does what the popped ones do in turn: push and extend take it,
      * of any step. A move that nothing extended is as it was pushed. Close it.
      *
-     * @throws FolugbenException NONE if no move is pushed; as a {@link ManyException} if the one
+     * @throws FolugbenException NO_PUSH if no move is pushed; as a {@link ManyException} if the one
      *         move would have more than 4,096 instructions; nothing is popped then
      */
     public Move popMove() {

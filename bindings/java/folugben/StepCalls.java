@@ -186,7 +186,7 @@ abstract sealed class StepCalls permits Step {
     final Actor.State scanned(String name) {
         byte[] text = Texts.utf8(name, "name");
         Turns.Player player = Turns.Player.call(this);
-        Calls.Told told = told(Calls::asm_get_all, text);
+        Calls.Told told = told(Calls::asm_step_scan, text);
         ManyException.expectPlaces(told.code());
         FolugbenException.expect(told.code());
         player.stepScans(name);

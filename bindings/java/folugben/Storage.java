@@ -126,7 +126,7 @@ public final class Storage implements AutoCloseable {
      * An agent that was given back, taken out again: it goes on where it was, with its number and
      * what it did. A journal that was closed before is discarded.
      *
-     * @throws FolugbenException NONE if no agent with this number was given back
+     * @throws FolugbenException NO_AGENT if no agent with this number was given back
      */
     public Agent take(int number) {
         expectNumber(number);
@@ -252,7 +252,7 @@ public final class Storage implements AutoCloseable {
      * ended: it opens with the state that the journal's moves leave, and its agents start anew, as
      * numbers do. The journals of both, one after the other, tell one run.
      *
-     * @throws FolugbenException NONE if no journal was closed since an agent was given back
+     * @throws FolugbenException NO_JOURNAL if no journal was closed since an agent was given back
      */
     public Storage next(int capacity) {
         return next(new Storage((Path) null), capacity);

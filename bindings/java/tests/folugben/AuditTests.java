@@ -54,7 +54,7 @@ final class AuditTests {
         for (int most : new int[] {1, 7, 1000}) {
             try (Auditor auditor = new Auditor()) {
                 equal(auditor.counts(), new Auditor.Counts(0, 0, 0));
-                refused(Code.NONE, auditor::state);
+                refused(Code.NO_PART, auditor::state);
                 for (int at = 0; at < run.length;) {
                     int length = Math.min(1 + random.nextInt(most), run.length - at);
                     auditor.feed(run, at, length);
@@ -125,7 +125,7 @@ final class AuditTests {
                 Code.VERSION, 1, -1, 0, " (part 1)");
         faultIs(first + parts.get(2), Code.APART, 1, -1, 0, " (part 1)");
         equal(fault(first + parts.get(2)).code(), Code.APART);
-        faultIs(first + "x".repeat(16_777_217), Code.LARGE, 1, -1, 0,
+        faultIs(first + "x".repeat(16_777_217), Code.LONG_LINE, 1, -1, 0,
                 ": a line of more than 16,777,216 bytes (part 1)");
     }
 
@@ -164,18 +164,18 @@ final class AuditTests {
             Agent agent = storage.agent(0);
             List<Instruction> up = List.of(Instruction.inc(COUNT, 1));
             agent.fire(up, List.of());
-            refused(Code.NONE, () -> agent.goOn(5));
+            refused(Code.NOT_FULL, () -> agent.goOn(5));
             agent.give();
-            refused(Code.NONE, () -> storage.take(7));
-            refused(Code.NONE, () -> storage.take(1));
+            refused(Code.NO_AGENT, () -> storage.take(7));
+            refused(Code.NO_AGENT, () -> storage.take(1));
             outOfRange(() -> storage.take(256));
             Agent taken = storage.take(0);
             equal(taken.number(), 0);
             equal(taken.won(), 1);
             equal(taken.answer(), "{\"fired\":1}");
-            refused(Code.NONE, () -> storage.take(0));
+            refused(Code.NO_AGENT, () -> storage.take(0));
             taken.fire(up, List.of());
-            refused(Code.NONE, () -> other.goOn(5));
+            refused(Code.NOT_FULL, () -> other.goOn(5));
             other.follow();
             outOfRange(() -> other.goOn(0));
             taken.give();

@@ -78,7 +78,7 @@ final class ConformanceTests {
 
     /** The codes of the arguments that Java refuses by itself. */
     private static final Map<String, String> CODES =
-            Map.of("open", "RANGE", "next", "RANGE", "agent", "RANGE");
+            Map.of("open", "CAPACITY", "next", "CAPACITY", "agent", "AGENTS");
 
     private static String refused(FolugbenException error) {
         List<String> numbers = new ArrayList<>();

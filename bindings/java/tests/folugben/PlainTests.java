@@ -168,8 +168,8 @@ final class PlainTests {
                 Step step = agent.step(); PreparedLocation x = X.prepare();
                 Move move = new Move()) {
             for (int i = 0; i < 4096; i++) move.put(x, 1);
-            refused(Code.MANY, () -> move.put(x, 1));
-            refused(Code.MANY, () -> move.put(x, "1"));
+            refused(Code.LONG_MOVE, () -> move.put(x, 1));
+            refused(Code.LONG_MOVE, () -> move.put(x, "1"));
             equal(move.size(), 4096);
             step.push(move);
             move.clear().inc(x, Long.MAX_VALUE);
@@ -229,7 +229,7 @@ final class PlainTests {
                 Agent agent = storage.agent(0); PreparedLocation x = X.prepare();
                 Move move = new Move()) {
             try (Step step = agent.step()) {
-                refused(Code.NONE, step::popMove);
+                refused(Code.NO_PUSH, step::popMove);
                 step.push(Instruction.put(X, 2));
                 step.push(Instruction.inc(X, 3), Instruction.add(S, Element.list(1)));
                 step.extend(Instruction.inc(X, 4), Instruction.add(S, "two"));
@@ -262,7 +262,7 @@ final class PlainTests {
                     else
                         step.extend(adds);
                 }
-                refused(Code.MANY, () -> step.popMove(move));
+                refused(Code.LONG_MOVE, () -> step.popMove(move));
                 equal(step.depth(), 2);
                 equal(move.size(), 2);
                 step.pop();

@@ -173,7 +173,7 @@ final class RunEndTests {
     /** A state of more bytes than a line may have is refused before anything is made. */
     private static void linesAreShort(Path path) throws IOException {
         String state = "[[[\"a\"],\"" + "x".repeat(16_777_216) + "\"]]";
-        equal(refused(Code.LARGE, () -> Run.open(state, path, 5, 9)).getClass(),
+        equal(refused(Code.LONG_LINE, () -> Run.open(state, path, 5, 9)).getClass(),
                 LargeException.class);
         equal(Files.exists(path), false);
     }
@@ -187,16 +187,16 @@ final class RunEndTests {
             List<Instruction> both = List.of(Instruction.put(text, half),
                     Instruction.put(Location.of("u"), half));
             Class<LargeException> kind = LargeException.class;
-            equal(refused(Code.LARGE, () -> agent.fire(both, List.of())).getClass(), kind);
+            equal(refused(Code.LONG_LINE, () -> agent.fire(both, List.of())).getClass(), kind);
             try (Step step = agent.step()) {
                 step.push(both);
-                equal(refused(Code.LARGE, step::commit).getClass(), kind);
+                equal(refused(Code.LONG_LINE, step::commit).getClass(), kind);
             }
             try (Step step = agent.step()) {
                 step.push(move.put(at, half).put(at, half));
                 step.pop();
                 step.push(move.clear().put(at, half + half));
-                equal(refused(Code.LARGE, step::tryCommit).getClass(), kind);
+                equal(refused(Code.LONG_LINE, step::tryCommit).getClass(), kind);
             }
             RunTests.count(agent);
             agent.play(step -> {
@@ -205,7 +205,7 @@ final class RunEndTests {
             });
             agent.fire(both.subList(1, 2), List.of());
             // The state is too long for the part that comes next: the move that comes there is refused.
-            equal(refused(Code.LARGE, agent::step).getClass(), kind);
+            equal(refused(Code.LONG_LINE, agent::step).getClass(), kind);
             equal(agent.won(), 3L);
             equal(Auditor.audit(path).moves(), 0L);
         }

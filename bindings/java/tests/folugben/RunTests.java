@@ -227,7 +227,7 @@ final class RunTests {
                     () -> slow.fire(List.of(Instruction.put(COUNT, 9)), first));
             List<Named> old = slow.peek(List.of(COUNT)).named();
             equal(old, List.of(new Named(COUNT, 1)));
-            refused(Code.RANGE,
+            refused(Code.AHEAD,
                     () -> slow.fire(List.of(up()), List.of(new Named(COUNT, 2))));
             try (Step step = slow.step()) {
                 step.push(up());
@@ -242,7 +242,7 @@ final class RunTests {
                     refused(Code.FULL, step::commit);
                 }
             }
-            FolugbenException told = refused(Code.RANGE,
+            FolugbenException told = refused(Code.FULL,
                     () -> slow.fire(List.of(Instruction.put(COUNT, 9)), old));
             equal(told instanceof PartException, true);
             equal(told.getMessage().endsWith(

@@ -46,7 +46,7 @@ final class StepTests {
             equal(stale, new Agent.Reply(Code.STALE, 0, 0, 0, "{\"stale\":[\"x\"]}"));
             equal(stale.isStale() && stale.shouldRetry(), true);
             equal(agent.state().number(), 2);
-            refused(Code.NONE, agent::answer);
+            refused(Code.NO_ANSWER, agent::answer);
             refusedAt(Code.NOT_JSON, 0, " at byte 2", () -> agent.peek("[nul]"));
             refusedAt(Code.NOT_JSON, 0, " at byte 2", () -> agent.stands("[nul]"));
             refused(Code.SHAPE, () -> agent.stands("[[\"x\"]]"));
@@ -74,7 +74,7 @@ final class StepTests {
             equal(stale.at(), Location.of("y", 2));
             equal(agent.scan("y").number(), 2);
             equal(agent.fire(inc("x", 1), "[]", "[[\"y\",2],[\"z\",0]]"), 3);
-            refusedAt(Code.RANGE, 0, 
+            refusedAt(Code.AHEAD, 0, 
                     ": scan 2: y is named at 4, and the agent has seen 3",
                     () -> agent.tryFire("[]", "[]", "[[\"x\",0],[\"y\",4]]"));
             refusedAt(Code.SHAPE, 0,
@@ -146,7 +146,7 @@ final class StepTests {
         String nested = "[[\"add\",[\"s\"],1],[\"put\",[\"s\"],{\"set\":[{\"set\":[]}]}]]";
         try (Storage storage = new Storage(INIT, 8); Agent agent = storage.agent(0);
                 Step step = agent.step()) {
-            refused(Code.NONE, step::pop);
+            refused(Code.NO_PUSH, step::pop);
             objection(step, Code.CLASH, clash, () -> step.push(inc("s", 1)));
             step.push(inc("x", 1));
             objection(step, Code.CLASH, clash, () -> step.push(inc("s", 1)));
@@ -286,7 +286,7 @@ final class StepTests {
 
     /** A number above what the agent has seen is refused, with its location. */
     static void numbersToCome() {
-        Code range = Code.RANGE;
+        Code range = Code.AHEAD;
         String seen = " is named at 1, and the agent has seen 0";
         String reads = "[[[\"s\"],0], [[\"y\",1],1]]";
         try (Storage storage = new Storage(INIT, 8); Agent agent = storage.agent(0);
@@ -329,7 +329,7 @@ final class StepTests {
             storage.close();
             rival.tryFire(inc("x", 1), "[]");
             // Nothing was written above this number, so that the rival's update would be lost.
-            refusedAt(Code.RANGE, 0,
+            refusedAt(Code.AHEAD, 0,
                     ": read 1: [\"x\"] is named at 1, and the agent has seen 0",
                     () -> agent.tryFire(raised, kept.named()));
             equal(agent.read(List.of(x)).value(x).asLong(), 9L);
@@ -366,7 +366,7 @@ final class StepTests {
     /** A run goes on in a storage that opens with what the one before left. */
     static void goingOn() {
         Storage storage = new Storage(INIT, 1);
-        refused(Code.NONE, () -> storage.next(1));
+        refused(Code.NO_JOURNAL, () -> storage.next(1));
         try (Agent agent = storage.agent(0)) {
             agent.tryFire(inc("x", 1), "[]");
             agent.give();

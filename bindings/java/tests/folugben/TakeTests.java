@@ -47,7 +47,7 @@ final class TakeTests {
             }
             third.gather(Instruction.inc(X, 1));
             equal(one.unite(other).size(), 4096);
-            refused(Code.MANY, () -> one.unite(third));
+            refused(Code.LONG_MOVE, () -> one.unite(third));
             equal(one.size(), 4096);
             other.close();
             refused(Code.EMPTY, () -> one.unite(other));

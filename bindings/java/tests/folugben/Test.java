@@ -44,7 +44,7 @@ public final class Test {
         refused(Code.NOT_JSON, () -> new Storage("[", 1));
         refused(Code.SHAPE, () -> new Storage("7", 1));
         outOfRange(() -> storage.agent(256));
-        refused(Code.NONE, agent::answer);
+        refused(Code.NO_ANSWER, agent::answer);
         refused(Code.SHAPE, () -> agent.read("[7]"));
         refused(Code.OTHER, () -> storage.give(stranger));
         refused(Code.OTHER, () -> agent.learn(stranger));

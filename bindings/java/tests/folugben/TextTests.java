@@ -62,7 +62,7 @@ final class TextTests {
                 }
             }
             refused(Code.NOT_JSON, () -> agent.read("[[\"k\",\"\\ud83d\"]]"));
-            refused(Code.NONE, agent::answer);
+            refused(Code.NO_ANSWER, agent::answer);
             equal(agent.read("[[\"k\",\"\ud83d\ude00\"],[\"k\",\"\\ud83d\\ude00\"]]"),
                     "{\"number\":0,\"values\":[2,2]}");
         }
@@ -93,7 +93,7 @@ final class TextTests {
                 refused(Code.NOT_JSON, () -> agent.tryFire(text, "[]"));
                 refused(Code.NOT_JSON, () -> agent.tryFire(put, text));
             }
-            refused(Code.NONE, agent::answer);
+            refused(Code.NO_ANSWER, agent::answer);
             equal(agent.seen(), 0);
             String spaced = " [ [\"put\",[\"x\"],\"],\\\"fire\\\":[\\\\\"] ]\r\n";
             equal(agent.tryFire(spaced, "\t[\n[ [\"x\"] , 0 ]]").move(), 1);

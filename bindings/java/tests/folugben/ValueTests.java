@@ -300,7 +300,7 @@ final class ValueTests {
             try (Storage storage = Storage.open(INIT, 8); Agent agent = storage.agent(0)) {
                 equal(agent.tryFire("[]", "[]").code(), Code.DONE);
                 equal(agent.tryFire(List.of(Instruction.add(X, 2)), List.of()).code(), Code.CLASH);
-                equal(refused(Code.RANGE, () -> agent.fire("[]", "[[[\"x\"],9]]")).code(), Code.RANGE);
+                equal(refused(Code.AHEAD, () -> agent.fire("[]", "[[[\"x\"],9]]")).code(), Code.AHEAD);
             }
         }
 
@@ -310,7 +310,7 @@ final class ValueTests {
                     () -> Moves.compose(List.of(all), List.of(Instruction.bagRemove(B, 2, 1))));
             equal(error.at(), B);
             equal(error.answer(), "{\"large\":[\"b\"]}");
-            equal(new LargeException("", null).at() == null, true);
+            equal(new LargeException(Code.LARGE, "", null).at() == null, true);
         }
 
         static void many() {
@@ -329,7 +329,7 @@ final class ValueTests {
                 kind(ManyException.class, code, () -> agent.stands(reads));
                 kind(ManyException.class, code, () -> agent.tryFire(List.of(), reads));
                 kind(ManyException.class, code, () -> step.get(places));
-                kind(ManyException.class, code, () -> Moves.compose(most, one));
+                kind(ManyException.class, Code.LONG_MOVE, () -> Moves.compose(most, one));
                 equal(Moves.compose(most, List.of()), most);
                 for (int depth = 0; depth < 64; depth++) step.push();
                 kind(DeepException.class, Code.DEEP, () -> step.push(one));
