@@ -184,7 +184,7 @@ public final class Agent extends AgentCalls implements Actor {
      * Has the agent's own state follow all moves that are found; how many it has then seen. That
      * state moves on only here and in read, fire, stands and step, and as a step is fired; and where
      * it is shown after another agent, that the same thread plays, went on from it: then it looks on
-     * first. No receipt is made: a look isn't in the journal.
+     * first. A look isn't in the journal.
      */
     @Override
     public long follow() {
@@ -224,9 +224,7 @@ public final class Agent extends AgentCalls implements Actor {
     public Peeked peek(PreparedLocation location) {
         Turns.Player player = Turns.Player.call(this);
         synchronized (slot) {
-            look(location);
-            player.reads(location);
-            player.hears(room);
+            look(location, player);
             return new Peeked(room.number(0), room.told());
         }
     }
@@ -239,9 +237,7 @@ public final class Agent extends AgentCalls implements Actor {
     public long peekNumber(PreparedLocation location) {
         Turns.Player player = Turns.Player.call(this);
         synchronized (slot) {
-            look(location);
-            player.reads(location);
-            player.hears(room);
+            look(location, player);
             return room.kind() == Room.NUM ? room.number() : room.told().asLong();
         }
     }
@@ -358,6 +354,18 @@ public final class Agent extends AgentCalls implements Actor {
         }
     }
 
+    /**
+     * Has it record what its steps read: each commit first adds a read of what the step rests on to
+     * the journal, with the values that were got; what was scanned or seen isn't recorded. Where its
+     * own state has moved on since the step began, it throws a {@link MovedException}. It is off at
+     * first, and of an agent that was taken again, unless the property folugben.record is true.
+     */
+    public void record(boolean isOn) {
+        synchronized (slot) {
+            expect(Code.of(Calls.asm_record(slot.at, isOn)));
+        }
+    }
+
     /** Gives it back to its storage. */
     public void give() {
         Turns.Player.call(this);
@@ -385,8 +393,8 @@ public final class Agent extends AgentCalls implements Actor {
     @Override
     public String toString() {
         synchronized (slot) {
-            return "agent " + number
-                    + (slot.isFull() ? ", at " + (before() + Calls.asm_seen(slot.at)) + " moves" : ", given back");
+            long seen = before() + Calls.asm_seen(slot.at);
+            return "agent " + number + (slot.isFull() ? ", at " + seen + " moves" : ", given back");
         }
     }
 }

@@ -97,11 +97,13 @@ abstract sealed class AgentCalls permits Agent {
         if (chain != null)
             chain.expectGoing();
     }
-    void look(PreparedLocation location) {
+    void look(PreparedLocation location, Turns.Player player) {
         Objects.requireNonNull(location, "location");
         synchronized (location.slot) {
             location.expect(held(slot.peek(location)));
         }
+        player.reads(location);
+        player.hears(room);
     }
     String lastAnswer() {
         synchronized (slot) {

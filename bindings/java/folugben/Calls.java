@@ -143,6 +143,8 @@ final class Calls {
 
     static native int asm_take_state(long agent, long other);
 
+    static native int asm_record(long agent, boolean on);
+
     static native int asm_seen(long agent);
 
     static native int asm_won(long agent);

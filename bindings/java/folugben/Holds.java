@@ -63,8 +63,9 @@ final class Holds {
         if (found == null)
             found = ofCuts(events, moments);
         Verdict last = Verdict.of(atEnd, moments.get(moments.size() - 1));
-        return found != null || last.holds ? found
-                                           : new Breach(events, "at the end it doesn't hold" + last.why, null);
+        if (found != null || last.holds)
+            return found;
+        return new Breach(events, "at the end it doesn't hold" + last.why, null);
     }
 
     private static List<Map<Location, Value>> moments(String journal) {
@@ -97,12 +98,11 @@ final class Holds {
     private Breach ofCuts(List<Schedule.Event> events, List<Map<Location, Value>> moments) {
         BitSet moves = new BitSet();
         for (int at = 0; at < events.size(); at++) moves.set(at, events.get(at).isMove());
-        Set<BitSet> layer = new HashSet<>(Set.of(new BitSet()));
-        List<BitSet> ordered = new ArrayList<>(layer);
-        while (!ordered.isEmpty()) {
+        List<BitSet> layer = List.of(new BitSet());
+        while (!layer.isEmpty()) {
             Set<BitSet> seen = new HashSet<>();
             List<BitSet> further = new ArrayList<>();
-            for (BitSet cut : ordered)
+            for (BitSet cut : layer)
                 for (int move = moves.nextSetBit(0); move >= 0; move = moves.nextSetBit(move + 1)) {
                     BitSet more = with(cut, move, events, moves);
                     if (more == null || !seen.add(more))
@@ -112,7 +112,7 @@ final class Holds {
                     if (!verdict.holds)
                         return broken(upTo(events, more), more.cardinality(), verdict);
                 }
-            ordered = further;
+            layer = further;
         }
         return null;
     }

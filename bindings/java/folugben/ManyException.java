@@ -19,7 +19,8 @@ public final class ManyException extends FolugbenException {
     /** Of a step that would rest on too many. */
     static void expectPlaces(Code code) {
         if (code == Code.MANY)
-            throw new ManyException(Code.MANY, "the step would rest on more than 256 locations and functions");
+            throw new ManyException(
+                    code, "the step would rest on more than 256 locations and functions");
     }
 
     /** Of a move that would have too many instructions. */

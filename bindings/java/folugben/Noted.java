@@ -40,7 +40,8 @@ final class Noted extends Turns.Player {
 
         /** Whether the order of the two matters: one writes what the other reads or writes. */
         boolean meets(Footprint other) {
-            return areAllDependent || disturbs(other) || other.disturbs(this) || areCommon(writes, other.writes);
+            return areAllDependent || disturbs(other) || other.disturbs(this)
+                    || areCommon(writes, other.writes);
         }
 
         private boolean disturbs(Footprint other) {

@@ -21,6 +21,8 @@ import java.util.SortedMap;
  */
 public final class Storage implements AutoCloseable {
     static final int AGENTS = 256;
+    /** Whether each agent records what its steps read from the start. */
+    private static final boolean IS_RECORDED = Boolean.getBoolean("folugben.record");
     private static final int CAPACITY = 1_048_576;
 
     /** The storage's slot, and the lock of the calls on it. */
@@ -119,6 +121,12 @@ public final class Storage implements AutoCloseable {
             }
             agents[number] = agent;
         }
+        return begun(agent);
+    }
+
+    private static Agent begun(Agent agent) {
+        if (IS_RECORDED)
+            agent.record(true);
         return agent;
     }
 
@@ -137,7 +145,7 @@ public final class Storage implements AutoCloseable {
             }
             agents[number] = agent;
         }
-        return agent;
+        return begun(agent);
     }
 
     /** Notes that an agent is about to look on; the one that did so last on this thread. */

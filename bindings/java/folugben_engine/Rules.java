@@ -49,16 +49,13 @@ public final class Rules {
 
     /** Does all of them at once: each sees the same. */
     public static Rule par(Rule... parts) {
-        return (Rule.Gathered) (all, step) -> each(parts, part -> part.addTo(all, step));
+        return (Rule.Gathered) (all, step)
+                -> Arrays.stream(parts).filter(it -> it.addTo(all, step)).count() > 0;
     }
 
     /** Does one after the other: each sees what those before it did. */
     public static Rule seq(Rule... parts) {
-        return (Rule.Played) step -> each(parts, part -> part.play(step));
-    }
-
-    private static boolean each(Rule[] parts, Function<Rule, Boolean> done) {
-        return Arrays.stream(parts).map(done).reduce(false, Boolean::logicalOr);
+        return (Rule.Played) step -> Arrays.stream(parts).filter(it -> it.play(step)).count() > 0;
     }
 
     /** Does the rule again and again, until it has no updates. */
