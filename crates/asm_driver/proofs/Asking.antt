@@ -1,19 +1,23 @@
--- What the matches of a subcommand ask for.
+-- What the matches of a subcommand ask for, and how words are refused.
 use Rattle.std.proofs.Common.{◌≡◌, ◌∙◌, ◌<◌, ◌^◌, ℕ, Bool, true, false, Option, Some, None, Result, Ok, Err}
-use Rattle.std.proofs.Common.{Bor, List, [], ap, bytes_eq, codes, option_map, sym, refl, subst, true≢false}
+use Rattle.std.proofs.Common.{◌⊎◌, inl, inr, Bor, List, [], ap, bytes_eq, codes, option_map, sym, refl, subst, true≢false}
 use Rattle.std.specs.Prelude.{◌≤◌, IfSome, is_some, not, unwrap_or}
 use Rattle.std.specs.Option.{option_or}
 use Rattle.std.specs.Str.Parse.{ParsesUnsigned, IsNumeral, digits_value, without_leading_plus}
 use Rattle.std.proofs.lemmas.Slice.Eq.{bytes_eq-Decides}
-use Rattle.clap.specs.Words.{Row, Text, first_of, first_value, one_text, rows_of}
+use Rattle.clap.specs.Words.{IsAmong, Row, Text, first_of, first_value, one_text, rows_of}
 use Rattle.clap.specs.Matches.{ReadsOne}
 use Rattle.clap.specs.declared.parser.matches.Found.{Found}
+use Rattle.clap.specs.declared.error.kind.ErrorKind.{ErrorKind}
+use Rattle.clap.specs.declared.error.kind.ErrorKind.TheVariants as kind
 use Rattle.clap.proofs.WalkLemmas.{first_value-rows, one_text-rows}
 use Rattle.asm_driver.specs.Limits.{default_capacity}
-use Rattle.asm_driver.specs.Words.{AsksCapacity, AsksFlag, AsksNumber, AsksNone, AsksTrace, IsForward, AsksKind, kind_word}
+use Rattle.asm_driver.specs.Words.{AsksCapacity, AsksFlag, AsksNumber, AsksNone, AsksTrace, IsForward, AsksKind, kind_word, Words, faults, IsRefusal, IsMadeOf}
 use Rattle.asm_driver.specs.declared.program.words.Request.{Request}
 use Rattle.asm_driver.specs.declared.program.words.Request.TheVariants.{Trace, Show}
 use Rattle.asm_driver.specs.declared.program.words.Window.{Window}
+use Rattle.asm_driver.specs.declared.program.words.WordsError.{WordsError}
+use Rattle.asm_driver.specs.declared.program.words.WordsError.TheVariants.{Help, Version, Bad, Memory}
 use Rattle.asm_driver.specs.declared.program.words.TextKind.{TextKind}
 use Rattle.asm_driver.specs.declared.program.words.TextKind.TheVariants.{Script, Journal}
 
@@ -143,3 +147,16 @@ module _ (f : Found) (o : Option (Bor (List ℕ))) (found : option_map (λ s. s.
         → q ≡ bytes_eq word.now (kind_word Journal) → q ≡ false → (t : TextKind) → ¬ AsksKind (rows_of f) t
     other_word r q first fails second none Script = differs Script r first fails
     other_word r q first fails second none Journal = differs Journal q second none
+
+-- ---- words that are refused
+
+-- an error of clap that may come at these words
+pub refused : (words : Words) (k : ErrorKind) (e : WordsError) → (k ≡ kind.OutOfMemory) ⊎ IsAmong k (faults words) →
+    IsMadeOf k e → IsRefusal words e
+refused words k (Help text) (inl memory) is = absurd (cc (memory, is))
+refused words k (Help text) (inr among) is = subst (λ x. IsAmong x (faults words)) is among
+refused words k Version (inl memory) is = absurd (cc (memory, is))
+refused words k Version (inr among) is = subst (λ x. IsAmong x (faults words)) is among
+refused words k Bad (inl memory) is = absurd (is.0 memory)
+refused words k Bad (inr among) is = inl (k, among, is.1)
+refused words k Memory among is = tt

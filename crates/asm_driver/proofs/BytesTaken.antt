@@ -3,7 +3,7 @@ use Rattle.std.proofs.Common.{◌≡◌, ◌≢◌, ◌≤◌, ◌<◌, ℕ, suc
 use Rattle.std.proofs.Math.Seq.{drop-cons}
 use Rattle.std.proofs.KnownBytes.{Consumes-trans, Consumes-nil}
 use Rattle.std.proofs.lemmas.List.{drop_all}
-use Rattle.asm_driver.specs.Input.{Known}
+use Rattle.asm_driver.specs.Ports.{Known}
 use Rattle.asm_driver.specs.Lines.{Takes, IsFilled, IsToppedUp, IsNextByte, IsLineRead}
 use Rattle.std.proofs.lemmas.List.Elements.{All-append, All-from_recursion}
 use Rattle.asm_journal.specs.Reading.{HasNoLineFeed}

@@ -3,7 +3,7 @@ use Rattle.std.proofs.Common.{◌≡◌, ◌↔◌, ℕ, Bool, true, List, ◌++
 use Rattle.std.proofs.KnownBytes.{Appends-trans}
 use Rattle.std.specs.Io.KnownBytes.{Appends}
 use Rattle.asm_audit.specs.declared.reading.Verdict.{Verdict}
-use Rattle.asm_driver.specs.Input.{Known}
+use Rattle.asm_driver.specs.Ports.{Known}
 use Rattle.asm_driver.specs.Refusal.{refusal_line, refusal_status}
 use Rattle.asm_driver.specs.Run.{Input, Output, output_of, input_of, IsUnread, IsAnswer, IsNoAnswer, IsAnswerTo, Writes, Refuses, TellsVerdict, Watches, Runs, HasFailed, Takes}
 use Rattle.asm_driver.specs.Watch.{IsWatchEnd}
@@ -16,11 +16,11 @@ use Rattle.asm_driver.specs.declared.program.refusal.Refusal.TheVariants as refu
 use Rattle.asm_driver.specs.declared.program.watching.Stop.TheVariants.{Refused, Unwritten}
 use Rattle.asm_driver.specs.declared.program.words.WordsError.{WordsError}
 use Rattle.asm_driver.specs.declared.program.words.WordsError.TheVariants.{Help, Version, Bad, Memory}
-use Rattle.asm_driver.specs.declared.program.words.Request.TheVariants.{Show, Watch}
+use Rattle.asm_driver.specs.declared.program.words.Request.TheVariants.{Show, Audit}
 use Rattle.asm_driver.specs.declared.program.words.Window.{Window}
 use Rattle.asm_driver.proofs.Faulting.{faults_answered, faults_refused, faults_watched}
 use Rattle.asm_driver.proofs.Runs.{answered, refused}
-use Rattle.asm_driver.proofs.Taking.{answered_taken, refused_taken, watched_taken}
+use Rattle.asm_driver.proofs.Runs.{answered_taken, refused_taken, watched_taken}
 use Rattle.asm_driver.proofs.Watching.{some_behind, memory_instead}
 
 -- ---- words that ask for nothing that is done
@@ -31,13 +31,13 @@ IsAnswered words i (Err r) = IsNoAnswer words i r
 
 version_told : (words : Words) (i : Input) (r : Result Ending Refusal) → IsRefusal words Version → IsAnswerTo Version r →
     IsUnread i → IsAnswered words i r
-version_told words i (Ok e) asks is unread = inr (inr (inr (is.0, inr (asks, is.1), unread)))
+version_told words i (Ok e) asks is unread = inr (inr (is.0, inr (asks, is.1), unread))
 version_told words i (Err r) asks is unread = subst (IsNoAnswer words i) (sym is) (inl (tt, unread))
 
 pub told_of_words : (words : Words) (i : Input) (e : WordsError) (r : Result Ending Refusal) → IsRefusal words e →
     IsAnswerTo e r → IsUnread i → IsAnswered words i r
 told_of_words words i (Help text) r asks is unread =
-    subst (IsAnswered words i) (sym is) (inr (inr (inr (refl, inl asks, unread))))
+    subst (IsAnswered words i) (sym is) (inr (inr (refl, inl asks, unread)))
 told_of_words words i Version r asks is unread = version_told words i r asks is unread
 told_of_words words i Bad r asks is unread = subst (IsAnswered words i) (sym is) (inl (asks, unread))
 told_of_words words i Memory r asks is unread = subst (IsAnswered words i) (sym is) (inl (tt, unread))
@@ -55,7 +55,7 @@ pub shown_answered : (w : Window) (had left : Known) (failed : Bool) (q : Reques
     IfOk r (λ e. (words : Words) → AsksFor words q →
     IsAnswer words (input_of had left failed) e.status (string_bytes e.text))
 shown_answered w had left failed q (Ok e) asked status is =
-    λ words asks. inr (inr (inl (w, subst (AsksFor words) asked asks, status, is)))
+    λ words asks. inr (inl (w, subst (AsksFor words) asked asks, status, is))
 shown_answered w had left failed q (Err r) asked status is = tt
 
 -- ---- what is written of an answer
@@ -136,7 +136,7 @@ pub watched_cut : (every : ℕ) (had left held holds : Known) (read failed flush
 watched_cut every had left held holds read failed flushed result (told, some, cut, reads) noted four =
     inr (told, cut, reads, four, record { some = some; failed = noted })
 
-pub run_watched : (words : Words) (i : Input) (o : Output) (every result : ℕ) → AsksFor words (Watch every) →
+pub run_watched : (words : Words) (i : Input) (o : Output) (every result : ℕ) → AsksFor words (Audit every) →
     Watches every i o result → IsRun words i o result
 run_watched words i o every result asks is = record {
   runs = inr (every, asks, is);

@@ -11,7 +11,7 @@ use Rattle.asm_driver.specs.Run.{Input, Output, IsAnswer, IsNoAnswer, IsShown, W
 use Rattle.asm_driver.specs.declared.program.refusal.Refusal.{Refusal}
 use Rattle.asm_driver.specs.declared.program.refusal.Refusal.TheVariants as refusal
 use Rattle.asm_driver.specs.declared.program.words.Request.{Request}
-use Rattle.asm_driver.specs.declared.program.words.Request.TheVariants.{Run, Terms, Check, Show, Audit, Watch, Explain}
+use Rattle.asm_driver.specs.declared.program.words.Request.TheVariants.{Run, Terms, Check, Show, Audit, Explain}
 use Rattle.asm_audit.specs.declared.reading.Verdict.{Verdict}
 use Rattle.asm_audit.specs.declared.reading.Verdict.TheVariants as verdict
 use Rattle.asm_driver.specs.Audit.{verdict_status, is_failed_read}
@@ -30,8 +30,7 @@ done_works : (bytes : List ℕ) (request : Request) (status : ℕ) (text : List 
     status ≡ 4 → ⊥
 done_works bytes Check status text (h, l, reads, is, same, written) e = legality_works l (sym same ∙ e)
 done_works bytes (Show w) status text done e = absurd done
-done_works bytes Audit status text done e = absurd done
-done_works bytes (Watch every) status text done e = absurd done
+done_works bytes (Audit every) status text done e = absurd done
 done_works bytes (Explain t) status text (inl done) e = omega (arith, done.0, e)
 done_works bytes (Explain t) status text (inr done) e = omega (arith, done.0, e)
 done_works bytes request status text done e = omega (arith, done.0, e)
@@ -44,17 +43,15 @@ verdict_works (verdict.Illegal part call) e = cc (e)
 answer_works : (words : Words) (i : Input) (status : ℕ) (text : List ℕ) → IsAnswer words i status text → status ≡ 4 → ⊥
 answer_works words i status text (inl (bytes, request, whole, asks, done)) e = done_works bytes request status text
     done e
-answer_works words i status text (inr (inl (asks, (v, is, same, written)))) e = verdict_works v (sym same ∙ e)
-answer_works words i status text (inr (inr (inl (w, asks, same, is)))) e = omega (arith, same, e)
-answer_works words i status text (inr (inr (inr (same, asks, unread)))) e = omega (arith, same, e)
+answer_works words i status text (inr (inl (w, asks, same, is))) e = omega (arith, same, e)
+answer_works words i status text (inr (inr (same, asks, unread))) e = omega (arith, same, e)
 
 -- where there is an answer, no read failed
 answer_reads : (words : Words) (i : Input) (status : ℕ) (text : List ℕ) → IsAnswer words i status text →
     i.failed ≡ false
 answer_reads words i status text (inl (bytes, request, whole, asks, done)) = whole.whole
-answer_reads words i status text (inr (inl (asks, (v, is, same, written)))) = is.noted
-answer_reads words i status text (inr (inr (inl (w, asks, same, is)))) = is.noted
-answer_reads words i status text (inr (inr (inr (same, asks, unread)))) = unread.whole
+answer_reads words i status text (inr (inl (w, asks, same, is))) = is.noted
+answer_reads words i status text (inr (inr (same, asks, unread))) = unread.whole
 
 pub faults_answered : (given : Words) (i : Input) (o : Output) (status : ℕ) (text bytes : List ℕ) (result : ℕ)
     → IsAnswer given i status text → Writes o status bytes result → (result ≡ 4) ↔ HasFailed i o
@@ -105,8 +102,7 @@ fault_failed : (words : Words) (i : Input) → IsNoAnswer words i refusal.InputF
 fault_failed words i (inl (is, unread)) = absurd is
 fault_failed words i (inr (inl (taken, is))) = is.1
 fault_failed words i (inr (inr (inl (bytes, request, whole, asks, is)))) = absurd (done_reads bytes request is)
-fault_failed words i (inr (inr (inr (inl (asks, told))))) = told.noted
-fault_failed words i (inr (inr (inr (inr (w, asks, told))))) = told.2.noted
+fault_failed words i (inr (inr (inr (w, asks, told)))) = told.2.noted
 
 -- and what is refused so is a failed read
 failed_fault : (words : Words) (i : Input) (r : Refusal) → IsNoAnswer words i r → i.failed ≡ true →
@@ -117,8 +113,7 @@ failed_fault words i refusal.InputFault (inr (inl (taken, is))) e = refl
 failed_fault words i refusal.Memory (inr (inl (taken, is))) e = absurd (both (sym e ∙ is.1))
 failed_fault words i r (inr (inl (taken, is))) e = absurd is
 failed_fault words i r (inr (inr (inl (bytes, request, whole, asks, is)))) e = absurd (both (sym e ∙ whole.whole))
-failed_fault words i r (inr (inr (inr (inl (asks, told))))) e = fault_read r (sym told.noted ∙ e)
-failed_fault words i r (inr (inr (inr (inr (w, asks, told))))) e = fault_read r (sym told.2.noted ∙ e)
+failed_fault words i r (inr (inr (inr (w, asks, told)))) e = fault_read r (sym told.2.noted ∙ e)
 
 pub faults_refused : (given : Words) (i : Input) (o : Output) (r : Refusal) (result : ℕ)
     → IsNoAnswer given i r → Refuses o r result → (result ≡ 4) ↔ HasFailed i o

@@ -1,15 +1,9 @@
 mod Lines
-mod OutcomeLines
 mod TextPieces
-mod NoJournals
-mod NoRuns
+mod Refusing
 mod Asking
-mod WordsTaken
-mod Answering
 mod Runs
 mod Faulting
-mod Taking
-mod Auditing
 mod Watching
 mod BytesTaken
 mod PartLines
@@ -17,4 +11,3 @@ mod LinesTaken
 mod Windows
 mod PartsRead
 mod Ending
-mod ReadTerms

@@ -8,7 +8,7 @@ use Rattle.asm_journal.specs.Reading.{HasNoLineFeed, HasLine}
 use Rattle.asm_audit.specs.Text.{IsLineBefore}
 use Rattle.asm_audit.proofs.Extended.{ended}
 use Rattle.asm_driver.specs.Audit.{is_failed_read}
-use Rattle.asm_driver.specs.Input.{Known, TakesAny}
+use Rattle.asm_driver.specs.Ports.{Known, TakesAny}
 use Rattle.asm_driver.specs.Lines.{Takes, IsLineAt, IsLongLine, IsLineRead}
 use Rattle.asm_driver.specs.Parts.{IsAt, IsOneLine, IsToldBehind}
 use Rattle.asm_driver.specs.Refusal.{refusal_of_input}

@@ -7,7 +7,7 @@ use Rattle.asm_journal.specs.declared.error.JournalError.{JournalError}
 use Rattle.asm_journal.specs.declared.error.JournalError.TheVariants as journal_error
 use Rattle.asm_audit.specs.declared.opened.Opened as audit
 use Rattle.asm_driver.specs.Audit.{is_failed_read}
-use Rattle.asm_driver.specs.Input.{Known}
+use Rattle.asm_driver.specs.Ports.{Known}
 use Rattle.asm_driver.specs.Lines.{IsLineAt}
 use Rattle.asm_driver.specs.Parts.{audited, refusal_of_fault, BreaksHeaderOf, IsOpenedFirst, IsOpenedNext, IsNotOpenedNext}
 use Rattle.asm_driver.specs.Parts.{IsTakenAs, IsNotTaken, IsPartRead, AreParts, IsAt, IsOneLine, IsRefusedRun, IsEventRead}

@@ -1,18 +1,22 @@
 -- A run, from what was answered; and a run over a reader and a writer, from one over an input and an output.
-use Rattle.std.proofs.Common.{◌≡◌, ℕ, List, Bool, true, false, Err, refl, sym, ◌∙◌, ap₂, subst, inl, inr}
+use Rattle.std.proofs.Common.{◌≡◌, ℕ, List, Bool, true, false, Err, refl, sym, ◌∙◌, ap₂, subst, inl, inr, ◌≤◌, []}
+use Rattle.std.proofs.Common.{◌++◌, length, arith}
 use Rattle.asm_driver.specs.Commands.{IsNotDone}
-use Rattle.asm_driver.specs.Input.{Known}
+use Rattle.asm_driver.specs.Ports.{Known, TakesSome}
 use Rattle.asm_driver.specs.Refusal.{refusal_line, refusal_status, has_number}
-use Rattle.asm_driver.specs.Words.{Words}
+use Rattle.asm_driver.specs.Words.{Words, AsksFor}
 use Rattle.asm_driver.specs.Run.{Input, Output, IsAnswer, IsNoAnswer, IsNoInput, IsShown, Writes, Refuses, Runs}
-use Rattle.asm_driver.specs.Run.{RunsOver, input_of, output_of}
+use Rattle.asm_driver.specs.Run.{RunsOver, input_of, output_of, IsUnread, IsWhole, Takes, Watches}
 use Rattle.asm_driver.specs.declared.program.refusal.Refusal.{Refusal}
 use Rattle.asm_driver.specs.declared.program.refusal.Refusal.TheVariants as refusal
 use Rattle.asm_driver.specs.declared.program.words.Request.{Request}
-use Rattle.asm_driver.specs.declared.program.words.Request.TheVariants.{Run, Terms, Show, Audit, Watch, Explain}
-use Rattle.asm_driver.specs.Audit.{is_failed_read, IsNoAudit}
+use Rattle.asm_driver.specs.declared.program.words.Request.TheVariants.{Run, Terms, Show, Audit, Explain}
+use Rattle.asm_driver.specs.Audit.{is_failed_read}
 use Rattle.asm_driver.specs.Window.{IsNoWindow}
 use Rattle.asm_driver.specs.declared.program.words.Window.{Window}
+use Rattle.std.proofs.KnownBytes.{Consumes-nil}
+use Rattle.std.specs.Io.KnownBytes.{Consumes}
+use Rattle.asm_driver.specs.Limits.{input_limit}
 
 pub answered : (given words : Words) (i : Input) (o : Output) (status : ℕ) (text bytes : List ℕ) (result : ℕ) →
     given ≡ words → bytes ≡ text → IsAnswer given i status text → Writes o status bytes result → Runs words i o result
@@ -30,8 +34,7 @@ memory_done : (bytes : List ℕ) (request : Request) (r : Refusal) → IsNotDone
 memory_done bytes (Run capacity asked) r is = tt
 memory_done bytes (Terms capacity) r is = tt
 memory_done bytes (Show w) r is = is
-memory_done bytes Audit r is = is
-memory_done bytes (Watch every) r is = is
+memory_done bytes (Audit every) r is = is
 memory_done bytes (Explain t) r is = refl
 memory_done bytes request r is = tt
 
@@ -40,17 +43,7 @@ number_read : (r : Refusal) → has_number r ≡ true → is_failed_read (Err r)
 number_read refusal.InputFault number = sym number
 number_read r number = refl
 
--- and so it may in an audit
-memory_audited : (had left : Known) (failed : Bool) (r : Refusal) → has_number r ≡ true → IsNoAudit had left failed r →
-    IsNoAudit had left failed refusal.Memory
-memory_audited had left failed r number told = record {
-  bytes = told.bytes;
-  consumed = told.consumed;
-  told = inr (λ more. tt);
-  noted = told.noted ∙ number_read r number;
-}
-
--- and where a window is asked for
+-- and so it may where a window is asked for
 memory_shown : (w : Window) (had left : Known) (failed : Bool) (r : Refusal) → has_number r ≡ true →
     IsNoWindow w had left failed r → IsNoWindow w had left failed refusal.Memory
 memory_shown w had left failed r number (taken, inside, told) = (
@@ -79,10 +72,8 @@ memory_told words i r number (inl (bad, unread)) = inl (tt, unread)
 memory_told words i r number (inr (inl (taken, is))) = absurd (input_plain i r is number)
 memory_told words i r number (inr (inr (inl (bytes, request, whole, asks, is)))) =
     inr (inr (inl (bytes, request, whole, asks, memory_done bytes request r is)))
-memory_told words i r number (inr (inr (inr (inl (asks, is))))) =
-    inr (inr (inr (inl (asks, memory_audited i.had i.left i.failed r number is))))
-memory_told words i r number (inr (inr (inr (inr (w, asks, is))))) =
-    inr (inr (inr (inr (w, asks, memory_shown w i.had i.left i.failed r number is))))
+memory_told words i r number (inr (inr (inr (w, asks, is)))) =
+    inr (inr (inr (w, asks, memory_shown w i.had i.left i.failed r number is)))
 
 -- the refusal that is shown tells why there is no answer
 shown_told : (words : Words) (i : Input) (r shown : Refusal) → IsNoAnswer words i r → IsShown r shown →
@@ -118,3 +109,40 @@ runs_over words had left held holds had' left' held' holds' read write flushed r
 pub otherwise : (b : Bool) → (b ≡ false → false ≡ true) → b ≡ true
 otherwise true h = refl
 otherwise false h = h refl
+
+-- where nothing was read, no bytes were taken
+none_taken : (i : Input) → IsUnread i → TakesSome i.had i.left
+none_taken i unread =
+    ([], subst (λ (l : Known). Consumes i.had l []) (sym unread.same) (Consumes-nil i.had), omega arith)
+
+-- all of the input is within the limit
+all_taken : (i : Input) (bytes : List ℕ) → IsWhole i bytes → TakesSome i.had i.left
+all_taken i bytes whole =
+    let within : length bytes ≤ input_limit = whole.all.within in (bytes, whole.all.consumed, omega (arith, within))
+
+pub answered_taken : (words : Words) (i : Input) (status : ℕ) (text : List ℕ) → IsAnswer words i status text →
+    Takes words i.had i.left
+answered_taken words i status text (inl (bytes, request, whole, asks, done)) = inl (all_taken i bytes whole)
+answered_taken words i status text (inr (inl (w, asks, same, is))) = inr (inr (w, asks), (is.bytes, is.consumed))
+answered_taken words i status text (inr (inr (same, asks, unread))) = inl (none_taken i unread)
+
+-- where there is no input, at most one byte beyond the limit was taken
+input_taken : (i : Input) (r : Refusal) → IsNoInput i r → TakesSome i.had i.left
+input_taken i refusal.TooLarge ((bytes, consumed, count), whole) = (bytes, consumed, omega (arith, count))
+input_taken i refusal.InputFault is = is.0
+input_taken i refusal.Memory is = is.0
+input_taken i r is = absurd is
+
+pub refused_taken : (words : Words) (i : Input) (r : Refusal) → IsNoAnswer words i r → Takes words i.had i.left
+refused_taken words i r (inl (bad, unread)) = inl (none_taken i unread)
+refused_taken words i r (inr (inl (taken, is))) = inl (input_taken i r is)
+refused_taken words i r (inr (inr (inl (bytes, request, whole, asks, is)))) = inl (all_taken i bytes whole)
+refused_taken words i r (inr (inr (inr (w, asks, told)))) =
+    inr (inr (w, asks), (told.0 ++ (told.2.line ++ told.2.behind), told.2.consumed))
+
+pub watched_taken : (words : Words) (i : Input) (o : Output) (every result : ℕ) → AsksFor words (Audit every) →
+    Watches every i o result → Takes words i.had i.left
+watched_taken words i o every result asks (inl (r, told, text, status, is, ends, writes)) =
+    inr (inl (every, asks), (is.taken ++ is.behind, is.consumed))
+watched_taken words i o every result asks (inr (told, cut, reads, four, some)) =
+    inr (inl (every, asks), (cut.taken ++ cut.behind, cut.consumed))

@@ -1,125 +1,45 @@
 -- What is told while an audit goes on.
-use Rattle.std.proofs.Common.{◌≡◌, ◌≢◌, ◌+◌, ℕ, Bool, true, false, List, [], ◌∷◌, ◌++◌, All, take, length, Result, Ok, Err, refl, sym, ap, subst, ◌∙◌, inl, inr, append-nil, append_assoc}
+use Rattle.std.proofs.Common.{◌≡◌, ◌≢◌, ◌+◌, ℕ, Bool, true, false, List, [], ◌∷◌, ◌++◌, take, length, Result, Ok, Err}
+use Rattle.std.proofs.Common.{refl, sym, ap, subst, ◌∙◌, inl, inr, append-nil, append_assoc, drop, take-append-drop}
 use Rattle.std.proofs.KnownBytes.{Consumes-trans, Consumes-nil, Consumes-kept, Appends-nil, Appends-trans}
-use Rattle.std.proofs.lemmas.Grind.{flat_map-append}
-use Rattle.std.proofs.lemmas.List.Elements.{All-nil, All-push}
+use Rattle.std.proofs.lemmas.List.Elements.{All-nil}
 use Rattle.std.proofs.Math.Seq.{take-append-add}
 use Rattle.std.specs.Io.KnownBytes.{Keeps, Consumes, Appends, IsAtEnd}
 use Rattle.asm_journal.specs.Reading.{HasNoLineFeed}
-use Rattle.asm_audit.specs.Fed.{IsFed, HasTaken, IsFedAnswer, IsFedEnd}
-use Rattle.asm_audit.specs.SoFar.{HasCounts, HasEnded, AreFedSoFar}
-use Rattle.asm_audit.specs.Text.{ended_lines}
+use Rattle.asm_audit.specs.Audited.{IsVerdict}
+use Rattle.asm_audit.specs.Fed.{IsFed, HasTaken, HasTakenFirst, IsFedAnswer, IsFedEnd}
+use Rattle.asm_audit.specs.SoFar.{AreFedSoFar}
 use Rattle.asm_audit.specs.declared.error.AuditError.{AuditError}
+use Rattle.asm_audit.specs.declared.error.AuditError.TheVariants.{Journal, Apart, LongLine, Memory}
 use Rattle.asm_audit.specs.declared.progress.Counts.{Counts}
 use Rattle.asm_audit.specs.declared.progress.Progress.{Progress}
 use Rattle.asm_audit.specs.declared.progress.Told.{Told}
 use Rattle.asm_audit.specs.declared.progress.Told.TheVariants as tells
 use Rattle.asm_audit.specs.declared.reading.Verdict.{Verdict}
 use Rattle.asm_audit.specs.declared.reading.Verdict.TheVariants.{Legal, Illegal}
-use Rattle.asm_audit.proofs.Ended.{one_ending, plain_lines}
-use Rattle.asm_audit.proofs.Fed.{no_feed_push}
 use Rattle.asm_aggregate.specs.Standard.{standard_part}
-use Rattle.asm_driver.specs.Audit.{IsAuditOf, is_failed_read, refusal_of_audit}
-use Rattle.asm_driver.specs.Input.{Known}
-use Rattle.asm_driver.specs.Output.{AppendsSome}
-use Rattle.asm_driver.specs.Watch.{IsDueText, IsToldOfLines, IsToldOf, IsToldBehind, IsWatchTold, IsWatched, IsStopped, IsWatchAnswer, AddsDue, IsWrittenAnswer, IsWatchEnd}
+use Rattle.asm_driver.specs.Audit.{IsAuditOf, IsBadRun, is_failed_read, refusal_of_audit}
+use Rattle.asm_driver.specs.Ports.{Known, AppendsSome}
+use Rattle.asm_driver.specs.Watch.{IsToldOf, IsToldBehind, IsWatchTold, IsWatched, IsStopped, IsWatchAnswer, AddsDue}
+use Rattle.asm_driver.specs.Watch.{IsWrittenAnswer, IsWatchEnd}
 use Rattle.asm_driver.specs.declared.program.refusal.Refusal.{Refusal}
 use Rattle.asm_driver.specs.declared.program.refusal.Refusal.TheVariants as refusal
 use Rattle.asm_driver.specs.declared.program.watching.Stop.{Stop}
 use Rattle.asm_driver.specs.declared.program.watching.Stop.TheVariants.{Refused, Unwritten}
-use Rattle.asm_driver.proofs.Auditing.{bad_run, no_read}
+use Rattle.asm_driver.proofs.Lines.{told_byte, told_line, silent}
 
--- ---- one more line
+-- an audit's error as the refusal that is made of it
+pub bad_run : (text : List ℕ) (e : AuditError) → IsVerdict standard_part text (Err e) → IsBadRun text (refusal_of_audit e)
+bad_run text (Journal part fault) is = is
+bad_run text (Apart part) is = is
+bad_run text LongLine is = is
+bad_run text Memory is = tt
 
--- what is told of lines, with what is told of one more
-told_push : (every : ℕ) (ls : List (List ℕ)) (l taken told first : List ℕ) (w x : Counts) →
-    IsToldOfLines every ls taken told → HasCounts standard_part (taken ++ ended_lines ls) w →
-    HasCounts standard_part ((taken ++ ended_lines ls) ++ (l ++ 10 ∷ [])) x → IsDueText every w x first →
-    IsToldOfLines every (ls ++ l ∷ []) taken (told ++ first)
-told_push every [] l taken told first w x is before after due = (
-  w,
-  x,
-  subst (λ (t : List ℕ). HasCounts standard_part t w) (append-nil taken) before,
-  subst (λ (t : List ℕ). HasCounts standard_part (t ++ (l ++ 10 ∷ [])) x) (append-nil taken) after,
-  (first, [], due, ap (λ t. t ++ first) is ∙ sym (append-nil first), refl),
-)
-told_push every (m ∷ ms) l taken told first w x (v, u, here, there, (one, rest, fits, all, further)) before after due =
-    let moved : taken ++ ended_lines (m ∷ ms) ≡ (taken ++ (m ++ 10 ∷ [])) ++ ended_lines ms =
-    sym (append_assoc taken (m ++ 10 ∷ []) (ended_lines ms)) in (
-      v,
-      u,
-      here,
-      there,
-      (
-        one,
-        rest ++ first,
-        fits,
-        ap (λ t. t ++ first) all ∙ append_assoc one rest first,
-        told_push every ms l (taken ++ (m ++ 10 ∷ [])) rest first w x further
-            (subst (λ (t : List ℕ). HasCounts standard_part t w) moved before)
-            (subst (λ (t : List ℕ). HasCounts standard_part (t ++ (l ++ 10 ∷ [])) x) moved after) due,
-      ),
-    )
-
--- the ended lines of a text, by their lines
-ended_is : (text ended : List ℕ) (lines : List (List ℕ)) (line : List ℕ) → HasEnded text ended →
-    ended_lines lines ++ line ≡ text → All HasNoLineFeed lines → HasNoLineFeed line → ended ≡ ended_lines lines
-ended_is text ended lines line (other, all, short, open_line) is plain none =
-    let same = one_ending short.0 lines other line (plain_lines short.0 short.2) plain open_line none
-    (ap (λ (t : List ℕ). t ++ other) (sym short.1) ∙ all ∙ sym is) in
-    short.1 ∙ ap ended_lines same.0
-
-lines_and : (ls : List (List ℕ)) (l : List ℕ) → ended_lines (ls ++ l ∷ []) ≡ ended_lines ls ++ (l ++ 10 ∷ [])
-lines_and ls l =
-    flat_map-append (λ (x : List ℕ). x ++ 10 ∷ []) ls (l ∷ []) ∙ ap (λ t. ended_lines ls ++ t) (append-nil (l ++ 10 ∷ []))
-
-module _ (every : ℕ) (text told : List ℕ) (w : IsToldOf every text told) where
-  -- a byte that ends no line
-  pub told_byte : (b : ℕ) → b ≢ 10 → IsToldOf every (text ++ b ∷ []) told
-  told_byte b other = record {
-    lines = w.lines;
-    line = w.line ++ b ∷ [];
-    all = sym (append_assoc (ended_lines w.lines) w.line (b ∷ [])) ∙ ap (λ t. t ++ b ∷ []) w.all;
-    ended = w.ended;
-    open_line = no_feed_push w.line b w.open_line other;
-    of_lines = w.of_lines;
-  }
-
-  abbrev one_more : List (List ℕ)
-  one_more = w.lines ++ w.line ∷ []
-
-  line_ends : ended_lines one_more ++ [] ≡ text ++ 10 ∷ []
-  line_ends =
-      append-nil (ended_lines one_more) ∙ lines_and w.lines w.line
-      ∙ sym (append_assoc (ended_lines w.lines) w.line (10 ∷ [])) ∙ ap (λ t. t ++ 10 ∷ []) w.all
-
-  all_plain : All HasNoLineFeed one_more
-  all_plain = All-push HasNoLineFeed w.lines w.line w.ended w.open_line
-
-  none_open : HasNoLineFeed []
-  none_open = All-nil (λ b. b ≢ 10)
-
-  -- the byte that ends a line, with what is due behind it
-  pub told_line : (p q : Progress) (line left : List ℕ) (x y : Counts) (first : List ℕ) →
-      IsFed standard_part text p line → IsFed standard_part (text ++ 10 ∷ []) q left →
-      AreFedSoFar standard_part p line x → AreFedSoFar standard_part q left y → IsDueText every x y first →
-      IsToldOf every (text ++ 10 ∷ []) (told ++ first)
-  told_line p q line left x y first fed next before after due =
-      let here = before text fed in
-      let there = after (text ++ 10 ∷ []) next in
-      let here_is : here.0 ≡ ended_lines w.lines = ended_is text here.0 w.lines w.line here.1 w.all w.ended w.open_line in
-      let there_is : there.0 ≡ ended_lines w.lines ++ (w.line ++ 10 ∷ []) =
-      ended_is (text ++ 10 ∷ []) there.0 one_more [] there.1 line_ends all_plain none_open ∙ lines_and w.lines w.line in
-      record {
-        lines = one_more;
-        line = [];
-        all = line_ends;
-        ended = all_plain;
-        open_line = none_open;
-        of_lines = told_push every w.lines w.line [] told first x y w.of_lines
-            (subst (λ (t : List ℕ). HasCounts standard_part t x) here_is here.2)
-            (subst (λ (t : List ℕ). HasCounts standard_part t y) there_is there.2) due;
-      }
+pub no_read : (e : AuditError) → is_failed_read (Err (refusal_of_audit e)) ≡ false
+no_read (Journal part fault) = refl
+no_read (Apart part) = refl
+no_read LongLine = refl
+no_read Memory = refl
 
 -- ---- one byte
 
@@ -191,6 +111,31 @@ module _ (every : ℕ) (text done bytes rest whole told : List ℕ) (all : done 
         noted = s.noted;
         ends = λ more. subst (λ (t : List ℕ). IsAuditOf (t ++ s.next ∷ more) r) here (s.ends more);
       }
+
+-- bytes that are taken at once, where nothing is ever told
+module _ (every : ℕ) (text told bytes : List ℕ) (p q : Progress) (line left : List ℕ) (n : ℕ) (never : every ≡ 0)
+    (w : IsWatched every text p line told) where
+  abbrev front : List ℕ
+  front = take n bytes
+
+  fed_front : HasTaken standard_part front p line q left → IsWatched every (text ++ front) q left told
+  fed_front taken = record { fed = taken text w.fed; watched = silent every text told front never w.watched }
+
+  rest_is : (b : ℕ) (more : List ℕ) → drop n bytes ≡ b ∷ more → front ++ (b ∷ [] ++ more) ≡ bytes
+  rest_is b more is = ap (λ (t : List ℕ). front ++ t) (sym is) ∙ take-append-drop n bytes
+
+  pub taken_at_once : (r : Result Told AuditError) → IsFedAnswer standard_part bytes p line q left r →
+      HasTakenFirst standard_part bytes p line q left n r → IsWatchAnswer every text bytes q left told r
+  taken_at_once (Ok tells.Legal) all first =
+      record { fed = all text w.fed; watched = silent every text told bytes never w.watched }
+  taken_at_once (Ok (tells.Illegal j c)) all first =
+      let (b, more, is, answer) = first.next in
+      stopped_more every text front (b ∷ []) more bytes told (rest_is b more is) (Ok (Illegal j c))
+      (stopped_wrong every (text ++ front) told q q left left b (fed_front first.taken) j c answer)
+  taken_at_once (Err e) all first =
+      let (b, more, is, answer) = first.next in
+      stopped_more every text front (b ∷ []) more bytes told (rest_is b more is) (Err (refusal_of_audit e))
+      (stopped_fault every (text ++ front) told q q left left b (fed_front first.taken) e answer)
 
 -- ---- what is written of some bytes
 

@@ -19,7 +19,7 @@ use Rattle.asm_audit.proofs.Steps.{legal_more}
 use Rattle.asm_trace.specs.Note.{Note, IsNoteOf, AreNotesOf}
 use Rattle.asm_trace.specs.Text.{notes_text, note_json_of, IsNoted}
 use Rattle.asm_trace.proofs.Noted.{notes_more, text_more, few_moves}
-use Rattle.asm_driver.specs.Input.{Known}
+use Rattle.asm_driver.specs.Ports.{Known}
 use Rattle.asm_driver.specs.Parts.{IsPartRead, AreParts, IsAt, IsOneLine, IsRefusedRun, IsToldBehind}
 use Rattle.std.specs.FinMap as finite
 use Rattle.serde_json.specs.Data.{Data}

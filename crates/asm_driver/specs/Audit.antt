@@ -1,14 +1,12 @@
--- What the program does with the run that its input gives.
-use Rattle.std.specs.Prelude.{◌≡◌, ◌⊎◌, ℕ, Bool, true, false, List, ◌++◌, codes, Result, Ok, Err}
+-- What an audit of a run tells.
+use Rattle.std.specs.Prelude.{ℕ, Bool, true, false, List, ◌++◌, codes, Result, Ok, Err}
 use Rattle.std.specs.Fmt.{decimal}
-use Rattle.std.specs.Io.KnownBytes.{Consumes, IsAtEnd}
 use Rattle.asm_audit.specs.Audited.{IsVerdict}
 use Rattle.asm_audit.specs.declared.error.AuditError.{AuditError}
 use Rattle.asm_audit.specs.declared.error.AuditError.TheVariants.{Journal, Apart, LongLine, Memory}
 use Rattle.asm_audit.specs.declared.reading.Verdict.{Verdict}
 use Rattle.asm_audit.specs.declared.reading.Verdict.TheVariants.{Legal, Illegal}
 use Rattle.asm_aggregate.specs.Standard.{standard_part}
-use Rattle.asm_driver.specs.Input.{Known}
 use Rattle.asm_driver.specs.Report.{line}
 use Rattle.asm_driver.specs.declared.program.refusal.Refusal.{Refusal}
 use Rattle.asm_driver.specs.declared.program.refusal.Refusal.TheVariants as refusal
@@ -50,20 +48,3 @@ IsAuditOf text (Err r) = IsBadRun text r
 abbrev pub is_failed_read : Result Verdict Refusal → Bool
 is_failed_read (Err refusal.InputFault) = true
 is_failed_read _ = false
-
--- some bytes of the input were taken, and this is told: they were all that it had, and it is so of them, or it is so
--- whatever stands behind them
-pub record IsAuditTold (had left : Known) (failed : Bool) (r : Result Verdict Refusal) : Type 0 where
-  pub bytes : List ℕ
-  pub consumed : Consumes had left bytes
-  pub told : (IsAtEnd left × IsAuditOf bytes r) ⊎ ((more : List ℕ) → IsAuditOf (bytes ++ more) r)
-  pub noted : failed ≡ is_failed_read r
-
--- the status and the text of an audit
-abbrev pub IsAudit : Known → Known → Bool → ℕ → List ℕ → Type 0
-IsAudit had left failed status text =
-    (v : Verdict) × IsAuditTold had left failed (Ok v) × (status ≡ verdict_status v) × (text ≡ verdict_line v)
-
--- why there is none
-abbrev pub IsNoAudit : Known → Known → Bool → Refusal → Type 0
-IsNoAudit had left failed r = IsAuditTold had left failed (Err r)

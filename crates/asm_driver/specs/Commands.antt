@@ -23,7 +23,7 @@ use Rattle.asm_driver.specs.declared.program.refusal.Refusal.{Refusal}
 use Rattle.asm_driver.specs.declared.program.refusal.Refusal.TheVariants as refusal
 use Rattle.asm_script.specs.declared.script.ScriptError.TheVariants.{BadScript}
 use Rattle.asm_driver.specs.declared.program.words.Request.{Request}
-use Rattle.asm_driver.specs.declared.program.words.Request.TheVariants.{Run, Terms, Check, Rewrite, Trace, Show, Audit, Watch, Explain}
+use Rattle.asm_driver.specs.declared.program.words.Request.TheVariants.{Run, Terms, Check, Rewrite, Trace, Show, Audit, Explain}
 
 -- ---- run
 
@@ -121,8 +121,7 @@ IsDone bytes Check status text = IsCheck bytes status text
 IsDone bytes Rewrite status text = (status ≡ 0) × IsRewrite bytes text
 IsDone bytes Trace status text = (status ≡ 0) × IsTraceOf bytes text
 IsDone bytes (Show w) status text = ⊥
-IsDone bytes Audit status text = ⊥
-IsDone bytes (Watch every) status text = ⊥
+IsDone bytes (Audit every) status text = ⊥
 IsDone bytes (Explain t) status text = IsExplained bytes t status text
 
 -- why it isn't done
@@ -133,6 +132,5 @@ IsNotDone bytes Check r = IsNoJournal bytes r
 IsNotDone bytes Rewrite r = IsNoJournal bytes r
 IsNotDone bytes Trace r = IsNoJournal bytes r
 IsNotDone bytes (Show w) r = ⊥
-IsNotDone bytes Audit r = ⊥
-IsNotDone bytes (Watch every) r = ⊥
+IsNotDone bytes (Audit every) r = ⊥
 IsNotDone bytes (Explain t) r = r ≡ refusal.Memory

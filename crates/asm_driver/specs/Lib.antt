@@ -1,8 +1,7 @@
 pub mod Limits
 pub mod Report
-pub mod Input
+pub mod Ports
 pub mod Lines
-pub mod Output
 pub mod Words
 pub mod Refusal
 pub mod Audit
@@ -11,5 +10,4 @@ pub mod Parts
 pub mod Window
 pub mod Explained
 pub mod Commands
-pub mod Terms
 pub mod Run

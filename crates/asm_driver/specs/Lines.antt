@@ -4,7 +4,7 @@ use Rattle.std.specs.Prelude.{Result, Ok, Err}
 use Rattle.std.specs.Io.KnownBytes.{Consumes, IsAtEnd}
 use Rattle.asm_audit.specs.Limits.{line_limit}
 use Rattle.asm_journal.specs.Reading.{HasNoLineFeed, EndsLine}
-use Rattle.asm_driver.specs.Input.{Known, TakesAny, is_fault}
+use Rattle.asm_driver.specs.Ports.{Known, TakesAny, is_fault}
 use Rattle.asm_driver.specs.declared.ports.input.InputError.{InputError}
 use Rattle.asm_driver.specs.declared.ports.input.InputError.TheVariants.{TooLarge, Fault, Memory}
 use Rattle.asm_driver.specs.declared.ports.line_reader.LineReader.{LineReader}

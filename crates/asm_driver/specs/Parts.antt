@@ -19,7 +19,7 @@ use Rattle.asm_audit.specs.Opened.{history_of, IsTaken}
 use Rattle.asm_audit.specs.Step.{IsNextTest}
 use Rattle.asm_audit.specs.declared.opened.Opened as audit
 use Rattle.asm_driver.specs.Audit.{IsBadRun, is_failed_read}
-use Rattle.asm_driver.specs.Input.{Known}
+use Rattle.asm_driver.specs.Ports.{Known}
 use Rattle.asm_driver.specs.declared.program.parts.Opened.{Opened}
 use Rattle.asm_driver.specs.declared.program.refusal.Refusal.{Refusal}
 use Rattle.asm_driver.specs.declared.program.refusal.Refusal.TheVariants as refusal

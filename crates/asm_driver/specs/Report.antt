@@ -1,5 +1,5 @@
 -- The report of a played script: its lines, and their order.
-use Rattle.std.specs.Prelude.{ℕ, List, [], ◌∷◌, ◌++◌, length, min, codes}
+use Rattle.std.specs.Prelude.{◌≡◌, ℕ, List, [], ◌∷◌, ◌++◌, length, min, codes}
 use Rattle.std.specs.List.{flat_map, enumerate_from}
 use Rattle.std.specs.Fmt.{decimal}
 use Rattle.std.specs.FinMap as finite
@@ -15,6 +15,7 @@ use Rattle.asm_journal.specs.Event.{word_of_cause}
 use Rattle.asm_play.specs.declared.outcome.Outcome.{Outcome}
 use Rattle.asm_play.specs.declared.outcome.Outcome.TheVariants.{Fired, Clash, Full, Term, Large, Many, GaveUp}
 use Rattle.asm_play.specs.declared.outcome.Played.{Played}
+use Rattle.asm_play.specs.declared.outcome.StepTerm.{StepTerm}
 
 -- a line and its line feed
 abbrev pub line : List ℕ → List ℕ
@@ -65,3 +66,9 @@ report_of part p =
     state_lines (state_of part p.history.init (fired_moves p.history.events))
     ++ moves_line (min (length (fired_moves p.history.events)) 4294967295)
     ++ outcome_lines p.outcomes
+
+-- a line was appended, which says that a step of the agent ended since a term of this instruction had no value, and why
+abbrev pub IsTermLine : ℕ → StepTerm → List ℕ → List ℕ → Type 0
+IsTermLine agent t old new =
+    (why : List ℕ) × (new ≡ old ++ (step_name agent t.step ++ codes " block " ++ decimal t.term.block
+    ++ codes " instruction " ++ decimal t.term.instruction ++ codes ": ") ++ line why)

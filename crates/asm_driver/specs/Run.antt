@@ -3,12 +3,12 @@ use Rattle.std.specs.Prelude.{◌≡◌, ◌≢◌, ◌⊎◌, ◌++◌, ℕ, Bo
 use Rattle.std.specs.Io.KnownBytes.{Appends}
 use Rattle.std.specs.declared.io.ErrorKind.{ErrorKind}
 use Rattle.std.specs.declared.io.ErrorKind.TheVariants.{InvalidData}
-use Rattle.asm_driver.specs.Input.{Known, ReadsAll, TakesTooMany, TakesSome, TakesAny}
-use Rattle.asm_driver.specs.Output.{AppendsSome}
+use Rattle.asm_driver.specs.Ports.{Known, ReadsAll, TakesTooMany, TakesSome, TakesAny}
+use Rattle.asm_driver.specs.Ports.{AppendsSome}
 use Rattle.asm_driver.specs.Words.{Words, AsksFor, AsksForHelp, AsksForVersion, HasMistake}
 use Rattle.asm_driver.specs.Report.{line}
 use Rattle.asm_audit.specs.declared.reading.Verdict.{Verdict}
-use Rattle.asm_driver.specs.Audit.{IsAudit, IsNoAudit, verdict_line, verdict_status}
+use Rattle.asm_driver.specs.Audit.{verdict_line, verdict_status}
 use Rattle.asm_driver.specs.Watch.{IsWatchTold, IsWatchCut}
 use Rattle.asm_driver.specs.Window.{IsWindow, IsNoWindow}
 use Rattle.asm_driver.specs.Commands.{IsDone, IsNotDone}
@@ -17,7 +17,7 @@ use Rattle.asm_driver.specs.declared.program.commands.Ending.{Ending}
 use Rattle.asm_driver.specs.declared.program.refusal.Refusal.{Refusal}
 use Rattle.asm_driver.specs.declared.program.refusal.Refusal.TheVariants as refusal
 use Rattle.asm_driver.specs.declared.program.words.Request.{Request}
-use Rattle.asm_driver.specs.declared.program.words.Request.TheVariants.{Audit, Show, Watch}
+use Rattle.asm_driver.specs.declared.program.words.Request.TheVariants.{Audit, Show}
 use Rattle.asm_driver.specs.declared.program.words.Window.{Window}
 use Rattle.asm_driver.specs.declared.program.words.WordsError.{WordsError}
 use Rattle.asm_driver.specs.declared.program.words.WordsError.TheVariants as words
@@ -51,10 +51,6 @@ abbrev pub IsAsked : Words → Input → ℕ → List ℕ → Type 0
 IsAsked words i status text =
     (bytes : List ℕ) × (request : Request) × IsWhole i bytes × AsksFor words request × IsDone bytes request status text
 
--- the audit that the words ask for, of the run that the input gives
-abbrev pub IsAudited : Words → Input → ℕ → List ℕ → Type 0
-IsAudited words i status text = AsksFor words Audit × IsAudit i.had i.left i.failed status text
-
 -- the trace of the window that the words ask for, of the run that the input gives
 abbrev pub IsShownOf : Words → Input → ℕ → List ℕ → Type 0
 IsShownOf words i status text =
@@ -71,7 +67,7 @@ IsToldOf words text = AsksForHelp words ⊎ (AsksForVersion words × (text ≡ v
 -- what the words ask for; or help or the version that is asked for, before anything is read
 abbrev pub IsAnswer : Words → Input → ℕ → List ℕ → Type 0
 IsAnswer words i status text =
-    IsAsked words i status text ⊎ IsAudited words i status text ⊎ IsShownOf words i status text
+    IsAsked words i status text ⊎ IsShownOf words i status text
     ⊎ ((status ≡ 0) × IsToldOf words text × IsUnread i)
 
 -- why the words are refused
@@ -90,23 +86,22 @@ IsNoInput i r = ⊥
 -- the words ask for something that is done with the whole input
 abbrev pub AsksForWhole : Words → Type 0
 AsksForWhole words =
-    (request : Request) × AsksFor words request × (request ≢ Audit) × ((w : Window) → request ≢ Show w)
-    × ((every : ℕ) → request ≢ Watch every)
+    (request : Request) × AsksFor words request × ((w : Window) → request ≢ Show w)
+    × ((every : ℕ) → request ≢ Audit every)
 
 -- why there is no answer: the words, before anything is read; then the input, where all of it is asked for; then what it
--- holds; or why there is no audit, or no trace of a window
+-- holds; or why there is no trace of a window
 abbrev pub IsNoAnswer : Words → Input → Refusal → Type 0
 IsNoAnswer words i r =
     (IsWordsRefusal words r × IsUnread i)
     ⊎ (AsksForWhole words × IsNoInput i r)
     ⊎ ((bytes : List ℕ) × (request : Request) × IsWhole i bytes × AsksFor words request × IsNotDone bytes request r)
-    ⊎ (AsksFor words Audit × IsNoAudit i.had i.left i.failed r)
     ⊎ ((w : Window) × AsksFor words (Show w) × IsNoWindow w i.had i.left i.failed r)
 
--- the words ask for an audit of a run, which tells how far it is or doesn't, or for the trace of a window of one
+-- the words ask for an audit of a run, or for the trace of a window of one
 abbrev pub AsksForRun : Words → Type 0
 AsksForRun words =
-    AsksFor words Audit ⊎ ((every : ℕ) × AsksFor words (Watch every)) ⊎ ((w : Window) × AsksFor words (Show w))
+    ((every : ℕ) × AsksFor words (Audit every)) ⊎ ((w : Window) × AsksFor words (Show w))
 
 -- bytes of the input were taken: as many as an audit or a window wants, else at most one beyond the limit
 abbrev pub Takes : Words → Known → Known → Type 0
@@ -185,7 +180,7 @@ TellsVerdict v o result =
     Writes o (verdict_status v) (verdict_line v) result
     ⊎ Writes o (refusal_status refusal.Memory) (refusal_line refusal.Memory) result
 
--- an audit that tells how far it is, and then how it ends
+-- an audit, which tells after each so many calls how far it is, and then how it ends
 abbrev pub TellsAll : ℕ → Input → Output → ℕ → Type 0
 TellsAll every i o result =
     (r : Result Verdict Refusal) × (told text : List ℕ) × (status : ℕ) × IsWatchTold every i.had i.left i.failed r told
@@ -201,7 +196,7 @@ Watches every i o result =
 abbrev pub Runs : Words → Input → Output → ℕ → Type 0
 Runs words i o result =
     ((status : ℕ) × (text : List ℕ) × Ends words i status text × Writes o status text result)
-    ⊎ ((every : ℕ) × AsksFor words (Watch every) × Watches every i o result)
+    ⊎ ((every : ℕ) × AsksFor words (Audit every) × Watches every i o result)
 
 -- a read of the input failed, or a call of the output
 abbrev pub HasFailed : Input → Output → Type 0

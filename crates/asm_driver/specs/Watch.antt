@@ -15,8 +15,8 @@ use Rattle.asm_audit.specs.declared.progress.Told.TheVariants as tells
 use Rattle.asm_audit.specs.declared.reading.Verdict.{Verdict}
 use Rattle.asm_audit.specs.declared.reading.Verdict.TheVariants.{Illegal}
 use Rattle.asm_driver.specs.Audit.{IsAuditOf, is_failed_read, refusal_of_audit}
-use Rattle.asm_driver.specs.Input.{Known}
-use Rattle.asm_driver.specs.Output.{AppendsSome}
+use Rattle.asm_driver.specs.Ports.{Known}
+use Rattle.asm_driver.specs.Ports.{AppendsSome}
 use Rattle.asm_driver.specs.Report.{line as with_feed}
 use Rattle.asm_driver.specs.declared.program.refusal.Refusal.{Refusal}
 use Rattle.asm_driver.specs.declared.program.refusal.Refusal.TheVariants as refusal
@@ -37,13 +37,20 @@ abbrev pub IsDueText : ℕ → Counts → Counts → List ℕ → Type 0
 IsDueText every w x text =
     (IsDue every w.calls x.calls × (text ≡ so_far_line x)) ⊎ (¬ IsDue every w.calls x.calls × (text ≡ []))
 
+-- what is told of this line of the run, behind those that were taken: what is due by the numbers before it and behind
+-- it; never anything where it would be after each 0 calls
+abbrev pub IsToldOfLine : ℕ → List ℕ → List ℕ → List ℕ → Type 0
+IsToldOfLine every taken l text =
+    ((every ≡ 0) × (text ≡ []))
+    ⊎ ((w x : Counts) × HasCounts standard_part taken w × HasCounts standard_part (taken ++ (l ++ 10 ∷ [])) x
+    × IsDueText every w x text)
+
 -- what is told of these lines of the run in turn, behind those that were taken
 abbrev pub IsToldOfLines : ℕ → List (List ℕ) → List ℕ → List ℕ → Type 0
 IsToldOfLines every [] taken told = told ≡ []
 IsToldOfLines every (l ∷ ls) taken told =
-    (w x : Counts) × HasCounts standard_part taken w × HasCounts standard_part (taken ++ (l ++ 10 ∷ [])) x
-    × ((first rest : List ℕ) × IsDueText every w x first × (told ≡ first ++ rest)
-    × IsToldOfLines every ls (taken ++ (l ++ 10 ∷ [])) rest)
+    (first rest : List ℕ) × IsToldOfLine every taken l first × (told ≡ first ++ rest)
+    × IsToldOfLines every ls (taken ++ (l ++ 10 ∷ [])) rest
 
 -- what is told while these bytes of a run are taken: of each line that ends in them
 pub record IsToldOf (every : ℕ) (taken told : List ℕ) : Type 0 where

@@ -17,7 +17,7 @@ use Rattle.asm_audit.specs.Chain.{last_left, HasLegal, IsGoing}
 use Rattle.asm_audit.specs.declared.progress.Counts.{Counts}
 use Rattle.asm_trace.specs.Note.{Note, AreNotesOf}
 use Rattle.asm_trace.specs.Text.{notes_text}
-use Rattle.asm_driver.specs.Input.{Known}
+use Rattle.asm_driver.specs.Ports.{Known}
 use Rattle.asm_audit.specs.declared.opened.Opened as audit
 use Rattle.asm_driver.specs.Parts.{audited, AreParts, IsPartRead, IsAt, IsOneLine, IsRefusedRun, IsToldBehind}
 use Rattle.asm_driver.specs.declared.program.parts.Opened.{Opened}

@@ -1,7 +1,6 @@
 -- The words that the program takes, what they ask for, and how others are refused.
 use Rattle.std.specs.Prelude.{◌≡◌, ◌<◌, ◌≤◌, ◌^◌, ◌⊎◌, ℕ, Bool, pos, true, false, List, [], ◌∷◌, Option, Some, None}
-use Rattle.std.specs.Prelude.{Result, Ok, Err, IfSome, unwrap_or, codes, String}
-use Rattle.std.specs.declared.alloc.Global.{Global}
+use Rattle.std.specs.Prelude.{IfSome, unwrap_or, codes}
 use Rattle.std.specs.Str.Parse.{IsNumeral, digits_value, without_leading_plus}
 use Rattle.clap.specs.Words.{App, Row, Rule, Text, Kinds, IsAmong, fault_of, first_of, new_app, new_rule, one_of}
 use Rattle.clap.specs.Words.{subcommand_of}
@@ -11,9 +10,8 @@ use Rattle.clap.specs.declared.builder.value_parser.ValueParser.TheVariants.{Sig
 use Rattle.clap.specs.declared.error.kind.ErrorKind.{ErrorKind}
 use Rattle.clap.specs.declared.error.kind.ErrorKind.TheVariants as kind
 use Rattle.asm_row.specs.Limits.{capacity_limit}
-use Rattle.asm_driver.specs.Limits.{default_capacity}
 use Rattle.asm_driver.specs.declared.program.words.Request.{Request}
-use Rattle.asm_driver.specs.declared.program.words.Request.TheVariants.{Run, Terms, Check, Rewrite, Trace, Show, Audit, Watch, Explain}
+use Rattle.asm_driver.specs.declared.program.words.Request.TheVariants.{Run, Terms, Check, Rewrite, Trace, Show, Audit, Explain}
 use Rattle.asm_driver.specs.declared.program.words.Window.{Window}
 use Rattle.asm_driver.specs.declared.program.words.TextKind.{TextKind}
 use Rattle.asm_driver.specs.declared.program.words.TextKind.TheVariants.{Script, Journal}
@@ -149,10 +147,10 @@ AsksNumber name rows None = (t : Text) → one_of name rows ≡ Some t → ¬ Is
 AsksNumber name rows (Some n) =
     (t : Text) × (one_of name rows ≡ Some t) × IsNumber t × (n ≡ digits_value 10 (without_leading_plus t))
 
--- what the option of audit asks for: where a number stands at --every, to tell how far the audit is, and else not
+-- what the option of audit asks for: where a number stands at --every, to tell how far the audit is after each so many
+-- calls; and else 0, for never
 abbrev pub AsksAudit : List Row → Request → Type 0
-AsksAudit rows Audit = AsksNumber (codes "every") rows None
-AsksAudit rows (Watch n) = AsksNumber (codes "every") rows (Some n)
+AsksAudit rows (Audit n) = (asked : Option ℕ) × AsksNumber (codes "every") rows asked × (n ≡ unwrap_or asked 0)
 AsksAudit rows r = ⊥
 
 -- the window doesn't end before it begins
@@ -192,8 +190,7 @@ Asks (Some p) Check = p.0 ≡ codes "check"
 Asks (Some p) Rewrite = p.0 ≡ codes "rewrite"
 Asks (Some p) Trace = (p.0 ≡ codes "trace") × AsksTrace p.1 Trace
 Asks (Some p) (Show w) = (p.0 ≡ codes "trace") × AsksTrace p.1 (Show w)
-Asks (Some p) Audit = (p.0 ≡ codes "audit") × AsksAudit p.1 Audit
-Asks (Some p) (Watch n) = (p.0 ≡ codes "audit") × AsksAudit p.1 (Watch n)
+Asks (Some p) (Audit n) = (p.0 ≡ codes "audit") × AsksAudit p.1 (Audit n)
 Asks (Some p) (Explain t) = (p.0 ≡ codes "explain") × AsksKind p.1 t
 
 -- the words are taken, and ask for this
@@ -240,104 +237,3 @@ IsMadeOf k (Help text) = k ≡ kind.DisplayHelp
 IsMadeOf k Version = k ≡ kind.DisplayVersion
 IsMadeOf k Bad = ¬ (k ≡ kind.OutOfMemory) × ¬ IsTold k
 IsMadeOf k Memory = (k ≡ kind.OutOfMemory) ⊎ (k ≡ kind.DisplayHelp)
-
--- ---- words that are written out
-
--- the program's name, and further words
-abbrev pub program_with : Words → Words
-program_with more = codes "asm_driver" ∷ more
-
--- the program's name, the word run, and further ones
-abbrev pub run_with : Words → Words
-run_with more = program_with (codes "run" ∷ more)
-
--- the program's name, the word trace, and further ones
-abbrev pub trace_with : Words → Words
-trace_with more = program_with (codes "trace" ∷ more)
-
--- the window of this part, from this call on and, where another is told, to before that one
-abbrev pub window_of : ℕ → ℕ → Option ℕ → Window
-window_of part from to = record { part = part; from = from; to = to }
-
--- the program's name, the word audit, and further ones
-abbrev pub audit_with : Words → Words
-audit_with more = program_with (codes "audit" ∷ more)
-
--- the program's name, the word explain, and further ones
-abbrev pub explain_with : Words → Words
-explain_with more = program_with (codes "explain" ∷ more)
-
--- this is answered, unless memory is refused
-abbrev pub Gives : Request → Result Request WordsError → Type 0
-Gives wanted r = (r ≡ Ok wanted) ⊎ (r ≡ Err Memory)
-
--- the words are refused as bad, unless memory is refused
-abbrev pub RefusesWords : Result Request WordsError → Type 0
-RefusesWords r = (r ≡ Err Bad) ⊎ (r ≡ Err Memory)
-
--- help is answered, unless memory is refused
-abbrev pub Helps : Result Request WordsError → Type 0
-Helps r = ((text : String Global) × (r ≡ Err (Help text))) ⊎ (r ≡ Err Memory)
-
--- the version is told, unless memory is refused
-abbrev pub TellsVersion : Result Request WordsError → Type 0
-TellsVersion r = (r ≡ Err Version) ⊎ (r ≡ Err Memory)
-
--- what is answered to some words
-pub record Answers (words : Words) (r : Result Request WordsError) : Type 0 where
-  pub default : words ≡ run_with [] → Gives (Run default_capacity false) r
-  pub journal : words ≡ run_with (codes "--journal" ∷ []) → Gives (Run default_capacity true) r
-  pub both : words ≡ run_with (codes "--journal" ∷ codes "--capacity" ∷ codes "8" ∷ []) → Gives (Run 8 true) r
-  pub terms : words ≡ run_with (codes "--terms" ∷ []) → Gives (Terms default_capacity) r
-  pub terms_both : words ≡ run_with (codes "--capacity=8" ∷ codes "--terms" ∷ []) → Gives (Terms 8) r
-  pub journal_alone : words ≡ run_with (codes "--terms" ∷ codes "--journal" ∷ []) → Gives (Run default_capacity true) r
-  pub plus : words ≡ run_with (codes "--capacity" ∷ codes "+8" ∷ []) → Gives (Run 8 false) r
-  pub leading_zero : words ≡ run_with (codes "--capacity" ∷ codes "08" ∷ []) → Gives (Run 8 false) r
-  pub joined : words ≡ run_with (codes "--capacity=8" ∷ []) → Gives (Run 8 false) r
-  pub greatest : words ≡ run_with (codes "--capacity" ∷ codes "1048576" ∷ []) → Gives (Run capacity_limit false) r
-  pub above : words ≡ run_with (codes "--capacity" ∷ codes "1048577" ∷ []) → RefusesWords r
-  pub zero : words ≡ run_with (codes "--capacity" ∷ codes "0" ∷ []) → RefusesWords r
-  pub further : words ≡ run_with (codes "more" ∷ []) → RefusesWords r
-  pub none : words ≡ program_with [] → RefusesWords r
-  pub other : words ≡ program_with (codes "play" ∷ []) → RefusesWords r
-  pub check : words ≡ program_with (codes "check" ∷ []) → Gives Check r
-  pub check_further : words ≡ program_with (codes "check" ∷ codes "more" ∷ []) → RefusesWords r
-  pub rewrite : words ≡ program_with (codes "rewrite" ∷ []) → Gives Rewrite r
-  pub rewrite_further : words ≡ program_with (codes "rewrite" ∷ codes "more" ∷ []) → RefusesWords r
-  pub trace : words ≡ program_with (codes "trace" ∷ []) → Gives Trace r
-  pub trace_further : words ≡ program_with (codes "trace" ∷ codes "more" ∷ []) → RefusesWords r
-  pub trace_part : words ≡ trace_with (codes "--part" ∷ codes "1" ∷ []) → Gives (Show (window_of 1 0 None)) r
-  pub trace_from : words ≡ trace_with (codes "--from=2" ∷ []) → Gives (Show (window_of 0 2 None)) r
-  pub trace_to : words ≡ trace_with (codes "--to=+03" ∷ []) → Gives (Show (window_of 0 0 (Some 3))) r
-  pub trace_window : words ≡ trace_with (codes "--to=3" ∷ codes "--from=2" ∷ codes "--part=1" ∷ []) →
-      Gives (Show (window_of 1 2 (Some 3))) r
-  pub trace_nowhere : words ≡ trace_with (codes "--from=3" ∷ codes "--to=3" ∷ []) →
-      Gives (Show (window_of 0 3 (Some 3))) r
-  pub trace_backward : words ≡ trace_with (codes "--from=3" ∷ codes "--to=2" ∷ []) → RefusesWords r
-  pub trace_greatest : words ≡ trace_with (codes "--part=4294967295" ∷ []) → Gives (Show (window_of 4294967295 0 None)) r
-  pub trace_above : words ≡ trace_with (codes "--from=4294967296" ∷ []) → RefusesWords r
-  pub trace_below : words ≡ trace_with (codes "--to=-1" ∷ []) → RefusesWords r
-  pub trace_no_part : words ≡ trace_with (codes "--part" ∷ []) → RefusesWords r
-  pub audit : words ≡ audit_with [] → Gives Audit r
-  pub audit_every : words ≡ audit_with (codes "--every" ∷ codes "8" ∷ []) → Gives (Watch 8) r
-  pub audit_joined : words ≡ audit_with (codes "--every=+08" ∷ []) → Gives (Watch 8) r
-  pub audit_greatest : words ≡ audit_with (codes "--every" ∷ codes "4294967295" ∷ []) → Gives (Watch 4294967295) r
-  pub audit_above : words ≡ audit_with (codes "--every" ∷ codes "4294967296" ∷ []) → RefusesWords r
-  pub audit_zero : words ≡ audit_with (codes "--every" ∷ codes "0" ∷ []) → RefusesWords r
-  pub audit_nothing : words ≡ audit_with (codes "--every" ∷ []) → RefusesWords r
-  pub audit_further : words ≡ audit_with (codes "more" ∷ []) → RefusesWords r
-  pub explain_script : words ≡ explain_with (codes "script" ∷ []) → Gives (Explain Script) r
-  pub explain_journal : words ≡ explain_with (codes "journal" ∷ []) → Gives (Explain Journal) r
-  pub explain_nothing : words ≡ explain_with [] → RefusesWords r
-  pub explain_other : words ≡ explain_with (codes "report" ∷ []) → RefusesWords r
-  pub explain_further : words ≡ explain_with (codes "script" ∷ codes "journal" ∷ []) → RefusesWords r
-  pub help : words ≡ program_with (codes "--help" ∷ []) → Helps r
-  pub run_help : words ≡ run_with (codes "--help" ∷ []) → Helps r
-  pub check_help : words ≡ program_with (codes "check" ∷ codes "--help" ∷ []) → Helps r
-  pub rewrite_help : words ≡ program_with (codes "rewrite" ∷ codes "--help" ∷ []) → Helps r
-  pub trace_help : words ≡ program_with (codes "trace" ∷ codes "--help" ∷ []) → Helps r
-  pub audit_help : words ≡ audit_with (codes "--help" ∷ []) → Helps r
-  pub explain_help : words ≡ explain_with (codes "--help" ∷ []) → Helps r
-  pub version : words ≡ program_with (codes "--version" ∷ []) → TellsVersion r
-  pub short_version : words ≡ program_with (codes "-V" ∷ []) → TellsVersion r
-  pub run_version : words ≡ run_with (codes "--version" ∷ []) → RefusesWords r

@@ -5,9 +5,11 @@
 mod ports;
 mod program;
 mod reporting;
+mod shown;
 mod terms;
 
 pub use asm_play::{Gate, Open, Outcome, Played, RunError, run_script};
 pub use asm_script::{Script, ScriptCause, ScriptError, parse_script};
 pub use program::{run_given, run_main};
 pub use reporting::report;
+pub use shown::shown_text;

@@ -8,7 +8,6 @@ ghost use Rattle.asm_driver.specs.Run.{IsAnswer, IsNoAnswer, IsAnswerTo, version
 ghost use Rattle.asm_driver.specs.Run.{TellsVerdict, Watches};
 ghost use Rattle.asm_driver.specs.Run.{input_of, output_of, Runs, RunsOver, HasFailed, RefusesKind, IsRefusalOfKind};
 
-mod auditing;
 mod commands;
 mod explained;
 mod parts;
@@ -21,10 +20,9 @@ use crate::ports::input::read_input;
 use crate::ports::output::write_whole;
 use crate::ports::sink::{NotedWriter, Sink};
 use crate::ports::source::{NotedReader, Source};
-use crate::program::auditing::{audit_input, verdict_ending};
 use crate::program::commands::{Ending, carry_out};
 use crate::program::refusal::Refusal;
-use crate::program::watching::{Stop, watched};
+use crate::program::watching::{Stop, verdict_ending, watched};
 use crate::program::windowing::window_input;
 use crate::program::words::{Request, WordsError, read_words};
 use asm_audit::Verdict;
@@ -64,7 +62,7 @@ fn answer<T: Threads + Wait + Sync, S: Source>(
     input: &mut S,
 ) -> Result<Ending, Refusal>
     requires unread { S.failed input.old ≡ false }
-    requires watch { (every : ℕ) → request ≢ requests.Watch every }
+    requires audit { (every : ℕ) → request ≢ requests.Audit every }
     ensures same_reference { S.lender input.new ≡ S.lender input.old }
     ensures ok { IfOk result (λ e. (words : Words) → AsksFor words request → IsAnswer words
         (input_of (S.remaining input.old) (S.remaining input.new) (S.failed input.new))
@@ -73,7 +71,6 @@ fn answer<T: Threads + Wait + Sync, S: Source>(
         (input_of (S.remaining input.old) (S.remaining input.new) (S.failed input.new)) r) }
 {
     match request {
-        Request::Audit => audit_input(rt, alloc, input),
         Request::Show(window) => window_input(rt, alloc, window, input),
         _ => {
             let bytes = read_input(alloc, input)?;
@@ -140,7 +137,8 @@ fn write_verdict<K: Sink>(alloc: Global, output: &mut K, verdict: Verdict) -> u8
     }
 }
 
-/// Audits the run that the input gives, and tells how far that is after each so many calls. Gives the status.
+/// Audits the run that the input gives, and tells how far that is after each so many calls, or never for 0. Gives the
+/// status.
 fn watch<T: Wait, S: Source, K: Sink>(
     rt: &T,
     alloc: Global,
@@ -195,7 +193,7 @@ pub fn run_noted<T: Threads + Wait + Sync, S: Source, K: Sink>(
         Err(error) => return write_answer(alloc, output, answer_to(alloc, error)),
     };
     match request {
-        Request::Watch { every } => watch(rt, alloc, every, input, output),
+        Request::Audit { every } => watch(rt, alloc, every, input, output),
         _ => {
             let answered = answer(rt, alloc, request, input);
             write_answer(alloc, output, answered)
@@ -212,7 +210,7 @@ pub fn run_noted<T: Threads + Wait + Sync, S: Source, K: Sink>(
 /// `rewrite` it is a journal too, whether legal or not, and the journal of the same history is written with status 0; so
 /// is its trace with `trace`. With `explain script` or `explain journal` nothing is written, with status 0, where `run`
 /// or `check` would take the input, and else a line that says where and why not, with status 1. With `audit` it is a run
-/// of any length, whose parts are journals, of which no line may have more than 16,777,216 bytes; it is read to its end
+/// of any length, whose parts are journals, of which no line may have more than 1,073,741,824 bytes; it is read to its end
 /// or to where something is told, and `legal CALLS MOVES PARTS` is written with status 0, or `illegal PART CALL` with
 /// status 1; with `--every N` also `so far CALLS MOVES PARTS` after each N calls, before more is read. With `trace` and a
 /// part, a first call or one behind the last, it is such a run too, which is read to the window's end, and the trace of

@@ -1,118 +1,76 @@
-//! Where a term of a played script had no value, and why: a line for each step that ended so.
+//! Where terms of a played script had no value, and why: a line for each step that ended so.
+ghost use Rattle.std.specs.Prelude.{◌≡◌, ◌++◌, OnOk, string_bytes};
+ghost use Rattle.asm_driver.specs.Report.{IsTermLine};
 
-mod cut;
-mod read;
-mod shown;
-mod tries;
-mod why;
-
-use crate::terms::cut::{Place, place_of};
-use crate::terms::tries::end_of_step;
-use crate::terms::why::why_none;
-use asm_journal::two_members;
-use asm_play::{Outcome, Played};
-use asm_script::{Script, Step};
-use asm_storage::Event;
-use asm_update::PlainState;
+use crate::shown::shown_text;
+use asm_element::Items;
+use asm_journal::{location_json, value_json};
+use asm_play::StepTerm;
+use asm_script::{Found, NoValue};
 use serde_json::Value as Json;
 use std::alloc::{AllocError, Global};
 
-// The step's JSON in that of the script.
-fn step_json<'j>(agents: &'j Json, agent: usize, step: usize) -> Option<&'j [Json]> {
-    let steps = agents.as_array()?.get(agent)?.as_array()?;
-    Some(steps.get(step)?.as_array()?.as_slice())
+// The JSON as it is shown.
+fn shown_json(alloc: Global, json: &Json) -> Result<String, AllocError> {
+    shown_text(alloc, json.to_string(alloc)?.as_str())
 }
 
-// Where a term of the step, which is this JSON, has no value on what was read, and why: what stands behind the step's name.
-fn told_of_step(
-    alloc: Global,
-    blocks: &[Json],
-    read: &PlainState,
-) -> Result<Option<String>, AllocError> {
-    let Some(Place { block, instruction }) = place_of(alloc, blocks, read)? else {
-        return Ok(None);
+// The value in words: `LOC holds VALUE, which` where a location holds it, and else the value alone.
+fn found(alloc: Global, found: &Found) -> Result<String, AllocError> {
+    let value = shown_json(alloc, &value_json(alloc, &found.value)?)?;
+    let Some(at) = &found.at else {
+        return Ok(value);
     };
-    match why_none(alloc, blocks, block, instruction, read)? {
-        Some(why) => Ok(Some(format!(in alloc; "block {block} instruction {instruction}: {why}")?)),
-        None => Ok(Some(format!(in alloc;
-            "block {block} instruction {instruction}: its term has no value"
-        )?)),
+    let at = shown_json(alloc, &location_json(alloc, at)?)?;
+    format!(in alloc; "{at} holds {value}, which")
+}
+
+// Why a term has no value.
+fn why(alloc: Global, why: &NoValue) -> Result<String, AllocError> {
+    match why {
+        NoValue::NoNumber(value) => {
+            let value = found(alloc, value)?;
+            format!(in alloc; "{value} is no number")
+        }
+        NoValue::NoElement(value) => {
+            let value = found(alloc, value)?;
+            format!(in alloc; "{value} is no element")
+        }
+        NoValue::OutOfRange(first, second) => {
+            format!(in alloc; "the sum of {first} and {second} is out of range")
+        }
     }
 }
 
-// Tells of each step of the agent that ended so.
-fn tell_agent(
+// Appends the line of one step.
+fn push_line(
     alloc: Global,
     text: &mut String,
-    agents: &Json,
     agent: usize,
-    steps: &[Step],
-    outcomes: &[Outcome],
-    events: &[Event],
-) -> Result<(), AllocError> {
-    let mut rest = events;
-    for (index, step) in steps.iter().enumerate() {
-        let (read, behind) = end_of_step(alloc, step, rest, agent)?;
-        rest = behind;
-        if !matches!(outcomes.get(index), Some(Outcome::Term)) {
-            continue;
-        }
-        let (Some(read), Some(blocks)) = (read, step_json(agents, agent, index)) else {
-            continue;
-        };
-        if let Some(told) = told_of_step(alloc, blocks, &read.state)? {
-            text.push_str(format!(in alloc; "agent {agent} step {index} {told}\n")?.as_str())?;
-        }
-    }
+    told: &StepTerm,
+) -> Result<(), AllocError>
+    ensures { OnOk result (IsTermLine agent told.now (string_bytes text.old) (string_bytes text.new)) }
+{
+    let (step, block, instruction) = (told.step, told.term.block, told.term.instruction);
+    let why = why(alloc, &told.term.why)?;
+    let place = format!(in alloc;
+        "agent {agent} step {step} block {block} instruction {instruction}: "
+    )?;
+    text.push_str(place.as_str())?;
+    text.push_str(why.as_str())?;
+    text.push_str("\n")?;
     Ok(())
 }
 
-fn has_term(outcomes: &[Outcome]) -> bool {
-    outcomes
-        .iter()
-        .any(|outcome| matches!(outcome, Outcome::Term))
-}
-
-// Tells of the agents, whose steps are this JSON.
-fn tell_agents(
-    alloc: Global,
-    text: &mut String,
-    agents: &Json,
-    script: &Script,
-    played: &Played,
-) -> Result<(), AllocError> {
-    let outcomes = played.outcomes.as_slice();
-    let events = played.history.events.as_slice();
-    for (agent, steps) in script.agents().iter().enumerate() {
-        if let Some(ended) = outcomes.get(agent) {
-            let ended = ended.as_slice();
-            if has_term(ended) {
-                tell_agent(alloc, text, agents, agent, steps.as_slice(), ended, events)?;
-            }
-        }
-    }
-    Ok(())
-}
-
-/// For each step of the script, which was played, that ended since a term had no value, a line that tells where this was in
-/// the step, and why.
+/// For each step that ended since a term had no value, a line that says where in the step this was, and why.
 ///
-/// It is told of the values that the step's own last read was answered. Blocks and instructions count from 0, as agents
-/// and steps do. `AllocError` comes only where memory was refused.
-pub(crate) fn terms_text(
-    alloc: Global,
-    text: &[u8],
-    script: &Script,
-    played: &Played,
-) -> Result<String, AllocError> {
-    let mut told = String::new(alloc);
-    let json = match Json::from_slice(alloc, text) {
-        Ok(json) => json,
-        Err(error) if error.is_memory() => return Err(AllocError),
-        Err(_) => return Ok(told),
-    };
-    if let Some((agents, _)) = two_members(&json, "agents", "init") {
-        tell_agents(alloc, &mut told, agents, script, played)?;
+/// Agents, steps, blocks and instructions count from 0. `AllocError` comes only where memory was refused.
+pub(crate) fn terms_text(alloc: Global, terms: &[Items<StepTerm>]) -> Result<String, AllocError> {
+    let mut text = String::new(alloc);
+    for (agent, steps) in terms.iter().enumerate() {
+        for told in steps.as_slice() {
+            push_line(alloc, &mut text, agent, told)?;
+        }
     }
-    Ok(told)
+    Ok(text)
 }

@@ -1,7 +1,7 @@
 //! A step whose offers are lost.
 use asm_aggregate::Standard;
 use asm_play::aggregator::chosen;
-use asm_play::{Outcome, Passage, Player};
+use asm_play::{Passage, Player, StepEnd};
 use asm_script::{Script, parse_script};
 use asm_storage::Storage;
 use asm_update::{Instructions, PlainState};
@@ -93,8 +93,8 @@ fn fired_among_rivals<R: Wait>(
         aggregator: _,
         passage: Meddling(_),
     } = player;
-    Ok(match played?.outcomes.as_slice() {
-        [Outcome::Fired(number)] => Some(*number),
+    Ok(match played?.ends.as_slice() {
+        [StepEnd::Fired(number)] => Some(*number),
         _ => None,
     })
 }

@@ -1,6 +1,6 @@
 //! The errors of runs, of scripts, and of the steps that scripts and engines take.
 use asm_play::RunError;
-use asm_script::{ScriptCause, ScriptError, StepFault};
+use asm_script::{FaultyTerm, NoValue, ScriptCause, ScriptError, StepFault};
 use asm_step::StepError;
 use asm_test_support::{are_told_apart, location};
 use asm_update::{Cause, Clash};
@@ -44,8 +44,12 @@ fn errors_of_scripts_have_their_texts(rt: HostRuntime) -> Result<(), Fail> {
     assert!(rt; memory.as_str() == "out of memory");
     let many = StepFault::Many.to_string(rt.alloc())?;
     assert!(rt; many.as_str() == "more than 4,096 instructions");
-    let term = StepFault::Term.to_string(rt.alloc())?;
-    assert!(rt; term.as_str() == "a faulty term");
+    let term = StepFault::Term(FaultyTerm {
+        block: 0,
+        instruction: 0,
+        why: NoValue::OutOfRange(1, i64::MAX),
+    });
+    assert!(rt; term.to_string(rt.alloc())?.as_str() == "a faulty term");
     Ok(())
 }
 

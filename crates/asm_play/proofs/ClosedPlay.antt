@@ -21,17 +21,18 @@ use Rattle.asm_play.specs.Play as play
 use Rattle.asm_play.specs.Play.{AreAgentsTold, IsPlayOf}
 use Rattle.asm_play.specs.AgentPlay.{AreProper, Plays}
 use Rattle.asm_aggregate.specs.Standard.{standard_meaning, standard_part}
+use Rattle.asm_play.specs.Ends.{outcome_in, terms_in}
 use Rattle.asm_play.specs.StepEvents.{AreTold}
 use Rattle.asm_play.specs.PlayedAgents.{close_error_told, ArePlayed, IsNotClosed}
 use Rattle.asm_script.specs.declared.step.Step.{Step}
-use Rattle.asm_play.specs.declared.outcome.Outcome.{Outcome}
+use Rattle.asm_play.specs.declared.step_end.StepEnd.{StepEnd}
 use Rattle.asm_play.specs.declared.outcome.Played.{Played}
 use Rattle.asm_play.specs.declared.outcome.RunError.{RunError}
 use Rattle.asm_play.specs.declared.outcome.RunError.TheVariants as run_error
 
 module _ {A : Type 0} (meaning : A → Meaning) (s : StorageView A) where
   -- each of them is of the storage
-  pub of_storage : (id : ℕ) (sss : List (List Step)) (agents : List (AgentAt A)) (oss : List (List Outcome)) →
+  pub of_storage : (id : ℕ) (sss : List (List Step)) (agents : List (AgentAt A)) (oss : List (List StepEnd)) →
       ArePlayed meaning standard_meaning s id sss agents oss → All (IsOf s) agents
   of_storage id [] [] [] played = All-nil (IsOf s)
   of_storage id (ss ∷ sss) (a ∷ agents) (os ∷ oss) played =
@@ -39,7 +40,7 @@ module _ {A : Type 0} (meaning : A → Meaning) (s : StorageView A) where
   of_storage id sss agents oss played = absurd played
 
   -- they have the numbers from id up
-  pub ids_are : (id : ℕ) (sss : List (List Step)) (agents : List (AgentAt A)) (oss : List (List Outcome)) →
+  pub ids_are : (id : ℕ) (sss : List (List Step)) (agents : List (AgentAt A)) (oss : List (List StepEnd)) →
       ArePlayed meaning standard_meaning s id sss agents oss → ids (accounts agents) ≡ range_with_len id (length sss)
   ids_are id [] [] [] played = refl
   ids_are id (ss ∷ sss) (a ∷ agents) (os ∷ oss) played =
@@ -49,7 +50,7 @@ module _ {A : Type 0} (meaning : A → Meaning) (s : StorageView A) where
   ids_are id sss agents oss played = absurd played
 
   -- one more than the greatest is how many there are
-  pub bound_is : (id : ℕ) (sss : List (List Step)) (agents : List (AgentAt A)) (oss : List (List Outcome)) →
+  pub bound_is : (id : ℕ) (sss : List (List Step)) (agents : List (AgentAt A)) (oss : List (List StepEnd)) →
       ArePlayed meaning standard_meaning s id sss agents oss → max id (id_bound (accounts agents)) ≡ id + length sss
   bound_is id [] [] [] played = omega arith
   bound_is id (ss ∷ sss) (a ∷ agents) (os ∷ oss) played =
@@ -59,7 +60,7 @@ module _ {A : Type 0} (meaning : A → Meaning) (s : StorageView A) where
   bound_is id sss agents oss played = absurd played
 
   -- none of them has a number from there on
-  pub none_beyond : (id : ℕ) (sss : List (List Step)) (agents : List (AgentAt A)) (oss : List (List Outcome)) (i : ℕ) →
+  pub none_beyond : (id : ℕ) (sss : List (List Step)) (agents : List (AgentAt A)) (oss : List (List StepEnd)) (i : ℕ) →
       ArePlayed meaning standard_meaning s id sss agents oss → id + length sss ≤ i →
       All (λ a. a.id ≢ i) (accounts agents)
   none_beyond id [] [] [] i played le = All-nil (λ (a : AgentView). a.id ≢ i)
@@ -71,7 +72,7 @@ module _ {A : Type 0} (meaning : A → Meaning) (s : StorageView A) where
   none_beyond id sss agents oss i played le = absurd played
 
   -- what is told of one agent in a history that tells its receipts, and whose moves begin with what it saw
-  agent_told : (id : ℕ) (ss : List Step) (a : AgentAt A) (os : List Outcome) (h : List Event) →
+  agent_told : (id : ℕ) (ss : List Step) (a : AgentAt A) (os : List StepEnd) (h : List Event) →
       (meaning s.agg).part ≡ standard_part → AreProper s.init (fired_moves h) →
       Plays meaning standard_meaning (at_start s id) a ss os →
       events_of h a.account.id ≡ map (event_of a.account.id) a.account.receipts →
@@ -89,7 +90,7 @@ module _ {A : Type 0} (meaning : A → Meaning) (s : StorageView A) where
       subst (AreTold standard_meaning m (fired_moves h) ss os) (sym events) told
 
   -- and so of each
-  pub agents_told : (id : ℕ) (sss : List (List Step)) (agents : List (AgentAt A)) (oss : List (List Outcome))
+  pub agents_told : (id : ℕ) (sss : List (List Step)) (agents : List (AgentAt A)) (oss : List (List StepEnd))
       (h : List Event) → (meaning s.agg).part ≡ standard_part → AreProper s.init (fired_moves h) →
       ArePlayed meaning standard_meaning s id sss agents oss →
       All (λ a. events_of h a.id ≡ map (event_of a.id) a.receipts) (accounts agents) →
@@ -135,13 +136,14 @@ told_later close_error.Memory r told bad =
 
 -- the history that the agents of a script close to is a play of it
 pub closes : {A : Type 0} (meaning : A → Meaning) (s : StorageView A) (plan : Plan) (lent agents : List (AgentAt A))
-    (oss : List (List Outcome)) (p : Played) → lent ≡ agents → (meaning s.agg).part ≡ standard_part →
+    (oss : List (List StepEnd)) (p : Played) → lent ≡ agents → (meaning s.agg).part ≡ standard_part →
     s.init ≡ plan.init →
     ArePlayed meaning standard_meaning s 0 plan.agents agents oss →
     IsHistoryOf (storage.machine_of meaning s) (accounts lent) p.history.events →
     p.history.init ≡ s.init → p.history.capacity ≡ length s.row → p.history.agents ≡ id_bound (accounts lent) →
-    p.outcomes ≡ oss → AreProper p.history.init (fired_moves p.history.events) → IsPlayOf plan (length s.row) p
-closes meaning s plan lent agents oss p same part init played closed_lent opened capacity bound_lent outcomes proper_h =
+    p.outcomes ≡ map (map outcome_in) oss → p.terms ≡ map terms_in oss →
+    AreProper p.history.init (fired_moves p.history.events) → IsPlayOf plan (length s.row) p
+closes meaning s plan lent agents oss p same part init played closed_lent opened capacity bound_lent outcomes terms proper_h =
     let m = storage.machine_of meaning s in
     let closed = subst (λ q. IsHistoryOf m (accounts q) p.history.events) same closed_lent in
     let bound = bound_lent ∙ ap (λ q. id_bound (accounts q)) same in
@@ -157,8 +159,10 @@ closes meaning s plan lent agents oss p same part init played closed_lent opened
       capacity_is = capacity;
       agents = omega (arith, bound, all);
       legal = subst (λ m. IsLegal m h) machine closed.legal;
-      told = subst (λ m. AreAgentsTold m h 0 plan.agents p.outcomes) machine
-          (subst (λ o. AreAgentsTold (storage.machine_of meaning s) h 0 plan.agents o) (sym outcomes) told);
+      ends = oss;
+      told = subst (λ m. AreAgentsTold m h 0 plan.agents oss) machine told;
+      outcomes = outcomes;
+      terms = terms;
       others = λ i le. closed.no_others i
           (none_beyond meaning s 0 plan.agents agents oss i played (omega (arith, le)));
     }

@@ -13,6 +13,9 @@ use Rattle.asm_storage.specs.declared.call.Call.TheVariants as call
 use Rattle.asm_storage.specs.declared.history.Event.{Event}
 use Rattle.asm_script.specs.Sequencing.{step_move_on}
 use Rattle.asm_script.specs.declared.step.Step.{Step}
+use Rattle.asm_play.specs.Ends.{term_in, told_term, terms_from}
+use Rattle.asm_play.specs.declared.outcome.StepTerm.{StepTerm}
+use Rattle.asm_play.specs.declared.step_end.StepEnd.{StepEnd}
 use Rattle.asm_play.specs.StepEvents.{name_at, state_at, stale_fires, IsIdle, IsReading, IsTryOf, IsVainTry}
 
 -- ---- events are counted in turn
@@ -64,3 +67,22 @@ pub none_apart : {X Y : Type 0} (f : X → Y) (done all : List Y) (left : List X
     left ≡ [] → done ≡ all
 none_apart f done all left whole none =
     sym (append-nil done) ∙ ap (λ xs. done ++ map f xs) (sym none) ∙ whole
+
+-- a step's end more is told, as its number is how many were told before
+pub one_term : (done new all : List StepTerm) (n k : ℕ) (e : StepEnd) (left rest : List StepEnd) →
+    done ++ terms_from n left ≡ all → left ≡ e ∷ rest → new ≡ done ++ told_term n (term_in e) → k ≡ n + 1 →
+    new ++ terms_from k rest ≡ all
+one_term done new all n k e left rest whole step added next =
+    ap (λ ys. ys ++ terms_from k rest) added ∙ append_assoc done (told_term n (term_in e)) (terms_from k rest)
+    ∙ ap (λ m. done ++ (told_term n (term_in e) ++ terms_from m rest)) next
+    ∙ ap (λ xs. done ++ terms_from n xs) (sym step) ∙ whole
+
+pub no_terms : (done all : List StepTerm) (n : ℕ) (left : List StepEnd) → done ++ terms_from n left ≡ all → left ≡ [] →
+    done ≡ all
+no_terms done all n left whole none =
+    sym (append-nil done) ∙ ap (λ xs. done ++ terms_from n xs) (sym none) ∙ whole
+
+-- what is mapped twice is mapped once
+pub map_again : {X Y Z : Type 0} (f : X → Y) (g : Y → Z) (xs : List X) → map g (map f xs) ≡ map (λ x. g (f x)) xs
+map_again f g [] = refl
+map_again f g (x ∷ xs) = ap (λ zs. g (f x) ∷ zs) (map_again f g xs)

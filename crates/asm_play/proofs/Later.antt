@@ -16,10 +16,10 @@ use Rattle.asm_play.specs.StepEvents.{IsFiring, IsClashing, HasNoRoom, HasFault,
 use Rattle.asm_play.specs.StepEvents.{AreTries, AreInVain, IsEndedAfter, HasTriesOf, HasTries, IsTryOf, IsVainTry}
 use Rattle.asm_play.specs.StepEvents.{IsTold, AreTold}
 use Rattle.asm_script.specs.declared.step.Step.{Step}
-use Rattle.asm_script.specs.declared.step.StepFault.{StepFault}
-use Rattle.asm_script.specs.declared.step.StepFault.TheVariants as fault
-use Rattle.asm_play.specs.declared.outcome.Outcome.{Outcome}
-use Rattle.asm_play.specs.declared.outcome.Outcome.TheVariants as outcome
+use Rattle.asm_script.specs.declared.fault.StepFault.{StepFault}
+use Rattle.asm_script.specs.declared.fault.StepFault.TheVariants as fault
+use Rattle.asm_play.specs.declared.step_end.StepEnd.{StepEnd}
+use Rattle.asm_play.specs.declared.step_end.StepEnd.TheVariants as step_end
 
 module _ (own : Meaning) (m : Machine) (q r : List Move) (p : IsPrefix q r) where
   fault_later : (step : Step) (f : StepFault) → HasFault own m q step f → HasFault own m r step f
@@ -79,16 +79,16 @@ module _ (own : Meaning) (m : Machine) (q r : List Move) (p : IsPrefix q r) wher
         ),
       )
 
-  told_later : (step : Step) (o : Outcome) (es : List Event) → IsTold own m q step o es → IsTold own m r step o es
-  told_later step (outcome.Fired k) es told = (told.0, told.1, told.2, told.3, firing_later step k told.1 told.4)
-  told_later step outcome.Full es told = (told.0, told.1, told.2, told.3, no_room_later step told.1 told.4)
-  told_later step (outcome.Clash c) es (inl told) =
+  told_later : (step : Step) (o : StepEnd) (es : List Event) → IsTold own m q step o es → IsTold own m r step o es
+  told_later step (step_end.Fired k) es told = (told.0, told.1, told.2, told.3, firing_later step k told.1 told.4)
+  told_later step step_end.Full es told = (told.0, told.1, told.2, told.3, no_room_later step told.1 told.4)
+  told_later step (step_end.Clash c) es (inl told) =
       inl (told.0, told.1, told.2, told.3, clashing_later step c told.1 told.4)
-  told_later step (outcome.Clash c) es (inr told) = inr (told.0, fault_later step (fault.Clash c) told.1)
-  told_later step outcome.Term es told = (told.0, fault_later step fault.Term told.1)
-  told_later step (outcome.Large l) es told = (told.0, fault_later step (fault.Large l) told.1)
-  told_later step outcome.Many es told = (told.0, outgrows_later step told.1)
-  told_later step outcome.GaveUp es told = told
+  told_later step (step_end.Clash c) es (inr told) = inr (told.0, fault_later step (fault.Clash c) told.1)
+  told_later step (step_end.Term f) es told = (told.0, fault_later step (fault.Term f) told.1)
+  told_later step (step_end.Large l) es told = (told.0, fault_later step (fault.Large l) told.1)
+  told_later step step_end.Many es told = (told.0, outgrows_later step told.1)
+  told_later step step_end.GaveUp es told = told
 
   try_later : (step : Step) (places : List Place) (es : List Event) → IsTryOf own m q step places es →
       IsTryOf own m r step places es
@@ -149,22 +149,22 @@ module _ (own : Meaning) (m : Machine) (q r : List Move) (p : IsPrefix q r) wher
     fresh = has.fresh;
   }
 
-  tries_of_later : (step : Step) (places : List Place) (o : Outcome) (es : List Event) →
+  tries_of_later : (step : Step) (places : List Place) (o : StepEnd) (es : List Event) →
       HasTriesOf own m q step places o es → HasTriesOf own m r step places o es
-  tries_of_later step places outcome.GaveUp es has = record {
+  tries_of_later step places step_end.GaveUp es has = record {
     few = has.few;
     tried = has.tried;
     all = has.all;
     in_vain = in_vain_later step places has.tried es has.in_vain;
   }
-  tries_of_later step places outcome.Many es (inl none) = inl none
-  tries_of_later step places outcome.Many es (inr has) = inr (ended_later step places es has)
+  tries_of_later step places step_end.Many es (inl none) = inl none
+  tries_of_later step places step_end.Many es (inr has) = inr (ended_later step places es has)
   tries_of_later step places o es has = ended_later step places es has
 
-  tries_later : (step : Step) (o : Outcome) (es : List Event) → HasTries own m q step o es → HasTries own m r step o es
+  tries_later : (step : Step) (o : StepEnd) (es : List Event) → HasTries own m q step o es → HasTries own m r step o es
   tries_later step o es (places, reads, has) = (places, reads, tries_of_later step places o es has)
 
-  pub are_told_later : (ss : List Step) (os : List Outcome) (es : List Event) → AreTold own m q ss os es →
+  pub are_told_later : (ss : List Step) (os : List StepEnd) (es : List Event) → AreTold own m q ss os es →
       AreTold own m r ss os es
   are_told_later [] [] es told = told
   are_told_later (s ∷ ss) (o ∷ os) es told = (

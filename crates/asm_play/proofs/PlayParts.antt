@@ -14,11 +14,11 @@ use Rattle.asm_play.specs.Jobs.{GivesEach}
 use Rattle.asm_play.specs.declared.outcome.RunError.{RunError}
 use Rattle.asm_play.specs.declared.outcome.RunError.TheVariants as run_error
 use Rattle.asm_script.specs.declared.step.Step.{Step}
-use Rattle.asm_play.specs.declared.outcome.Outcome.{Outcome}
+use Rattle.asm_play.specs.declared.step_end.StepEnd.{StepEnd}
 
 -- what each agent gave is what agents that had made no call played with their steps
 agents_from : {X A : Type 0} (meaning : A → Meaning) (own : Meaning) (s : StorageView A) (steps : AgentAt A → List Step)
-    (xa : X → AgentAt A) (xo : X → List Outcome) (id : ℕ) (agents : List (AgentAt A)) (played_agents : List X)
+    (xa : X → AgentAt A) (xo : X → List StepEnd) (id : ℕ) (agents : List (AgentAt A)) (played_agents : List X)
     (sss : List (List Step)) → GivesEach (λ a t. Plays meaning own a (xa t) (steps a) (xo t)) agents played_agents →
     agents ≡ map (at_start s) (range_with_len id (length sss)) → map steps agents ≡ sss →
     ArePlayed meaning own s id sss (map xa played_agents) (map xo played_agents)
@@ -57,11 +57,11 @@ steps_of_all : {A : Type 0} (s : StorageView A) (sss : List (List Step)) →
     map (steps_at sss) (map (at_start s) (range_with_len 0 (length sss))) ≡ sss
 steps_of_all s sss = steps_from s [] sss
 
--- what each of the agents of a storage gave with the steps at its number, where agents and outcomes were told apart:
+-- what each of the agents of a storage gave with the steps at its number, where agents and ends were told apart:
 -- by the aggregator that the player has, which is the storage's
 pub agents_ended : {X A : Type 0} (meaning : A → Meaning) (mine theirs : A) (other : Meaning) (s : StorageView A)
-    (xa : X → AgentAt A) (xo : X → List Outcome) (first : List (AgentAt A)) (played_agents : List X)
-    (written sss : List (List Step)) (agents : List (AgentAt A)) (oss : List (List Outcome)) → mine ≡ theirs →
+    (xa : X → AgentAt A) (xo : X → List StepEnd) (first : List (AgentAt A)) (played_agents : List X)
+    (written sss : List (List Step)) (agents : List (AgentAt A)) (oss : List (List StepEnd)) → mine ≡ theirs →
     meaning theirs ≡ other → written ≡ sss →
     GivesEach (λ a t. Plays meaning (meaning mine) a (xa t) (steps_at written a) (xo t)) first played_agents →
     first ≡ map (at_start s) (range_with_len 0 (length written)) →
@@ -74,7 +74,7 @@ agents_ended {A = A} meaning mine theirs other s xa xo first played_agents writt
     subst (λ (p : List (List Step)). ArePlayed meaning other s 0 p agents oss) is
     (subst (λ (p : Meaning). ArePlayed meaning p s 0 written agents oss) (ap meaning same ∙ means)
     (subst (λ (p : List (AgentAt A)). ArePlayed meaning (meaning mine) s 0 written p oss) (sym left)
-    (subst (λ (p : List (List Outcome)). ArePlayed meaning (meaning mine) s 0 written (map xa played_agents) p)
+    (subst (λ (p : List (List StepEnd)). ArePlayed meaning (meaning mine) s 0 written (map xa played_agents) p)
     (sym told) played)))
 
 -- a worker whose thread is missing is one of several, and so is its agent

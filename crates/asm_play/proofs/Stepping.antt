@@ -22,8 +22,8 @@ use Rattle.asm_play.specs.StepEvents.{stale_fires, AreTries, IsEndedAfter, HasTr
 use Rattle.asm_play.specs.StepEvents.{IsTryOf, IsVainTry, IsTold, AreTold}
 use Rattle.asm_play.specs.Trying.{Adds, IsAgain, IsVain, Tried, IsStepPlayed}
 use Rattle.asm_script.specs.declared.step.Step.{Step}
-use Rattle.asm_play.specs.declared.outcome.Outcome.{Outcome}
-use Rattle.asm_play.specs.declared.outcome.Outcome.TheVariants as outcome
+use Rattle.asm_play.specs.declared.step_end.StepEnd.{StepEnd}
+use Rattle.asm_play.specs.declared.step_end.StepEnd.TheVariants as step_end
 use Rattle.asm_play.proofs.ProperMoves.{proper_prefix}
 use Rattle.asm_play.proofs.Counts.{stale_both}
 use Rattle.asm_play.proofs.Adding.{prefix_mapped, adds_then, adds_none}
@@ -40,18 +40,18 @@ idle_front P xs es idle ends = (
 )
 
 module _ (own : Meaning) (m : Machine) (q : List Move) (step : Step) where
-  idle_before : (o : Outcome) (xs es : List Event) → All IsIdle xs → IsTold own m q step o es →
+  idle_before : (o : StepEnd) (xs es : List Event) → All IsIdle xs → IsTold own m q step o es →
       IsTold own m q step o (xs ++ es)
-  idle_before (outcome.Fired k) xs es idle told = idle_front (IsFiring own m q step k) xs es idle told
-  idle_before outcome.Full xs es idle told = idle_front (HasNoRoom own m q step) xs es idle told
-  idle_before (outcome.Clash c) xs es idle (inl told) = inl (idle_front (IsClashing own m q step c) xs es idle told)
-  idle_before (outcome.Clash c) xs es idle (inr told) = inr (All-append IsIdle xs es idle told.0, told.1)
-  idle_before outcome.GaveUp xs es idle told = All-append IsIdle xs es idle told
+  idle_before (step_end.Fired k) xs es idle told = idle_front (IsFiring own m q step k) xs es idle told
+  idle_before step_end.Full xs es idle told = idle_front (HasNoRoom own m q step) xs es idle told
+  idle_before (step_end.Clash c) xs es idle (inl told) = inl (idle_front (IsClashing own m q step c) xs es idle told)
+  idle_before (step_end.Clash c) xs es idle (inr told) = inr (All-append IsIdle xs es idle told.0, told.1)
+  idle_before step_end.GaveUp xs es idle told = All-append IsIdle xs es idle told
   idle_before o xs es idle told = (All-append IsIdle xs es idle told.0, told.1)
 
 -- one step more
-are_told_more : (own : Meaning) (m : Machine) (q : List Move) (ss : List Step) (os : List Outcome)
-    (es fs : List Event) (s : Step) (o : Outcome) →
+are_told_more : (own : Meaning) (m : Machine) (q : List Move) (ss : List Step) (os : List StepEnd)
+    (es fs : List Event) (s : Step) (o : StepEnd) →
     AreTold own m q ss os es → IsTold own m q s o fs × HasTries own m q s o fs →
     AreTold own m q (ss ++ s ∷ []) (os ++ o ∷ []) (es ++ fs)
 are_told_more own m q [] [] es fs s o told last =
@@ -67,10 +67,10 @@ are_told_more own m q (t ∷ ss) (p ∷ os) es fs s o told last = (
 are_told_more own m q ss os es fs s o told last = absurd told
 
 -- at most 1,000 tries in vain, and the last one
-few_tries : (own : Meaning) (m : Machine) (q : List Move) (step : Step) (places : List Place) (o : Outcome)
-    (es : List Event) → o ≢ outcome.GaveUp → IsEndedAfter own m q step places es → HasTriesOf own m q step places o es
-few_tries own m q step places outcome.GaveUp es ended has = absurd (ended refl)
-few_tries own m q step places outcome.Many es ended has = inr has
+few_tries : (own : Meaning) (m : Machine) (q : List Move) (step : Step) (places : List Place) (o : StepEnd)
+    (es : List Event) → o ≢ step_end.GaveUp → IsEndedAfter own m q step places es → HasTriesOf own m q step places o es
+few_tries own m q step places step_end.GaveUp es ended has = absurd (ended refl)
+few_tries own m q step places step_end.Many es ended has = inr has
 few_tries own m q step places o es ended has = has
 
 -- the receipts of so many tries that ended in nothing
@@ -164,9 +164,9 @@ module _ {A : Type 0} (meaning : A → Meaning) (own : Meaning) (step : Step) (p
   }
   tried_adds (suc n) old new (mid, before, again) = adds_try n old mid new (tried_adds n old mid before) again
 
--- the receipts that the agent has more are those of all tries of a step, and tell its outcome
+-- the receipts that the agent has more are those of all tries of a step, and tell how it ended
 record HasEnded {A : Type 0} (meaning : A → Meaning) (own : Meaning) (old new : AgentAt A) (step : Step)
-    (o : Outcome) : Type 0 where
+    (o : StepEnd) : Type 0 where
   more : List Receipt
   adds : Adds old new more
   tries : AreProper old.storage.init (moves_seen new.account.seen) → HasTries own (machine_of meaning old.storage)
@@ -177,7 +177,7 @@ record HasEnded {A : Type 0} (meaning : A → Meaning) (own : Meaning) (old new 
 
 module _ {A : Type 0} (meaning : A → Meaning) (own : Meaning) where
   -- a step that was played ended
-  step_ended : (old new : AgentAt A) (step : Step) (o : Outcome) → IsStepPlayed meaning own old new step o →
+  step_ended : (old new : AgentAt A) (step : Step) (o : StepEnd) → IsStepPlayed meaning own old new step o →
       HasEnded meaning own old new step o
   step_ended old new step o (places, reads, inl (many, is, same)) =
       subst (HasEnded meaning own old new step) (sym is)
@@ -268,7 +268,7 @@ module _ {A : Type 0} (meaning : A → Meaning) (own : Meaning) where
   }
 
   -- one step more was played
-  pub plays_more : (old mid new : AgentAt A) (ss : List Step) (os : List Outcome) (s : Step) (o : Outcome) →
+  pub plays_more : (old mid new : AgentAt A) (ss : List Step) (os : List StepEnd) (s : Step) (o : StepEnd) →
       Plays meaning own old mid ss os →
       IsStepPlayed meaning own mid new s o → Plays meaning own old new (ss ++ s ∷ []) (os ++ o ∷ [])
   plays_more old mid new ss os s o before played =

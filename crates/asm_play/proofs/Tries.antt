@@ -1,4 +1,4 @@
--- One try of a step: what its read and its fire leave, and what its outcome tells.
+-- One try of a step: what its read and its fire leave, and what its end tells.
 use Rattle.std.proofs.Common.{◌≡◌, ◌≢◌, inl, inr, ℕ, ◌-◌, ◌≤◌, Bool, List}
 use Rattle.std.proofs.Common.{[], ◌∷◌, ◌++◌, length, take, map, All, Option, Some, None, Ok, Err}
 use Rattle.std.proofs.Common.{Contains, append-nil, length-append, arith, refl, sym, ap, subst, ◌∙◌}
@@ -32,13 +32,13 @@ use Rattle.asm_script.specs.StepReads.{AreReads}
 use Rattle.asm_script.specs.Sequencing.{fired_or_stopped, fire_blocks, step_move_on, IsReadOf, StandsFor, IsStepMove}
 use Rattle.asm_play.specs.StepEvents.{IsIdle, IsFiring, IsClashing, HasNoRoom, HasFault, EndsWith, IsTold}
 use Rattle.asm_play.specs.StepEvents.{stale_fire, stale_fires, IsTryOf, IsVainTry}
-use Rattle.asm_play.specs.Trying.{value_among, read_value, names_of, HasRead, HasTried, outcome_of}
+use Rattle.asm_play.specs.Trying.{value_among, read_value, names_of, HasRead, HasTried, end_of}
 use Rattle.asm_play.specs.Trying.{IsEndOf, Adds, IsAgain, IsTry}
 use Rattle.asm_script.specs.declared.step.Step.{Step}
-use Rattle.asm_script.specs.declared.step.StepFault.{StepFault}
-use Rattle.asm_script.specs.declared.step.StepFault.TheVariants as fault
-use Rattle.asm_play.specs.declared.outcome.Outcome.{Outcome}
-use Rattle.asm_play.specs.declared.outcome.Outcome.TheVariants as outcome
+use Rattle.asm_script.specs.declared.fault.StepFault.{StepFault}
+use Rattle.asm_script.specs.declared.fault.StepFault.TheVariants as fault
+use Rattle.asm_play.specs.declared.step_end.StepEnd.{StepEnd}
+use Rattle.asm_play.specs.declared.step_end.StepEnd.TheVariants as step_end
 use Rattle.asm_row.proofs.Prefixes.{IsPrefix-trans}
 use Rattle.asm_play.proofs.ProperMoves.{proper_prefix}
 use Rattle.asm_play.proofs.Properness.{moves_proper}
@@ -49,13 +49,13 @@ use Rattle.asm_play.proofs.Adding.{no_room_by, not_stale, AddsRead, read_adds, f
 
 -- a try of the same locations that ended, and one that is to be made again
 pub try_ended : {A : Type 0} (meaning : A → Meaning) (own : Meaning) (old new : AgentAt A) (step : Step)
-    (ps qs : List Place) (x : Option Outcome) (o : Outcome) → ps ≡ qs → x ≡ Some o →
+    (ps qs : List Place) (x : Option StepEnd) (o : StepEnd) → ps ≡ qs → x ≡ Some o →
     IsTry meaning own old new step ps x → IsTry meaning own old new step qs (Some o)
 try_ended meaning own old new step ps qs x o same is tried =
     subst (λ rs. IsTry meaning own old new step rs (Some o)) same (subst (IsTry meaning own old new step ps) is tried)
 
 pub try_again : {A : Type 0} (meaning : A → Meaning) (own : Meaning) (old new : AgentAt A) (step : Step)
-    (ps qs : List Place) (x : Option Outcome) → ps ≡ qs → x ≡ None → IsTry meaning own old new step ps x →
+    (ps qs : List Place) (x : Option StepEnd) → ps ≡ qs → x ≡ None → IsTry meaning own old new step ps x →
     IsAgain meaning own step qs old new
 try_again meaning own old new step ps qs x same is tried =
     subst (λ rs. IsAgain meaning own step rs old new) same (subst (IsTry meaning own old new step ps) is tried)
@@ -97,19 +97,19 @@ module _ {A : Type 0} (meaning : A → Meaning) where
     )
 
     -- a step that has no move ends
-    fault_told : (f : StepFault) (o : Outcome) (es : List Event) → IsEndOf f o → All IsIdle es →
+    fault_told : (f : StepFault) (o : StepEnd) (es : List Event) → IsEndOf f o → All IsIdle es →
         HasFault own m here step f → IsTold own m here step o es
     fault_told (fault.Clash c) o es is idle has = subst (λ p. IsTold own m here step p es) (sym is) (inr (idle, has))
     fault_told fault.Many o es is idle has = subst (λ p. IsTold own m here step p es) (sym is) (idle, inr has)
     fault_told fault.Memory o es is idle has = absurd is
     fault_told f o es is idle has = subst (λ p. IsTold own m here step p es) (sym is) (idle, has)
 
-    not_given_up : (f : StepFault) (o : Outcome) → IsEndOf f o → o ≢ outcome.GaveUp
+    not_given_up : (f : StepFault) (o : StepEnd) → IsEndOf f o → o ≢ step_end.GaveUp
     not_given_up fault.Memory o is bad = absurd is
     not_given_up f o is bad = let no = sym is ∙ bad in cc no
 
     -- the try of a step that has no move
-    pub ended_by_fault : (f : StepFault) (o : Outcome) → IsEndOf f o →
+    pub ended_by_fault : (f : StepFault) (o : StepEnd) → IsEndOf f o →
         IsStepMove own (read_value reading) step (Err f) →
         IsTry meaning own old mid step places (Some o)
     ended_by_fault f o is move =
@@ -212,7 +212,7 @@ module _ {A : Type 0} (meaning : A → Meaning) where
 
       -- the fire was answered Fired
       fired_told : (k : ℕ) → IsReplied meaning mid new reads_named M (reply.Fired k) →
-          IsTry meaning own old new step places (Some (outcome.Fired k))
+          IsTry meaning own old new step places (Some (step_end.Fired k))
       fired_told k is =
           let agent = is.agent in
           let seen = take (k - 1) new.account.seen in
@@ -289,7 +289,7 @@ module _ {A : Type 0} (meaning : A → Meaning) where
 
       -- the fire was answered, or it was busy
       pub ended_by_fire : (o : Option Reply) → HasTried meaning mid new reads_named M o →
-          IsTry meaning own old new step places (outcome_of o)
+          IsTry meaning own old new step places (end_of o)
       ended_by_fire (Some (reply.Fired k)) is = fired_told k is
       ended_by_fire (Some (reply.Clash c)) is =
           let all = moves_seen new.account.seen in

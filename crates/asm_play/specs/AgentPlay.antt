@@ -10,7 +10,7 @@ use Rattle.asm_storage.specs.Storage.{AgentAt, IsSameAgent, machine_of}
 use Rattle.asm_storage.specs.declared.receipt.Receipt.{Receipt}
 use Rattle.asm_play.specs.StepEvents.{AreTold}
 use Rattle.asm_script.specs.declared.step.Step.{Step}
-use Rattle.asm_play.specs.declared.outcome.Outcome.{Outcome}
+use Rattle.asm_play.specs.declared.step_end.StepEnd.{StepEnd}
 
 -- a state and moves that a program can hold
 pub record AreProper (A : State) (q : List Move) : Type 0 where
@@ -18,13 +18,13 @@ pub record AreProper (A : State) (q : List Move) : Type 0 where
   pub moves : All (All IsProperInstruction) q
 
 -- The agent played the steps, by an aggregator of this meaning: it is the same agent, which has seen what it had seen,
--- and the receipts that it has more are those of the steps with these outcomes.
+-- and the receipts that it has more are those of the steps with these ends.
 pub record Plays {A : Type 0} (meaning : A → Meaning) (own : Meaning) (old new : AgentAt A) (steps : List Step)
-    (outcomes : List Outcome) : Type 0 where
+    (ends : List StepEnd) : Type 0 where
   pub same : IsSameAgent old new
   pub begins : IsPrefix old.account.seen new.account.seen
   pub more : List Receipt
   pub added : new.account.receipts ≡ old.account.receipts ++ more
   pub told : (meaning old.storage.agg).part ≡ own.part → AreProper old.storage.init (moves_seen new.account.seen) →
-      AreTold own (machine_of meaning old.storage) (moves_seen new.account.seen) steps outcomes
+      AreTold own (machine_of meaning old.storage) (moves_seen new.account.seen) steps ends
       (map (event_of old.account.id) more)

@@ -1,4 +1,5 @@
 pub mod Limits
+pub mod Ends
 pub mod StepEvents
 pub mod AgentPlay
 pub mod Trying

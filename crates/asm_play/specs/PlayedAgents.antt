@@ -6,7 +6,7 @@ use Rattle.asm_storage.specs.Storage.{AgentAt, StorageView, at_start, IsMissing}
 use Rattle.asm_storage.specs.declared.error.CloseError.{CloseError}
 use Rattle.asm_storage.specs.declared.error.CloseError.TheVariants as close_error
 use Rattle.asm_play.specs.AgentPlay.{Plays}
-use Rattle.asm_play.specs.declared.outcome.Outcome.{Outcome}
+use Rattle.asm_play.specs.declared.step_end.StepEnd.{StepEnd}
 use Rattle.asm_play.specs.declared.outcome.RunError.{RunError}
 use Rattle.asm_play.specs.declared.outcome.RunError.TheVariants as run_error
 use Rattle.asm_script.specs.declared.step.Step.{Step}
@@ -15,9 +15,9 @@ use Rattle.asm_script.specs.declared.step.Step.{Step}
 abbrev pub steps_at : {A : Type 0} → List (List Step) → AgentAt A → List Step
 steps_at sss a = get_or sss a.account.id []
 
--- from the number id on, each agent of the storage played its steps, with these outcomes, having made no call before
+-- from the number id on, each agent of the storage played its steps, with these ends, having made no call before
 abbrev pub ArePlayed : {A : Type 0} → (A → Meaning) → Meaning → StorageView A → ℕ → List (List Step) →
-    List (AgentAt A) → List (List Outcome) → Type 0
+    List (AgentAt A) → List (List StepEnd) → Type 0
 ArePlayed meaning own s id [] [] [] = Unit {0}
 ArePlayed meaning own s id (ss ∷ sss) (a ∷ agents) (os ∷ oss) =
     Plays meaning own (at_start s id) a ss os × ArePlayed meaning own s (id + 1) sss agents oss

@@ -1,4 +1,4 @@
--- What the outcomes of an agent's steps tell of its answered calls.
+-- What the ends of an agent's steps tell of its answered calls.
 use Rattle.std.specs.Prelude.{◌≡◌, ◌+◌, ◌-◌, ◌*◌, ◌≤◌, ◌<◌, ◌⊎◌, ℕ, zero, suc, List, [], ◌∷◌, ◌++◌, length, map, take, All}
 use Rattle.std.specs.Prelude.{None, Ok, Err}
 use Rattle.asm_element.specs.Place.{Place}
@@ -19,11 +19,11 @@ use Rattle.asm_storage.specs.declared.history.Event.{Event}
 use Rattle.asm_script.specs.StepReads.{AreReads}
 use Rattle.asm_script.specs.Sequencing.{Clashes, fire_blocks, step_move_on, StandsFor}
 use Rattle.asm_script.specs.declared.step.Step.{Step}
-use Rattle.asm_script.specs.declared.step.StepFault.{StepFault}
-use Rattle.asm_script.specs.declared.step.StepFault.TheVariants as fault
+use Rattle.asm_script.specs.declared.fault.StepFault.{StepFault}
+use Rattle.asm_script.specs.declared.fault.StepFault.TheVariants as fault
 use Rattle.asm_play.specs.Limits.{tries_limit}
-use Rattle.asm_play.specs.declared.outcome.Outcome.{Outcome}
-use Rattle.asm_play.specs.declared.outcome.Outcome.TheVariants as outcome
+use Rattle.asm_play.specs.declared.step_end.StepEnd.{StepEnd}
+use Rattle.asm_play.specs.declared.step_end.StepEnd.TheVariants as step_end
 
 -- the state that the first n moves leave
 abbrev pub state_at : Machine → List Move → ℕ → State
@@ -149,34 +149,34 @@ pub record IsEndedAfter (own : Meaning) (m : Machine) (q : List Move) (step : St
   pub once : IsTryOf own m q step places last
   pub fresh : stale_fires last ≡ 0
 
--- the tries of a step with this outcome, which reads these locations; where these are more than 256, it made no call
-abbrev pub HasTriesOf : Meaning → Machine → List Move → Step → List Place → Outcome → List Event → Type 0
-HasTriesOf own m q step places outcome.GaveUp es = IsGivenUp own m q step places es
-HasTriesOf own m q step places outcome.Many es =
+-- the tries of a step that ended so, which reads these locations; where these are more than 256, it made no call
+abbrev pub HasTriesOf : Meaning → Machine → List Move → Step → List Place → StepEnd → List Event → Type 0
+HasTriesOf own m q step places step_end.GaveUp es = IsGivenUp own m q step places es
+HasTriesOf own m q step places step_end.Many es =
     ((reads_limit < length places) × (es ≡ [])) ⊎ IsEndedAfter own m q step places es
 HasTriesOf own m q step places _ es = IsEndedAfter own m q step places es
 
--- the tries of a step with this outcome
-abbrev pub HasTries : Meaning → Machine → List Move → Step → Outcome → List Event → Type 0
+-- the tries of a step that ended so
+abbrev pub HasTries : Meaning → Machine → List Move → Step → StepEnd → List Event → Type 0
 HasTries own m q step o es = (places : List Place) × AreReads step places × HasTriesOf own m q step places o es
 
 -- the events are idle but for the last, which is so
 abbrev pub EndsWith : (Event → Type 0) → List Event → Type 0
 EndsWith P es = (idle : List Event) × (e : Event) × (es ≡ idle ++ e ∷ []) × All IsIdle idle × P e
 
--- the events are those of a step with this outcome, by an aggregator of this meaning
-abbrev pub IsTold : Meaning → Machine → List Move → Step → Outcome → List Event → Type 0
-IsTold own m q step (outcome.Fired k) es = EndsWith (IsFiring own m q step k) es
-IsTold own m q step outcome.Full es = EndsWith (HasNoRoom own m q step) es
-IsTold own m q step (outcome.Clash clash) es =
+-- the events are those of a step that ended so, by an aggregator of this meaning
+abbrev pub IsTold : Meaning → Machine → List Move → Step → StepEnd → List Event → Type 0
+IsTold own m q step (step_end.Fired k) es = EndsWith (IsFiring own m q step k) es
+IsTold own m q step step_end.Full es = EndsWith (HasNoRoom own m q step) es
+IsTold own m q step (step_end.Clash clash) es =
     EndsWith (IsClashing own m q step clash) es ⊎ (All IsIdle es × HasFault own m q step (fault.Clash clash))
-IsTold own m q step outcome.Term es = All IsIdle es × HasFault own m q step fault.Term
-IsTold own m q step (outcome.Large l) es = All IsIdle es × HasFault own m q step (fault.Large l)
-IsTold own m q step outcome.Many es = All IsIdle es × Outgrows own m q step
-IsTold own m q step outcome.GaveUp es = All IsIdle es
+IsTold own m q step (step_end.Term term) es = All IsIdle es × HasFault own m q step (fault.Term term)
+IsTold own m q step (step_end.Large l) es = All IsIdle es × HasFault own m q step (fault.Large l)
+IsTold own m q step step_end.Many es = All IsIdle es × Outgrows own m q step
+IsTold own m q step step_end.GaveUp es = All IsIdle es
 
--- one outcome for each step, and the events are those of the steps' tries, in order
-abbrev pub AreTold : Meaning → Machine → List Move → List Step → List Outcome → List Event → Type 0
+-- one end for each step, and the events are those of the steps' tries, in order
+abbrev pub AreTold : Meaning → Machine → List Move → List Step → List StepEnd → List Event → Type 0
 AreTold own m q [] [] es = es ≡ []
 AreTold own m q [] (o ∷ os) es = ⊥
 AreTold own m q (s ∷ ss) [] es = ⊥

@@ -23,10 +23,10 @@ use Rattle.asm_script.specs.StepReads.{AreReads}
 use Rattle.asm_play.specs.Limits.{tries_limit}
 use Rattle.asm_play.specs.StepEvents.{name_at, stale_fires, IsIdle, IsTryOf, IsVainTry, IsTold}
 use Rattle.asm_script.specs.declared.step.Step.{Step}
-use Rattle.asm_script.specs.declared.step.StepFault.{StepFault}
-use Rattle.asm_script.specs.declared.step.StepFault.TheVariants as fault
-use Rattle.asm_play.specs.declared.outcome.Outcome.{Outcome}
-use Rattle.asm_play.specs.declared.outcome.Outcome.TheVariants as outcome
+use Rattle.asm_script.specs.declared.fault.StepFault.{StepFault}
+use Rattle.asm_script.specs.declared.fault.StepFault.TheVariants as fault
+use Rattle.asm_play.specs.declared.step_end.StepEnd.{StepEnd}
+use Rattle.asm_play.specs.declared.step_end.StepEnd.TheVariants as step_end
 
 -- the value that stands where the location does; undef where it isn't among them
 abbrev pub value_among : List Place → List Value → Place → Value
@@ -60,20 +60,20 @@ abbrev pub HasTried : {A : Type 0} → (A → Meaning) → AgentAt A → AgentAt
 HasTried meaning old new reads M None = WasBusy old new
 HasTried meaning old new reads M (Some r) = IsReplied meaning old new reads M r
 
--- the outcome that a reply is; none where the step is to be tried again
-abbrev pub outcome_of : Option Reply → Option Outcome
-outcome_of (Some (reply.Fired k)) = Some (outcome.Fired k)
-outcome_of (Some (reply.Clash clash)) = Some (outcome.Clash clash)
-outcome_of (Some reply.Full) = Some outcome.Full
-outcome_of (Some (reply.Stale l)) = None
-outcome_of None = None
+-- how a step ended whose fire has this reply; none where the step is to be tried again
+abbrev pub end_of : Option Reply → Option StepEnd
+end_of (Some (reply.Fired k)) = Some (step_end.Fired k)
+end_of (Some (reply.Clash clash)) = Some (step_end.Clash clash)
+end_of (Some reply.Full) = Some step_end.Full
+end_of (Some (reply.Stale l)) = None
+end_of None = None
 
--- the outcome of a step that has no move for this fault
-abbrev pub IsEndOf : StepFault → Outcome → Type 0
-IsEndOf fault.Term o = o ≡ outcome.Term
-IsEndOf (fault.Clash clash) o = o ≡ outcome.Clash clash
-IsEndOf (fault.Large l) o = o ≡ outcome.Large l
-IsEndOf fault.Many o = o ≡ outcome.Many
+-- how a step ended that has no move for this fault
+abbrev pub IsEndOf : StepFault → StepEnd → Type 0
+IsEndOf (fault.Term term) o = o ≡ step_end.Term term
+IsEndOf (fault.Clash clash) o = o ≡ step_end.Clash clash
+IsEndOf (fault.Large l) o = o ≡ step_end.Large l
+IsEndOf fault.Many o = o ≡ step_end.Many
 IsEndOf fault.Memory o = ⊥
 
 -- it is the same agent, which has seen what it had seen, and has these receipts more
@@ -106,9 +106,9 @@ pub record IsAgain {A : Type 0} (meaning : A → Meaning) (own : Meaning) (step 
       (map (event_of old.account.id) more)
   pub cause : IsVain old new more
 
--- the receipts that the agent has more are those of one try of the step, which reads these locations, and tell its outcome
+-- the receipts that the agent has more are those of one try of the step, which reads these locations, and tell how it ended
 pub record IsEnded {A : Type 0} (meaning : A → Meaning) (own : Meaning) (old new : AgentAt A) (step : Step)
-    (places : List Place) (o : Outcome) : Type 0 where
+    (places : List Place) (o : StepEnd) : Type 0 where
   pub more : List Receipt
   pub adds : Adds old new more
   pub fresh : stale_fires (map (event_of old.account.id) more) ≡ 0
@@ -119,11 +119,11 @@ pub record IsEnded {A : Type 0} (meaning : A → Meaning) (own : Meaning) (old n
       IsTold own (machine_of meaning old.storage) (moves_seen new.account.seen) step o
       (map (event_of old.account.id) more)
 
--- one try of a step: it ended with an outcome, which isn't that it was given up, or is to be tried again
+-- one try of a step: the step ended, not by being given up, or is to be tried again
 abbrev pub IsTry : {A : Type 0} → (A → Meaning) → Meaning → AgentAt A → AgentAt A → Step → List Place →
-    Option Outcome → Type 0
+    Option StepEnd → Type 0
 IsTry meaning own old new step places None = IsAgain meaning own step places old new
-IsTry meaning own old new step places (Some o) = IsEnded meaning own old new step places o × (o ≢ outcome.GaveUp)
+IsTry meaning own old new step places (Some o) = IsEnded meaning own old new step places o × (o ≢ step_end.GaveUp)
 
 -- so many tries in a row, of a step that reads these locations, ended in nothing
 abbrev pub Tried : {A : Type 0} → (A → Meaning) → Meaning → Step → List Place → ℕ → AgentAt A → AgentAt A → Type 0
@@ -132,22 +132,22 @@ Tried {A} meaning own step places (suc n) old new =
     (mid : AgentAt A) × Tried meaning own step places n old mid × IsAgain meaning own step places mid new
 
 -- a step that reads these locations was given up after 1,001 tries, or ended after at most 1,000 in nothing
-abbrev pub IsTriedBy : {A : Type 0} → (A → Meaning) → Meaning → AgentAt A → AgentAt A → Step → Outcome →
+abbrev pub IsTriedBy : {A : Type 0} → (A → Meaning) → Meaning → AgentAt A → AgentAt A → Step → StepEnd →
     List Place → Type 0
 IsTriedBy {A} meaning own old new step o places =
-    ((o ≡ outcome.GaveUp) × (n : ℕ) × (n ≡ tries_limit) × Tried meaning own step places n old new)
+    ((o ≡ step_end.GaveUp) × (n : ℕ) × (n ≡ tries_limit) × Tried meaning own step places n old new)
     ⊎ ((n : ℕ) × (n < tries_limit) × (mid : AgentAt A) × Tried meaning own step places n old mid
     × IsTry meaning own mid new step places (Some o))
 
 -- it wasn't tried, as it reads more than 256 locations, or it was
-abbrev pub IsPlayedBy : {A : Type 0} → (A → Meaning) → Meaning → AgentAt A → AgentAt A → Step → Outcome →
+abbrev pub IsPlayedBy : {A : Type 0} → (A → Meaning) → Meaning → AgentAt A → AgentAt A → Step → StepEnd →
     List Place → Type 0
 IsPlayedBy meaning own old new step o places =
-    ((reads_limit < length places) × (o ≡ outcome.Many) × (old ≡ new))
+    ((reads_limit < length places) × (o ≡ step_end.Many) × (old ≡ new))
     ⊎ ((length places ≤ reads_limit) × IsTriedBy meaning own old new step o places)
 
 -- A step was played: it reads too many locations, or was given up after 1,001 tries that ended in nothing, or ended after
 -- at most 1,000 of them.
-abbrev pub IsStepPlayed : {A : Type 0} → (A → Meaning) → Meaning → AgentAt A → AgentAt A → Step → Outcome → Type 0
+abbrev pub IsStepPlayed : {A : Type 0} → (A → Meaning) → Meaning → AgentAt A → AgentAt A → Step → StepEnd → Type 0
 IsStepPlayed meaning own old new step o =
     (places : List Place) × AreReads step places × IsPlayedBy meaning own old new step o places

@@ -7,9 +7,11 @@ mod outcome;
 mod play;
 mod player;
 mod read_values;
+mod step_end;
 mod workers;
 
 pub use gate::{Gate, Open, Passage};
-pub use outcome::{Outcome, Played, RunError};
+pub use outcome::{Outcome, Played, RunError, StepTerm};
 pub use play::run_script;
 pub use player::{PlayedAgent, Player};
+pub use step_end::StepEnd;

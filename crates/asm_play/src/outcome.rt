@@ -3,6 +3,7 @@ ghost use Rattle.std.specs.Prelude.{◌≡◌};
 ghost use Rattle.asm_play.specs.declared.outcome.RunError.TheVariants as run_error;
 
 use asm_element::{Items, Location};
+use asm_script::FaultyTerm;
 use asm_storage::History;
 use asm_update::Clash;
 use std::alloc::{AllocError, AllocFailed};
@@ -29,6 +30,15 @@ pub enum Outcome {
     GaveUp,
 }
 
+/// A step that ended since a term of it had no value.
+#[derive(Debug, Drop)]
+pub struct StepTerm {
+    /// The number of the step among those of its agent, counted from 0.
+    pub step: usize,
+    /// The first of its instructions whose term had no value on what the step read, and why.
+    pub term: FaultyTerm,
+}
+
 /// What playing a script leaves: its history, and the outcomes of each agent's steps.
 #[derive(Debug, Drop)]
 pub struct Played {
@@ -36,6 +46,8 @@ pub struct Played {
     pub history: History,
     /// For each agent the outcomes of its steps, in order.
     pub outcomes: Items<Items<Outcome>>,
+    /// For each agent those of its steps whose outcome is `Term`, in order.
+    pub terms: Items<Items<StepTerm>>,
 }
 
 /// Why a script was not played to its end.

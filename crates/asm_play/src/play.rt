@@ -5,7 +5,9 @@ ghost use Rattle.std.specs.List.{range_with_len};
 ghost use Rattle.asm_storage.specs.Limits.{agents_limit};
 ghost use Rattle.asm_storage.specs.Storage.{accounts, at_start};
 ghost use Rattle.asm_row.specs.Limits.{IsNoCapacity};
+ghost use Rattle.asm_play.specs.Ends.{outcome_in, terms_in};
 ghost use Rattle.asm_play.specs.Play.{IsPlayOf};
+ghost use Rattle.asm_play.specs.declared.step_end.StepEnd.{StepEnd};
 ghost use Rattle.asm_play.specs.AgentPlay.{Plays};
 ghost use Rattle.asm_aggregate.specs.Standard.{standard_meaning};
 ghost use Rattle.asm_play.specs.PlayedAgents.{steps_at, close_error_told, ArePlayed, IsNotClosed};
@@ -14,8 +16,9 @@ ghost use Rattle.asm_play.specs.declared.outcome.RunError.TheVariants as run_err
 
 use crate::aggregator::chosen;
 use crate::gate::{Gate, Passage, Through};
-use crate::outcome::{Outcome, Played, RunError};
+use crate::outcome::{Outcome, Played, RunError, StepTerm};
 use crate::player::{PlayedAgent, Player};
+use crate::step_end::agent_ends;
 use crate::workers;
 use crate::workers::Task;
 use asm_aggregate::Standard;
@@ -80,7 +83,7 @@ impl<'a, 's, P: Passage + Sync, S: Scripted + Sync> Task<
 
     ghost gives = { λ p a t. Plays (⟦<Standard as Aggregator>⟧.meaning)
         (⟦<Standard as Aggregator>⟧.meaning p.player.aggregator.now) a t.agent
-        (steps_at (S.steps p.scripted) a) t.outcomes.items };
+        (steps_at (S.steps p.scripted) a) t.ends.items };
 
     fn run<R: Wait>(
         &self,
@@ -102,7 +105,7 @@ fn played_apart<'s, 'a, R: Threads + Wait + Sync, P: Passage + Sync, S: Scripted
 ) -> Result<Vec<PlayedAgent<'s, Standard>>, RunError>
     ensures played { IfOk result (λ played. GivesEach (λ a t. Plays (⟦<Standard as Aggregator>⟧.meaning)
         (⟦<Standard as Aggregator>⟧.meaning playing.now.player.aggregator.now) a t.agent
-        (steps_at (S.steps playing.now.scripted) a) t.outcomes.items) agents.entry.items played.items) }
+        (steps_at (S.steps playing.now.scripted) a) t.ends.items) agents.entry.items played.items) }
     ensures error { IfErr result IsUndone }
     ensures threads { IsErrOf result run_error.NoThread → 2 ≤ vec_len agents.entry }
 {
@@ -119,7 +122,7 @@ fn played_as_written<'s, 'a, 'p, R: Threads + Wait + Sync, P: Passage + Sync>(
 ) -> Result<Vec<PlayedAgent<'s, Standard>>, RunError>
     ensures played { IfOk result (λ played. GivesEach (λ a t. Plays (⟦<Standard as Aggregator>⟧.meaning)
         (⟦<Standard as Aggregator>⟧.meaning playing.now.player.aggregator.now) a t.agent
-        (steps_at playing.now.scripted.0.now a) t.outcomes.items) agents.entry.items played.items) }
+        (steps_at playing.now.scripted.0.now a) t.ends.items) agents.entry.items played.items) }
     ensures error { IfErr result IsUndone }
     ensures threads { IsErrOf result run_error.NoThread → 2 ≤ vec_len agents.entry }
 {
@@ -162,11 +165,12 @@ fn agents_of<'s>(
     }
 }
 
-// The agents that played, and a list of the outcomes of each.
+// The agents that played, and what the ends of their steps tell.
 #[derive(Drop)]
 struct Ended<'s> {
     agents: Vec<Agent<'s, Standard>>,
     outcomes: Vec<Items<Outcome>>,
+    terms: Vec<Items<StepTerm>>,
 }
 
 fn told_apart<'s>(
@@ -174,22 +178,28 @@ fn told_apart<'s>(
     played_agents: Vec<PlayedAgent<'s, Standard>>,
 ) -> Result<Ended<'s>, AllocError>
     ensures agents { IfOk result (λ e. e.agents.items ≡ map (λ t. t.agent) played_agents.entry.items) }
-    ensures outcomes { IfOk result (λ e. e.outcomes.items ≡ map (λ t. t.outcomes.items) played_agents.entry.items) }
+    ensures outcomes { IfOk result (λ e.
+        e.outcomes.items ≡ map (λ t. map outcome_in t.ends.items) played_agents.entry.items) }
+    ensures terms { IfOk result (λ e. e.terms.items ≡ map (λ t. terms_in t.ends.items) played_agents.entry.items) }
 {
     let mut agents = Vec::new(alloc);
     let mut outcomes = Vec::new(alloc);
+    let mut terms = Vec::new(alloc);
     for played in played_agents {
-        let PlayedAgent {
-            agent,
-            outcomes: told,
-        } = played;
+        let PlayedAgent { agent, ends } = played;
         agents.push(agent)?;
-        outcomes.push(Items::new(told))?;
+        let told = agent_ends(alloc, ends)?;
+        outcomes.push(Items::new(told.outcomes))?;
+        terms.push(Items::new(told.terms))?;
     }
-    Ok(Ended { agents, outcomes })
+    Ok(Ended {
+        agents,
+        outcomes,
+        terms,
+    })
 }
 
-// What is left when the agents have played: their closed history, and the outcomes.
+// What is left when the agents have played: their closed history, and what the ends of their steps tell.
 fn closed<'s>(
     alloc: Global,
     storage: &Storage<Standard>,
@@ -198,13 +208,18 @@ fn closed<'s>(
 ) -> Result<Played, RunError>
     requires meaning { ⟦<Standard as Aggregator>⟧.meaning storage.now.agg ≡ standard_meaning }
     requires init { storage.now.init ≡ script.now.init }
-    requires agents { ArePlayed (⟦<Standard as Aggregator>⟧.meaning) standard_meaning storage.now 0
-        script.now.agents ended.agents.items ended.outcomes.items }
+    requires agents { (ends : List (List StepEnd)) × ArePlayed (⟦<Standard as Aggregator>⟧.meaning) standard_meaning
+        storage.now 0 script.now.agents ended.agents.items ends × (ended.outcomes.items ≡ map (map outcome_in) ends)
+        × (ended.terms.items ≡ map terms_in ends) }
     ensures played { IfOk result (IsPlayOf script.now (length storage.now.row)) }
     ensures later { IfErr result (λ e. e ≢ RunError.BadCapacity) }
     ensures missing { IfErr result (IsNotClosed (accounts ended.entry.agents.items)) }
 {
-    let Ended { agents, outcomes } = ended;
+    let Ended {
+        agents,
+        outcomes,
+        terms,
+    } = ended;
     match storage.close(alloc, agents.as_slice()) {
         Ok(history) => {
             // For the clause `played`, which is proved of what a program can hold.
@@ -212,6 +227,7 @@ fn closed<'s>(
             Ok(Played {
                 history,
                 outcomes: Items::new(outcomes),
+                terms: Items::new(terms),
             })
         }
         Err(error) => Err(RunError::from(error)),

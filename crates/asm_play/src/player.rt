@@ -5,11 +5,11 @@ ghost use Rattle.asm_play.specs.AgentPlay.{Plays};
 ghost use Rattle.asm_script.specs.Sequencing.{IsStepMove};
 ghost use Rattle.asm_script.specs.StepReads.{AreReads};
 ghost use Rattle.asm_storage.specs.Limits.{reads_limit};
-ghost use Rattle.asm_play.specs.Trying.{names_of, outcome_of, read_value, HasRead, HasTried, IsEndOf, IsTry, IsStepPlayed};
+ghost use Rattle.asm_play.specs.Trying.{names_of, end_of as end_of_reply, read_value, HasRead, HasTried, IsEndOf, IsTry, IsStepPlayed};
 
 use crate::gate::Passage;
-use crate::outcome::Outcome;
 use crate::read_values::ReadValues;
+use crate::step_end::StepEnd;
 use asm_element::{Items, Location};
 use asm_script::{Step, StepFault, step_move};
 use asm_state::Named;
@@ -25,13 +25,13 @@ const TRIES_LIMIT: u32 = 1001;
 /// The most times that an agent lets other threads run before it tries a step again.
 const PAUSES_LIMIT: u32 = 64;
 
-/// An agent after its steps were played, with the outcome of each.
+/// An agent after its steps were played, and how each ended.
 #[derive(Drop)]
 pub struct PlayedAgent<'s, A: Aggregator + Sync + Drop> {
     /// The agent.
     pub agent: Agent<'s, A>,
-    /// The outcomes of its steps, in order.
-    pub outcomes: Vec<Outcome>,
+    /// How its steps ended, in order.
+    pub ends: Vec<StepEnd>,
 }
 
 /// Plays the steps of one agent behind a passage.
@@ -58,27 +58,27 @@ fn names(alloc: Global, reading: &Option<Reading>) -> Result<Vec<Named>, AllocEr
     Ok(names)
 }
 
-// The outcome that the reply to a step's fire means; `None` where the step is to be tried again.
-fn outcome(reply: Option<Reply>) -> Option<Outcome>
-    ensures { result ≡ outcome_of reply }
+// How a step ended whose fire was answered by this reply; `None` where the step is to be tried again.
+fn end_of(reply: Option<Reply>) -> Option<StepEnd>
+    ensures { result ≡ end_of_reply reply }
 {
     match reply? {
-        Reply::Fired(number) => Some(Outcome::Fired(number)),
-        Reply::Clash(clash) => Some(Outcome::Clash(clash)),
-        Reply::Full => Some(Outcome::Full),
+        Reply::Fired(number) => Some(StepEnd::Fired(number)),
+        Reply::Clash(clash) => Some(StepEnd::Clash(clash)),
+        Reply::Full => Some(StepEnd::Full),
         Reply::Stale(_) => None,
     }
 }
 
-// The outcome of a step that has no move.
-fn stopped(fault: StepFault) -> Result<Outcome, AllocError>
+// How a step ended that has no move.
+fn stopped(fault: StepFault) -> Result<StepEnd, AllocError>
     ensures { IfOk result (IsEndOf fault) }
 {
     match fault {
-        StepFault::Term => Ok(Outcome::Term),
-        StepFault::Clash(clash) => Ok(Outcome::Clash(clash)),
-        StepFault::Large(at) => Ok(Outcome::Large(at)),
-        StepFault::Many => Ok(Outcome::Many),
+        StepFault::Term(term) => Ok(StepEnd::Term(term)),
+        StepFault::Clash(clash) => Ok(StepEnd::Clash(clash)),
+        StepFault::Large(at) => Ok(StepEnd::Large(at)),
+        StepFault::Many => Ok(StepEnd::Many),
         StepFault::Memory => Err(AllocError),
     }
 }
@@ -170,7 +170,7 @@ impl<'a, A: Aggregator + Sync + Drop, P: Passage> Player<'a, A, P> {
         calls: &mut u64,
         step: &Step,
         places: &[Location],
-    ) -> Result<Option<Outcome>, AllocError>
+    ) -> Result<Option<StepEnd>, AllocError>
         requires few { length places.now ≤ reads_limit }
         requires reads { AreReads step.now places.now }
         ensures { IfOk result (
@@ -183,7 +183,7 @@ impl<'a, A: Aggregator + Sync + Drop, P: Passage> Player<'a, A, P> {
         };
         let reads = Items::shared(self.alloc, names(self.alloc, &reading)?)?;
         let reply = self.fire(rt, agent, calls, &reads, &instrs)?;
-        Ok(outcome(reply))
+        Ok(end_of(reply))
     }
 
     // Tries the step until it ends, at most 1,001 times.
@@ -193,21 +193,21 @@ impl<'a, A: Aggregator + Sync + Drop, P: Passage> Player<'a, A, P> {
         agent: &mut Agent<'s, A>,
         calls: &mut u64,
         step: &Step,
-    ) -> Result<Outcome, AllocError>
+    ) -> Result<StepEnd, AllocError>
         ensures { IfOk result (
             IsStepPlayed A.meaning (A.meaning self.now.aggregator.now) agent.old agent.new step.now) }
     {
         let places = step.reads();
         if places.len() > READS_LIMIT {
-            return Ok(Outcome::Many);
+            return Ok(StepEnd::Many);
         }
         for tried in 0..TRIES_LIMIT {
             match self.one_try(rt, agent, calls, step, places)? {
-                Some(outcome) => return Ok(outcome),
+                Some(end) => return Ok(end),
                 None => pause(tried),
             }
         }
-        Ok(Outcome::GaveUp)
+        Ok(StepEnd::GaveUp)
     }
 
     /// Plays each of the steps, in order. `AllocError` comes only where memory was refused; the agent is then dropped.
@@ -218,14 +218,14 @@ impl<'a, A: Aggregator + Sync + Drop, P: Passage> Player<'a, A, P> {
         steps: &[Step],
     ) -> Result<PlayedAgent<'s, A>, AllocError>
         ensures { IfOk result (λ t. Plays A.meaning (A.meaning self.now.aggregator.now)
-            agent.entry t.agent steps.now t.outcomes.items) }
+            agent.entry t.agent steps.now t.ends.items) }
     {
         let mut agent = agent;
-        let mut outcomes = Vec::new(self.alloc);
+        let mut ends = Vec::new(self.alloc);
         let mut calls = 0;
         for step in steps {
-            outcomes.push(self.play_step(rt, &mut agent, &mut calls, step)?)?;
+            ends.push(self.play_step(rt, &mut agent, &mut calls, step)?)?;
         }
-        Ok(PlayedAgent { agent, outcomes })
+        Ok(PlayedAgent { agent, ends })
     }
 }

@@ -1,4 +1,6 @@
 //! What the program reads: standard input, a file, or the segments of a run's folder.
+ghost use Rattle.std.specs.Prelude.{◌≤◌, length, vec_len, IfSome};
+
 use crate::telling::INPUT_LIMIT;
 use std::alloc::Global;
 use std::io::{ErrorKind, Read};
@@ -15,6 +17,8 @@ pub(crate) struct Kept<I> {
     lost: bool,
     /// Whether a read failed.
     pub(crate) failed: bool,
+    ghost within: { vec_len bytes ≤ most },
+    ghost few: { most ≤ 16777217 },
 }
 
 impl<I: Read> Kept<I> {
@@ -38,7 +42,9 @@ impl<I: Read> Kept<I> {
     }
 
     /// The first bytes that were read, if there was memory for them.
-    pub(crate) fn kept(&self) -> Option<&[u8]> {
+    pub(crate) fn kept(&self) -> Option<&[u8]>
+        ensures { IfSome result (λ bytes. length bytes.now ≤ 16777217) }
+    {
         if self.lost {
             None
         } else {

@@ -6,7 +6,6 @@ mod hints;
 mod input;
 mod output;
 mod telling;
-mod texts;
 mod words;
 mod wrong;
 

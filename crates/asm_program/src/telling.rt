@@ -1,11 +1,12 @@
 //! What the program says on standard error.
+ghost use Rattle.std.specs.Prelude.{◌≢◌, IfOk, IsNone};
+
 use crate::hints::hint;
 use crate::input::{Kept, Opened, Unreadable, open};
 use crate::output::Output;
-use crate::texts::shown;
 use crate::words::{Asked, TextKind, Unasked, read_words};
 use crate::wrong::wrong_answer;
-use asm_driver::{run_given, run_main};
+use asm_driver::{run_given, run_main, shown_text};
 use asm_explain::{Form, explain, explain_journal};
 use std::alloc::{AllocError, Global};
 use std::io;
@@ -24,6 +25,9 @@ const HEAD: usize = 65_536;
 const TERMS: usize = 10;
 
 const TOO_LARGE: &str = "more than 16,777,216 bytes, which are the most that the program reads";
+
+const LONG_LINE: &str =
+    "a line has more than 1,073,741,824 bytes, which are the most that an audit keeps";
 
 /// Writes the text on standard error. If that fails, there is nobody to tell.
 pub(crate) fn say<R: Eprint>(rt: &R, text: &str) {
@@ -62,7 +66,7 @@ fn why_no_run(alloc: Global, line: &[u8], head: &[u8]) -> Result<String, AllocEr
         );
     }
     if line == b"input too large\n".as_slice() {
-        return format!(in alloc; "a line has {TOO_LARGE}");
+        return String::from_str(alloc, LONG_LINE);
     }
     let why = "refused; standard output has the part, counted from 0, and its line";
     match hint(alloc, TextKind::Journal, head, why)? {
@@ -86,14 +90,17 @@ fn why_wrong(alloc: Global, asked: Asked<'_>, bytes: &[u8]) -> Result<String, Al
     String::from_str(alloc, why)
 }
 
-// Why what is asked for isn't done, by the status, the line that was written and what was read.
+// Why what is asked for isn't done, by the status, the line that was written and what was read. With status 0, 3 or 4
+// there is nothing to say.
 fn why(
     alloc: Global,
     asked: Asked<'_>,
     status: u8,
     line: &[u8],
     bytes: &[u8],
-) -> Result<Option<String>, AllocError> {
+) -> Result<Option<String>, AllocError>
+    ensures { (status ≢ 1) → (status ≢ 2) → IfOk result IsNone }
+{
     if status != 1 && status != 2 {
         return Ok(None);
     }
@@ -175,7 +182,7 @@ fn refuse_folder<R: Runtime + AllocGlobal + Threads + Wait + Sync>(
     };
     if asked.is_run() {
         say_line(rt, name, "a segment is missing, or is there twice");
-    } else if let Ok(first) = shown(alloc, first) {
+    } else if let Ok(first) = shown_text(alloc, first) {
         let _said = eprintln!(rt;
             "asm_driver: {name}: it is a folder; of a run audit takes all segments, and the other commands take one: {first}"
         );
@@ -191,7 +198,7 @@ fn answer_file<R: Runtime + AllocGlobal + Threads + Wait + Sync>(
     words: Vec<String>,
     path: &str,
 ) -> Result<u8, Unasked> {
-    let name = shown(alloc, path)?;
+    let name = shown_text(alloc, path)?;
     let name = name.as_str();
     match open(rt, alloc, path, asked.is_run()) {
         Ok(Opened::File(file)) => Ok(answer(rt, alloc, asked, words, name, file)),

@@ -1,5 +1,5 @@
 //! The words of the program, with the name of a file, which `asm_driver` doesn't take.
-use crate::texts::shown;
+use asm_driver::shown_text;
 use clap::builder::ValueParser;
 use clap::error::ErrorKind;
 use clap::{Arg, ArgAction, ArgMatches, Command, Error};
@@ -158,7 +158,7 @@ fn refused_by(alloc: Global, error: &Error) -> Unasked {
 fn wrong(alloc: Global, words: &[String]) -> Result<Unasked, AllocError> {
     let mut seen = Vec::new(alloc);
     for word in words {
-        seen.push(shown(alloc, word.as_str())?)?;
+        seen.push(shown_text(alloc, word.as_str())?)?;
     }
     match program(alloc)?.try_get_matches_from(seen.as_slice()) {
         Ok(_) => Ok(Unasked::Wrong(String::from_str(

@@ -1,5 +1,5 @@
 //! The first wrong answer of a journal, beside the right one.
-use crate::texts::shown;
+use asm_driver::shown_text;
 use asm_element::{Location, Value};
 use asm_journal::{ToJson, from_text, judge_event, value_json};
 use asm_play::aggregator::chosen;
@@ -77,9 +77,9 @@ fn said_of(
     event: &Event,
 ) -> Result<String, AllocError> {
     let right = right_answer(alloc, state, capacity, number, event)?;
-    let right = shown(alloc, right.as_str())?;
-    let call = shown(alloc, event.call.to_json(alloc)?.to_string(alloc)?.as_str())?;
-    let reply = shown(
+    let right = shown_text(alloc, right.as_str())?;
+    let call = shown_text(alloc, event.call.to_json(alloc)?.to_string(alloc)?.as_str())?;
+    let reply = shown_text(
         alloc,
         event.answer.to_json(alloc)?.to_string(alloc)?.as_str(),
     )?;

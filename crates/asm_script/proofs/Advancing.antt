@@ -13,17 +13,19 @@ use Rattle.asm_update.specs.declared.clash.Clash.{Clash}
 use Rattle.asm_update.proofs.FireLemmas.{fire_updates, fire_clash}
 use Rattle.asm_overlay.specs.Frames.{Frames, under, topmost, seen_through}
 use Rattle.asm_overlay.proofs.FrameLemmas.{val-under}
-use Rattle.asm_script.specs.Blocks.{move_in}
+use Rattle.asm_script.specs.Blocks.{move_in, IsNext}
 use Rattle.asm_script.specs.StepReads.{taken, changed, named}
 use Rattle.asm_script.specs.Sequencing.{Stop, FaultyTerm, Clashes, fired_or_stopped, fire_move, fire_block, on_state}
-use Rattle.asm_script.specs.Sequencing.{fire_blocks, IsReadOf, IsStopped, IsStepMove, IsNext, IsFrame, Extends}
-use Rattle.asm_script.specs.Sequencing.{fitting, composed_on, on_move, on_fired, on_composed, step_move_on}
+use Rattle.asm_script.specs.Sequencing.{fire_blocks, IsReadOf, IsStopped, IsStepMove, IsFrame, Extends}
+use Rattle.asm_script.specs.Sequencing.{fitting, composed_on, on_move, on_fired, on_composed, step_move_on, step_move_from}
 use Rattle.asm_script.specs.declared.block.Block.{Block}
 use Rattle.asm_script.specs.declared.step.Step.{Step}
+use Rattle.asm_script.specs.declared.fault.FaultyTerm.{FaultyTerm as Faulty}
+use Rattle.asm_script.specs.declared.term.NoValue.{NoValue}
 use Rattle.std.proofs.lemmas.Bool.{false≢true, lt-ltb, le-ltb}
 use Rattle.std.proofs.lemmas.List.{drop_all, drop_more}
-use Rattle.asm_script.specs.declared.step.StepFault.{StepFault}
-use Rattle.asm_script.specs.declared.step.StepFault.TheVariants.{Term, Clash as Clashing, Large, Many, Memory}
+use Rattle.asm_script.specs.declared.fault.StepFault.{StepFault}
+use Rattle.asm_script.specs.declared.fault.StepFault.TheVariants.{Term, Clash as Clashing, Large, Many, Memory}
 use Rattle.asm_script.proofs.Agreeing.{Agree, agree_left, agree_right, same_move, same_update_set, same_clash}
 
 pub one_longer : {X : Type 0} (xs ys : List X) (x : X) (i : ℕ) → ys ≡ xs ++ x ∷ [] → length xs ≡ i →
@@ -43,7 +45,7 @@ pub record AreSequenced (a : Meaning) (old : Old) (step : Step) (frames : Frames
       fire_blocks a.part A step ≡ fire_blocks a.part (under A frames) (left ++ last ∷ [])
   pub moved : (A : State) → IsReadOf A old step → IsDoneBy a.part A done (under A frames)
   pub composed : (A : State) → IsReadOf A old step →
-      step_move_on a A None step ≡ step_move_on a (under A frames) done (left ++ last ∷ [])
+      step_move_on a A None step ≡ step_move_from a (under A frames) (length frames) done (left ++ last ∷ [])
 
 -- the block at a place is the first of those that are left there; behind the last place none is left
 module _ (a : Meaning) (old : Old) (step : Step) (frames : Frames) (done : Option Move) (blocks : List Block)
@@ -111,26 +113,32 @@ too_many a None M extends = absurd extends
 too_many a (Some D) M (C, composed, many) =
     ap fitting composed ∙ ap (λ b. cond b (Err Many) (Ok C)) (lt-ltb instructions_limit (length C) many)
 
--- the move of a step whose first block has this move, or none, and is followed by others
-first_move : (a : Meaning) (A : State) (done : Option Move) (b : Block) (left : List Block) (last : Block) (M : Move) →
-    move_in (val A) b ≡ Some M →
-    step_move_on a A done (b ∷ (left ++ last ∷ []))
-    ≡ on_fired (λ B. on_composed (λ C. step_move_on a B (Some C) (left ++ last ∷ [])) (composed_on a done M))
+-- the move of blocks of which the first has this move, or none, and is followed by others
+first_move : (a : Meaning) (A : State) (n : ℕ) (done : Option Move) (b : Block) (left : List Block) (last : Block)
+    (M : Move) →
+    move_in (val A) b ≡ Ok M →
+    step_move_from a A n done (b ∷ (left ++ last ∷ []))
+    ≡ on_fired (λ B. on_composed (λ C. step_move_from a B (n + 1) (Some C) (left ++ last ∷ [])) (composed_on a done M))
     (fire a.part A M)
-first_move a A done b [] last M is =
-    ap (on_move (λ N. on_fired (λ B. on_composed (λ C. step_move_on a B (Some C) (last ∷ [])) (composed_on a done N))
-    (fire a.part A N))) is
-first_move a A done b (c ∷ left) last M is =
-    ap (on_move (λ N. on_fired (λ B. on_composed (λ C. step_move_on a B (Some C) (c ∷ (left ++ last ∷ [])))
+first_move a A n done b [] last M is =
+    ap (on_move n (λ N. on_fired (λ B. on_composed (λ C. step_move_from a B (n + 1) (Some C) (last ∷ []))
+    (composed_on a done N)) (fire a.part A N))) is
+first_move a A n done b (c ∷ left) last M is =
+    ap (on_move n (λ N. on_fired (λ B. on_composed (λ C. step_move_from a B (n + 1) (Some C) (c ∷ (left ++ last ∷ [])))
     (composed_on a done N)) (fire a.part A N))) is
 
-no_first_move : (a : Meaning) (A : State) (done : Option Move) (b : Block) (left : List Block) (last : Block) →
-    move_in (val A) b ≡ None → step_move_on a A done (b ∷ (left ++ last ∷ [])) ≡ Err Term
-no_first_move a A done b [] last is =
-    ap (on_move (λ N. on_fired (λ B. on_composed (λ C. step_move_on a B (Some C) (last ∷ [])) (composed_on a done N))
-    (fire a.part A N))) is
-no_first_move a A done b (c ∷ left) last is =
-    ap (on_move (λ N. on_fired (λ B. on_composed (λ C. step_move_on a B (Some C) (c ∷ (left ++ last ∷ [])))
+-- the first instruction without a value, of the block with this number
+abbrev faulty_at : ℕ → ℕ × NoValue → StepFault
+faulty_at n f = Term (record { block = n; instruction = f.0; why = f.1 })
+
+no_first_move : (a : Meaning) (A : State) (n : ℕ) (done : Option Move) (b : Block) (left : List Block) (last : Block)
+    (f : ℕ × NoValue) →
+    move_in (val A) b ≡ Err f → step_move_from a A n done (b ∷ (left ++ last ∷ [])) ≡ Err (faulty_at n f)
+no_first_move a A n done b [] last f is =
+    ap (on_move n (λ N. on_fired (λ B. on_composed (λ C. step_move_from a B (n + 1) (Some C) (last ∷ []))
+    (composed_on a done N)) (fire a.part A N))) is
+no_first_move a A n done b (c ∷ left) last f is =
+    ap (on_move n (λ N. on_fired (λ B. on_composed (λ C. step_move_from a B (n + 1) (Some C) (c ∷ (left ++ last ∷ [])))
     (composed_on a done N)) (fire a.part A N))) is
 
 clash_of : (r : Result State Clash) → IsErr r → (clash : Clash) × (r ≡ Err clash)
@@ -150,13 +158,13 @@ refused a A B (Some D) M (Clashing clash) proper is extends refusal =
     subst IsErr (after_done a.part A B D M is) (extends.0 A proper)
 refused a A B (Some D) M (Large l) proper is extends refusal =
     subst IsErr (after_done a.part A B D M is) (extends.0 A proper)
-refused a A B (Some D) M Term proper is extends refusal = absurd refusal
+refused a A B (Some D) M (Term f) proper is extends refusal = absurd refusal
 refused a A B (Some D) M Many proper is extends refusal = absurd refusal
 refused a A B (Some D) M Memory proper is extends refusal = absurd refusal
 
-no_term : (a : Meaning) (done : Option Move) (M : Move) → Extends a done M (Err Term) → ⊥
-no_term a None M extends = extends
-no_term a (Some D) M extends = extends
+no_term : (a : Meaning) (done : Option Move) (M : Move) (f : Faulty) → Extends a done M (Err (Term f)) → ⊥
+no_term a None M f extends = extends
+no_term a (Some D) M f extends = extends
 
 on_state-ok : (r : Result State Stop) → on_state (λ B. Ok B) r ≡ r
 on_state-ok (Ok B) = refl
@@ -191,24 +199,26 @@ module _ (a : Meaning) (old : Old) (step : Step) (frames : Frames) (done : Optio
       stops A read stop is = played.blocks A read ∙ ap (on_state (λ B. fire_blocks part B (left ++ last ∷ []))) is
 
       -- a faulty term stops the blocks
-      pub faulty_term : move_in (seen_through frames old) b ≡ None → (A : State) → IsReadOf A old step →
-          (step_move_on a A None step ≡ Err Term) × (fire_blocks part A step ≡ Err FaultyTerm)
-      faulty_term is A read =
+      pub faulty_term : (f : ℕ × NoValue) → move_in (seen_through frames old) b ≡ Err f → (A : State) →
+          IsReadOf A old step →
+          (step_move_on a A None step ≡ Err (faulty_at (length frames) f)) × (fire_blocks part A step ≡ Err FaultyTerm)
+      faulty_term f is A read =
           let none = sym (move_is A read) ∙ is in (
-            played.composed A read ∙ no_first_move a (under A frames) done b left last none,
+            played.composed A read ∙ no_first_move a (under A frames) (length frames) done b left last f none,
             stops A read FaultyTerm (ap (fire_move part (under A frames)) none),
           )
 
       -- what is answered where the block has no move
-      pub next_fault : (fault : StepFault) → IsNext (move_in (seen_through frames old) b) (Err fault) →
+      pub next_fault : (fault : StepFault) → IsNext (length frames) (move_in (seen_through frames old) b) (Err fault) →
           IsStepMove a old step (Err fault)
-      next_fault Term is = faulty_term is
+      next_fault (Term f) is = subst (λ n. IsStepMove a old step (Err (Term (record { block = n; instruction = f.instruction; why = f.why }))))
+          (sym is.0) (faulty_term (f.instruction, f.why) is.1)
       next_fault (Clashing clash) is = absurd is
       next_fault (Large l) is = absurd is
       next_fault Many is = absurd is
       next_fault Memory is = λ A read. tt
 
-      module _ (M : Move) (is : move_in (seen_through frames old) b ≡ Some M) where
+      module _ (M : Move) (is : move_in (seen_through frames old) b ≡ Ok M) where
         fires_block : (A : State) → IsReadOf A old step →
             fire_block part (under A frames) b ≡ fired_or_stopped (fire part (under A frames) M)
         fires_block A read = ap (fire_move part (under A frames)) (sym (move_is A read) ∙ is)
@@ -219,12 +229,14 @@ module _ (a : Meaning) (old : Old) (step : Step) (frames : Frames) (done : Optio
 
         -- what comes after the block's move
         abbrev onward : State → Result Move StepFault
-        onward B = on_composed (λ C. step_move_on a B (Some C) (left ++ last ∷ [])) (composed_on a done M)
+        onward B = on_composed (λ C. step_move_from a B (length frames + 1) (Some C) (left ++ last ∷ []))
+            (composed_on a done M)
 
         goes_on : (A : State) → IsReadOf A old step →
             step_move_on a A None step ≡ on_fired onward (fire part (under A frames) M)
         goes_on A read =
-            played.composed A read ∙ first_move a (under A frames) done b left last M (sym (move_is A read) ∙ is)
+            played.composed A read
+            ∙ first_move a (under A frames) (length frames) done b left last M (sym (move_is A read) ∙ is)
 
         -- a block that clashes stops the blocks
         pub clashing_block : (clash : Clash) → IsLeastClash part (seen_through frames old) M clash → (A : State) →
@@ -240,7 +252,7 @@ module _ (a : Meaning) (old : Old) (step : Step) (frames : Frames) (done : Optio
         -- what is answered where the block has no update set
         pub frame_fault : (fault : StepFault) → IsFrame part (seen_through frames old) M (Err fault) →
             IsStepMove a old step (Err fault)
-        frame_fault Term least = absurd least
+        frame_fault (Term f) least = absurd least
         frame_fault (Clashing clash) least = clashing_block clash least
         frame_fault (Large l) least = absurd least
         frame_fault Many least = absurd least
@@ -254,7 +266,7 @@ module _ (a : Meaning) (old : Old) (step : Step) (frames : Frames) (done : Optio
 
           fires_on : (A : State) → IsReadOf A old step →
               step_move_on a A None step
-              ≡ on_composed (λ C. step_move_on a (under A (frames ++ U ∷ [])) (Some C) (left ++ last ∷ []))
+              ≡ on_composed (λ C. step_move_from a (under A (frames ++ U ∷ [])) (length frames + 1) (Some C) (left ++ last ∷ []))
               (composed_on a done M)
           fires_on A read = goes_on A read ∙ ap (on_fired onward) (fires A read)
 
@@ -267,12 +279,12 @@ module _ (a : Meaning) (old : Old) (step : Step) (frames : Frames) (done : Optio
 
           -- what is answered where the block doesn't compose with what is done
           pub compose_fault : (fault : StepFault) → Extends a done M (Err fault) → IsStepMove a old step (Err fault)
-          compose_fault Term extends = absurd (no_term a done M extends)
+          compose_fault (Term f) extends = absurd (no_term a done M f extends)
           compose_fault (Clashing clash) extends = λ A read. absurd (not_refused A read (Clashing clash) extends tt)
           compose_fault (Large l) extends = λ A read. absurd (not_refused A read (Large l) extends tt)
           compose_fault Many extends = λ A read.
               fires_on A read
-              ∙ ap (on_composed (λ C. step_move_on a (under A (frames ++ U ∷ [])) (Some C) (left ++ last ∷ [])))
+              ∙ ap (on_composed (λ C. step_move_from a (under A (frames ++ U ∷ [])) (length frames + 1) (Some C) (left ++ last ∷ [])))
               (too_many a done M extends)
           compose_fault Memory extends = λ A read. tt
 
@@ -291,59 +303,68 @@ module _ (a : Meaning) (old : Old) (step : Step) (frames : Frames) (done : Optio
                 extended a A (under A frames) done M C read.proper (played.moved A read) extends ∙ fires A read;
             composed = λ A read.
                 fires_on A read
-                ∙ ap (on_composed (λ C. step_move_on a (under A (frames ++ U ∷ [])) (Some C) (left ++ last ∷ [])))
-                (composed_is a done M C extends);
+                ∙ ap (on_composed (λ C. step_move_from a (under A (frames ++ U ∷ [])) (length frames + 1) (Some C) (left ++ last ∷ [])))
+                (composed_is a done M C extends)
+                ∙ ap (λ n. step_move_from a (under A (frames ++ U ∷ [])) n (Some C) (left ++ last ∷ []))
+                (sym (length-append frames (U ∷ [])));
           }
 
   module _ (last : Block) (played : AreSequenced a old step frames done [] last) where
-    same_last : (A : State) → IsReadOf A old step → (M : Option Move) → move_in (seen_through frames old) last ≡ M →
+    same_last : (A : State) → IsReadOf A old step → (M : Result Move (ℕ × NoValue)) → move_in (seen_through frames old) last ≡ M →
         move_in (val (under A frames)) last ≡ M
     same_last A read M is =
         sym (same_move (seen_through frames old) (val (under A frames)) last (seen_is [] last played A read)) ∙ is
 
-    last_is : (A : State) → IsReadOf A old step → (M : Option Move) → move_in (seen_through frames old) last ≡ M →
+    last_is : (A : State) → IsReadOf A old step → (M : Result Move (ℕ × NoValue)) → move_in (seen_through frames old) last ≡ M →
         fire_blocks part A step ≡ fire_move part (under A frames) M
     last_is A read M is =
         played.blocks A read ∙ on_state-ok (fire_block part (under A frames) last)
         ∙ ap (fire_move part (under A frames)) (same_last A read M is)
 
-    last_move : (A : State) → IsReadOf A old step → (M : Option Move) → move_in (seen_through frames old) last ≡ M →
-        step_move_on a A None step ≡ on_move (composed_on a done) M
-    last_move A read M is = played.composed A read ∙ ap (on_move (composed_on a done)) (same_last A read M is)
+    last_move : (A : State) → IsReadOf A old step → (M : Result Move (ℕ × NoValue)) →
+        move_in (seen_through frames old) last ≡ M →
+        step_move_on a A None step ≡ on_move (length frames) (composed_on a done) M
+    last_move A read M is =
+        played.composed A read ∙ ap (on_move (length frames) (composed_on a done)) (same_last A read M is)
 
     -- what is answered where the last block has no move
-    pub last_fault : (fault : StepFault) → IsNext (move_in (seen_through frames old) last) (Err fault) →
+    pub last_fault : (fault : StepFault) → IsNext (length frames) (move_in (seen_through frames old) last) (Err fault) →
         IsStepMove a old step (Err fault)
-    last_fault Term is = λ A read. (last_move A read None is, last_is A read None is)
+    last_fault (Term f) is =
+        subst (λ n. IsStepMove a old step (Err (Term (record { block = n; instruction = f.instruction; why = f.why }))))
+        (sym is.0) (λ A read. (
+          last_move A read (Err (f.instruction, f.why)) is.1,
+          last_is A read (Err (f.instruction, f.why)) is.1,
+        ))
     last_fault (Clashing clash) is = absurd is
     last_fault (Large l) is = absurd is
     last_fault Many is = absurd is
     last_fault Memory is = λ A read. tt
 
-    module _ (M : Move) (is : move_in (seen_through frames old) last ≡ Some M) where
+    module _ (M : Move) (is : move_in (seen_through frames old) last ≡ Ok M) where
       last_refused : (A : State) → IsReadOf A old step → (fault : StepFault) → Extends a done M (Err fault) →
           IsLasting fault →
           IsStopped (fire_blocks part A step)
       last_refused A read fault extends refusal =
           let clash = clash_of (fire part (under A frames) M)
           (refused a A (under A frames) done M fault read.proper (played.moved A read) extends refusal) in
-          (clash.0, last_is A read (Some M) is ∙ ap fired_or_stopped clash.1)
+          (clash.0, last_is A read (Ok M) is ∙ ap fired_or_stopped clash.1)
 
       -- the last block, composed to what is done, is the step's move
       pub last_answer : (answer : Result Move StepFault) → Extends a done M answer → IsStepMove a old step answer
       last_answer (Ok C) extends = λ A read. (
-        last_move A read (Some M) is ∙ composed_is a done M C extends,
-        last_is A read (Some M) is
+        last_move A read (Ok M) is ∙ composed_is a done M C extends,
+        last_is A read (Ok M) is
             ∙ ap fired_or_stopped (sym (extended a A (under A frames) done M C read.proper (played.moved A read) extends)),
       )
-      last_answer (Err Term) extends = absurd (no_term a done M extends)
+      last_answer (Err (Term f)) extends = absurd (no_term a done M f extends)
       last_answer (Err (Clashing clash)) extends = λ A read. (
-        last_move A read (Some M) is ∙ clashes_so a done M clash extends,
+        last_move A read (Ok M) is ∙ clashes_so a done M clash extends,
         last_refused A read (Clashing clash) extends tt,
       )
       last_answer (Err (Large l)) extends = λ A read. (
-        last_move A read (Some M) is ∙ too_large a done M l extends,
+        last_move A read (Ok M) is ∙ too_large a done M l extends,
         last_refused A read (Large l) extends tt,
       )
-      last_answer (Err Many) extends = λ A read. last_move A read (Some M) is ∙ too_many a done M extends
+      last_answer (Err Many) extends = λ A read. last_move A read (Ok M) is ∙ too_many a done M extends
       last_answer (Err Memory) extends = λ A read. tt

@@ -1,15 +1,16 @@
 -- Blocks and moves depend on the locations that they name alone.
 use Rattle.std.proofs.Common.{◌≡◌, ◌≢◌, ◌⊎◌, inl, inr, ⊎_elim, map, arith, IsOk, IsSomeAnd, Bool, true, false, ◌||◌}
-use Rattle.std.proofs.Common.{cond, List, [], ◌∷◌, ◌++◌, Contains, filter, Option, Some, None, Ok, Err, refl, sym, ap}
+use Rattle.std.proofs.Common.{cond, ◌+◌, ℕ, List, [], ◌∷◌, ◌++◌, Contains, filter, Some, Result, Ok, Err, refl, sym, ap}
 use Rattle.std.proofs.Common.{◌∙◌, subst}
 use Rattle.std.proofs.lemmas.Bool.{false≢true}
 use Rattle.std.specs.FinMap as finite
 use Rattle.std.proofs.lemmas.List.Elements.{Contains-append_left, Contains-append_right}
-use Rattle.std.specs.Option.{option_and_then, option_map}
 use Rattle.std.specs.List.{list_any, filter_map}
 use Rattle.std.specs.Ordering.{eq_by_cmp}
 use Rattle.asm_element.specs.Place.{Place, location_cmp, same_location}
+use Rattle.asm_element.specs.declared.element.Element.TheVariants.{Num}
 use Rattle.asm_element.specs.declared.value.Value.{Value}
+use Rattle.asm_element.specs.declared.value.Value.TheVariants.{Plain}
 use Rattle.asm_update.specs.Action.{is_partial, regular_value}
 use Rattle.asm_update.specs.Fire.{Part, Old, GroupResult, res, group_result, result_at, IsUpdateSet, IsLeastClash}
 use Rattle.asm_update.specs.Move.{Move, actions_at, writes, are_different}
@@ -20,8 +21,9 @@ use Rattle.asm_update.specs.declared.action.Instruction.{Instruction}
 use Rattle.asm_update.specs.declared.clash.Cause.TheVariants.{Two}
 use Rattle.asm_update.specs.declared.clash.Clash.{Clash}
 use Rattle.asm_update.proofs.ActionLemmas.{IsRegular, IsPartial, kinds}
-use Rattle.asm_script.specs.Terms.{term_value, given_element, given_number, sum_value, locations_in}
-use Rattle.asm_script.specs.Blocks.{action_in, instruction_in, move_in}
+use Rattle.asm_script.specs.Terms.{term_value, number_value, element_value, as_number, as_element, sum_value}
+use Rattle.asm_script.specs.Terms.{location_in, locations_in, made_of, come_of}
+use Rattle.asm_script.specs.Blocks.{action_in, instruction_in, in_front, move_from, move_in}
 use Rattle.asm_script.specs.StepReads.{places_in, target_of, taken, changed}
 use Rattle.asm_script.specs.declared.term.Term.{Term}
 use Rattle.asm_script.specs.declared.term.Term.TheVariants as term
@@ -30,6 +32,7 @@ use Rattle.asm_script.specs.declared.block.TermAction.{TermAction}
 use Rattle.asm_script.specs.declared.block.TermAction.TheVariants.{Put, Add, Remove, BagAdd, BagRemove, Increment}
 use Rattle.asm_script.specs.declared.block.TermInstruction.{TermInstruction}
 use Rattle.asm_script.specs.declared.block.Block.{Block}
+use Rattle.asm_script.specs.declared.term.NoValue.{NoValue}
 
 -- the two have the same value at each location of the list
 abbrev pub Agree : Old → Old → List Place → Type 0
@@ -42,45 +45,56 @@ pub agree_right : (old new : Old) (ks ls : List Place) → Agree old new (ks ++ 
 agree_right old new ks ls same l there = same l (Contains-append_right ks ls l there)
 
 module _ (old new : Old) where
+  same_at : (l : Place) → Agree old new (l ∷ []) → old l ≡ new l
+  same_at l same = same l (0, omega arith, refl)
+
+  same_number : (t : Term) → Agree old new (locations_in t) → number_value old t ≡ number_value new t
+  same_number (term.Value v) same = refl
+  same_number (Val l) same = ap (as_number (Some l)) (same_at l same)
+  same_number (Sum' p a q b) same =
+      let one = same_number a (agree_left old new (locations_in a) (locations_in b) same) in
+      let other = same_number b (agree_right old new (locations_in a) (locations_in b) same) in
+      λ i. sum_value (one i) (other i)
+
   same_term : (t : Term) → Agree old new (locations_in t) → term_value old t ≡ term_value new t
   same_term (term.Value v) same = refl
-  same_term (Val l) same = ap Some (same l here) where
-    here : Contains (l ∷ []) l
-    here = (0, omega arith, refl)
-  same_term (Sum' p a q b) same =
-      let one = same_term a (agree_left old new (locations_in a) (locations_in b) same) in
-      let other = same_term b (agree_right old new (locations_in a) (locations_in b) same) in
-      λ i. sum_value (given_number (one i)) (given_number (other i))
+  same_term (Val l) same = ap Ok (same_at l same)
+  same_term (Sum' p a q b) same = ap (made_of (λ n. Plain (Num n))) (same_number (Sum' p a q b) same)
+
+  same_element : (t : Term) → Agree old new (locations_in t) → element_value old t ≡ element_value new t
+  same_element t same = ap (come_of (as_element (location_in t))) (same_term t same)
 
   same_action : (a : TermAction) → Agree old new (places_in a) → action_in old a ≡ action_in new a
-  same_action (Put t) same = ap (option_map action.Regular) (same_term t same)
-  same_action (Add t) same = ap (λ v. option_map action.SetAdd (given_element v)) (same_term t same)
-  same_action (Remove t) same = ap (λ v. option_map action.SetRemove (given_element v)) (same_term t same)
-  same_action (BagAdd t n) same = ap (λ v. option_map (λ e. action.BagAdd e n) (given_element v)) (same_term t same)
-  same_action (BagRemove t n) same = ap (λ v. option_map (λ e. action.BagRemove e n) (given_element v)) (same_term t same)
+  same_action (Put t) same = ap (made_of action.Regular) (same_term t same)
+  same_action (Add t) same = ap (made_of action.SetAdd) (same_element t same)
+  same_action (Remove t) same = ap (made_of action.SetRemove) (same_element t same)
+  same_action (BagAdd t n) same = ap (made_of (λ e. action.BagAdd e n)) (same_element t same)
+  same_action (BagRemove t n) same = ap (made_of (λ e. action.BagRemove e n)) (same_element t same)
   same_action (Increment n) same = refl
+
+  same_from : (n : ℕ) (b : Block) → Agree old new (taken b) → move_from old n b ≡ move_from new n b
+  same_from n [] same = refl
+  same_from n (i ∷ b) same =
+      let one = same_action i.action (agree_left old new (places_in i.action) (taken b) same) in
+      let others = same_from (n + 1) b (agree_right old new (places_in i.action) (taken b) same) in
+      λ x. in_front n (made_of (λ a. record { at = i.at; action = a }) (one x)) (others x)
 
   -- so the block has the same move in both
   pub same_move : (b : Block) → Agree old new (taken b) → move_in old b ≡ move_in new b
-  same_move [] same = refl
-  same_move (i ∷ b) same =
-      let one = same_action i.action (agree_left old new (places_in i.action) (taken b) same) in
-      let others = same_move b (agree_right old new (places_in i.action) (taken b) same) in
-      λ n. option_and_then (λ j. option_map (λ M. j ∷ M) (others n))
-      (option_map (λ a. record { at = i.at; action = a }) (one n))
+  same_move b same = same_from 0 b same
 
-mapped : {X Y : Type 0} (f : X → Y) (o : Option X) (y : Y) → option_map f o ≡ Some y →
-    (x : X) × (o ≡ Some x) × (f x ≡ y)
-mapped f None y h = cc
-mapped f (Some x) y h = (x, refl, cc)
+mapped : {X Y W : Type 0} (f : X → Y) (o : Result X W) (y : Y) → made_of f o ≡ Ok y → (x : X) × (o ≡ Ok x) × (f x ≡ y)
+mapped f (Err why) y h = cc
+mapped f (Ok x) y h = (x, refl, cc)
 
-chained : {X Y : Type 0} (f : X → Option Y) (o : Option X) (y : Y) → option_and_then f o ≡ Some y →
-    (x : X) × (o ≡ Some x) × (f x ≡ Some y)
-chained f None y h = cc
-chained f (Some x) y h = (x, refl, h)
+-- a move whose first instruction has a value is this instruction, and the others
+chained : (n : ℕ) (o : Result Instruction NoValue) (others : Result Move (ℕ × NoValue)) (M : Move) →
+    in_front n o others ≡ Ok M → (j : Instruction) × (N : Move) × (o ≡ Ok j) × (others ≡ Ok N) × (j ∷ N ≡ M)
+chained n (Err why) others M h = cc
+chained n (Ok j) others M h = let rest = mapped (λ (N : Move). j ∷ N) others M h in (j, rest.0, refl, rest.1, rest.2)
 
 -- an action that comes out partial was written as a partial update
-written_partial : (old : Old) (l : Place) (t : TermAction) (a : Action) → action_in old t ≡ Some a →
+written_partial : (old : Old) (l : Place) (t : TermAction) (a : Action) → action_in old t ≡ Ok a →
     is_partial a ≡ true →
     target_of l t ≡ l ∷ []
 written_partial old l (Put t) a h partial =
@@ -92,7 +106,7 @@ written_partial old l (BagAdd t n) a h partial = refl
 written_partial old l (BagRemove t n) a h partial = refl
 written_partial old l (Increment n) a h partial = refl
 
-target_there : (old : Old) (i : TermInstruction) (j : Instruction) (l : Place) → instruction_in old i ≡ Some j →
+target_there : (old : Old) (i : TermInstruction) (j : Instruction) (l : Place) → instruction_in old i ≡ Ok j →
     is_partial j.action ≡ true → eq_by_cmp location_cmp j.at l ≡ true → Contains (target_of i.at i.action) l
 target_there old i j l is partial there =
     let from = mapped (λ a. record { at = i.at; action = a }) (action_in old i.action) j is in
@@ -122,20 +136,19 @@ partial_at j M l = by_test (eq_by_cmp location_cmp j.at l) refl where
   by_test false is h = inr h
 
 -- where a block's move has a partial update, the block has one
-partial_there : (old : Old) (b : Block) (M : Move) (l : Place) → move_in old b ≡ Some M →
+partial_from : (old : Old) (n : ℕ) (b : Block) (M : Move) (l : Place) → move_from old n b ≡ Ok M →
     list_any is_partial (actions_at M l) ≡ true → Contains (changed b) l
-partial_there old [] M l is h =
+partial_from old n [] M l is h =
     let none : [] ≡ M = cc in
     absurd (false≢true (ap (λ (N : Move). list_any is_partial (actions_at N l)) none ∙ h))
-partial_there old (i ∷ b) M l is h =
-    let one = chained (λ j. option_map (λ N. j ∷ N) (move_in old b)) (instruction_in old i) M is in
-    let others = mapped (λ (N : Move). one.0 ∷ N) (move_in old b) M one.2 in
+partial_from old n (i ∷ b) M l is h =
+    let all = chained n (instruction_in old i) (move_from old (n + 1) b) M is in
     ⊎_elim
     (λ first. Contains-append_left (target_of i.at i.action) (changed b) l
-    (target_there old i one.0 l one.1 first.0 first.1))
+    (target_there old i all.0 l all.2 first.0 first.1))
     (λ later. Contains-append_right (target_of i.at i.action) (changed b) l
-    (partial_there old b others.0 l others.1 later))
-    (partial_at one.0 others.0 l (ap (λ (N : Move). list_any is_partial (actions_at N l)) others.2 ∙ h))
+    (partial_from old (n + 1) b all.1 l all.3 later))
+    (partial_at all.0 all.1 l (ap (λ (N : Move). list_any is_partial (actions_at N l)) all.4 ∙ h))
 
 no_partials : (G : List Action) → list_any is_partial G ≡ false → filter is_partial G ≡ []
 no_partials [] h = refl
@@ -180,12 +193,12 @@ some_actions (j ∷ M) l h = by_test (eq_by_cmp location_cmp j.at l) h (some_act
   by_test true h rest = λ none. cc
   by_test false h rest = rest h
 
-module _ (part : Part) (old new : Old) (b : Block) (M : Move) (is : move_in old b ≡ Some M)
+module _ (part : Part) (old new : Old) (b : Block) (M : Move) (is : move_in old b ≡ Ok M)
     (same : Agree old new (changed b)) where
   same_outcome : (l : Place) → writes M l ≡ true → result_at part old M l ≡ result_at part new M l
   same_outcome l w =
       same_result part (old l) (new l) (actions_at M l) (some_actions M l w)
-      (λ partial. same l (partial_there old b M l is partial))
+      (λ partial. same l (partial_from old 0 b M l is partial))
 
   -- a block's move has the same update set in both
   pub same_update_set : (U : Updates) → IsUpdateSet part old M U → IsUpdateSet part new M U

@@ -1,39 +1,44 @@
 -- A block's move, instruction by instruction.
-use Rattle.std.proofs.Common.{◌≡◌, [], ◌∷◌, ◌++◌, Option, Some, None, refl, sym, ap, ◌∙◌}
+use Rattle.std.proofs.Common.{◌≡◌, ◌+◌, ℕ, [], ◌∷◌, ◌++◌, Result, Ok, Err, refl, sym, ap, ◌∙◌}
 use Rattle.std.proofs.lemmas.List.{append_assoc, append-nil}
-use Rattle.std.specs.Option.{option_and_then, option_map}
 use Rattle.asm_update.specs.Fire.{Old}
 use Rattle.asm_update.specs.Move.{Move}
 use Rattle.asm_update.specs.declared.action.Instruction.{Instruction}
-use Rattle.asm_script.specs.Blocks.{instruction_in, move_in}
+use Rattle.asm_script.specs.Terms.{made_of}
+use Rattle.asm_script.specs.Blocks.{instruction_in, in_front, move_from, move_in}
 use Rattle.asm_script.specs.declared.block.TermInstruction.{TermInstruction}
 use Rattle.asm_script.specs.declared.block.Block.{Block}
+use Rattle.asm_script.specs.declared.term.NoValue.{NoValue}
 
--- the block's move is what is done, and then the move of what is left
-abbrev pub IsMoved : Old → Block → Move → Block → Type 0
-IsMoved old block done left = move_in old block ≡ option_map (λ M. done ++ M) (move_in old left)
+-- what is done in front of a move
+abbrev behind : Move → Result Move (ℕ × NoValue) → Result Move (ℕ × NoValue)
+behind done rest = made_of (λ M. done ++ M) rest
 
-appended : (done : Move) (j : Instruction) (rest : Option Move) →
-    option_map (λ M. done ++ M) (option_map (λ M. j ∷ M) rest) ≡ option_map (λ M. (done ++ j ∷ []) ++ M) rest
-appended done j None = refl
-appended done j (Some M) = ap Some (sym (append_assoc done (j ∷ []) M))
+-- the block's move is what is done, and then the move of what is left, whose first instruction has this number
+abbrev pub IsMoved : Old → Block → ℕ → Move → Block → Type 0
+IsMoved old block n done left = move_in old block ≡ made_of (λ M. done ++ M) (move_from old n left)
 
-pub nothing_done : (old : Old) (block : Block) → IsMoved old block [] block
+appended : (done : Move) (j : Instruction) (rest : Result Move (ℕ × NoValue)) →
+    behind done (made_of (λ M. j ∷ M) rest) ≡ behind (done ++ j ∷ []) rest
+appended done j (Err faulty) = refl
+appended done j (Ok M) = ap Ok (sym (append_assoc done (j ∷ []) M))
+
+pub nothing_done : (old : Old) (block : Block) → IsMoved old block 0 [] block
 nothing_done old block = by_move (move_in old block) where
-  by_move : (rest : Option Move) → rest ≡ option_map (λ M. [] ++ M) rest
-  by_move None = refl
-  by_move (Some M) = refl
+  by_move : (rest : Result Move (ℕ × NoValue)) → rest ≡ behind [] rest
+  by_move (Err faulty) = refl
+  by_move (Ok M) = refl
 
-pub one_done : (old : Old) (block left : Block) (done : Move) (i : TermInstruction) (j : Instruction) →
-    instruction_in old i ≡ Some j → IsMoved old block done (i ∷ left) → IsMoved old block (done ++ j ∷ []) left
-one_done old block left done i j is h =
-    h ∙ ap (λ o. option_map (λ M. done ++ M) (option_and_then (λ k. option_map (λ M. k ∷ M) (move_in old left)) o)) is
-    ∙ appended done j (move_in old left)
+module _ (old : Old) (block left : Block) (n : ℕ) (done : Move) (i : TermInstruction)
+    (h : IsMoved old block n done (i ∷ left)) where
+  pub one_done : (j : Instruction) → instruction_in old i ≡ Ok j → IsMoved old block (n + 1) (done ++ j ∷ []) left
+  one_done j is =
+      h ∙ ap (λ o. behind done (in_front n o (move_from old (n + 1) left))) is
+      ∙ appended done j (move_from old (n + 1) left)
 
-pub all_done : (old : Old) (block : Block) (done : Move) → IsMoved old block done [] → move_in old block ≡ Some done
-all_done old block done h = h ∙ ap Some (append-nil done)
+  pub faulty_one : (why : NoValue) → instruction_in old i ≡ Err why → move_in old block ≡ Err (n, why)
+  faulty_one why is = h ∙ ap (λ o. behind done (in_front n o (move_from old (n + 1) left))) is
 
-pub faulty_one : (old : Old) (block left : Block) (done : Move) (i : TermInstruction) →
-    instruction_in old i ≡ None → IsMoved old block done (i ∷ left) → move_in old block ≡ None
-faulty_one old block left done i is h =
-    h ∙ ap (λ o. option_map (λ M. done ++ M) (option_and_then (λ k. option_map (λ M. k ∷ M) (move_in old left)) o)) is
+pub all_done : (old : Old) (block : Block) (n : ℕ) (done : Move) → IsMoved old block n done [] →
+    move_in old block ≡ Ok done
+all_done old block n done h = h ∙ ap Ok (append-nil done)

@@ -1,10 +1,10 @@
 -- Instructions whose terms are written out: what they are in each state, and what they are written as.
-use Rattle.std.proofs.Common.{◌≡◌, Bool, true, false, [], ◌∷◌, ◌++◌, map, Option, Some, None, refl, sym, ap}
+use Rattle.std.proofs.Common.{◌≡◌, ◌+◌, ℕ, Bool, true, false, [], ◌∷◌, ◌++◌, map, Option, Some, None, Ok, refl, sym, ap}
 use Rattle.std.proofs.Common.{◌∙◌, subst, append_assoc}
 use Rattle.std.proofs.lemmas.List.{map-append}
 use Rattle.std.specs.Prelude.{◌&&◌}
 use Rattle.std.specs.List.{list_all}
-use Rattle.std.specs.Option.{option_map, option_and_then}
+use Rattle.std.specs.Option.{option_map}
 use Rattle.asm_element.specs.declared.element.Element.{Element}
 use Rattle.asm_element.specs.declared.value.Value.{Value}
 use Rattle.asm_element.specs.declared.value.Value.TheVariants.{Plain, Set, Bag}
@@ -13,10 +13,10 @@ use Rattle.asm_update.specs.Move.{Move}
 use Rattle.asm_update.specs.declared.action.Action.{Action}
 use Rattle.asm_update.specs.declared.action.Action.TheVariants as action
 use Rattle.asm_update.specs.declared.action.Instruction.{Instruction}
-use Rattle.asm_script.specs.Terms.{given_element}
+use Rattle.asm_script.specs.Terms.{given_element, made_of}
 use Rattle.asm_script.specs.Ready.{written_value, ready_action, ready_instruction, is_ready, as_written, written}
 use Rattle.asm_script.specs.Ready.{written_form}
-use Rattle.asm_script.specs.Blocks.{action_in, instruction_in, move_in, IsReady}
+use Rattle.asm_script.specs.Blocks.{action_in, instruction_in, in_front, move_from, move_in, IsReady}
 use Rattle.asm_script.specs.StepReads.{places_in, taken}
 use Rattle.asm_script.specs.declared.block.Block.{Block}
 use Rattle.asm_script.specs.declared.block.Form.{Form}
@@ -30,7 +30,7 @@ use Rattle.asm_script.specs.declared.term.Term.TheVariants.{Val, Sum'}
 
 -- ---- what is written out is the same in each state
 
-action_gives : (old : Old) (a : Action) → action_in old (as_written a) ≡ Some a
+action_gives : (old : Old) (a : Action) → action_in old (as_written a) ≡ Ok a
 action_gives old (action.Regular v) = refl
 action_gives old (action.SetAdd e) = refl
 action_gives old (action.SetRemove e) = refl
@@ -38,22 +38,21 @@ action_gives old (action.BagAdd e n) = refl
 action_gives old (action.BagRemove e n) = refl
 action_gives old (action.Increment n) = refl
 
-instruction_gives : (old : Old) (i : Instruction) → instruction_in old (written i) ≡ Some i
-instruction_gives old i = ap (option_map (λ a. record { at = i.at; action = a })) (action_gives old i.action)
+instruction_gives : (old : Old) (i : Instruction) → instruction_in old (written i) ≡ Ok i
+instruction_gives old i = ap (made_of (λ a. record { at = i.at; action = a })) (action_gives old i.action)
 
-move_gives : (old : Old) (M : Move) → move_in old (map written M) ≡ Some M
-move_gives old [] = refl
-move_gives old (i ∷ M) =
-    ap (option_and_then (λ j. option_map (λ (N : Move). j ∷ N) (move_in old (map written M)))) (instruction_gives old i)
-    ∙ ap (option_map (λ (N : Move). i ∷ N)) (move_gives old M)
+move_gives : (old : Old) (n : ℕ) (M : Move) → move_from old n (map written M) ≡ Ok M
+move_gives old n [] = refl
+move_gives old n (i ∷ M) =
+    let one = instruction_gives old i in let others = move_gives old (n + 1) M in λ x. in_front n (one x) (others x)
 
 pub form_gives : (form : Form) (b : Block) → written_form form ≡ b → IsReady form b
 form_gives (Terms terms) b is = tt
-form_gives (Ready M) b is = λ old. ap (move_in old) (sym is) ∙ move_gives old M
+form_gives (Ready M) b is = λ old. ap (move_in old) (sym is) ∙ move_gives old 0 M
 
 pub ready_gives : (old : Old) (form : Form) (b : Block) (M N : Move) → IsReady form b → form ≡ Ready M → N ≡ M →
-    move_in old b ≡ Some N
-ready_gives old form b M N ready is same = subst (λ f. IsReady f b) is ready old ∙ ap Some (sym same)
+    move_in old b ≡ Ok N
+ready_gives old form b M N ready is same = subst (λ f. IsReady f b) is ready old ∙ ap Ok (sym same)
 
 -- ---- what is ready is written as it was
 

@@ -1,5 +1,5 @@
 -- Blocks in sequence: the state that they leave, and what the one move of a step owes to it.
-use Rattle.std.specs.Prelude.{◌≡◌, ◌≤◌, ◌<◌, [], ◌∷◌, length, nat_lt, if◌then◌else◌, Option, Some, None}
+use Rattle.std.specs.Prelude.{◌≡◌, ◌≤◌, ◌<◌, ◌+◌, ℕ, [], ◌∷◌, length, nat_lt, if◌then◌else◌, Option, Some, None}
 use Rattle.std.specs.Prelude.{Result, Ok, Err, unwrap_or, Contains}
 use Rattle.asm_element.specs.Place.{Place}
 use Rattle.asm_update.specs.Aggregator.{Meaning, NoJoin, Refused, TooLarge}
@@ -13,8 +13,9 @@ use Rattle.asm_script.specs.Blocks.{move_in}
 use Rattle.asm_script.specs.StepReads.{named}
 use Rattle.asm_script.specs.declared.block.Block.{Block}
 use Rattle.asm_script.specs.declared.step.Step.{Step}
-use Rattle.asm_script.specs.declared.step.StepFault.{StepFault}
-use Rattle.asm_script.specs.declared.step.StepFault.TheVariants.{Term, Clash as Clashing, Large, Many, Memory}
+use Rattle.asm_script.specs.declared.term.NoValue.{NoValue}
+use Rattle.asm_script.specs.declared.fault.StepFault.{StepFault}
+use Rattle.asm_script.specs.declared.fault.StepFault.TheVariants.{Term, Clash as Clashing, Large, Many, Memory}
 
 -- why blocks in sequence leave no state
 pub data Stop : Type 0 where
@@ -27,9 +28,9 @@ fired_or_stopped (Ok A) = Ok A
 fired_or_stopped (Err clash) = Err (Clashes clash)
 
 -- what firing the move leaves, if there is one; where a term was faulty there is none
-abbrev pub fire_move : Part → State → Option Move → Result State Stop
-fire_move part A (Some M) = fired_or_stopped (fire part A M)
-fire_move part A None = Err FaultyTerm
+abbrev pub fire_move : Part → State → Result Move (ℕ × NoValue) → Result State Stop
+fire_move part A (Ok M) = fired_or_stopped (fire part A M)
+fire_move part A (Err faulty) = Err FaultyTerm
 
 -- the state that a block leaves; its terms have their values in the state before it
 abbrev pub fire_block : Part → State → Block → Result State Stop
@@ -69,10 +70,10 @@ abbrev pub composed_on : Meaning → Option Move → Move → Result Move StepFa
 composed_on a None N = Ok N
 composed_on a (Some M) N = fitting (composition a M N)
 
--- what comes after a block's move, if there is one; where a term was faulty there is none
-abbrev pub on_move : (Move → Result Move StepFault) → Option Move → Result Move StepFault
-on_move next (Some M) = next M
-on_move next None = Err Term
+-- what comes after the move of the block with this number, if there is one; else the instruction whose term has no value
+abbrev pub on_move : ℕ → (Move → Result Move StepFault) → Result Move (ℕ × NoValue) → Result Move StepFault
+on_move number next (Ok M) = next M
+on_move number next (Err (n, why)) = Err (Term (record { block = number; instruction = n; why = why }))
 
 -- what comes after the state that is left, if there is one
 abbrev pub on_fired : (State → Result Move StepFault) → Result State Clash → Result Move StepFault
@@ -84,14 +85,19 @@ abbrev pub on_composed : (Move → Result Move StepFault) → Result Move StepFa
 on_composed next (Ok C) = next C
 on_composed next (Err fault) = Err fault
 
--- The one move of a step on a state, or why there is none; before it come moves that compose to this one. Each block's
--- terms have their values in the state that the blocks before it leave. The last block isn't fired.
-abbrev pub step_move_on : Meaning → State → Option Move → Step → Result Move StepFault
-step_move_on a A before [] = Ok (unwrap_or before [])
-step_move_on a A before (b ∷ []) = on_move (composed_on a before) (move_in (val A) b)
-step_move_on a A before (b ∷ c ∷ bs) =
-    on_move (λ M. on_fired (λ B. on_composed (λ C. step_move_on a B (Some C) (c ∷ bs)) (composed_on a before M))
+-- The one move of these blocks on a state, or why there is none; before it come moves that compose to this one. The
+-- blocks count from this number on. Each block's terms have their values in the state that the blocks before it leave. The
+-- last block isn't fired.
+abbrev pub step_move_from : Meaning → State → ℕ → Option Move → Step → Result Move StepFault
+step_move_from a A n before [] = Ok (unwrap_or before [])
+step_move_from a A n before (b ∷ []) = on_move n (composed_on a before) (move_in (val A) b)
+step_move_from a A n before (b ∷ c ∷ bs) =
+    on_move n (λ M. on_fired (λ B. on_composed (λ C. step_move_from a B (n + 1) (Some C) (c ∷ bs)) (composed_on a before M))
     (fire a.part A M)) (move_in (val A) b)
+
+-- the one move of a step on a state, or the first fault of its blocks
+abbrev pub step_move_on : Meaning → State → Option Move → Step → Result Move StepFault
+step_move_on a A before step = step_move_from a A 0 before step
 
 -- What a step's move owes to a state that was read: it is the one there. Firing it leaves what the blocks leave, and
 -- its clash is theirs. Where a term is faulty, the blocks stop there. Where blocks clash, or an amount or a sum is too
@@ -99,7 +105,8 @@ step_move_on a A before (b ∷ c ∷ bs) =
 abbrev pub StandsFor : Meaning → State → Step → Result Move StepFault → Type 0
 StandsFor a A step (Ok M) =
     (step_move_on a A None step ≡ Ok M) × (fire_blocks a.part A step ≡ fired_or_stopped (fire a.part A M))
-StandsFor a A step (Err Term) = (step_move_on a A None step ≡ Err Term) × (fire_blocks a.part A step ≡ Err FaultyTerm)
+StandsFor a A step (Err (Term faulty)) =
+    (step_move_on a A None step ≡ Err (Term faulty)) × (fire_blocks a.part A step ≡ Err FaultyTerm)
 StandsFor a A step (Err (Clashing clash)) =
     (step_move_on a A None step ≡ Err (Clashing clash)) × IsStopped (fire_blocks a.part A step)
 StandsFor a A step (Err (Large l)) =
@@ -110,13 +117,6 @@ StandsFor a A step (Err Memory) = Unit {0}
 -- the answer stands for the step on each state that was read
 abbrev pub IsStepMove : Meaning → Old → Step → Result Move StepFault → Type 0
 IsStepMove a old step answer = (A : State) → IsReadOf A old step → StandsFor a A step answer
-
--- the answer is the block's move, or a term of the block is faulty
-abbrev pub IsNext : Option Move → Result Move StepFault → Type 0
-IsNext there (Ok M) = there ≡ Some M
-IsNext there (Err Term) = there ≡ None
-IsNext there (Err Memory) = Unit {0}
-IsNext there (Err _) = ⊥
 
 -- the answer is the move's update set, or its clash
 abbrev pub IsFrame : Part → Old → Move → Result Updates StepFault → Type 0
@@ -131,7 +131,7 @@ abbrev pub Extends : Meaning → Option Move → Move → Result Move StepFault 
 Extends a None N (Ok C) = C ≡ N
 Extends a None N (Err fault) = ⊥
 Extends a (Some M) N (Ok C) = IsSequence a.part M N C × (composition a M N ≡ Ok C) × (length C ≤ instructions_limit)
-Extends a (Some M) N (Err Term) = ⊥
+Extends a (Some M) N (Err (Term faulty)) = ⊥
 Extends a (Some M) N (Err (Clashing clash)) =
     NeverFires a.part M N × (composition a M N ≡ Err (clash.at, Refused clash.cause))
 Extends a (Some M) N (Err (Large l)) = NeverFires a.part M N × (composition a M N ≡ Err (l, TooLarge))

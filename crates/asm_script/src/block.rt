@@ -2,13 +2,14 @@
 ghost use Rattle.std.specs.Prelude.{◌≡◌, ◌↔◌, ◌<◌, ◌≤◌, length, vec_len, IfOk, IfSome, IsNone};
 ghost use Rattle.std.specs.List.{list_all};
 ghost use Rattle.asm_update.specs.Limits.{instructions_limit};
-ghost use Rattle.asm_script.specs.Terms.{term_value, given_element, IsEvaluated};
+ghost use Rattle.asm_script.specs.Terms.{IsEvaluated};
 ghost use Rattle.asm_script.specs.Ready.{is_ready, written_form, is_ready_form};
-ghost use Rattle.asm_script.specs.Blocks.{action_in, instruction_in, move_in, IsReady};
+ghost use Rattle.asm_script.specs.Blocks.{action_in, instruction_in, move_in, IsReady, IsNext};
 
+use crate::fault::{FaultyTerm, StepFault};
 use crate::ready::{are_ready, ready_instructions};
-use crate::term::{Term, TermFault, evaluate};
-use asm_element::{Element, Location, Value};
+use crate::term::{Term, TermFault, element, evaluate};
+use asm_element::Location;
 use asm_update::{
     Action, Amount, INSTRUCTIONS_LIMIT, Instruction, Instructions, InstructionsError, Lookup,
 };
@@ -128,16 +129,6 @@ impl Block {
     }
 }
 
-/// The element that a term stands for.
-fn element<L: Lookup>(alloc: Global, term: &Term, lookup: &L) -> Result<Element, TermFault>
-    ensures { IsEvaluated (given_element (term_value (L.value_at lookup.now) term.now)) result }
-{
-    match evaluate(alloc, term, lookup)? {
-        Value::Plain(element) => Ok(element),
-        _ => Err(TermFault::Faulty),
-    }
-}
-
 /// The action with the term's value in its place.
 fn action<L: Lookup>(alloc: Global, action: &TermAction, lookup: &L) -> Result<Action, TermFault>
     ensures { IsEvaluated (action_in (L.value_at lookup.now) action.now) result }
@@ -167,40 +158,52 @@ fn instruction<L: Lookup>(
     Ok(Instruction { at, action })
 }
 
-/// The instructions with their terms evaluated, in their order.
+/// The instructions, of the block with this number, with their terms evaluated, in their order.
 fn evaluated<L: Lookup>(
     alloc: Global,
+    block: usize,
     instructions: &[TermInstruction],
     lookup: &L,
-) -> Result<Instructions, TermFault>
+) -> Result<Instructions, StepFault>
     requires { length instructions.now ≤ instructions_limit }
-    ensures { IsEvaluated (move_in (L.value_at lookup.now) instructions.now) result }
+    ensures { IsNext block (move_in (L.value_at lookup.now) instructions.now) result }
 {
     let mut done = Vec::with_capacity(alloc, instructions.len())?;
     for written in instructions {
-        done.push(instruction(alloc, written, lookup)?)?;
+        match instruction(alloc, written, lookup) {
+            Ok(instruction) => done.push(instruction)?,
+            Err(TermFault::Faulty(why)) => {
+                return Err(StepFault::Term(FaultyTerm {
+                    block,
+                    instruction: done.len(),
+                    why,
+                }));
+            }
+            Err(TermFault::Memory) => return Err(StepFault::Memory),
+        }
     }
     match Instructions::from_vec(alloc, done) {
         Ok(instructions) => Ok(instructions),
         Err(InstructionsError::ManyInstructions) => unreachable!(),
-        Err(InstructionsError::Memory) => Err(TermFault::Memory),
+        Err(InstructionsError::Memory) => Err(StepFault::Memory),
     }
 }
 
-/// The block's instructions with their terms evaluated by the look-up. A prepared block without terms to
-/// evaluate shares its instructions with the answer.
+/// The instructions of the block, which has this number in its step, with their terms evaluated by the look-up. A prepared
+/// block without terms to evaluate shares its instructions with the answer.
 ///
-/// `TermFault::Faulty` comes exactly where some term is faulty, or the element of a partial update
-/// is a set or a bag. `Memory` comes only where memory was refused.
+/// `StepFault::Term` comes exactly where some term has no value, or the element of a partial update is a set or a bag: it
+/// names the first such instruction. `Memory` comes only where memory was refused, and no other fault comes.
 pub fn block_move<L: Lookup>(
     alloc: Global,
+    number: usize,
     block: &Block,
     lookup: &L,
-) -> Result<Instructions, TermFault>
-    ensures { IsEvaluated (move_in (L.value_at lookup.now) block.now) result }
+) -> Result<Instructions, StepFault>
+    ensures { IsNext number (move_in (L.value_at lookup.now) block.now) result }
 {
     match block.form() {
-        Form::Terms(instructions) => evaluated(alloc, instructions.as_slice(), lookup),
+        Form::Terms(instructions) => evaluated(alloc, number, instructions.as_slice(), lookup),
         Form::Ready(instructions) => Ok(instructions.copy(alloc)?),
     }
 }

@@ -3,6 +3,7 @@
 #![tactic(auto)]
 
 mod block;
+mod fault;
 mod parsing;
 mod ready;
 mod script;
@@ -10,6 +11,8 @@ mod step;
 mod term;
 mod term_form;
 
+pub use fault::{FaultyTerm, StepFault};
 pub use parsing::parse_script;
 pub use script::{Script, ScriptCause, ScriptError};
-pub use step::{Step, StepFault, step_move};
+pub use step::{Step, step_move};
+pub use term::{Found, NoValue};

@@ -6,44 +6,20 @@ ghost use Rattle.asm_overlay.specs.Frames.{seen_through};
 ghost use Rattle.asm_overlay.specs.Limits.{frames_limit};
 ghost use Rattle.asm_script.specs.Limits.{blocks_limit};
 ghost use Rattle.asm_script.specs.Ready.{as_written, written};
-ghost use Rattle.asm_script.specs.Blocks.{move_in};
-ghost use Rattle.asm_script.specs.Sequencing.{IsNext, IsFrame, Extends, IsStepMove};
+ghost use Rattle.asm_script.specs.Blocks.{move_in, IsNext};
+ghost use Rattle.asm_script.specs.Sequencing.{IsFrame, Extends, IsStepMove};
 ghost use Rattle.asm_script.specs.StepReads.{places_in, target_of, taken, changed, AreReads};
 
 use crate::block::{Block, Form, TermAction, TermInstruction, block_move};
+use crate::fault::StepFault;
 use crate::script::BLOCKS_LIMIT;
-use crate::term::{Term, TermFault};
+use crate::term::Term;
 use asm_aggregate::{ComposeError, aggregate, compose};
 use asm_element::Location;
 use asm_overlay::{Over, Overlay, OverlayError};
-use asm_update::{
-    Action, AggError, Aggregator, Clash, Instruction, Instructions, Lookup, UpdateSet,
-};
+use asm_update::{Action, AggError, Aggregator, Instruction, Instructions, Lookup, UpdateSet};
 use std::alloc::{AllocError, Global};
 use std::marker::Model;
-use thiserror::Error;
-
-/// Why a step has no move: the first of these faults, block by block.
-#[derive(Debug, Drop, PartialEq, Eq, Error)]
-pub enum StepFault {
-    /// A term of a block is faulty in the state before that block.
-    #[error("a faulty term")]
-    Term,
-    /// The instructions of a block clash, or those of two blocks in sequence.
-    #[error("the updates clash")]
-    Clash(Clash),
-    /// Blocks in sequence add or remove more of an element in a bag, at this location, than an amount
-    /// can be, or the sum of their increments of a counter there is farther from 0 than
-    /// 18,446,744,073,709,551,615.
-    #[error("too large an amount or sum")]
-    Large(Location),
-    /// The move that stands for the blocks would have more than 4,096 instructions.
-    #[error("more than 4,096 instructions")]
-    Many,
-    /// The memory that the call asked for was refused.
-    #[error("out of memory")]
-    Memory,
-}
 
 /// The blocks of a step, 1 to 65, which are run in sequence. Contracts see it as their list.
 #[derive(Debug, Drop)]
@@ -253,20 +229,17 @@ fn gathered_reads(
     Ok(places)
 }
 
-/// The block's instructions on what is seen through the frames.
+/// The instructions, on what is seen through the frames, of the block behind those that were pushed as frames.
 fn next_move<L: Lookup>(
     alloc: Global,
     block: &Block,
     overlay: &Overlay,
     reading: &L,
 ) -> Result<Instructions, StepFault>
-    ensures { IsNext (move_in (seen_through overlay.now (L.value_at reading.now)) block.now) result }
+    ensures { IsNext (length overlay.now)
+        (move_in (seen_through overlay.now (L.value_at reading.now)) block.now) result }
 {
-    match block_move(alloc, block, &Over::new(overlay, reading)) {
-        Ok(next) => Ok(next),
-        Err(TermFault::Faulty) => Err(StepFault::Term),
-        Err(TermFault::Memory) => Err(StepFault::Memory),
-    }
+    block_move(alloc, overlay.depth(), block, &Over::new(overlay, reading))
 }
 
 /// The update set of the instructions on what is seen through the frames.
@@ -325,8 +298,8 @@ fn extended<A: Aggregator>(
 /// locations that the step reads: firing it leaves what firing the blocks in turn leaves. It is what
 /// the blocks' moves compose to, each evaluated on the state that the blocks before it leave.
 ///
-/// The faults are found block by block. `StepFault::Term` comes where a term of the block is faulty
-/// in the state before it. `Clash` comes where a block that others follow clashes, or where it and
+/// The faults are found block by block. `StepFault::Term` comes where a term of the block has no value
+/// in the state before it, and names the first instruction with such a term, and why. `Clash` comes where a block that others follow clashes, or where it and
 /// the blocks before it don't compose, and `Large` where an amount or a sum of increments is then too
 /// large: the blocks in turn then clash too. `Many` comes where more than 4,096 instructions come
 /// together, and `Memory` only where memory was refused. A step of one block has the instructions of

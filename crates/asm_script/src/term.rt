@@ -1,6 +1,7 @@
 //! Terms: what a script writes in place of a value.
-ghost use Rattle.std.specs.Prelude.{◌≡◌};
-ghost use Rattle.asm_script.specs.Terms.{term_value, given_number, IsEvaluated};
+ghost use Rattle.std.specs.Prelude.{◌≡◌, Some, IfOk};
+ghost use Rattle.asm_script.specs.Terms.{location_in, number_value, term_value, element_value};
+ghost use Rattle.asm_script.specs.Terms.{given_number, IsEvaluated};
 
 use asm_element::{Element, Location, Value};
 use asm_update::Lookup;
@@ -18,12 +19,31 @@ pub enum Term {
     Sum(Box<Term>, Box<Term>),
 }
 
-/// Why a term, or an instruction or a block with terms, has no value.
-#[derive(Clone, Copy, Debug, PartialEq, Eq)]
+/// A value, and the location that holds it, where a term takes it from one.
+#[derive(Debug, Drop, PartialEq, Eq)]
+pub struct Found {
+    /// The location; `None` where the value is written out or is a sum.
+    pub at: Option<Location>,
+    /// The value.
+    pub value: Value,
+}
+
+/// Why a term has no value in the place where it stands.
+#[derive(Debug, Drop, PartialEq, Eq)]
+pub enum NoValue {
+    /// A term of a sum is this, which is no number.
+    NoNumber(Found),
+    /// The term is this, which is no element, in the place of an element of a set or a bag.
+    NoElement(Found),
+    /// The sum of these two numbers is not in the range of `i64`.
+    OutOfRange(i64, i64),
+}
+
+/// Why a term, or an instruction with a term, is not evaluated.
+#[derive(Debug, Drop, PartialEq, Eq)]
 pub enum TermFault {
-    /// A sum of what aren't two numbers, a sum beyond the range of `i64`, or a set or a bag in the
-    /// place of an element.
-    Faulty,
+    /// The term has no value.
+    Faulty(NoValue),
     /// The memory that the call asked for was refused.
     Memory,
 }
@@ -60,17 +80,49 @@ fn number_in(value: &Value) -> Option<i64>
     }
 }
 
-/// The number that the term evaluates to, if it is a number.
-fn number<L: Lookup>(term: &Term, lookup: &L) -> Option<i64>
-    ensures { result ≡ given_number (term_value (L.value_at lookup.now) term.now) }
+/// The number that the location holds, if it holds one.
+fn number_at<L: Lookup>(at: &Location, lookup: &L) -> Option<i64>
+    ensures { result ≡ given_number (Some (L.value_at lookup.now at.now)) }
+{
+    number_in(lookup.get(at)?)
+}
+
+/// The location that the term takes its value from, if it takes it from one.
+fn location_of(alloc: Global, term: &Term) -> Result<Option<Location>, AllocError>
+    ensures { IfOk result (λ at. at ≡ location_in term.now) }
 {
     match term {
-        Term::Value(value) => number_in(value),
-        Term::Val(at) => number_in(lookup.get(at)?),
+        Term::Val(at) => Ok(Some(at.copy(alloc)?)),
+        _ => Ok(None),
+    }
+}
+
+/// The number that the term evaluates to. Of a sum the first term is evaluated first.
+fn number<L: Lookup>(alloc: Global, term: &Term, lookup: &L) -> Result<i64, TermFault>
+    ensures { IsEvaluated (number_value (L.value_at lookup.now) term.now) result }
+{
+    match term {
+        Term::Value(value) => match number_in(value) {
+            Some(n) => Ok(n),
+            None => Err(TermFault::Faulty(NoValue::NoNumber(Found {
+                at: None,
+                value: value.copy(alloc)?,
+            }))),
+        },
+        Term::Val(at) => match number_at(at, lookup) {
+            Some(n) => Ok(n),
+            None => Err(TermFault::Faulty(NoValue::NoNumber(Found {
+                at: Some(at.copy(alloc)?),
+                value: Value::copy_or_undef(alloc, lookup.get(at))?,
+            }))),
+        },
         Term::Sum(first, second) => {
-            let first = number(first, lookup)?;
-            let second = number(second, lookup)?;
-            first.checked_add(second)
+            let first = number(alloc, first, lookup)?;
+            let second = number(alloc, second, lookup)?;
+            match first.checked_add(second) {
+                Some(sum) => Ok(sum),
+                None => Err(TermFault::Faulty(NoValue::OutOfRange(first, second))),
+            }
         }
     }
 }
@@ -85,9 +137,22 @@ pub fn evaluate<L: Lookup>(alloc: Global, term: &Term, lookup: &L) -> Result<Val
     match term {
         Term::Value(value) => Ok(value.copy(alloc)?),
         Term::Val(at) => Ok(Value::copy_or_undef(alloc, lookup.get(at))?),
-        Term::Sum(..) => match number(term, lookup) {
-            Some(n) => Ok(Value::Plain(Element::Num(n))),
-            None => Err(TermFault::Faulty),
-        },
+        Term::Sum(..) => Ok(Value::Plain(Element::Num(number(alloc, term, lookup)?))),
+    }
+}
+
+/// The element that a term stands for.
+///
+/// `TermFault::Faulty` comes exactly where the term has no value, or one that is a set or a bag.
+/// `Memory` comes only where memory was refused.
+pub fn element<L: Lookup>(alloc: Global, term: &Term, lookup: &L) -> Result<Element, TermFault>
+    ensures { IsEvaluated (element_value (L.value_at lookup.now) term.now) result }
+{
+    match evaluate(alloc, term, lookup)? {
+        Value::Plain(element) => Ok(element),
+        value => {
+            let at = location_of(alloc, term)?;
+            Err(TermFault::Faulty(NoValue::NoElement(Found { at, value })))
+        }
     }
 }

@@ -1,6 +1,6 @@
 //! The input, read to its end.
 ghost use Rattle.std.specs.Prelude.{◌≡◌, false, IfOk, OnErr, IsErrOf};
-ghost use Rattle.asm_driver.specs.Input.{ReadsAll, TakesTooMany, TakesSome, is_fault};
+ghost use Rattle.asm_driver.specs.Ports.{ReadsAll, TakesTooMany, TakesSome, is_fault};
 
 use crate::ports::PortFailed;
 use crate::ports::source::Source;

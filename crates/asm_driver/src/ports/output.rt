@@ -1,7 +1,7 @@
 //! The output.
 ghost use Rattle.std.specs.Prelude.{◌≡◌, true, false, is_err, OnOk, OnErr};
 ghost use Rattle.std.specs.Io.KnownBytes.{Appends};
-ghost use Rattle.asm_driver.specs.Output.{AppendsSome};
+ghost use Rattle.asm_driver.specs.Ports.{AppendsSome};
 
 use crate::ports::PortFailed;
 use crate::ports::sink::Sink;

@@ -69,7 +69,7 @@ fn run_with_terms<T: Threads + Wait + Sync>(
 {
     let script = parse_script(alloc, bytes)?;
     let played = run_script(rt, alloc, &script, capacity, &Open)?;
-    let told = terms_text(alloc, bytes, &script, &played)?;
+    let told = terms_text(alloc, played.terms.as_slice())?;
     let mut text = report_of_owned(alloc, played)?;
     text.push_str(told.as_str())?;
     Ok(text)
@@ -127,8 +127,7 @@ pub(crate) fn carry_out<T: Threads + Wait + Sync>(
     request: Request,
     bytes: &[u8],
 ) -> Result<Ending, Refusal>
-    requires audit { request ≢ requests.Audit }
-    requires watch { (every : ℕ) → request ≢ requests.Watch every }
+    requires audit { (every : ℕ) → request ≢ requests.Audit every }
     requires show { (w : Wanted) → request ≢ requests.Show w }
     ensures ok { IfOk result (λ e. IsDone bytes.now request e.status (string_bytes e.text)) }
     ensures err { IfErr result (IsNotDone bytes.now request) }
@@ -152,8 +151,7 @@ pub(crate) fn carry_out<T: Threads + Wait + Sync>(
             text: trace(alloc, bytes)?,
         }),
         Request::Show(_) => unreachable!(),
-        Request::Audit => unreachable!(),
-        Request::Watch { every: _ } => unreachable!(),
+        Request::Audit { every: _ } => unreachable!(),
         Request::Explain(kind) => Ok(explained(alloc, kind, bytes)?),
     }
 }

@@ -1,10 +1,10 @@
-//! The audit of a run that tells how far it is.
+//! The audit of a run, as the input gives it, which may tell how far it is.
 ghost use Rattle.std.specs.Prelude.{◌≡◌, ◌↔◌, ◌∷◌, ◌++◌, false, [], List, ℕ, IfOk, IsTrue, OnOk, OnErr, is_err, string_bytes};
 ghost use Rattle.asm_aggregate.specs.Standard.{standard_meaning, standard_part};
 ghost use Rattle.asm_audit.specs.Fed.{IsFed};
 ghost use Rattle.std.specs.Io.KnownBytes.{Appends};
-ghost use Rattle.asm_driver.specs.Audit.{refusal_of_audit};
-ghost use Rattle.asm_driver.specs.Output.{AppendsSome};
+ghost use Rattle.asm_driver.specs.Audit.{refusal_of_audit, verdict_line, verdict_status};
+ghost use Rattle.asm_driver.specs.Ports.{AppendsSome};
 ghost use Rattle.asm_driver.specs.Watch.{so_far_line as line_of_counts, IsDue, AddsDue, IsWatched, IsWatchAnswer};
 ghost use Rattle.asm_driver.specs.Watch.{is_unwritten, IsWrittenAnswer, IsWatchEnd};
 ghost use Rattle.asm_driver.specs.declared.program.watching.Stop.TheVariants as stops;
@@ -13,6 +13,7 @@ use crate::ports::PortFailed;
 use crate::ports::output::write_whole;
 use crate::ports::sink::Sink;
 use crate::ports::source::Source;
+use crate::program::commands::Ending;
 use crate::program::refusal::Refusal;
 use asm_audit::{AuditError, ByteAuditor, Counts, Told, Verdict};
 use asm_play::aggregator::chosen;
@@ -46,6 +47,29 @@ impl From<AuditError> for Stop {
     fn from(error: AuditError) -> Stop {
         Stop::Refused(Refusal::from(error))
     }
+}
+
+/// The line and the status of a verdict.
+pub(crate) fn verdict_ending(alloc: Global, verdict: Verdict) -> Result<Ending, AllocError>
+    ensures status { IfOk result (λ e. e.status ≡ verdict_status verdict) }
+    ensures text { IfOk result (λ e. string_bytes e.text ≡ verdict_line verdict) }
+{
+    Ok(match verdict {
+        Verdict::Legal(
+            Counts {
+                calls,
+                moves,
+                parts,
+            },
+        ) => Ending {
+            status: 0,
+            text: format!(in alloc; "legal {calls} {moves} {parts}\n")?,
+        },
+        Verdict::Illegal { part, call } => Ending {
+            status: 1,
+            text: format!(in alloc; "illegal {part} {call}\n")?,
+        },
+    })
 }
 
 /// The line that tells how far an audit is.
@@ -129,8 +153,8 @@ fn take_byte<A: Aggregator + Drop>(
     auditor.feed(alloc, &[byte])
 }
 
-/// Takes the bytes, and adds the lines that are due meanwhile.
-fn take_bytes<A: Aggregator + Drop>(
+/// Takes the bytes one by one, and adds the lines that are due meanwhile.
+fn take_each<A: Aggregator + Drop>(
     alloc: Global,
     every: u32,
     auditor: &mut ByteAuditor<A>,
@@ -151,6 +175,28 @@ fn take_bytes<A: Aggregator + Drop>(
         }
     }
     Ok(Told::Legal)
+}
+
+/// Takes the bytes, and adds the lines that are due meanwhile; none is where they are due after each 0 calls.
+fn take_bytes<A: Aggregator + Drop>(
+    alloc: Global,
+    every: u32,
+    auditor: &mut ByteAuditor<A>,
+    bytes: &[u8],
+    lines: &mut String,
+) -> Result<Told, AuditError>
+    requires { A.meaning auditor.old.auditor.aggregator ≡ standard_meaning }
+    ensures aggregator { auditor.new.auditor.aggregator ≡ auditor.old.auditor.aggregator }
+    ensures told { (text before : List ℕ)
+        → IsWatched every text auditor.old.auditor.progress auditor.old.line.items (before ++ string_bytes lines.old)
+        → IsWatchAnswer every text bytes.now auditor.new.auditor.progress auditor.new.line.items
+        (before ++ string_bytes lines.new) result }
+{
+    if 0 < every {
+        return take_each(alloc, every, auditor, bytes, lines);
+    }
+    let (_, told) = auditor.feed_some(alloc, bytes);
+    told
 }
 
 /// Writes the lines and flushes them, if there are any.
@@ -229,7 +275,7 @@ fn watch_all<T: Wait, A: Aggregator + Drop, S: Source, K: Sink>(
 }
 
 /// Audits the run that the input gives, up to its end or to where something is told, and writes how far that is after each
-/// so many calls.
+/// so many calls, or never for 0. It holds one state and one line.
 pub(crate) fn watched<T: Wait, S: Source, K: Sink>(
     rt: &T,
     alloc: Global,

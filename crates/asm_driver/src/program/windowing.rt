@@ -8,7 +8,7 @@ ghost use Rattle.asm_storage.specs.History.{fired_moves};
 ghost use Rattle.asm_storage.specs.declared.history.Event.{Event as Item};
 ghost use Rattle.asm_audit.proofs.SameState.{IsHeld};
 ghost use Rattle.asm_audit.specs.Opened.{history_of};
-ghost use Rattle.asm_driver.specs.Input.{Known};
+ghost use Rattle.asm_driver.specs.Ports.{Known};
 ghost use Rattle.asm_driver.specs.Lines.{pending};
 ghost use Rattle.asm_driver.specs.Parts.{audited, IsAt, IsPartRead, IsEventRead, IsNext};
 ghost use Rattle.asm_driver.specs.Window.{end_in, LiesIn, IsUpTo, IsPassed, IsPartOpened, AreNoted, window_header, window_header_with};

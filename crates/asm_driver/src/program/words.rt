@@ -5,7 +5,7 @@ ghost use Rattle.clap.specs.Words.{subcommand_rows_of};
 ghost use Rattle.asm_driver.specs.Words.{capacity as capacity_rule, journal as journal_rule, terms as terms_rule};
 ghost use Rattle.asm_driver.specs.Words.{every as every_rule, kind_rule, number_rule};
 ghost use Rattle.asm_driver.specs.Words.{with_audit, with_explain, with_journals, with_trace, program, faults, Asks, AsksKind, AsksRun};
-ghost use Rattle.asm_driver.specs.Words.{AsksAudit, AsksTrace, IsForward, AsksFor, IsNoCommand, IsMadeOf, IsRefusal, Answers};
+ghost use Rattle.asm_driver.specs.Words.{AsksAudit, AsksTrace, IsForward, AsksFor, IsNoCommand, IsMadeOf, IsRefusal};
 
 use asm_row::CAPACITY_LIMIT;
 use clap::error::ErrorKind;
@@ -30,10 +30,8 @@ pub enum Request {
     Trace,
     /// To write the trace of these calls of a run, whose parts are journals.
     Show(Window),
-    /// To audit a run, whose parts are journals.
-    Audit,
-    /// To audit a run, and to write how far that is after each so many calls.
-    Watch { every: u32 },
+    /// To audit a run, whose parts are journals, and to write how far that is after each so many calls; never with 0.
+    Audit { every: u32 },
     /// To write where and why a text of this kind is refused.
     Explain(TextKind),
 }
@@ -268,9 +266,8 @@ fn run_asked(options: &ArgMatches<'_>) -> Request
 fn audit_asked(options: &ArgMatches<'_>) -> Request
     ensures { AsksAudit (rows_of (found_of options.now)) result }
 {
-    match options.get_one::<u32>("every") {
-        Some(every) => Request::Watch { every },
-        None => Request::Audit,
+    Request::Audit {
+        every: options.get_one::<u32>("every").unwrap_or(0),
     }
 }
 
@@ -365,7 +362,6 @@ fn refusal(alloc: Global, error: &Error) -> WordsError
 pub fn read_words(alloc: Global, words: &[String]) -> Result<Request, WordsError>
     ensures asked { IfOk result (AsksFor (map string_bytes words.now)) }
     ensures refused { IfErr result (IsRefusal (map string_bytes words.now)) }
-    ensures answers { Answers (map string_bytes words.now) result }
 {
     match parse(alloc, words) {
         Ok(matches) => asked(&matches).ok_or(WordsError::Bad),

@@ -5,16 +5,6 @@ use Rattle.asm_driver.specs.Words.{AsksFor}
 use Rattle.asm_driver.proofs.Ending.{shown_answered}
 use Rattle.asm_driver.proofs.program.answer.Goals as goal
 
-pub returns-in-Audit-clause-ok : goal.returns-in-Audit-clause-ok
-returns-in-Audit-clause-ok g c =
-    IfOk-weaker c.audit_input.result _ _ (λ e is words asks. inr (inl (subst (AsksFor words) c.in-Audit.is asks, is)))
-    c.audit_input.ensures.ok
-
-pub returns-in-Audit-clause-err : goal.returns-in-Audit-clause-err
-returns-in-Audit-clause-err g c =
-    IfErr-weaker c.audit_input.result _ _
-    (λ r is words asks. inr (inr (inr (inl (subst (AsksFor words) c.in-Audit.is asks, is))))) c.audit_input.ensures.err
-
 pub returns-in-Show-clause-ok : goal.returns-in-Show-clause-ok
 returns-in-Show-clause-ok g c =
     shown_answered c.in-Show.window _ _ _ c.args.request c.window_input.result c.in-Show.is
@@ -23,7 +13,7 @@ returns-in-Show-clause-ok g c =
 pub returns-in-Show-clause-err : goal.returns-in-Show-clause-err
 returns-in-Show-clause-err g c =
     IfErr-weaker c.window_input.result _ _
-    (λ r is words asks. inr (inr (inr (inr (c.in-Show.window, subst (AsksFor words) c.in-Show.is asks, is)))))
+    (λ r is words asks. inr (inr (inr (c.in-Show.window, subst (AsksFor words) c.in-Show.is asks, is))))
     c.window_input.ensures.err
 
 pub returns-in_ok-bytes-in_default-clause-ok : goal.returns-in_ok-bytes-in_default-clause-ok

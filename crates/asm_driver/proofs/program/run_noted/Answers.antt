@@ -27,20 +27,20 @@ returns-in-Err-clause-taken g c =
     (record { same = refl {a = g.S.Source.remaining c.args.input.now}; whole = c.requires.input }))
     c.write_answer.ensures.ok c.write_answer.ensures.err)).taken
 
-pub returns-in-Watch-clause-runs : goal.returns-in-Watch-clause-runs
-returns-in-Watch-clause-runs g c =
+pub returns-in-Audit-clause-runs : goal.returns-in-Audit-clause-runs
+returns-in-Audit-clause-runs g c =
     (run_of _ _ _ _ _ (ap (map string_bytes) c.as_slice.ensures.value)
-    (run_watched _ _ _ c.in-Watch.every _ (subst (AsksFor _) c.in-Watch.is c.in-Ok.ensures.asked) c.watch.ensures.watches)).runs
+    (run_watched _ _ _ c.in-Audit.every _ (subst (AsksFor _) c.in-Audit.is c.in-Ok.ensures.asked) c.watch.ensures.watches)).runs
 
-pub returns-in-Watch-clause-faults : goal.returns-in-Watch-clause-faults
-returns-in-Watch-clause-faults g c =
+pub returns-in-Audit-clause-faults : goal.returns-in-Audit-clause-faults
+returns-in-Audit-clause-faults g c =
     (run_of _ _ _ _ _ (ap (map string_bytes) c.as_slice.ensures.value)
-    (run_watched _ _ _ c.in-Watch.every _ (subst (AsksFor _) c.in-Watch.is c.in-Ok.ensures.asked) c.watch.ensures.watches)).faults
+    (run_watched _ _ _ c.in-Audit.every _ (subst (AsksFor _) c.in-Audit.is c.in-Ok.ensures.asked) c.watch.ensures.watches)).faults
 
-pub returns-in-Watch-clause-taken : goal.returns-in-Watch-clause-taken
-returns-in-Watch-clause-taken g c =
+pub returns-in-Audit-clause-taken : goal.returns-in-Audit-clause-taken
+returns-in-Audit-clause-taken g c =
     (run_of _ _ _ _ _ (ap (map string_bytes) c.as_slice.ensures.value)
-    (run_watched _ _ _ c.in-Watch.every _ (subst (AsksFor _) c.in-Watch.is c.in-Ok.ensures.asked) c.watch.ensures.watches)).taken
+    (run_watched _ _ _ c.in-Audit.every _ (subst (AsksFor _) c.in-Audit.is c.in-Ok.ensures.asked) c.watch.ensures.watches)).taken
 
 pub returns-clause-runs : goal.returns-clause-runs
 returns-clause-runs g c =

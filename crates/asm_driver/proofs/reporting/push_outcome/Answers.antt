@@ -1,6 +1,6 @@
 use Rattle.std.proofs.Common.{◌≡◌, ◌++◌, ◌∷◌, [], string_bytes, sym, ap, ◌∙◌, append_assoc}
 use Rattle.asm_driver.specs.Report.{step_name, reason}
-use Rattle.asm_driver.proofs.OutcomeLines.{not_fired}
+use Rattle.asm_driver.proofs.Lines.{not_fired}
 use Rattle.asm_driver.proofs.reporting.push_outcome.Goals as goal
 
 pub returns : goal.returns

@@ -1,7 +1,7 @@
 use Rattle.std.proofs.Common.{◌≡◌, ◌≤◌, ◌+◌, ℕ, List, ◌++◌, length, take, ◌∙◌, arith, rules, length-append}
 use Rattle.std.specs.Io.KnownBytes.{Consumes}
 use Rattle.std.proofs.KnownBytes.{Consumes-trans}
-use Rattle.asm_driver.specs.Input.{Known, TakesSome}
+use Rattle.asm_driver.specs.Ports.{Known, TakesSome}
 use Rattle.asm_driver.specs.Limits.{input_limit}
 use Rattle.asm_element.specs.Tests.{on_err}
 use Rattle.asm_driver.proofs.ports.input.read_input.Goals as goal

@@ -2,7 +2,7 @@ use Rattle.std.proofs.Common.{subst}
 use Rattle.std.proofs.lemmas.Result.{err_from_is_err_and}
 use Rattle.asm_update.specs.Aggregator.{Meaning}
 use Rattle.asm_journal.specs.Check.{machine_of, IsLegality}
-use Rattle.asm_driver.proofs.NoJournals.{no_journal}
+use Rattle.asm_driver.proofs.Refusing.{no_journal}
 use Rattle.asm_driver.proofs.program.commands.check_journal.Goals as goal
 
 pub returns-in_err-history-clause-err : goal.returns-in_err-history-clause-err

@@ -1,5 +1,5 @@
 use Rattle.std.proofs.lemmas.Result.{err_from_is_err_and}
-use Rattle.asm_driver.proofs.NoJournals.{no_journal}
+use Rattle.asm_driver.proofs.Refusing.{no_journal}
 use Rattle.asm_driver.proofs.program.commands.rewrite.Goals as goal
 
 pub returns-in_err-history-clause-err : goal.returns-in_err-history-clause-err

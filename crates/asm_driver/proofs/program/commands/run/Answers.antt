@@ -4,7 +4,7 @@ use Rattle.asm_driver.specs.Commands.{IsPlayed, IsNoText, IsNoRun}
 use Rattle.asm_play.specs.declared.outcome.Played.{Played}
 use Rattle.asm_driver.specs.declared.program.refusal.Refusal.{Refusal}
 use Rattle.asm_driver.specs.declared.program.refusal.Refusal.TheVariants as refusal
-use Rattle.asm_driver.proofs.NoRuns.{unplayed}
+use Rattle.asm_driver.proofs.Refusing.{unplayed}
 use Rattle.asm_driver.proofs.program.commands.run.Goals as goal
 
 -- a play without a text

@@ -1,6 +1,6 @@
 use Rattle.std.proofs.Common.{◌++◌, string_bytes, false, ap₂, ◌∙◌}
 use Rattle.std.proofs.lemmas.Result.{err_from_is_err_and}
-use Rattle.asm_driver.proofs.NoRuns.{unplayed}
+use Rattle.asm_driver.proofs.Refusing.{unplayed}
 use Rattle.asm_driver.proofs.program.commands.run_with_terms.Goals as goal
 
 pub returns-in_err-played-clause-err : goal.returns-in_err-played-clause-err

@@ -1,7 +1,7 @@
 use Rattle.std.proofs.Common.{ℕ, List, string_bytes, subst}
 use Rattle.std.proofs.lemmas.Result.{err_from_is_err_and}
 use Rattle.std.specs.Io.KnownBytes.{Appends}
-use Rattle.asm_driver.specs.Output.{AppendsSome}
+use Rattle.asm_driver.specs.Ports.{AppendsSome}
 use Rattle.asm_driver.proofs.Watching.{written_cut, written_all, no_lines}
 use Rattle.asm_driver.proofs.program.watching.watch_bytes.Goals as goal
 

@@ -1,7 +1,7 @@
 use Rattle.std.proofs.Common.{◌≡◌, ◌≤◌, false, ℕ, List, ◌++◌, string_bytes}
 use Rattle.asm_update.specs.State.{State}
 use Rattle.asm_storage.specs.declared.history.Event.{Event}
-use Rattle.asm_driver.specs.Input.{Known}
+use Rattle.asm_driver.specs.Ports.{Known}
 use Rattle.asm_driver.specs.Lines.{pending}
 use Rattle.asm_driver.specs.Parts.{audited, IsAt, IsPartRead}
 use Rattle.asm_driver.proofs.Windows.{AreNotedTo}

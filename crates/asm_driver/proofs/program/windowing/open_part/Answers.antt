@@ -1,6 +1,6 @@
 use Rattle.std.proofs.Common.{◌++◌, ◌+◌, None, ap, ◌∙◌, inl, arith}
 use Rattle.std.proofs.lemmas.Result.{err_from_is_err_and}
-use Rattle.asm_driver.specs.Words.{window_of}
+use Rattle.asm_driver.specs.declared.program.words.Window.{Window}
 use Rattle.asm_driver.proofs.program.windowing.open_part.Goals as goal
 
 pub returns-in_err-pass-clause-err : goal.returns-in_err-pass-clause-err
@@ -30,7 +30,7 @@ loop-preserved g c =
     let i = c.loop.invariant in
     let o = i.opened.2 in
     let had = g.S.Source.remaining c.args.input.now in
-    let w = window_of (c.loop.opened.number + 1) 0 None in
+    let w : Window = record { part = c.loop.opened.number + 1; from = 0; to = None } in
     let passed = c.in_ok-pass.ensures.told w had (o.0 ++ o.1) o.2 (inl (omega arith)) o.3 o.6 in
     record {
       same_reference = c.next_part.ensures.same_reference ∙ c.pass.ensures.same_reference ∙ i.same_reference;

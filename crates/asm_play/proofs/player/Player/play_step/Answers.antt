@@ -17,7 +17,7 @@ loop-tried-init g c = refl
 pub returns-in-Some : goal.returns-in-Some
 returns-in-Some g c =
     let few : length c.reads-places.result.now ≤ reads_limit = omega (arith, c.if-places-gt-READS_LIMIT.false) in
-    let ended = try_ended _ _ _ _ _ _ c.reads-places.result.now _ _ refl c.in-Some.is c.in_ok-outcome.ensures in (
+    let ended = try_ended _ _ _ _ _ _ c.reads-places.result.now _ _ refl c.in-Some.is c.in_ok-end.ensures in (
       c.reads-places.result.now,
       c.reads-places.ensures,
       inr (
@@ -29,7 +29,7 @@ returns-in-Some g c =
 -- it is to be tried again
 pub loop-tried-preserved : goal.loop-tried-preserved
 loop-tried-preserved g c =
-    let again = try_again _ _ _ _ _ _ _ _ refl c.in-None.is c.in_ok-outcome.ensures in
+    let again = try_again _ _ _ _ _ _ _ _ refl c.in-None.is c.in_ok-end.ensures in
     let on : suc c.loop-tried.tried ≡ c.loop-tried.tried + 1 = omega arith in
     let meaning = g.A.Aggregator.meaning in
     subst (λ (n : ℕ). Tried meaning (meaning c.args.self.now.aggregator.now) c.args.step.now c.reads-places.result.now n

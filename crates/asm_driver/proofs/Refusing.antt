@@ -1,12 +1,15 @@
--- Scripts that aren't played, told as refusals.
+-- Scripts that aren't played, and bytes that are no journal, as refusals.
 use Rattle.std.proofs.Common.{◌≡◌, ◌≤◌, ℕ, Bool, List, length, refl}
-use Rattle.asm_driver.specs.Commands.{IsNoRun}
-use Rattle.asm_driver.specs.Refusal.{refusal_of_run}
+use Rattle.asm_driver.specs.Commands.{IsNoRun, IsNoJournal}
+use Rattle.asm_driver.specs.Refusal.{refusal_of_run, refusal_of_journal}
 use Rattle.asm_script.specs.Plan.{Plan}
 use Rattle.asm_script.specs.Script.{IsScriptOf}
 use Rattle.asm_row.specs.Limits.{IsNoCapacity}
 use Rattle.asm_play.specs.declared.outcome.RunError.{RunError}
 use Rattle.asm_play.specs.declared.outcome.RunError.TheVariants.{BadCapacity, NoThread, Missing, Memory}
+use Rattle.asm_journal.specs.Fault.{IsRefused}
+use Rattle.asm_journal.specs.declared.error.JournalError.{JournalError}
+use Rattle.asm_journal.specs.declared.error.JournalError.TheVariants as journal_error
 
 -- a script that isn't played, told as a refusal
 pub unplayed : (bytes : List ℕ) (capacity : ℕ) (asked : Bool) (e : RunError) (plan : Plan) → IsScriptOf bytes plan →
@@ -16,3 +19,7 @@ unplayed bytes capacity asked BadCapacity plan is none several = ((plan, is), no
 unplayed bytes capacity asked NoThread plan is none several = (plan, is, several refl)
 unplayed bytes capacity asked (Missing k) plan is none several = (plan, is)
 unplayed bytes capacity asked Memory plan is none several = tt
+
+pub no_journal : (bytes : List ℕ) (e : JournalError) → IsRefused bytes e → IsNoJournal bytes (refusal_of_journal e)
+no_journal bytes journal_error.Memory is = tt
+no_journal bytes e is = (λ h. cc (h), is)

@@ -20,8 +20,10 @@ fn push_shown(alloc: Global, text: &mut String, character: char) -> Result<(), A
     text.push_str(escaped.as_str())
 }
 
-/// The first 200 bytes of the text, with `...` behind them where it goes on. What a terminal would obey is escaped.
-pub(crate) fn shown(alloc: Global, text: &str) -> Result<String, AllocError> {
+/// The first 200 bytes of the text, with `...` behind them where it goes on.
+///
+/// What a terminal would obey is escaped. `AllocError` comes only where memory was refused.
+pub fn shown_text(alloc: Global, text: &str) -> Result<String, AllocError> {
     let mut shown = String::new(alloc);
     for character in text.chars() {
         if shown.len() >= SHOWN {

@@ -1,6 +1,6 @@
 use Rattle.std.proofs.Common.{◌≡◌, ℕ, List, ◌++◌, take, string_bytes}
 use Rattle.asm_driver.specs.Watch.{IsWatched}
-use Rattle.asm_driver.proofs.program.watching.take_bytes.Given as goal
+use Rattle.asm_driver.proofs.program.watching.take_each.Given as goal
 
 -- the bytes so far were taken
 abbrev pub invariant-loop-byte : goal.invariant-loop-byte
