@@ -1,16 +1,10 @@
 //! The first wrong answer of a journal, beside the right one.
-ghost use Rattle.std.specs.Prelude.{ℕ, IfOk, IfSome};
-ghost use Rattle.asm_aggregate.specs.Standard.{standard_part};
-ghost use Rattle.asm_journal.specs.Check.{machine_of, IsFirstWrong};
-ghost use Rattle.asm_journal.specs.Reading.{ReadsAs};
-ghost use Rattle.asm_storage.specs.declared.history.History.{History as Log};
-
 use asm_driver::shown_text;
 use asm_element::{Location, Value};
-use asm_journal::{Legality, ToJson, check, from_text, judge_event, value_json};
+use asm_journal::{ToJson, from_text, judge_event, value_json};
 use asm_play::aggregator::chosen;
 use asm_state::State;
-use asm_storage::{Call, Event, History};
+use asm_storage::{Call, Event};
 use asm_trace::push_standard_note;
 use asm_update::Lookup;
 use serde_json::Value as Json;
@@ -95,8 +89,11 @@ fn said_of(
     )
 }
 
-// What is said of the first event of a history whose answer is wrong.
-fn said_of_first(alloc: Global, history: &History) -> Result<Option<String>, AllocError> {
+/// The call of a journal whose answer is wrong, with that answer and the right one.
+pub(crate) fn wrong_answer(alloc: Global, bytes: &[u8]) -> Result<Option<String>, AllocError> {
+    let Ok(history) = from_text(alloc, bytes) else {
+        return Ok(None);
+    };
     let mut state = State::new(alloc, history.init.copy(alloc)?)?;
     for (number, event) in history.events.as_slice().iter().enumerate() {
         if !judge_event(alloc, &chosen(), &mut state, history.capacity, event)? {
@@ -105,18 +102,4 @@ fn said_of_first(alloc: Global, history: &History) -> Result<Option<String>, All
         }
     }
     Ok(None)
-}
-
-/// The call of a journal whose answer is wrong, with that answer and the right one. Of no other text is anything said.
-pub(crate) fn wrong_answer(alloc: Global, bytes: &[u8]) -> Result<Option<String>, AllocError>
-    ensures { IfOk result (λ said. IfSome said (λ _. (h : Log) × (n : ℕ) × ReadsAs bytes.now h
-        × IsFirstWrong (machine_of standard_part h) h.events n)) }
-{
-    let Ok(history) = from_text(alloc, bytes) else {
-        return Ok(None);
-    };
-    match check(alloc, &chosen(), &history)? {
-        Legality::Legal { calls: _, moves: _ } => Ok(None),
-        Legality::Illegal { call: _ } => said_of_first(alloc, &history),
-    }
 }
