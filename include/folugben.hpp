@@ -126,14 +126,14 @@ class conflict : public error {
   public:
     using error::error;
 };
-// What a commit came to: with code::done the number of the move. A conflict is code::stale, code::clash or code::busy, and
-// code::moved of a recording agent: the step is to be begun again.
+// What a commit came to: with code::done the number of the move. A conflict is code::stale, code::clash or code::busy: the
+// step is to be begun again.
 struct [[nodiscard]] outcome {
     folugben::code code = folugben::code::done;
     std::uint32_t number = 0;
     explicit operator bool() const noexcept { return code == folugben::code::done; }
     bool is_conflict() const noexcept {
-        return code == folugben::code::stale || code == folugben::code::clash || code == folugben::code::busy || code == folugben::code::moved;
+        return code == folugben::code::stale || code == folugben::code::clash || code == folugben::code::busy;
     }
 };
 // A push whose updates clash on what the step sees; and a fire of a move without a step, which would clash again.
@@ -1114,11 +1114,6 @@ class agent {
     // What the last answered call was answered.
     std::string answer() { return detail::answer(get()); }
 
-    // Has the agent record what its steps get, or no longer; off at first. Directly before the fire of each commit its journal then has
-    // a read of what the step rests on, by which `check` tests what was got; scans and what was seen aren't recorded. With
-    // FOLUGBEN_RECORD defined each agent records from the start.
-    void record(bool on = true) { detail::done(asm_record(get(), on)); }
-
     // Takes in what the other agent of the same storage has seen.
     void learn(agent &other) {
         if (get_of() != other.get_of()) detail::fail(code::other, {});
@@ -1420,9 +1415,6 @@ class storage {
     }
     static agent made(std::shared_ptr<detail::seat> seat) {
         agent it(std::move(seat));
-#ifdef FOLUGBEN_RECORD
-        it.record();
-#endif
         return it;
     }
     storage() : shared_(std::make_shared<detail::shared>()) {}

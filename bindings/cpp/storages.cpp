@@ -66,61 +66,6 @@ void agents_that_came_back_are_taken() {
     WANTED(told.is_legal && told.calls == 2 && told.moves == 2);
 }
 
-// How often the text is in the other.
-std::size_t count_of(const std::string &text, const std::string &all) {
-    std::size_t count = 0;
-    for (std::size_t at = all.find(text); at != std::string::npos; at = all.find(text, at + 1)) ++count;
-    return count;
-}
-
-void recording_agents_write_what_their_steps_get() {
-    folugben::storage storage(COUNT, 10);
-    folugben::location count("count");
-    {
-        folugben::agent agent = storage.make_agent(0), other = storage.make_agent(1);
-        auto raise = [&](folugben::agent &by) {
-            return by.play([&](folugben::step &it) { it.push(folugben::instructions().put(count, it.get(count).number() + 1)); });
-        };
-        agent.record();
-        other.record(false);
-        raise(agent);
-        raise(other);
-        // It polls within its step, so that the state at the step's beginning isn't there any more.
-        int tries = 0;
-        const auto played = agent.play([&](folugben::step &it) {
-            it.push(folugben::instructions().put(count, it.get(count).number() + 1));
-            if (++tries > 1) return;
-            other.play([](folugben::step &it) { it.push_json(R"([["put",["x"],1]])"); });
-            agent.follow();
-        });
-        WANTED(played.retries == 1 && tries == 2 && played.number == 4);
-        folugben::step late = agent.begin();
-        (void)late.get(count);
-        late.push_json(R"([["put",["y"],1]])");
-        other.play([](folugben::step &it) { it.push_json(R"([["put",["x"],2]])"); });
-        agent.follow();
-        WANTED(REFUSED(folugben::conflict, late.commit()).code() == code::moved);
-        agent.record(false);
-        raise(agent);
-    }
-    const std::string journal = storage.close();
-    const auto told = folugben::check(journal);
-    const std::size_t reads = count_of("\"read\":", journal);
-#ifdef FOLUGBEN_RECORD
-    WANTED(reads >= 2);
-#else
-    WANTED(reads == 2 && told.calls == 8);
-#endif
-    WANTED(told.is_legal && told.moves == 6);
-    // What it says was got is checked.
-    const std::string got = R"("number":0,"values":[7])";
-    WANTED(count_of(got, journal) == 1);
-    WANTED(!folugben::check(std::string(journal).replace(journal.find(got), got.size(), R"("number":0,"values":[6])")).is_legal);
-    // An agent that is taken again doesn't record.
-    folugben::agent again = storage.take(0);
-    again.record();
-}
-
 // Two parts: 2 calls and 2 moves, and 1 call without a move.
 std::string two_parts() {
     folugben::storage storage(COUNT, 2);
@@ -295,7 +240,6 @@ int main() {
     agents_come_back_when_they_are_destroyed();
     storages_go_on_from_agents();
     agents_that_came_back_are_taken();
-    recording_agents_write_what_their_steps_get();
     runs_are_audited_as_their_bytes_come();
     the_first_fault_of_a_run_is_told_with_its_place();
     steps_go_on_where_their_agents_move();

@@ -103,12 +103,7 @@ void open_steps_keep_their_state() {
     WANTED(step.get(count).number() == 1);
     step.push_json(R"([["inc",["count"],1]])");
     folugben::step later = std::move(step);
-#ifdef FOLUGBEN_RECORD
-    const code again = code::moved; // it has fired itself since
-#else
-    const code again = code::stale;
-#endif
-    WANTED(REFUSED(folugben::conflict, later.commit()).code() == again);
+    WANTED(REFUSED(folugben::conflict, later.commit()).code() == code::stale);
     WANTED(raise(other) == 4 && raise(one) == 5);
 }
 

@@ -57,8 +57,7 @@ core = Extension(
     include_dirs=[str(it) for it in (HERE, HERE.parents[1] / "include", LIBRARY.parent) if (it / "folugben.h").is_file()],
     define_macros=[("Py_LIMITED_API", "0x030b0000")],
     # The same sources and tools give the same bytes. Only the module's own function is exported.
-    extra_compile_args=["-std=gnu11", "-O2", "-g0", "-fvisibility=hidden", "-fstack-protector-strong", "-U_FORTIFY_SOURCE", "-D_FORTIFY_SOURCE=3",
-                        "-fcf-protection", f"-ffile-prefix-map={HERE}=."],
+    extra_compile_args=["-std=gnu11", "-O2", "-g0", "-fvisibility=hidden", f"-ffile-prefix-map={HERE}=."],
     extra_link_args=["-Wl,--exclude-libs,ALL", "-Wl,-z,relro,-z,now", "-Wl,--strip-all", "-Wl,--build-id=none"],
     py_limited_api=True,
 )

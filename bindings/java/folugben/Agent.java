@@ -184,7 +184,7 @@ public final class Agent extends AgentCalls implements Actor {
      * Has the agent's own state follow all moves that are found; how many it has then seen. That
      * state moves on only here and in read, fire, stands and step, and as a step is fired; and where
      * it is shown after another agent, that the same thread plays, went on from it: then it looks on
-     * first. A look isn't in the journal.
+     * first. No receipt is made: a look isn't in the journal.
      */
     @Override
     public long follow() {
@@ -351,18 +351,6 @@ public final class Agent extends AgentCalls implements Actor {
         Turns.here().readsAll();
         synchronized (slot) {
             return Calls.asm_misses(slot.at);
-        }
-    }
-
-    /**
-     * Has it record what its steps read: each commit first adds a read of what the step rests on to
-     * the journal, with the values that were got; what was scanned or seen isn't recorded. Where its
-     * own state has moved on since the step began, it throws a {@link MovedException}. It is off at
-     * first, and of an agent that was taken again, unless the property folugben.record is true.
-     */
-    public void record(boolean isOn) {
-        synchronized (slot) {
-            expect(Code.of(Calls.asm_record(slot.at, isOn)));
         }
     }
 

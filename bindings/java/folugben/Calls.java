@@ -143,8 +143,6 @@ final class Calls {
 
     static native int asm_take_state(long agent, long other);
 
-    static native int asm_record(long agent, boolean on);
-
     static native int asm_seen(long agent);
 
     static native int asm_won(long agent);

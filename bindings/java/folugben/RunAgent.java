@@ -23,7 +23,6 @@ public final class RunAgent implements Actor {
     /** Whether its last step is by turns, in which time has no part. */
     private boolean isByTurns;
     private boolean isClosed;
-    private boolean isRecorded;
 
     RunAgent(Run run, int number) {
         this.run = run;
@@ -176,8 +175,6 @@ public final class RunAgent implements Actor {
         won -= taken.won();
         part = newest;
         own = taken;
-        if (isRecorded)
-            own.record(true);
         return true;
     }
 
@@ -248,15 +245,6 @@ public final class RunAgent implements Actor {
     @Override
     public long seen() {
         return whereOpen(agent -> part.before() + agent.seen());
-    }
-
-    /** Has it record what its steps read, from now on, or no longer, as {@link Agent#record}. */
-    public void record(boolean isOn) {
-        synchronized (lock) {
-            isRecorded = isOn;
-            if (own != null)
-                own.record(isOn);
-        }
     }
 
     /** Such as agent 3 of the run in bank.run, 7 moves saved. */

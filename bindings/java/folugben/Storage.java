@@ -21,8 +21,6 @@ import java.util.SortedMap;
  */
 public final class Storage implements AutoCloseable {
     static final int AGENTS = 256;
-    /** Whether each agent records what its steps read from the start. */
-    private static final boolean IS_RECORDED = Boolean.getBoolean("folugben.record");
     private static final int CAPACITY = 1_048_576;
 
     /** The storage's slot, and the lock of the calls on it. */
@@ -121,12 +119,6 @@ public final class Storage implements AutoCloseable {
             }
             agents[number] = agent;
         }
-        return begun(agent);
-    }
-
-    private static Agent begun(Agent agent) {
-        if (IS_RECORDED)
-            agent.record(true);
         return agent;
     }
 
@@ -145,7 +137,7 @@ public final class Storage implements AutoCloseable {
             }
             agents[number] = agent;
         }
-        return begun(agent);
+        return agent;
     }
 
     /** Notes that an agent is about to look on; the one that did so last on this thread. */

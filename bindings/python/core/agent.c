@@ -28,8 +28,6 @@ static int32_t comes(Agent *self, int is_taken, int is_made)
         code = asm_agent(SLOT(storage), self->own, SLOT(self));
     if (code != ASM_DONE)
         return code;
-    if (self->records)
-        (void)asm_record(SLOT(self), true);
     self->seen = asm_seen(SLOT(self));
     self->next = storage->first;
     self->before = &storage->first;
@@ -90,7 +88,6 @@ static Agent *made(PyTypeObject *type, Storage *storage, PyObject *number)
     if (self) {
         self->storage = (Storage *)Py_NewRef((PyObject *)storage);
         self->own = own;
-        self->records = storage->records;
     }
     return self;
 }
@@ -109,17 +106,9 @@ static PyObject *filled(Agent *self, int is_taken)
     return NULL;
 }
 
-PyObject *agent_made(Storage *storage, PyObject *words, PyObject *named, int is_taken)
+PyObject *agent_made(Storage *storage, PyObject *number, int is_taken)
 {
-    static char *names[] = {"", "record", NULL};
-    PyObject *number, *record = Py_None;
-    if (!PyArg_ParseTupleAndKeywords(words, named, "O|$O", names, &number, &record))
-        return NULL;
-    int records = record == Py_None ? storage->records : PyObject_IsTrue(record);
-    Agent *self = records < 0 ? NULL : made(storage->held.core->agent, storage, number);
-    if (self)
-        self->records = (char)records;
-    return self ? filled(self, is_taken) : NULL;
+    return filled(made(storage->held.core->agent, storage, number), is_taken);
 }
 
 /* Its slot stays empty where a third word says so, for an agent of a run. */
@@ -362,7 +351,6 @@ static PyMemberDef members[] = {
     {"_thread", T_ULONG, offsetof(Agent, thread), READONLY, NULL},
     {"_base", T_ULONGLONG, offsetof(Agent, base), 0, NULL},
     {"_is_taken", T_BOOL, offsetof(Agent, is_taken), 0, NULL},
-    {"records", T_BOOL, offsetof(Agent, records), READONLY, "Whether its commits record what their steps have read."},
     {0},
 };
 static PyType_Slot slots[] = {

@@ -299,7 +299,6 @@ PyObject *agent_go_on(Agent *self, PyObject *words, PyObject *named)
         Py_XDECREF((PyObject *)next);
         return NULL;
     }
-    next->records = self->storage->records;
     RUN(&self->held, 1, if ((code = agent_catches_up(self)) == ASM_DONE) code = asm_go_on(SLOT(self), capacity, SLOT(next)));
     if (code == ASM_DONE)
         return (PyObject *)next;

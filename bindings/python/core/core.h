@@ -35,7 +35,6 @@ typedef struct {
     PyObject *counter;  /* collections.Counter */
     PyObject *no_rules; /* the types of what a function returns that is no rule: coroutines and generators */
     PyTypeObject *played;
-    int records; /* whether storages record where nobody says so; for tests */
 } Core;
 
 /* What holds a slot. */
@@ -64,7 +63,7 @@ typedef struct {
     uint32_t last;      /* the greatest number of a move that is known to be fired */
     int64_t closed;     /* how many moves the last journal has, -1 without one */
     int is_abandoned;   /* an agent was freed that wasn't given back */
-    char is_made, records;
+    char is_made;
     Agent *first;       /* its agents, without references */
     PyObject *journal;  /* the path of its journal, or null */
     Turn turns[TURNS];
@@ -77,7 +76,6 @@ struct Agent {
     uint64_t base;                           /* how many moves of a run came before its storage */
     char is_taken;                           /* another thread has given it back */
     char is_behind;                          /* another agent has taken its state */
-    char records;                            /* its commits record what their steps have read */
     unsigned steps;                          /* how many of its steps are open */
     unsigned long thread;                    /* of its last call that looked */
     Step *last;                              /* the step that it began last, without a reference */
@@ -234,7 +232,7 @@ PyObject *storage_refused(Storage *self, int32_t code);
 PyObject *location_refused(Location *self, int32_t code);
 
 /* agent.c, agent_texts.c and play.c */
-PyObject *agent_made(Storage *storage, PyObject *words, PyObject *named, int is_taken);
+PyObject *agent_made(Storage *storage, PyObject *number, int is_taken);
 int32_t agent_give(Agent *self);
 int agent_is_far(const Agent *self);
 PyObject *agent_play(Agent *self, PyObject *words, PyObject *named);

@@ -100,16 +100,6 @@ static PyObject *core_use(PyObject *module, PyObject *refusals)
     return Py_NewRef(Py_None);
 }
 
-/* Has storages record where nobody says so. */
-static PyObject *core_record(PyObject *module, PyObject *is_on)
-{
-    int records = PyObject_IsTrue(is_on);
-    if (records < 0)
-        return NULL;
-    ((Core *)PyModule_GetState(module))->records = records;
-    return Py_NewRef(Py_None);
-}
-
 static PyObject *core_encoded(PyObject *module, PyObject *words)
 {
     PyObject *value, *told = NULL;
@@ -258,7 +248,6 @@ static void core_free(void *module)
 
 static PyMethodDef methods[] = {
     {"use", core_use, METH_O, NULL},
-    {"record", core_record, METH_O, NULL},
     {"encoded", core_encoded, METH_VARARGS, NULL},
     {"decoded", core_decoded, METH_O, NULL},
     {"owned", core_owned, METH_VARARGS, NULL},

@@ -136,7 +136,7 @@ int64_t step_fires(Step *self, int is_try)
         return (int64_t)(agent->base + numbers.fired);
     }
     self->is_tried |= code != ASM_EMPTY;
-    int is_vain = is_try && (code == ASM_STALE || code == ASM_CLASH || code == ASM_BUSY || code == ASM_MOVED);
+    int is_vain = is_try && (code == ASM_STALE || code == ASM_CLASH || code == ASM_BUSY);
     if (!is_vain && code == ASM_EMPTY)
         step_refused(self, code);
     else if (!is_vain)

@@ -31,15 +31,13 @@ static int storage_note(Storage *self, PyObject *journal)
 
 static int storage_init(Storage *self, PyObject *words, PyObject *named)
 {
-    static char *names[] = {"init", "capacity", "journal", "record", NULL};
+    static char *names[] = {"init", "capacity", "journal", NULL};
     Core *core = self->held.core;
     PyObject *init = NULL, *most = NULL, *journal = NULL;
     uint32_t capacity = 4096;
-    int records = core->records;
     Text text;
-    if (!PyArg_ParseTupleAndKeywords(words, named, "|OOOp", names, &init, &most, &journal, &records) || storage_note(self, journal))
+    if (!PyArg_ParseTupleAndKeywords(words, named, "|OOO", names, &init, &most, &journal) || storage_note(self, journal))
         return -1;
-    self->records = (char)records;
     PyObject *pairs = !init ? PyList_New(0) : PyDict_Check(init) ? PyMapping_Items(init) : PySequence_List(init);
     int failed = !pairs || write_named(core, &text, pairs, "init");
     Py_XDECREF(pairs);
@@ -63,15 +61,13 @@ static PyObject *storage_opened(PyTypeObject *type, PyObject *words)
     Py_ssize_t len;
     unsigned capacity;
     int32_t code;
-    int records = core_of(type)->records;
-    if (!PyArg_ParseTuple(words, "y#I|p", &text, &len, &capacity, &records))
+    if (!PyArg_ParseTuple(words, "y#I", &text, &len, &capacity))
         return NULL;
     Storage *self = (Storage *)storage_new(type, NULL, NULL);
     if (!self || storage_note(self, NULL)) {
         Py_XDECREF((PyObject *)self);
         return NULL;
     }
-    self->records = (char)records;
     CALL(code, &self->held, 1, asm_open(text, (size_t)len, capacity, SLOT(self)));
     if (code == ASM_DONE)
         return (PyObject *)self;
@@ -95,14 +91,14 @@ Storage *storage_next_of(Held *held, PyObject *words, PyObject *named, uint32_t 
     return next;
 }
 
-static PyObject *storage_agent(Storage *self, PyObject *words, PyObject *named)
+static PyObject *storage_agent(Storage *self, PyObject *number)
 {
-    return agent_made(self, words, named, 0);
+    return agent_made(self, number, 0);
 }
 
-static PyObject *storage_take(Storage *self, PyObject *words, PyObject *named)
+static PyObject *storage_take(Storage *self, PyObject *number)
 {
-    return agent_made(self, words, named, 1);
+    return agent_made(self, number, 1);
 }
 
 static PyObject *storage_moves(Storage *self, PyObject *Py_UNUSED(none))
@@ -207,7 +203,6 @@ static PyObject *storage_next(Storage *self, PyObject *words, PyObject *named)
         Py_XDECREF((PyObject *)next);
         return NULL;
     }
-    next->records = self->records;
     CALL(code, &self->held, 1, asm_next(SLOT(self), capacity, SLOT(next)));
     if (code == ASM_DONE)
         code = asm_moves(SLOT(self), &moves);
@@ -251,13 +246,10 @@ static void storage_gone(Storage *self)
 
 static PyMethodDef methods[] = {
     HELD_METHODS,
-    {"agent", METHOD(storage_agent), METH_VARARGS | METH_KEYWORDS,
-        "agent($self, number, /, *, record=None)\n--\n\nReturn an agent with this number, below 256, of which none was made before.\n\n"
-        "Where it records, as by default those of a storage with `record=True` do, each commit is preceded in the journal by a read of\n"
-        "what its step has read and depends on, so `check` judges that too. A commit raises `CommitMovedError` then where the agent's own\n"
-        "state has moved on since the step began."},
-    {"take", METHOD(storage_take), METH_VARARGS | METH_KEYWORDS,
-        "take($self, number, /, *, record=None)\n--\n\nReturn the agent with this number that was given back, with what it has seen and its receipts.\n\n"
+    {"agent", (PyCFunction)storage_agent, METH_O,
+        "agent($self, number, /)\n--\n\nReturn an agent with this number, below 256, of which none was made before."},
+    {"take", (PyCFunction)storage_take, METH_O,
+        "take($self, number, /)\n--\n\nReturn the agent with this number that was given back, with what it has seen and its receipts.\n\n"
         "A journal that was closed before is dropped. `Error` with the code NO_AGENT where no such agent was given back."},
     {"moves", (PyCFunction)storage_moves, METH_NOARGS, "moves($self, /)\n--\n\nReturn how many moves were fired on it."},
     {"give", (PyCFunction)storage_give, METH_O, "give($self, agent, /)\n--\n\nTake an agent back."},
@@ -274,7 +266,7 @@ static PyMethodDef methods[] = {
     {0},
 };
 static PyType_Slot slots[] = {
-    {Py_tp_doc, "Storage(init=(), capacity=4096, journal=None, record=False)\n--\n\n"
+    {Py_tp_doc, "Storage(init=(), capacity=4096, journal=None)\n--\n\n"
                 "A storage with an opening state, a dict of values by location or pairs of the two, for so many moves.\n\n"
                 "Where `journal` names a file, the journal is written there at the end of the `with`, also after an exception, once the\n"
                 "agents are given back."},

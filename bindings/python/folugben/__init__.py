@@ -41,7 +41,10 @@ themselves, and its folder has the journals of all of them, which `audit` checks
     calls, moves, parts = audit("count.run")
 
 The journal tells every move: where an agent that fired was freed and not given back, `close_journal` raises `MissingError` for
-good. A `with` gives its agent back. The error of a refused text says where and why, as `explain` does.
+good. A `with` gives its agent back.
+
+Errors say where and why. The items of a list that was passed are counted from 1 (location 2, read 1), what is within one is
+written as in Python, from 0 (instructions[0][2]), and calls, parts and moves are counted as journals do.
 
 A run's own calls are Python: a signal handler or a finalizer that makes one in the midst of another one of its thread raises
 `NestedError`, and nothing is done.
@@ -63,8 +66,8 @@ except ImportError as error:
 
 from ._auditor import Auditor, Counts
 from ._core import Agent, Location, Move, Played, Step, Storage
-from ._errors import BadJournalError, BrokenError, BusyError, ClashError, CommitClashError, CommitMovedError, ConflictError
-from ._errors import DamagedError, DeepError, Error, FullError, LargeError, ManyError, MismatchError, MissingError, MovedError, OverError, PastError
+from ._errors import BadJournalError, BrokenError, BusyError, ClashError, CommitClashError, ConflictError, DamagedError, DeepError
+from ._errors import Error, FullError, LargeError, ManyError, MismatchError, MissingError, MovedError, OverError, PastError
 from ._errors import StaleError, TooLongError, UnknownError, error_text, explain
 from ._explore import DiffersError, Explored, explore
 from ._functions import aggregate, check, compose, replay, trace, version
@@ -82,8 +85,7 @@ from ._types import Element, Place, Update, Value
 __version__ = "0.2.0"
 
 __all__ = [
-    "Agent", "Auditor", "BadJournalError", "BrokenError", "BusyError", "ClashError", "Code", "CommitClashError",
-    "CommitMovedError", "ConflictError",
+    "Agent", "Auditor", "BadJournalError", "BrokenError", "BusyError", "ClashError", "Code", "CommitClashError", "ConflictError",
     "Counts", "DamagedError", "DeepError", "DiffersError", "Element", "EndlessError", "Error", "Explored", "ForkedError", "FullError",
     "LargeError", "Location", "ManyError", "MismatchError", "MissingError", "Move", "MovedError", "NestedError", "OverError",
     "PastError", "Place", "Played", "Run", "RunAgent", "SharedAgent", "SharedRun", "StaleError", "Step", "Storage", "TextForm", "TooLongError",

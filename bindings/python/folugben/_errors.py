@@ -124,10 +124,6 @@ class MovedError(Error):
     """The agent's own state doesn't stand at the number of the step, as it has moved on since: begin another step."""
 
 
-class CommitMovedError(MovedError, ConflictError):
-    """A recording agent's own state has moved on since the step began, which it commits: begin another step."""
-
-
 class PastError(ConflictError):
     """The part of the run has ended in which the step was begun, or a location was read that a fire names: begin anew."""
 

@@ -5,7 +5,7 @@ from typing import TYPE_CHECKING, Any
 from ._core import Agent, Step, Storage
 from ._errors import Error, FullError, MissingError, PastError
 from ._library import Code
-from ._lines import LINE_LIMIT, SHORT, expect_call, too_long
+from ._lines import SHORT, expect_call
 from ._turns import here
 
 if TYPE_CHECKING:
@@ -42,8 +42,8 @@ class PartStep(Step):
 
     def try_commit(self) -> int:
         """The same, but 0 where the step is to be begun again, also where its part has ended."""
+        self._try()
         try:
-            self._try()
             return super().try_commit()
         except (FullError, PastError):
             self._is_tried = True
@@ -52,11 +52,6 @@ class PartStep(Step):
     def _try(self) -> None:
         if self._size > SHORT:
             expect_call(self._offer_text())
-        if self._agent.records:
-            # The commit adds a read of what it names, whose line may be as long as an audit reads too.
-            length = self._agent._peek_length([at for at, _ in super().offer()["reads"]])
-            if length > LINE_LIMIT // 2:
-                raise too_long("the recorded read", length)
         self._agent.tried()
 
 
@@ -79,7 +74,7 @@ class PartAgent(Agent):
 
     def tried(self) -> None:
         """Counts a call that leaves a receipt."""
-        self._tries += 1 + self.records
+        self._tries += 1
         if self._tries % _EACH == 0:
             self.part.chain.count(self.part, _EACH)
 

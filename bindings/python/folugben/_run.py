@@ -41,11 +41,9 @@ class Run:
     agents have kept more than `receipts` receipts (twice the number of moves unless another is told), as stale fires leave some
     too, and `every` so many seconds after its first move, if that is told; it then waits for steps for 0.1 s.
 
-        with Run("count.run", init={"count": 0}) as run, run.agent(0) as agent:
-            agent.play(lambda step: step.inc("count", 1))
+        with Run("count.run", init=[[["count"], 0]]) as run, run.agent(0) as agent:
+            agent.play(lambda step: step.push([["inc", ["count"], 1]]))
             run.flush()
-
-    With `record=True` the commits of its agents record what their steps have read, as those of a storage do.
 
     Within its `with`, on the main thread, SIGTERM ends the run as an exception (SystemExit) would, unless the program handles
     SIGTERM itself.
@@ -63,10 +61,10 @@ class Run:
 
     def __init__(
         self, path: str | os.PathLike[str], init: Iterable[Form] = (), moves: int = 100_000, *, every: float | None = None,
-        receipts: int | None = None, record: bool = False,
+        receipts: int | None = None,
     ) -> None:
         capacity = self._prepare(path, moves, every, receipts)
-        with Storage(init, capacity, record=record) as opening:
+        with Storage(init, capacity) as opening:
             journal = memoryview(opening.close_journal())
             expect_state(len(journal))
             self._begin(RunWriter.created(self._path, journal), lambda: opening.next(capacity), capacity)
@@ -74,7 +72,7 @@ class Run:
     @classmethod
     def resume(
         cls, path: str | os.PathLike[str], moves: int = 100_000, *, check: Literal["all", "last"] = "all",
-        every: float | None = None, receipts: int | None = None, record: bool = False,
+        every: float | None = None, receipts: int | None = None,
     ) -> "Run":
         """Go on with an earlier run, from the end of its last segment, also where its process was killed.
 
@@ -100,7 +98,7 @@ class Run:
         except BaseException:
             folder.close()
             raise
-        run._begin(folder, lambda: Storage._opened(state, capacity, record), capacity)
+        run._begin(folder, lambda: Storage._opened(state, capacity), capacity)
         return run
 
     def _prepare(self, path: str | os.PathLike[str], moves: int, every: float | None, receipts: int | None) -> int:

@@ -31,6 +31,20 @@ def used() -> int:
     return told.uordblks + told.hblkhd
 
 
+async def waits(step: folugben.Step) -> None:
+    step.put("x", 1)
+
+
+def _journal() -> bytes:
+    with Storage({"s": {1}, "b": Counter("a"), "l": (1, (2,))}) as storage:
+        with storage.agent(0) as agent:
+            agent.fire([("add", "s", 2), ("bagadd", "b", "c", 1), ("put", "l", None)])
+        return storage.close_journal()
+
+
+JOURNAL = _journal()
+
+
 class World:
     """A storage with agents, and what steps are made of."""
 
@@ -56,6 +70,31 @@ class World:
         step.push(self.move.clear().put(self.at, 8))
         refused(step.commit)
         step.try_commit()
+
+    def write(self, step: folugben.Step) -> None:
+        for at, value in [("w", 1), (("w", 2), {1, "a" * 40}), (["w", 3], Counter("ab")), (self.at, (1, ("a",))), (("w", 4), {(1,)})]:
+            step.put(at, value)
+            step[at]
+        step.inc("w", 1), step.add(("w", 2), "b"), step.remove(("w", 2), 1), step.bag_add(("w", 3), "c", 2), step.bag_remove(("w", 3), "c")
+        step["w", 2], step["w", 3], step.scan("w"), step.offer(), step.get([("w", 2), ("w", 3)])
+        refused(lambda: step["1"]), refused(lambda: step.put("1", 1)), refused(lambda: step.put("w", [1])), refused(lambda: step.inc("w", "a"))
+        refused(lambda: step.add("w", 1)), refused(lambda: step.bag_add("w", 1, 0)), refused(lambda: step.put("w")), refused(lambda: step.scan("1"))
+
+    def play_by_turns(self) -> None:
+        with Storage({("x", 3): 0}, 9) as storage:
+            agents = [storage.agent(own) for own in range(3)]
+            for agent in agents * 2:
+                agent.play(lambda it: it.inc(self.at, 1))
+                agents[0].peek(self.at), agents[1].state(), agents[2].scan("x")
+
+    def unite(self) -> None:
+        one, two = Move().put("a", 1), Move().put(self.at, {1})
+        one.unite(two).unite(Move())
+        one |= two
+        both = one | two
+        refused(lambda: both.unite(both)), refused(lambda: both | 1), refused(lambda: both.unite([]))
+        with self.agent.step() as step:
+            step.push(both), step.extend(both | step.pop_move()), step.pop()
 
     def open(self) -> None:
         with Storage([[["x"], 0]], 10) as storage:
@@ -85,6 +124,11 @@ class World:
             "wrong shapes": lambda: [refused(lambda: it(["x"])) for it in (agent.peek, agent.read, agent.step().get, agent.stands)],
             "play": lambda: agent.play(lambda it: it.push(move.clear().put(at, 1))),
             "play that raises": lambda: refused(lambda: agent.play(lambda it: it.get(1.5j))),
+            "writes": lambda: step(self.write), "unite": self.unite,
+            "idle plays": lambda: (self.other.play(lambda it: None), agent.play(lambda it: it[at], tries=2, timeout=9.0)),
+            "plays by turns": self.play_by_turns,
+            "wrong rules": lambda: [refused(lambda: agent.play(waits)), refused(lambda: agent.play(waits, tries=2))],
+            "own values": lambda: (folugben.replay(JOURNAL), list(folugben.states(JOURNAL)), folugben._core.owned(b'{"set":[true,1]}')),
             "peek": lambda: (agent.peek(at), agent.peek([["x", 1], ["t"]]), agent.state(), agent.scan("x"), agent.follow()),
             "read": lambda: (agent.read([["x", 1]]), agent.answer(), agent.stands([[["x", 1], agent.seen]]), agent.learn(self.other)),
             "agent's fire": lambda: agent.fire([["put", ["x", 1], ["a"][0]]], [[["x", 2], agent.seen]], [("t", agent.seen)]),

@@ -4,7 +4,7 @@ import unittest
 
 import folugben
 import own
-from checkout import ROOT, unrecorded
+from checkout import ROOT
 from folugben import Auditor, BadJournalError, ClashError, Error, LargeError, StaleError, Storage
 
 TABLES = ROOT / "bindings" / "conformance"
@@ -160,7 +160,6 @@ class Conformance(unittest.TestCase):
         # True is another value than 1.
         self.assertEqual(repr(told), repr(wanted), where)
 
-    @unrecorded
     def test_each_line_is_answered_so(self):
         for name in ("moves", "calls", "steps", "journals"):
             replayer, case, count = Replayer(), "", 0

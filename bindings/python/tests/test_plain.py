@@ -11,7 +11,6 @@ from enum import Enum
 
 import folugben
 import own
-from checkout import unrecorded
 from folugben import ClashError, DeepError, Error, FullError, Location, ManyError, Move, MovedError, OverError, StaleError, Storage, check
 from threads import in_threads
 
@@ -57,7 +56,6 @@ class Plain(unittest.TestCase):
                     self.assertEqual(self.agent.peek(at)[0], 1)
             self.assertIsNone(step.get(Location(["none", {"list": ["ä"]}])))
 
-    @unrecorded
     def test_a_gathered_move_does_what_a_list_does(self):
         rng, clashes, places = random.Random(7), 0, {}
         words = {"s": ["add", "remove"], "b": ["bagadd", "bagremove"], "n": ["inc"]}
@@ -128,7 +126,6 @@ class Plain(unittest.TestCase):
                 step.pop()
                 step.pop()
 
-    @unrecorded
     def test_a_step_reads_and_writes_single_locations(self):
         init = {"count": 1, ("s", 1): {1}, ("b", "x"): Counter("a"), "l": (1, (2,))}
         with Storage(init, 9) as storage, storage.agent(0) as agent:
@@ -293,7 +290,6 @@ class Plain(unittest.TestCase):
         self.assertEqual(self.code_of(Location, ["x", 2**63])[0], folugben.Code.SHAPE)
         self.assertEqual(self.code_of(Location, ["x", float("nan")])[0], folugben.Code.SHAPE)
 
-    @unrecorded
     def test_what_is_over_or_freed_or_moved_on(self):
         at, move = Location(["count"]), Move()
         move.put(at, 1)
@@ -323,7 +319,6 @@ class Plain(unittest.TestCase):
         for call, *arguments in ((step.get, Location(["x"])), (self.agent.peek, Location(["x"])), (step.try_commit,)):
             self.assertEqual(self.code_of(call, *arguments), (folugben.Code.EMPTY, "the agent was given back"))
 
-    @unrecorded
     def test_a_fire_that_may_be_in_vain(self):
         count, move = Location(["count"]), Move()
         with self.agent.step() as step:

@@ -7,7 +7,6 @@ from collections import Counter
 import own
 import random_moves
 from folugben._texts import encoded
-from checkout import unrecorded
 from folugben import BusyError, ClashError, MovedError, StaleError, Storage, check, replay
 from threads import in_threads
 
@@ -117,12 +116,11 @@ class RandomSteps(unittest.TestCase):
                 with storage.agent(0) as agent:
                     for number in range(1, 21):
                         self.run_step(rng, agent, number)
-                self.assertEqual(check(storage.close_journal())[1], 20)
+                self.assertEqual(check(storage.close_journal()), (20, 20))
         self.assertEqual(len(self.done), 5, self.done)
 
 
 class Threads(unittest.TestCase):
-    @unrecorded
     def test_eight_threads_of_steps_and_looks(self):
         accounts, looks, refused = [[["account", k], 100] for k in range(20)], [], []
 

@@ -11,7 +11,6 @@ import time
 import unittest
 from unittest import mock
 
-from checkout import unrecorded
 from folugben import BadJournalError, Error, PastError, Run, Storage, __main__, audit, import_run, interleave, states
 from rooms import AT, BANK, COUNT, INIT, Rooms, called, environment, raised, segments, text_of, transfer, until
 from threads import in_threads
@@ -280,7 +279,6 @@ class Imports(Rooms):
                 import_run(self.file, self.path)
             self.assertEqual(sorted(it.name for it in self.room.iterdir()), ["file", "made"])
 
-    @unrecorded
     def test_a_journal_with_calls_has_an_opening_segment(self):
         with Storage(INIT, 10) as storage:
             with storage.agent(0) as agent:

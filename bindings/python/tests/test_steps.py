@@ -7,7 +7,6 @@ import unittest
 from collections import Counter
 
 import folugben
-from checkout import unrecorded
 from folugben import ClashError, DeepError, Error, FullError, Location, ManyError, MovedError, OverError, StaleError, Storage, _refusals, check
 
 COUNT = [["count"]]
@@ -71,7 +70,6 @@ class Steps(unittest.TestCase):
         self.rival.give()
         self.assertEqual(check(self.storage.close_journal()), (1, 0))
 
-    @unrecorded
     def test_gets_and_a_fire_leave_one_receipt(self):
         with self.agent.step() as step:
             for at in (["count"], ["bag"], ["f", 1], ["f", 2], ["none"]):
@@ -86,7 +84,6 @@ class Steps(unittest.TestCase):
         reads = [[["bag"], 0], [["count"], 0], [["f", 1], 0], [["f", 2], 0], [["none"], 0]]
         self.assertEqual(event["call"], {"fire": put(1), "reads": reads})
 
-    @unrecorded
     def test_a_rival_makes_it_stale_and_the_state_goes_on(self):
         step = self.agent.step()
         step.get([["f", 1], ["count"]])
@@ -217,7 +214,6 @@ class Steps(unittest.TestCase):
             self.rival.fire(put(0))
             self.assertRaises(StaleError, step.commit)
 
-    @unrecorded
     def test_two_steps_of_one_agent(self):
         first, second = self.agent.step(), self.agent.step()
         first.push(put(1))

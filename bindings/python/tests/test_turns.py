@@ -26,7 +26,7 @@ class Turns(unittest.TestCase):
             took = time.process_time() - begun
             for agent in agents:
                 agent.give()
-            self.assertEqual(check(storage.close_journal())[1], moves)
+            self.assertEqual(check(storage.close_journal()), (moves, moves))
         return took
 
     def test_many_agents_cost_about_what_one_does(self):

@@ -53,11 +53,7 @@ pub struct Agent {
 impl Agent {
     pub(crate) fn new(agent: Held, shared: &Arc<Shared>, number: AgentNumber) -> Agent {
         let slots = Arc::new(AgentSlots::new(agent, Arc::as_ptr(shared).addr()));
-        let agent = Agent { slots, shared: Arc::clone(shared), number, in_one_thread: PhantomData };
-        if cfg!(feature = "record") {
-            agent.set_recording(true);
-        }
-        agent
+        Agent { slots, shared: Arc::clone(shared), number, in_one_thread: PhantomData }
     }
 
     pub(crate) fn is_of(&self, shared: &Arc<Shared>) -> bool {
@@ -89,33 +85,6 @@ impl Agent {
     pub fn misses(&self) -> u64 {
         // SAFETY: the slots are held by this agent, no call is at work on them, and the texts and numbers outlive the call.
         unsafe { sys::asm_misses(self.slots.agent()) }
-    }
-
-    /// Has it record what its steps get, or no longer; off at first, unless the feature `record` is on.
-    ///
-    /// Directly before the fire of each commit the journal then has a read of what the step rests on, so that
-    /// [`Journal::check`](crate::Journal::check) tests what was got. Scans and what was seen aren't recorded.
-    ///
-    /// ```
-    /// use folugben::{Error, Storage};
-    /// # fn main() -> Result<(), Error> {
-    /// let storage = Storage::open([("n".into(), 1.into())], 10)?;
-    /// let mut agent = storage.agent(0)?;
-    /// agent.record(true);
-    /// agent.play(|step| step.put("n", step.get("n")?.as_num().unwrap_or(0) + 1))?;
-    /// drop(agent);
-    /// let journal = String::from_utf8(storage.close()?.into_bytes()).unwrap();
-    /// assert!(journal.contains(r#"{"read":[["n"]]},"reply":{"number":0,"values":[1]}"#));
-    /// # Ok(())
-    /// # }
-    /// ```
-    pub fn record(&mut self, on: bool) {
-        self.set_recording(on);
-    }
-
-    pub(crate) fn set_recording(&self, on: bool) {
-        // SAFETY: the slots are held by this agent, no call is at work on them. It is there, so no other code comes.
-        let _ = unsafe { sys::asm_record(self.slots.agent(), on) };
     }
 
     /// Looks on, and begins a step on the state that it then sees.

@@ -70,8 +70,6 @@ pub enum Conflict {
     Busy,
     /// The part of a run in which the step began has ended.
     Past,
-    /// The agent records, and its state has moved on since the step began.
-    Moved,
 }
 
 impl fmt::Display for Conflict {
@@ -80,7 +78,6 @@ impl fmt::Display for Conflict {
             Conflict::Stale(at) => write!(f, "{at} was written since"),
             Conflict::Clash { at, cause } => write!(f, "the updates clash at {at} by now: {cause}"),
             Conflict::Busy => f.write_str("64 offers in a row were lost to other agents"),
-            Conflict::Moved => f.write_str("the state of the recording agent has moved on"),
             Conflict::Past => f.write_str("the part of the run has ended, so begin another step"),
         }
     }

@@ -116,13 +116,8 @@ impl Replayer {
     fn of_agent(&mut self, name: &str, number: u8, mut words: impl Iterator<Item = Json>) -> Told {
         let mut next = || words.next().unwrap();
         match name {
-            "agent" | "take" => {
-                let storage = self.storage();
-                let agent = if name == "agent" { storage.agent(number)? } else { storage.take(number)? };
-                // The table is that of agents which don't record.
-                agent.set_recording(false);
-                self.agents.insert(number, agent);
-            }
+            "agent" => drop(self.agents.insert(number, self.storage().agent(number)?)),
+            "take" => drop(self.agents.insert(number, self.storage().take(number)?)),
             "give" => drop(self.agents.remove(&number)),
             "learn" => {
                 let other_number = next().number().unwrap();

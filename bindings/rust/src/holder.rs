@@ -1,6 +1,5 @@
 //! The agents that steps work with.
 use crate::agent::Agent;
-use crate::cause::Conflict;
 use crate::error::{Error, done, of_text};
 use crate::held::told;
 use crate::number::AgentNumber;
@@ -51,7 +50,6 @@ pub(crate) fn commit(agent: &Agent) -> Result<u32, Error> {
     // SAFETY: the slots are of one agent and its step, which this thread alone has, and the texts and numbers outlive the call.
     let code = unsafe { sys::asm_commit(agent.slots.agent(), agent.slots.step(), &raw mut numbers) };
     match code {
-        sys::MOVED => Err(Conflict::Moved.into()),
         sys::STALE | sys::CLASH => Err(of_text(code, &agent.last_answer()?).of_fire()),
         code => {
             done(code)?;

@@ -86,13 +86,12 @@ pub struct RunOptions {
     moves: u32,
     receipts: Option<u64>,
     every: Option<Duration>,
-    records: bool,
 }
 
 impl RunOptions {
     /// Parts of 100,000 moves.
     pub fn new() -> RunOptions {
-        RunOptions { moves: MOVES, receipts: None, every: None, records: false }
+        RunOptions { moves: MOVES, receipts: None, every: None }
     }
 
     /// A part ends after so many moves, 1 to 1,048,576.
@@ -108,11 +107,6 @@ impl RunOptions {
     /// A part ends so long after its first move.
     pub fn every(self, every: Duration) -> RunOptions {
         RunOptions { every: Some(every), ..self }
-    }
-
-    /// Its agents record what their steps get, as [`Agent::record`](crate::Agent::record) says.
-    pub fn record(self, on: bool) -> RunOptions {
-        RunOptions { records: on, ..self }
     }
 
     /// Opens a run with this state in a folder that isn't there yet, or is empty. It begins with a segment without a move, so
@@ -168,7 +162,7 @@ impl RunOptions {
 
     fn start(self, storage: Storage, folder: RunFolder) -> Result<Run, Error> {
         let receipts = self.receipts.unwrap_or(2 * u64::from(self.moves));
-        let limits = Limits { moves: self.moves, receipts, every: self.every, records: self.records };
+        let limits = Limits { moves: self.moves, receipts, every: self.every };
         let core = Arc::new(Core::new(storage, limits, folder.counts()));
         let (path, shared) = (folder.path().to_owned(), Arc::clone(&core));
         let writer =

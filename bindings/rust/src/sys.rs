@@ -136,7 +136,6 @@ unsafe extern "C" {
     ) -> i32;
     pub(crate) fn asm_pop(step: *mut Slot) -> i32;
     pub(crate) fn asm_pop_move(step: *mut Slot, instrs: *mut Slot) -> i32;
-    pub(crate) fn asm_record(agent: *mut Slot, on: bool) -> i32;
     pub(crate) fn asm_offer(step: *mut Slot, out: *mut u8, room: usize, written: *mut usize) -> i32;
     pub(crate) fn asm_depth(step: *mut Slot) -> u32;
     pub(crate) fn asm_commit(agent: *mut Slot, step: *mut Slot, numbers: *mut Numbers) -> i32;

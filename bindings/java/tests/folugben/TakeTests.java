@@ -207,12 +207,11 @@ final class TakeTests {
             equal(push.at(), X);
             step.push(Instruction.bagRemove(bag, "e", 1));
             rival.fire(List.of(Instruction.bagRemove(bag, "e", 1)), List.of());
-            Agent.Reply reply = step.tryCommit();
-            equal(reply.shouldRetry(), true);
             CommitClashException commit =
-                    (CommitClashException) refused(Code.CLASH, reply::orThrow);
+                    (CommitClashException) refused(Code.CLASH, step::commit);
             equal(commit.at(), bag);
             equal(commit.cause(), Cause.SHORT);
+            equal(step.tryCommit().shouldRetry(), true);
             refused(Code.CLASH,
                     () -> rival.fire(List.of(Instruction.put(X, 1), Instruction.put(X, 2)), List.of()));
         }

@@ -10,9 +10,6 @@ import java.util.List;
 
 /** Tests of the Java classes: each prints its name, and the first that fails ends the program. */
 public final class Test {
-    /** Whether steps are recorded, so that journals have more calls than these tests count. */
-    private static final boolean IS_RECORDED = Boolean.getBoolean("folugben.record");
-
     private Test() {}
 
     static void answers() {
@@ -225,24 +222,19 @@ public final class Test {
         TextTests.all();
         ValueTests.all();
         ObjectTests.all();
-        if (!IS_RECORDED)
-            StepTests.all();
+        StepTests.all();
         ValueTests.KindTests.all();
-        if (!IS_RECORDED)
-            PlainTests.all();
+        PlainTests.all();
         ScopeTests.all();
         OddTests.all();
         AuditTests.all();
         TurnTests.all();
-        RecordTests.all();
         TakeTests.all();
         ConformanceTests.all();
         AuditTests.JournalTests.all();
         ExploreTests.all();
-        if (!IS_RECORDED) {
-            RunTests.all();
-            RunEndTests.all();
-        }
+        RunTests.all();
+        RunEndTests.all();
         ResumeTests.all();
         ResumeTests.SavingTests.all();
         SharedTests.all();

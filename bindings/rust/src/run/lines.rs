@@ -41,20 +41,14 @@ pub(crate) fn events(journal: &[u8]) -> Result<u64, Error> {
     Ok(lines - 1)
 }
 
-/// Expects that the line of what the agent's step would fire is short enough, whatever its reply is, and that of the read before
-/// it, where that is recorded.
-pub(crate) fn expect_call(agent: &Agent, records: bool) -> Result<(), Error> {
+/// Expects that the line of what the agent's step would fire is short enough, whatever its reply is.
+pub(crate) fn expect_call(agent: &Agent) -> Result<(), Error> {
     let offer = offer_text(agent)?;
-    if !records && 2 * offer.len() + ROOM <= *MOST {
+    if 2 * offer.len() + ROOM <= *MOST {
         return Ok(());
     }
     let (instructions, reads) = answer(&offer, Json::offer)?;
     let places = instructions.instructions().iter().map(Instruction::at).chain(reads.iter().map(|(at, _)| at));
     let longest = places.map(|it| it.json().len()).max().unwrap_or(0);
-    if offer.len() + longest + ROOM > *MOST {
-        return Err(Error::TooLong);
-    }
-    let read: Vec<_> = reads.into_iter().map(|(at, _)| at).collect();
-    let told = if records { agent.peek(&read)?.values.as_slice().json().len() } else { 0 };
-    if offer.len() + told + ROOM <= *MOST { Ok(()) } else { Err(Error::TooLong) }
+    if offer.len() + longest + ROOM <= *MOST { Ok(()) } else { Err(Error::TooLong) }
 }

@@ -10,8 +10,6 @@ pub(crate) struct Limits {
     pub(crate) moves: u32,
     pub(crate) receipts: u64,
     pub(crate) every: Option<Duration>,
-    /// Its agents record what their steps get.
-    pub(crate) records: bool,
 }
 
 /// A storage of the run.

@@ -104,11 +104,6 @@ impl Core {
         }
     }
 
-    /// Whether its agents record what their steps get.
-    pub(crate) fn records(&self) -> bool {
-        self.limits.records || cfg!(feature = "record")
-    }
-
     /// How many moves a part has room for.
     pub(crate) fn moves(&self) -> u32 {
         self.limits.moves
@@ -161,7 +156,6 @@ impl Core {
             Err(Error::NotGiven(_)) => last.part.storage.agent(number)?,
             taken => taken?,
         };
-        agent.set_recording(self.records());
         last.out += 1;
         Ok(Some((agent, Arc::clone(&last.part))))
     }

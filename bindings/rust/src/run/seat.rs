@@ -195,8 +195,8 @@ impl<'a> Lent<'a> {
     pub(crate) fn commit(&self) -> Result<u32, Error> {
         let part = self.part();
         let told = self.with(|agent| {
-            if self.size.get() >= short() || self.core.records() {
-                expect_call(agent, self.core.records())?;
+            if self.size.get() >= short() {
+                expect_call(agent)?;
             }
             part.count_receipt();
             commit(agent)
