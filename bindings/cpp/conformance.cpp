@@ -51,8 +51,11 @@ std::uint32_t number(const std::string &json) { return static_cast<std::uint32_t
 std::string member(const char *name, const std::string &json) { return std::string("{\"") + name + "\":" + json + "}"; }
 std::string list(std::initializer_list<std::uint64_t> numbers) {
     std::string all;
-    for (const std::uint64_t it : numbers) all += (all.empty() ? "[" : ",") + std::to_string(it);
-    return all + "]";
+    for (const std::uint64_t it : numbers) {
+        all += all.empty() ? '[' : ',';
+        all += std::to_string(it);
+    }
+    return all += ']';
 }
 
 // What a table has of an error.

@@ -13,8 +13,9 @@ from folugben import Element, Location, Move, Place, Step, Storage, Update, Valu
 
 count: Place = ["count"]
 values: list[Value] = [None, True, 1, "a", {"list": [1, {"list": ["b", None]}]}, {"set": [1, "a"]}, {"bag": [["a", 2], [1, 1]]},
-                       {1, 2}, frozenset({"a"}), Counter("abba")]
-elements: list[Element] = [None, 1, {"list": [[1][0]]}]
+                       {1, 2}, frozenset({"a"}), Counter("abba"), (1, ("a", None)), {(1, 2), "a", True}, Counter([1, "a", (2,)])]
+elements: list[Element] = [None, 1, {"list": [[1][0]]}, (1, (True, "a"))]
+places: list[Place] = ["count", ("account", 1), ("f", (1, 2)), ["g", {"list": [1]}]]
 move: list[Update] = [["put", count, 1], ["add", ["s"], "a"], ["bagadd", ["b", 1], {"list": []}, 2], ["put", ["v"], {"set": [1]}]]
 
 
@@ -25,14 +26,25 @@ def rule(step: Step) -> int:
     step.extend(popped.put(Location(["x"]), {"set": [value]}).add(Location(["s"]), {"list": [value]}))
     told: list[Value] = step.see([count])
     step.push(Move().put(Location(["x"]), value))
+    step.put("y", {1, "a"})
+    step.put(("z", 1), (1, {"list": []}))
+    step.put(Location("u"), Counter("ab"))
+    step.add("y", (1, 2))
+    step.bag_add(Location("u"), "a")
+    step.bag_remove("u", "b", 1)
+    step.inc(["z", 2], 1) if step["z", 2] is not None else step.put(["z", 2], step["count"])
+    step.push(Move().put("v", 1) | Move().put(("v", 1), frozenset[int]()))
     return value
 
 
 with Storage([[["count"], 0], [["s"], {"set": []}], [["b", 1], {"bag": []}]]) as storage, storage.agent(0) as agent:
-    number, told = agent.play(rule)
+    number, told = agent.play(rule, tries=3, timeout=1.5)
+    played = agent.play(lambda step: step.depth)
+    assert played.number + played.result + played.retries == 0
+    both: tuple[int, list[tuple[tuple[object, ...], object]]] = agent.state()
     agent.fire([["put", count, number + told]])
 """
-WRONG = ["1.5", '{"set": [1.5]}', "object()", '{"bag": [["a", 1.5]]}', "[1.5]"]
+WRONG = ["(1, 1.5)", "1.5", '{"set": [1.5]}', "object()", '{"bag": [["a", 1.5]]}', "[1.5]"]
 
 
 def mypy() -> list[str] | None:

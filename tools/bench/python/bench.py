@@ -12,7 +12,7 @@ import threading
 import time
 from typing import NamedTuple, Protocol
 
-from folugben import Agent, BusyError, Move, StaleError, Storage
+from folugben import Agent, BusyError, StaleError, Storage
 from folugben import Location as Prepared
 from twin import Location, MovedError, Twin
 
@@ -32,7 +32,7 @@ class Side(Protocol):
 
 
 class Ours:
-    """The library, with lists."""
+    """The library, by names."""
 
     def __init__(self, moves: int) -> None:
         self._storage = Storage([[["x", k], 0] for k in range(LOCATIONS)], moves)
@@ -40,8 +40,7 @@ class Ours:
 
     def step(self, thread: int, location: int) -> bool:
         with self._agents[thread].step() as step:
-            (value,) = step.get([["x", location]])
-            step.push([["put", ["x", location], value + 1]])
+            step.put(("x", location), step["x", location] + 1)
             try:
                 step.commit()
             except (StaleError, BusyError):
@@ -58,17 +57,16 @@ class Ours:
 
 
 class Plain(Ours):
-    """The library without text: each thread has its locations and its move."""
+    """The library without text: each thread has its locations."""
 
     def __init__(self, moves: int) -> None:
         super().__init__(moves)
         self._places = [[Prepared(["x", k]) for k in range(LOCATIONS)] for _ in range(THREADS)]
-        self._moves = [Move() for _ in range(THREADS)]
 
     def step(self, thread: int, location: int) -> bool:
         at = self._places[thread][location]
         with self._agents[thread].step() as step:
-            step.push(self._moves[thread].clear().put(at, step.get(at) + 1))
+            step.put(at, step[at] + 1)
             return step.try_commit() != 0
 
 

@@ -58,7 +58,7 @@ class Step:
     def push(self, puts: dict[Location, int]) -> None:
         self._puts.update(puts)
 
-    def fire(self) -> bool:
+    def commit(self) -> bool:
         """Whether it fired: else something that was got was written since."""
         twin, at, number = self._twin, self._number, 0
         with twin.lock:

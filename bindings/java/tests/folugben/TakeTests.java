@@ -4,6 +4,8 @@ import static folugben.Test.Checks.equal;
 import static folugben.Test.Checks.refused;
 import static folugben.Test.Checks.thrown;
 
+import java.lang.management.ManagementFactory;
+import java.lang.management.ThreadMXBean;
 import java.time.Duration;
 import java.util.ArrayList;
 import java.util.List;
@@ -250,22 +252,26 @@ final class TakeTests {
         throw new IllegalStateException("not refused: " + said);
     }
 
-    /** Prints the microseconds of a move of so many agents that one thread plays by turns. */
+    /**
+     * Prints the microseconds of processor time that a move takes of so many agents, which one
+     * thread plays by turns.
+     */
     public static void main(String[] words) {
+        ThreadMXBean clock = ManagementFactory.getThreadMXBean();
         for (int times = 0; times < 2; times++)
             for (int count : new int[] {1, 8, 64, 256})
                 try (Storage storage = Storage.open(Map.of(X, 0), 200_000);
                         PreparedLocation at = X.prepare(); Move move = new Move()) {
                     List<Agent> agents = Schedule.agents(storage, count);
                     int rounds = 100_000 / count;
-                    long begin = System.nanoTime();
+                    long begin = clock.getCurrentThreadCpuTime();
                     for (int round = 0; round < rounds; round++)
                         for (Agent agent : agents)
                             try (Step step = agent.step()) {
                                 step.push(move.clear().put(at, step.getNumber(at) + 1));
                                 step.tryCommit().orThrow();
                             }
-                    long took = System.nanoTime() - begin;
+                    long took = clock.getCurrentThreadCpuTime() - begin;
                     System.out.printf("%d agents: %.2f us%n", count, took / 1000.0 / (rounds * count));
                     agents.forEach(Agent::close);
                 }
