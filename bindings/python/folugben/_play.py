@@ -10,6 +10,8 @@ from ._errors import ConflictError, PastError
 _R = TypeVar("_R")
 # After so many tries in vain an agent sleeps between them, for at most so many seconds.
 _TRIES_WITHOUT_SLEEP, _LONGEST_SLEEP = 4, 0.001
+# What functions return that are no rules.
+_NO_RULES = CoroutineType, GeneratorType, AsyncGeneratorType
 
 
 class Player(Protocol):
@@ -27,7 +29,7 @@ def back_off(tries: int) -> None:
 
 def no_rule(told: Any) -> None:
     """Refuse what a function has returned that does nothing before it is awaited or iterated."""
-    if isinstance(told, (CoroutineType, GeneratorType, AsyncGeneratorType)):
+    if isinstance(told, _NO_RULES):
         getattr(told, "close", lambda: None)()
         raise TypeError(f"a rule is a plain function, and {told.__qualname__} is an async def or a generator: it wrote nothing")
 
@@ -38,7 +40,8 @@ def play(
     """Play a rule with an agent, as `Agent.play` does."""
     if tries is not None and tries < 1:
         raise ValueError(f"tries is 1 or more, and not {tries}")
-    end, retries, is_bounded = time.monotonic() + (timeout or 0), 0, tries is not None or timeout is not None
+    end = None if timeout is None else time.monotonic() + timeout
+    retries, is_bounded = 0, tries is not None or timeout is not None
     while True:
         conflict: ConflictError | None = None
         with agent.step() as step:
@@ -50,7 +53,8 @@ def play(
                     raise
                 conflict = past
             else:
-                no_rule(told)
+                if isinstance(told, _NO_RULES):
+                    no_rule(told)
                 if not step._is_pushed:
                     return Played((0, told, retries))
                 try:
@@ -61,6 +65,6 @@ def play(
                     return Played((number, told, retries))
             step._is_tried = True
         retries += 1
-        if conflict is not None and is_bounded and (retries == tries or timeout is not None and time.monotonic() >= end):
+        if conflict is not None and is_bounded and (retries == tries or end is not None and time.monotonic() >= end):
             raise conflict
         back_off(retries - 1)
