@@ -5,7 +5,7 @@
 import sys
 import threading
 
-from folugben import Agent, BusyError, StaleError, Storage, check, replay
+from folugben import Agent, ConflictError, Storage, check, replay
 
 AGENTS, TIMES = 8, 100
 
@@ -14,25 +14,25 @@ def work(agent: Agent, own: int) -> None:
     """Adds 1 to the count so many times."""
     done = 0
     while done < TIMES:
-        number, (count,) = agent.read([["count"]])
-        move = [["put", ["count"], count + 1], ["put", ["own", own], done + 1], ["add", ["seen"], count]]
+        number, (count,) = agent.read([("count",)])
+        move = [("put", ("count",), count + 1), ("put", ("own", own), done + 1), ("add", ("seen",), count)]
         try:
-            fired = agent.fire(move, [[["count"], number]])
-        except (StaleError, BusyError):
+            fired = agent.fire(move, [(("count",), number)])
+        except ConflictError:
             continue
         assert fired == count + 1
         done += 1
 
 
 def main() -> None:
-    with Storage([[["count"], 0], [["seen"], {"set": []}]], AGENTS * TIMES) as storage:
+    with Storage({("count",): 0, ("seen",): frozenset()}, AGENTS * TIMES) as storage:
         agents = [storage.agent(k) for k in range(AGENTS)]
         threads = [threading.Thread(target=work, args=(agents[k], k)) for k in range(AGENTS)]
         for thread in threads:
             thread.start()
         for thread in threads:
             thread.join()
-        locations = [["count"]] + [["own", k] for k in range(AGENTS)] + [["seen"]]
+        locations = [("count",), *(("own", k) for k in range(AGENTS)), ("seen",)]
         with storage.agent(AGENTS) as reader:
             for agent in agents:
                 reader.learn(agent)
@@ -44,7 +44,7 @@ def main() -> None:
         journal = storage.close_journal()
     calls, moves = check(journal)
     assert moves == AGENTS * TIMES
-    assert replay(journal) == [[location, value] for location, value in zip(locations, values)]
+    assert replay(journal) == list(zip(locations, values))
     print("legal", moves)
     if len(sys.argv) > 1:
         with open(sys.argv[1], "wb") as file:
