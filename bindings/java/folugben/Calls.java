@@ -286,7 +286,11 @@ final class Calls {
                 options.values().removeIf(kept -> kept == own || kept == own.getClassLoader());
         }
 
-        /** Binds methods of this class, which JNA has bound before, to the calls of the library. */
+        /**
+         * Binds methods of this class, which JNA has bound before, to the calls of the library.
+         * Where class loaders share the further library, it has the calls of the libfolugben that
+         * came first.
+         */
         static void bind(Class<?> calls, NativeLibrary library) {
             if (!isThere())
                 return;
@@ -297,7 +301,8 @@ final class Calls {
                 if (method == null)
                     return;
                 Pointer call = library.getFunction(method);
-                if (bind.invokeInt(new Object[] {JNIEnv.CURRENT, calls, index, call}) != 0)
+                // 1: it has the calls of another libfolugben, so this one's go by JNA.
+                if (bind.invokeInt(new Object[] {JNIEnv.CURRENT, calls, index, call}) < 0)
                     throw new UnsatisfiedLinkError(NAME + " can't bind " + method);
             }
         }
