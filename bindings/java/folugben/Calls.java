@@ -7,6 +7,7 @@ import com.sun.jna.Native;
 import com.sun.jna.NativeLibrary;
 import com.sun.jna.Pointer;
 
+import java.io.File;
 import java.io.IOException;
 import java.nio.charset.StandardCharsets;
 import java.util.Map;
@@ -45,8 +46,11 @@ final class Calls {
         boolean isNamed = name.contains("/") || System.getProperty("jna.library.path") != null;
         try {
             if (!isNamed) {
-                String file = Native.extractFromResourcePath(name, Calls.class.getClassLoader()).getPath();
-                NativeLibrary found = NativeLibrary.getInstance(file, options);
+                File file = Native.extractFromResourcePath(name, Calls.class.getClassLoader());
+                NativeLibrary found = NativeLibrary.getInstance(file.getPath(), options);
+                // JNA's name for what it takes out of a jar, which isn't needed once it is loaded.
+                if (file.getName().matches("jna\\d+\\.tmp"))
+                    file.delete();
                 if (found.getFunction(version).invokeInt(new Object[0]) == WRITTEN_FOR)
                     return found;
             }

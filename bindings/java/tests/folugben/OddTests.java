@@ -332,6 +332,11 @@ final class OddTests {
         }
     }
 
+    /** What is taken out of a jar lies in no folder once it is loaded. */
+    static void nothingIsLeftOfJars() throws IOException {
+        equal(CopiedLibrary.isLoaded("/jna\\d+\\.tmp"), false);
+    }
+
     static void all() {
         try {
             argumentsAreCopiedOnce();
@@ -344,6 +349,7 @@ final class OddTests {
             threadsAreStopped();
             classLoadersAreLetGo();
             librariesAreUnloaded();
+            nothingIsLeftOfJars();
         } catch (IOException fault) {
             throw new UncheckedIOException(fault);
         } catch (Exception fault) {
