@@ -1,6 +1,7 @@
 /* The calls of an engine's step, for Java without JNA, which takes longer for each than the call itself. folugben_bind has
  * the methods of the class Calls be these functions, which pass their words on to the library. */
 #include <jni.h>
+#include <stdbool.h>
 #include <stddef.h>
 #include <stdint.h>
 
@@ -11,7 +12,7 @@
 #define TEXTS jlong out, jlong room, jlong written
 #define TEXTS_AT AT(out), (size_t)room, AT(written)
 
-/* Where the library's calls are, each of the type that the header tells. */
+/* Where the library's calls are, each of the type that the header tells. A call is written once, by folugben_bind. */
 static struct {
     __typeof__(asm_begin) *begin;
     __typeof__(asm_get) *get;
@@ -93,8 +94,16 @@ JNIEXPORT const char *folugben_bindable(int32_t index) {
     return (size_t)index < sizeof bound / sizeof *bound ? bound[index].method.name : NULL;
 }
 
-/* Binds the method to the library's call at this address; 0 where that was done, else an exception is thrown. */
+/* Whether the place has this call; the first one that comes stays there. Class loaders that load this library by its name share
+ * it, and each may have a libfolugben of its own, which is unloaded with it. A class keeps only the library of its own calls
+ * loaded, so a place that changed would have it call into another one, or to where none is any more. */
+static bool has(void **place, void *call) {
+    void *found = NULL;
+    return __atomic_compare_exchange_n(place, &found, call, false, __ATOMIC_ACQ_REL, __ATOMIC_ACQUIRE) || found == call;
+}
+
+/* Binds the method to the library's call at this address. 0: that was done. 1: the method is left as it was, since it passes its
+ * words on to the call of another library. Else an exception is thrown. */
 JNIEXPORT int32_t folugben_bind(JNIEnv *env, jclass calls, int32_t index, void *call) {
-    *(void **)bound[index].call = call;
-    return (*env)->RegisterNatives(env, calls, &bound[index].method, 1);
+    return has(bound[index].call, call) ? (*env)->RegisterNatives(env, calls, &bound[index].method, 1) : 1;
 }

@@ -7,6 +7,7 @@ import com.sun.jna.Native;
 import com.sun.jna.NativeLibrary;
 import com.sun.jna.Pointer;
 
+import java.io.File;
 import java.io.IOException;
 import java.nio.charset.StandardCharsets;
 import java.util.Map;
@@ -45,8 +46,11 @@ final class Calls {
         boolean isNamed = name.contains("/") || System.getProperty("jna.library.path") != null;
         try {
             if (!isNamed) {
-                String file = Native.extractFromResourcePath(name, Calls.class.getClassLoader()).getPath();
-                NativeLibrary found = NativeLibrary.getInstance(file, options);
+                File file = Native.extractFromResourcePath(name, Calls.class.getClassLoader());
+                NativeLibrary found = NativeLibrary.getInstance(file.getPath(), options);
+                // JNA's name for what it takes out of a jar, which isn't needed once it is loaded.
+                if (file.getName().matches("jna\\d+\\.tmp"))
+                    file.delete();
                 if (found.getFunction(version).invokeInt(new Object[0]) == WRITTEN_FOR)
                     return found;
             }
@@ -286,7 +290,11 @@ final class Calls {
                 options.values().removeIf(kept -> kept == own || kept == own.getClassLoader());
         }
 
-        /** Binds methods of this class, which JNA has bound before, to the calls of the library. */
+        /**
+         * Binds methods of this class, which JNA has bound before, to the calls of the library.
+         * Where class loaders share the further library, it has the calls of the libfolugben that
+         * came first.
+         */
         static void bind(Class<?> calls, NativeLibrary library) {
             if (!isThere())
                 return;
@@ -297,7 +305,8 @@ final class Calls {
                 if (method == null)
                     return;
                 Pointer call = library.getFunction(method);
-                if (bind.invokeInt(new Object[] {JNIEnv.CURRENT, calls, index, call}) != 0)
+                // 1: it has the calls of another libfolugben, so this one's go by JNA.
+                if (bind.invokeInt(new Object[] {JNIEnv.CURRENT, calls, index, call}) < 0)
                     throw new UnsatisfiedLinkError(NAME + " can't bind " + method);
             }
         }

@@ -16,6 +16,7 @@ import java.util.ArrayList;
 import java.util.Arrays;
 import java.util.List;
 import java.util.Map;
+import java.util.concurrent.Callable;
 import java.util.function.Consumer;
 
 /** Tests of odd use: nothing is lost or mixed up by it, and it is told what is wrong. */
@@ -289,21 +290,51 @@ final class OddTests {
         Object made = storage.getConstructor(String.class, int.class).newInstance("[]", 10);
         Object agent = storage.getMethod("agent", int.class).invoke(made, 0);
         agent.getClass().getMethod("fire", String.class, String.class).invoke(agent, "[]", "[]");
+        Object step = agent.getClass().getMethod("step").invoke(agent);
+        step.getClass().getMethod("push", String.class).invoke(step, "[]");
+        equal(step.getClass().getMethod("commit").invoke(step), 2);
+        step.getClass().getMethod("close").invoke(step);
         agent.getClass().getMethod("close").invoke(agent);
         storage.getMethod("close").invoke(made);
         Native.unregister(Class.forName("folugben.Calls", false, own));
         return new WeakReference<>(own);
     }
 
-    /** Where JNA is in a parent of the class loader, that is let go as the page on Java tells. */
-    static void classLoadersAreLetGo() throws Exception {
-        WeakReference<ClassLoader> own = loaded();
-        for (int times = 0; times < 100 && own.get() != null; times++) {
+    /** Collects garbage until this is so. */
+    private static void collectUntil(Callable<Boolean> isSo) throws Exception {
+        for (int times = 0; times < 100 && !isSo.call(); times++) {
             System.gc();
             Thread.sleep(10);
         }
-        equal(own.get() == null, true);
+        equal(isSo.call(), true);
+    }
+
+    /** Where JNA is in a parent of the class loader, that is let go as the page on Java tells. */
+    static void classLoadersAreLetGo() throws Exception {
+        WeakReference<ClassLoader> own = loaded();
+        collectUntil(() -> own.get() == null);
         equal(Storage.version(), Calls.WRITTEN_FOR);
+    }
+
+    /** A class loader has a library of its own, which is unloaded with it, and others go on. */
+    static void librariesAreUnloaded() throws Exception {
+        String key = "jna.library.path";
+        // Where it is set, both loaders share the library of quick.c, as it is found by its name.
+        CopiedLibrary.named(copy -> CopiedLibrary.with(key, System.getProperty(key, ""), () -> {
+            WeakReference<ClassLoader> own = loaded();
+            equal(CopiedLibrary.isLoaded(copy.toString()), true);
+            collectUntil(() -> own.get() == null && !CopiedLibrary.isLoaded(copy.toString()));
+        }));
+        try (Storage storage = Storage.open(Map.of(X, 1), 10); Agent agent = storage.agent(0);
+                Move move = new Move(); PreparedLocation x = X.prepare()) {
+            work(agent, move, x);
+            slotsAreInOrder(agent, move);
+        }
+    }
+
+    /** What is taken out of a jar lies in no folder once it is loaded. */
+    static void nothingIsLeftOfJars() throws IOException {
+        equal(CopiedLibrary.isLoaded("/jna\\d+\\.tmp"), false);
     }
 
     static void all() {
@@ -317,11 +348,18 @@ final class OddTests {
             stacksRunOut();
             threadsAreStopped();
             classLoadersAreLetGo();
+            librariesAreUnloaded();
+            nothingIsLeftOfJars();
         } catch (IOException fault) {
             throw new UncheckedIOException(fault);
         } catch (Exception fault) {
             throw fault instanceof RuntimeException told ? told : new IllegalStateException(fault);
         }
         System.out.println("odd use");
+    }
+
+    /** These tests alone, as on a jar. */
+    public static void main(String[] words) {
+        all();
     }
 }

@@ -101,7 +101,9 @@ final class RunEndTests {
 
     /** The run of a process whose files can't grow beyond 64 blocks, as on a full disk. */
     private static void fullDisksEndTheRun(Path path) throws Exception {
-        equal(OtherProcess.start("ulimit -f 64 && exec ", "fill", path).waitFor(), 0);
+        // Such a process can't take the library out of a jar either.
+        CopiedLibrary.named(copy -> equal(
+                OtherProcess.start("ulimit -f 64 && exec ", "fill", path).waitFor(), 0));
         equal(RunTests.counted(path, 50), new Auditor.Counts(6, 50, 50));
         equal(Files.exists(path.resolve("new")), false);
     }
