@@ -327,6 +327,38 @@ def _forks() -> None:
     thread.join()
 
 
+def _raise_both(rounds: int = 500) -> None:
+    """Two agents raise a number by turns; the journal is legal."""
+    with Storage({"n": 0}, 2 * rounds) as storage:
+        with storage.agent(0) as one, storage.agent(1) as other:
+            for agent in (one, other) * rounds:
+                agent.play(lambda step: step.inc("n", 1))
+        assert folugben.check(storage.close_journal())[1] == 2 * rounds
+
+
+def interpreters() -> None:
+    """Three interpreters at once, each on a thread, and this one."""
+    import _xxsubinterpreters as others
+    code = f"import sys; sys.path[:0] = {sys.path!r}\nimport core_work; core_work._raise_both()"
+    made, raised = [others.create() for _ in range(3)], []
+
+    def run(own: object) -> None:
+        try:
+            others.run_string(own, code)
+        except Exception as error:
+            raised.append(error)
+
+    threads = [threading.Thread(target=run, args=(own,)) for own in made]
+    for thread in threads:
+        thread.start()
+    _raise_both()
+    for thread in threads:
+        thread.join()
+    assert not raised, raised
+    for own in made:
+        others.destroy(own)
+
+
 def stress(seconds: float = 1.5) -> None:
     sys.setswitchinterval(1e-5)
     _threads(seconds)
@@ -335,4 +367,4 @@ def stress(seconds: float = 1.5) -> None:
 
 
 if __name__ == "__main__":
-    {"leaks": leaks, "refusals": refusals, "stress": stress}[sys.argv[1]]()
+    {"interpreters": interpreters, "leaks": leaks, "refusals": refusals, "stress": stress}[sys.argv[1]]()

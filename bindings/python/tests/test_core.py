@@ -30,6 +30,10 @@ class Core(unittest.TestCase):
     def test_no_call_leaves_memory(self) -> None:
         self.works("leaks", pathlib.Path(folugben.__file__).resolve().parents[1])
 
+    @unittest.skipUnless((3, 11, 4) <= sys.version_info < (3, 13), "others hang on threading in an interpreter, or name it otherwise")
+    def test_three_interpreters_at_once(self) -> None:
+        self.works("interpreters", pathlib.Path(folugben.__file__).resolve().parents[1])
+
     def test_slots_in_two_calls_and_refused_memory(self) -> None:
         if not shim.can_build():
             self.skipTest("there is no compiler, no header or no archive")
