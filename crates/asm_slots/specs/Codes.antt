@@ -137,7 +137,7 @@ ASM_NOT_FULL = pos 32
 abbrev pub ASM_MANY_CALLS : ℤ
 ASM_MANY_CALLS = pos 33
 
--- a line has more than 16,777,216 bytes
+-- a line has more than 1,073,741,824 bytes
 abbrev pub ASM_LONG_LINE : ℤ
 ASM_LONG_LINE = pos 34
 
@@ -191,7 +191,7 @@ further_texts =
     codes "no part has begun" ∷
     codes "the state of the agent is at fewer moves than the storage has room for" ∷
     codes "more than the 4,294,967,295 calls of a journal" ∷
-    codes "a line of more than 16,777,216 bytes" ∷
+    codes "a line of more than 1,073,741,824 bytes" ∷
     codes "a move of more than 4,096 instructions" ∷ []
 
 -- the text of this index among these; none where there is no such text
