@@ -6,7 +6,7 @@ import java.util.List;
 import java.util.Random;
 
 /**
- * Patience.Plays agents by turns: one at a time goes on, up to its next call or that of one of its steps;
+ * Plays agents by turns: one at a time goes on, up to its next call or that of one of its steps;
  * who goes on then is drawn by a seed. What only tells a number, as {@code won}, takes no turn.
  *
  * <p>The same seed gives the same journal, byte for byte, where the works themselves draw nothing
@@ -42,12 +42,12 @@ public final class Interleave {
     /** What is played with an agent. */
     @FunctionalInterface
     public interface Work<A, R> {
-        /** Patience.Plays it; what it answers is told. */
+        /** Plays it; what it answers is told. */
         R play(A agent);
     }
 
     /**
-     * Patience.Plays each work with its agent, an {@link Agent} or a {@link RunAgent}, on a thread of its
+     * Plays each work with its agent, an {@link Agent} or a {@link RunAgent}, on a thread of its
      * own, by turns; what the works answered, in their order. The first exception of a work, by the
      * number of its place, is thrown once all have ended.
      *

@@ -18,7 +18,7 @@ import java.util.stream.Collectors;
 import java.util.stream.Stream;
 import java.util.stream.StreamSupport;
 
-/** What is made of journals: the states of a run, move by move, and a table of its changes. */
+/** What is made of journals: the states of a run, move by move, also for tools, and a table. */
 public final class Journals {
     private static final List<String> HEAD =
             List.of("move", "agent", "function", "arguments", "old", "new");
@@ -104,6 +104,37 @@ public final class Journals {
         }
     }
 
+    /**
+     * Writes all states of a journal in the Informal Trace Format of Apalache and Quint.
+     *
+     * @throws LargeException if the states have more than 1,073,741,824 characters
+     * @throws FolugbenException if it is no journal; nothing is written
+     * @throws UncheckedIOException if it can't be written
+     */
+    public static void writeItf(String journal, Appendable out) {
+        writeItf(journal, out, "", 0, Long.MAX_VALUE);
+    }
+
+    /**
+     * Writes the states from the first to the last one in the Informal Trace Format. Its meta data
+     * name the source, which may be empty. State 0 is the opening state, and state n that after move
+     * n. In a state each function is a map from the tuples of its arguments to its values. Each state
+     * is complete, as the format has no other, so the output grows with the moves times the size of
+     * the state.
+     *
+     * @throws LargeException if these states have more than 1,073,741,824 characters; those that
+     *         come before the limit are written
+     * @throws IllegalArgumentException if the source has a lone surrogate
+     * @throws FolugbenException if it is no journal; nothing is written
+     * @throws UncheckedIOException if it can't be written
+     */
+    public static void writeItf(
+            String journal, Appendable out, String source, long first, long last) {
+        List<String> trace = Storage.trace(journal);
+        Objects.requireNonNull(out, "out");
+        ItfWriter.write(trace, out, Texts.unicode(source, "source"), first, last, ItfWriter.LIMIT);
+    }
+
     private static List<String> cells(long move, String agent, Location at, String old, String now) {
         String arguments = JsonWriter.elements(at.arguments());
         List<String> cells = new ArrayList<>(List.of("" + move, agent, at.name()));
@@ -136,7 +167,12 @@ public final class Journals {
          * @throws FolugbenException if it is none
          */
         Trace(String journal) {
-            lines = Storage.trace(journal).iterator();
+            this(Storage.trace(journal));
+        }
+
+        /** The trace of these lines. */
+        Trace(List<String> trace) {
+            lines = trace.iterator();
             JsonReader.members(lines.next(), "header", (name, reader) -> {
                 if (name.equals("init"))
                     reader.list(JsonReader::pair).forEach(it -> init.put(it.location(), it.value()));
@@ -184,7 +220,7 @@ public final class Journals {
             String text();
         }
 
-        private record Other(Location location, Value old, Value now) implements Change {
+        record Other(Location location, Value old, Value now) implements Change {
             @Override
             public Value on(Value there) {
                 return now;
@@ -201,7 +237,7 @@ public final class Journals {
             }
         }
 
-        private record OfSet(Location location, List<Element> added, List<Element> removed)
+        record OfSet(Location location, List<Element> added, List<Element> removed)
                 implements Change {
             @Override
             public Value on(Value there) {
@@ -219,13 +255,13 @@ public final class Journals {
         }
 
         /** How often a bag has an element, before and afterwards. */
-        private record Count(Element element, long old, long now) {
+        record Count(Element element, long old, long now) {
             private String text() {
                 return "[" + element.json() + "," + old + "," + now + "]";
             }
         }
 
-        private record OfBag(Location location, List<Count> counts) implements Change {
+        record OfBag(Location location, List<Count> counts) implements Change {
             @Override
             public Value on(Value there) {
                 Map<Element, Long> bag = new TreeMap<>(there.asBag());

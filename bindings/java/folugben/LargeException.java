@@ -5,7 +5,8 @@ import java.util.Locale;
 /**
  * An amount or a sum of composed updates is too large; or there are more calls than the
  * 4,294,967,295 that a journal holds; or what a run does would make a line of its journal that is
- * longer than the 1,073,741,824 bytes that an audit reads.
+ * longer than the 1,073,741,824 bytes that an audit reads; or states in the Informal Trace Format
+ * have more than 1,073,741,824 characters.
  */
 public final class LargeException extends FolugbenException {
     private static final long serialVersionUID = 1;

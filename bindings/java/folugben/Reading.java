@@ -4,7 +4,7 @@ import java.util.List;
 
 /** The values of locations, in the order in which these were passed, after so many moves. */
 public record Reading(long number, List<Location> locations, List<Value> values) {
-    /** Texts.Copies of both, which are of one length. */
+    /** Copies of both, which are of one length. */
     public Reading {
         locations = Texts.Copies.of(locations, "locations");
         values = Texts.Copies.of(values, "values");

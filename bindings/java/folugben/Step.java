@@ -288,7 +288,7 @@ public sealed class Step extends StepCalls implements AutoCloseable permits Shar
      * told.
      */
     public record Offer(List<Instruction> fire, List<Named> reads) {
-        /** Texts.Copies of both. */
+        /** Copies of both. */
         public Offer {
             fire = Texts.Copies.of(fire, "fire");
             reads = Texts.Copies.of(reads, "reads");

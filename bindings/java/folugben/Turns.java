@@ -69,7 +69,7 @@ final class Turns {
         }
     }
 
-    /** Patience.Plays each work with its agent on a thread of its own; what ended all of them is thrown. */
+    /** Plays each work with its agent on a thread of its own; what ended all of them is thrown. */
     <A, R> Told<R> play(List<? extends A> agents,
             List<? extends Interleave.Work<? super A, ? extends R>> works,
             List<? extends Player> players) {

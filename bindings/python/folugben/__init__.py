@@ -10,9 +10,10 @@ state; what it writes is seen by what comes after that, and is fired as one move
             step.commit()
         journal = storage.close_journal()
 
-A location is a tuple ("name", argument, ..), or the name alone. Values are None, truths, whole numbers and texts; a list is a
-tuple, a set a frozenset, and a bag a Counter. Input may also be written as JSON has it (docs/FORMATS.md): a location as a
-list, and {"list": [..]}, {"set": [..]} and {"bag": [[element, count], ..]}. Texts are Unicode.
+A location is a tuple ("name", argument, ..). Where one location is wanted the name alone will do, but not in a list of them, as
+`read`, `peek` and `get` take. Values are None, truths, whole numbers and texts; a list is a tuple, a set a frozenset, and a bag a
+Counter. Input may also be written as JSON has it (docs/FORMATS.md): a location as a list, and {"list": [..]}, {"set": [..]} and
+{"bag": [[element, count], ..]}. Texts are Unicode.
 
 An agent may also read locations and fire moves that name what they depend on; each such call stands in the journal:
 

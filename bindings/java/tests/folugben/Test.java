@@ -232,6 +232,7 @@ public final class Test {
         TakeTests.all();
         ConformanceTests.all();
         AuditTests.JournalTests.all();
+        ItfTests.all();
         ExploreTests.all();
         RunTests.all();
         RunEndTests.all();
