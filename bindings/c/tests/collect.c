@@ -3,7 +3,7 @@
  * step collects into a bag of many elements that it hasn't put. */
 #include "tests.h"
 
-enum { ELEMENTS = 6, LEVELS = 5, ROUNDS = 60, STEPS = 120, WIDE = 200, TIMES = 400, BACK = 40 };
+enum { ELEMENTS = 6, LEVELS = 5, MOVES = 60, STEPS = 120, WIDE = 200, CHANGES = 400, BACK = 40 };
 
 /* What the locations s, b and c have. */
 typedef struct model {
@@ -182,7 +182,7 @@ static void collect_into_a_bag(void) {
         add_and_remove(i);
         is_bag(counts, 0, false);
     }
-    for (unsigned i = 0; i < TIMES; i++) {
+    for (unsigned i = 0; i < CHANGES; i++) {
         extend_bag(counts);
         if (i % 16 == 0)
             is_bag(counts, 0, false);
@@ -198,22 +198,22 @@ static void collect_into_a_bag(void) {
 }
 
 int main(void) {
-    open_with("[[['b'],{'bag':[[0,2]]}],[['c'],5],[['s'],{'set':[1,3]}]]", ROUNDS, &storage);
+    open_with("[[['b'],{'bag':[[0,2]]}],[['c'],5],[['s'],{'set':[1,3]}]]", MOVES, &storage);
     REQUIRE(asm_agent(&storage, 0, &agent) == ASM_DONE);
     levels[0].bag[0] = 2;
     levels[0].set[1] = levels[0].set[3] = 1;
     levels[0].count = 5;
-    for (uint32_t number = 0; number < ROUNDS; number++)
+    for (uint32_t number = 0; number < MOVES; number++)
         one_round(number);
     char values[LONGEST], text[LONGEST + 64];
     uint32_t follows;
-    REQUIRE(asm_follow(&agent, &follows) == ASM_DONE && follows == ROUNDS);
+    REQUIRE(asm_follow(&agent, &follows) == ASM_DONE && follows == MOVES);
     told(&levels[0], values);
-    snprintf(text, sizeof text, "{'number':%d,'values':[%s]}", ROUNDS, values);
+    snprintf(text, sizeof text, "{'number':%d,'values':[%s]}", MOVES, values);
     TELLS(ASM_DONE, text, asm_peek(&agent, TEXT("[['s'],['b'],['c']]"), OUT));
     REQUIRE(asm_give(&storage, &agent) == ASM_DONE);
     char *journal = journal_of(&storage);
-    is_legal(journal, ROUNDS, ROUNDS);
+    is_legal(journal, MOVES, MOVES);
     free(journal);
     asm_free_storage(&storage);
     collect_into_a_bag();

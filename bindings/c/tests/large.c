@@ -5,7 +5,7 @@
 #include <sys/resource.h>
 
 enum { SECONDS = 120, MOST = 1048576, FIRST = 600000, READS = 1000 };
-enum { NAMES = 100000, AT_ONCE = 4000, TIMES = 100000, TWICE = 128, LARGEST_STEP = 2048 };
+enum { NAMES = 100000, AT_ONCE = 4000, SCANS = 100000, TWICE = 128, LARGEST_STEP = 2048 };
 
 static const char nothing[] = "{\"fire\":[],\"reads\":[]}";
 
@@ -132,7 +132,7 @@ static void small_function(void) {
     write_all(&agent, "m", 5);
     write_all(&agent, "y", NAMES);
     snprintf(scans, sizeof scans, "[['m',%" PRIu32 "]]", followed(&agent));
-    for (size_t i = 0; i < TIMES; i++) {
+    for (size_t i = 0; i < SCANS; i++) {
         REQUIRE(scanned(&agent, "m") == 5 * strlen("[['m',0],1],") + 1);
         REQUIRE(asm_try_fire_over(&agent, bytes(nothing), strlen(nothing), TEXT(scans), &numbers) ==
                 ASM_DONE);
