@@ -269,6 +269,7 @@ pub(crate) const SHAPE: i32 = 17;
 pub(crate) const VERSION: i32 = 18;
 pub(crate) const CUT: i32 = 19;
 pub(crate) const LARGE: i32 = 20;
+#[cfg(test)]
 pub(crate) const MOVED: i32 = 21;
 pub(crate) const DEEP: i32 = 22;
 pub(crate) const APART: i32 = 23;
