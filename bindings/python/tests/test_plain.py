@@ -285,7 +285,7 @@ class Plain(unittest.TestCase):
     def test_a_text_that_is_no_location_says_why(self):
         code, said = self.code_of(Location, 7)
         self.assertEqual(code, folugben.Code.SHAPE)
-        self.assertEqual(said, "location 1: a location is an array of a name and at most 8 arguments")
+        self.assertEqual(said, "location 1: a location is a tuple or a list of a name and at most 8 arguments")
         self.assertEqual(self.code_of(Location, ["1x"])[0], folugben.Code.SHAPE)
         self.assertEqual(self.code_of(Location, ["x", 2**63])[0], folugben.Code.SHAPE)
         self.assertEqual(self.code_of(Location, ["x", float("nan")])[0], folugben.Code.SHAPE)

@@ -186,13 +186,12 @@ class Steps(unittest.TestCase):
             self.assertEqual(step.commit(), 1)
 
     def test_refused_texts(self):
-        shape = "JSON of another shape: "
         with self.agent.step() as step:
             for said, call, *arguments in [
-                (shape + "location 2: a location can't hold a bag", step.get, [["x"], ["y", {"bag": []}]]),
-                (shape + "instruction 2: a set can't hold a set", step.push, put(1) + put({"set": [{"set": []}]})),
-                (shape + "4,097 instructions, at most 4,096", step.extend, put(1) * 4097),
-                (shape + "instructions[0][2] is nan, which is no whole number: pass int(..) of it, or str(..)", step.push, put(float("nan"))),
+                ("location 2: a location can't hold a bag", step.get, [["x"], ["y", {"bag": []}]]),
+                ("instruction 2: a set can't hold a set", step.push, put(1) + put({"set": [{"set": []}]})),
+                ("4,097 instructions, at most 4,096", step.extend, put(1) * 4097),
+                ("instructions[0][2] is nan, which is no whole number: pass int(..) of it, or str(..)", step.push, put(float("nan"))),
             ]:
                 with self.subTest(said), self.assertRaises(Error) as caught:
                     call(*arguments)
