@@ -133,6 +133,10 @@ class MovedError(Error):
     """The agent's own state doesn't stand at the number of the step, as it has moved on since: begin another step."""
 
 
+class CommitMovedError(MovedError, ConflictError):
+    """A commit records what its step got, and its agent has gone on since the step began; nothing was done."""
+
+
 class PastError(ConflictError):
     """The part of the run has ended in which the step was begun, or a location was read that a fire names: begin anew."""
 
