@@ -3,6 +3,8 @@ package folugben;
 import static folugben.Test.Checks.equal;
 import static folugben.Test.Checks.refused;
 
+import folugben.Test.CopiedLibrary;
+
 import java.io.IOException;
 import java.io.UncheckedIOException;
 import java.nio.file.Files;
