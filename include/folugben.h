@@ -52,12 +52,15 @@
  *
  *  - asm_read and asm_try_fire add a receipt with ASM_DONE, ASM_STALE, ASM_CLASH and ASM_FULL.
  *    So do asm_try_fire_over and asm_commit. Any other code of these four means that no receipt was
- *    added; the agent may have seen more moves. No other call adds one.
+ *    added; the agent may have seen more moves. asm_commit_recorded adds the receipt of a read
+ *    before that of its fire; with ASM_BUSY and ASM_MEMORY it may have added the first alone. No
+ *    other call adds one.
  *  - After asm_follow, asm_stands and asm_begin the agent may have seen more moves, with ASM_MEMORY
  *    too. asm_audit takes bytes with each code except ASM_TAKEN. A push or an extension that is
  *    refused (ASM_CLASH, ASM_MANY, ASM_LONG_MOVE, ASM_LARGE, ASM_SMALL) leaves the pushed moves
- *    unchanged, and may track locations. After any other call, each code except ASM_DONE means
- *    that the slots are unchanged.
+ *    unchanged, and may track locations. ASM_MANY and ASM_MOVED of asm_commit_recorded leave both
+ *    slots unchanged. After any other call, each code except ASM_DONE means that the slots are
+ *    unchanged.
  *  - A number that a call writes is 0 unless its code is said to set it. `*written` is set with
  *    ASM_DONE and with each code that is said to come with a text, to the length of the text, and
  *    with ASM_SMALL.
@@ -168,7 +171,8 @@ enum asm_code {
     ASM_VERSION = 18,    /* a journal of another version than 1 and 2 */
     ASM_CUT = 19,        /* the journal ends too early */
     ASM_LARGE = 20,      /* an amount or a sum is too large */
-    ASM_MOVED = 21,      /* the agent's own state isn't at the step's number */
+    ASM_MOVED = 21,      /* the agent's own state isn't at the step's number; or, of
+                            asm_commit_recorded, is behind the agent's receipts */
     ASM_DEEP = 22,       /* 64 moves are pushed already */
     ASM_APART = 23,      /* a part of a run opens with another state than the one before it leaves */
     ASM_AGENTS = 24,     /* an agent's number isn't below 256, or more than 256 agents are asked for:
@@ -296,11 +300,11 @@ FOLUGBEN_NODISCARD int32_t asm_learn(struct asm_agent *agent, struct asm_agent *
 FOLUGBEN_NODISCARD int32_t asm_take_state(struct asm_agent *agent, struct asm_agent *other);
 
 /* AN AGENT'S OWN STATE is the state after a number of moves, its version. It moves on only in
- * asm_follow, asm_stands, asm_begin, asm_read, asm_try_fire, asm_try_fire_over and asm_commit;
- * asm_take_state exchanges it. A move that the agent fired itself is taken in by its next look, as
- * asm_follow makes one. asm_peek, asm_state and asm_scan read that state, without a look or a
- * receipt. A later fire may name each location, and each scanned function, with the number that
- * they return. */
+ * asm_follow, asm_stands, asm_begin, asm_read, asm_try_fire, asm_try_fire_over, asm_commit and
+ * asm_commit_recorded; asm_take_state exchanges it. A move that the agent fired itself is taken in
+ * by its next look, as asm_follow makes one. asm_peek, asm_state and asm_scan read that state,
+ * without a look or a receipt. A later fire may name each location, and each scanned function, with
+ * the number that they return. */
 
 /* Polls until no further move is found; the agent's own state follows. `*number` is then how many
  * moves it has seen. ASM_EMPTY, ASM_MEMORY. */
@@ -451,6 +455,19 @@ FOLUGBEN_NODISCARD int32_t asm_offer(struct asm_step *step, uint8_t *out, size_t
  * ASM_MANY: the locations that would be named and the functions that were scanned are more than
  * 256. It polls, so it answers neither ASM_MOVED nor ASM_AHEAD. */
 FOLUGBEN_NODISCARD int32_t asm_commit(struct asm_agent *agent, struct asm_step *step,
+    asm_numbers *numbers);
+
+/* Records what the step read, and then commits it as asm_commit does: the journal has a read in
+ * front of the fire. That read has the locations that the fire names, in its order, with their
+ * values in the agent's own state at the step's number, so asm_check tests these too. It doesn't
+ * have the functions that were scanned. The codes are those of asm_commit, and ASM_MOVED: the
+ * agent's own state isn't at the step's number, or is behind a receipt of the agent's, such as that
+ * of a fire which it hasn't followed; begin the step again. ASM_MANY comes before ASM_MOVED, and
+ * with both nothing has changed. With ASM_STALE, ASM_CLASH, ASM_FULL and ASM_BUSY the receipt of
+ * the read is there, and with ASM_MEMORY it may be; it is right, and harms nothing. After ASM_BUSY
+ * and ASM_MEMORY the agent may have followed further moves: the same call then answers
+ * ASM_MOVED. */
+FOLUGBEN_NODISCARD int32_t asm_commit_recorded(struct asm_agent *agent, struct asm_step *step,
     asm_numbers *numbers);
 
 /* WITHOUT TEXT: calls that do what asm_peek, asm_get, asm_push and asm_extend do, with a location

@@ -120,20 +120,21 @@ class error : public std::runtime_error {
     std::string text_;
 };
 
-// A commit that met another agent's moves (code::stale, code::clash or code::busy): the step is to be begun again, as `play` does.
-// It is all that a loop by hand catches.
+// A commit that met another agent's moves: begin the step again, as `play` does. Its code is code::stale, code::clash or code::busy,
+// or code::moved of an agent that records. It is all that a loop by hand catches.
 class conflict : public error {
   public:
     using error::error;
 };
-// What a commit came to: with code::done the number of the move. A conflict is code::stale, code::clash or code::busy: the
-// step is to be begun again.
+// What a commit came to: with code::done the number of the move. A conflict is code::stale, code::clash or code::busy, or
+// code::moved of an agent that records: begin the step again.
 struct [[nodiscard]] outcome {
     folugben::code code = folugben::code::done;
     std::uint32_t number = 0;
     explicit operator bool() const noexcept { return code == folugben::code::done; }
     bool is_conflict() const noexcept {
-        return code == folugben::code::stale || code == folugben::code::clash || code == folugben::code::busy;
+        return code == folugben::code::stale || code == folugben::code::clash || code == folugben::code::busy ||
+               code == folugben::code::moved;
     }
 };
 // A push whose updates clash on what the step sees; and a fire of a move without a step, which would clash again.
@@ -725,6 +726,7 @@ struct shared {
     held<struct asm_storage> storage;
     std::mutex lock;
     std::vector<held<struct asm_agent>> waiting; // agents that were let go when there was no memory to give them back
+    bool is_recording = false;                   // what agents that are made or taken do; under the lock
 
     shared() { waiting.reserve(256); }
     void give(held<struct asm_agent> agent) noexcept {
@@ -756,6 +758,11 @@ class seat {
         claim(here());
         return slot_.get();
     }
+    // Whether agents that the storage makes or takes record.
+    bool storage_records() const {
+        std::lock_guard<std::mutex> guard(of_->lock);
+        return of_->is_recording;
+    }
     // Which storage it is of, for comparisons.
     const shared *storage() const noexcept { return storage_; }
     void give() noexcept {
@@ -769,6 +776,9 @@ class seat {
         act();
         steps_.fetch_sub(1, std::memory_order_relaxed);
     }
+    // Whether commits record what their steps read.
+    void record(bool is_recording) noexcept { is_recording_.store(is_recording, std::memory_order_relaxed); }
+    bool is_recording() const noexcept { return is_recording_.load(std::memory_order_relaxed); }
     // Nothing more is done with its state until it polls again.
     void act() noexcept { has_acted_.store(true, std::memory_order_relaxed); }
     // Before its state is shown without a poll: polls where another agent took it.
@@ -844,7 +854,7 @@ class seat {
     const shared *storage_;
     mutable std::atomic<std::uintptr_t> thread_{nowhere}; // of the last call
     std::atomic<std::uint32_t> steps_{0};                 // that haven't ended
-    std::atomic<bool> has_acted_{false}, is_behind_{false};
+    std::atomic<bool> has_acted_{false}, is_behind_{false}, is_recording_{false};
 };
 
 // A step of an agent that hasn't ended.
@@ -864,6 +874,7 @@ class open_step {
         return *this;
     }
     struct asm_agent *get_agent() const noexcept { return seat_ ? seat_->get() : nothing<struct asm_agent>(); }
+    bool is_recording() const noexcept { return seat_ && seat_->is_recording(); }
 
   private:
     std::shared_ptr<seat> seat_;
@@ -993,6 +1004,15 @@ class agent {
     std::uint32_t seen() const noexcept { return asm_seen(get()); }
     std::uint32_t won() const noexcept { return asm_won(get()); }
     std::uint64_t misses() const noexcept { return asm_misses(get()); }
+
+    // Has each commit of a step record what the step read, or not, which is the default. A commit that records first adds a
+    // receipt of a read: the locations that its move names, with their values at the step's version. So the journal shows what
+    // the move was computed from, and `check` judges that too. What `scan` found stays out of the journal, and so does what
+    // `see_json` returned. Each commit then takes about twice the receipts. Where the agent has moved past the step's version,
+    // as by `follow` within the step, the commit is a conflict (code::moved), and `play` begins again.
+    void record(bool is_recording) noexcept {
+        if (seat_) seat_->record(is_recording);
+    }
 
     [[nodiscard]] code try_begin(step &it) noexcept {
         if (!it.slot_) return code::empty;
@@ -1257,7 +1277,8 @@ inline void step::extend_json(std::string_view move) { grow_json(asm_extend, mov
 
 inline outcome step::try_commit() noexcept {
     asm_numbers numbers{};
-    const code it{asm_commit(get_agent(), slot_.get(), &numbers)};
+    const auto call = open_.is_recording() ? asm_commit_recorded : asm_commit;
+    const code it{call(get_agent(), slot_.get(), &numbers)};
     if (it == code::done) open_ = {};
     return {it, numbers.fired};
 }
@@ -1356,6 +1377,13 @@ class storage {
         detail::done(it);
     }
 
+    // Has agents that are made or taken from now on record, or not, as agent::record does. The storages of `next` and
+    // agent::go_on do as this one.
+    void record(bool is_recording) {
+        std::lock_guard<std::mutex> guard(own().lock);
+        own().is_recording = is_recording;
+    }
+
     // A storage makes one agent of each number, 0 to 255.
     agent make_agent(std::uint32_t number) {
         auto seat = std::make_shared<detail::seat>(shared_);
@@ -1363,6 +1391,7 @@ class storage {
         const code it{asm_agent(own().storage.get(), number, seat->get())};
         if (it == code::agents) detail::fail_range(it, "the agent's number", number, 0, 255);
         detail::done(it);
+        seat->record(own().is_recording);
         return made(std::move(seat));
     }
 
@@ -1373,6 +1402,7 @@ class storage {
         std::lock_guard<std::mutex> guard(own().lock);
         detail::done(own().give_waiting());
         detail::done(asm_take(own().storage.get(), number, seat->get()));
+        seat->record(own().is_recording);
         return made(std::move(seat));
     }
 
@@ -1404,6 +1434,7 @@ class storage {
         const code opened{asm_next(own().storage.get(), capacity, it.shared_->storage.get())};
         detail::expect_capacity(opened, capacity);
         detail::done(opened);
+        it.shared_->is_recording = own().is_recording;
         return it;
     }
 
@@ -1427,6 +1458,7 @@ inline storage agent::go_on(std::uint32_t capacity) {
     const code opened{asm_go_on(get(), capacity, it.shared_->storage.get())};
     detail::expect_capacity(opened, capacity);
     detail::done(opened);
+    it.shared_->is_recording = seat_->storage_records();
     return it;
 }
 

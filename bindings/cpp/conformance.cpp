@@ -1,5 +1,5 @@
 // Does the calls of the table of conformance, of which bindings/conformance/README.md says what its lines are, and compares the
-// answers.
+// answers: twice, the second time by agents that record.
 //
 //     conformance FOLDER
 #include <folugben.hpp>
@@ -84,6 +84,7 @@ const char *name_of(code it) {
 
 class replayer {
   public:
+    explicit replayer(bool is_recording) : is_recording_(is_recording) {}
     // The answer to a call, in the words of the table.
     std::string answer(const std::string &name, const words &of) try {
         return calls_.at(name)(of);
@@ -115,11 +116,13 @@ class replayer {
     std::string open(folugben::storage it) {
         begin_case();
         storage_.emplace(std::move(it));
+        storage_->record(is_recording_);
         return "null";
     }
     void begin_case() {
         steps_.clear();
         agents_.clear();
+        recorded_.clear();
         storage_.reset();
     }
     std::string make(const words &of, folugben::agent it) {
@@ -131,6 +134,30 @@ class replayer {
         const std::uint32_t begun = it.number();
         steps_.insert_or_assign(number(of[0]), std::move(it));
         return std::to_string(begun);
+    }
+    // Commits; where the agent has moved on, without recording, as nothing was done then.
+    std::string commit(const words &of) {
+        const std::uint32_t before = steps_.at(number(of[0])).number();
+        const bool has_moved = is_recording_ && number(peek({of[0], "[]"}).substr(10)) != before;
+        folugben::outcome it = step(of).try_commit();
+        if (has_moved != (it.code == code::moved) && it.code != code::empty) return "moved on: " + std::to_string(has_moved);
+        if (it.code == code::moved) {
+            agent(of).record(false);
+            it = step(of).try_commit();
+            agent(of).record(true);
+        } else if (is_recording_ && it.code != code::empty && it.code != code::many) {
+            ++recorded_[number(of[0])];
+        }
+        if (it.code == code::stale || it.code == code::clash) return agent(of).answer();
+        folugben::detail::done(it.code);
+        return member("fired", std::to_string(it.number));
+    }
+    // How many reads were recorded by the agents that were given back.
+    std::uint64_t recorded() const {
+        std::uint64_t all = 0;
+        for (const auto &[number, agent] : agents_)
+            if (!agent.get()->slot.full && recorded_.contains(number)) all += recorded_.at(number);
+        return all;
     }
     static std::string values(const std::string &told) {
         const auto at = told.find("\"values\":") + 9;
@@ -152,9 +179,9 @@ class replayer {
         const asm_audit_numbers told = auditor.end();
         return list({told.calls, told.moves, told.parts});
     }
-    std::string check(const std::string &journal) {
+    std::string check(const std::string &journal, std::uint64_t recorded) {
         const folugben::legality told = folugben::check(journal);
-        if (told.is_legal) return list({told.calls, told.moves});
+        if (told.is_legal) return list({told.calls - recorded, told.moves});
         refused_ = {"ILLEGAL", "", list({told.calls})};
         return "";
     }
@@ -177,6 +204,8 @@ class replayer {
     std::optional<folugben::storage> storage_;
     std::map<std::uint32_t, folugben::agent> agents_;
     std::map<std::uint32_t, folugben::step> steps_;
+    std::map<std::uint32_t, std::uint64_t> recorded_; // how many reads the commits of each agent recorded
+    bool is_recording_;
     std::string journal_;
     refusal refused_;
     const std::map<std::string, std::function<std::string(const words &)>> calls_ = {
@@ -210,10 +239,10 @@ class replayer {
         {"pop", [this](const words &of) { return step(of).pop(), "null"; }},
         {"depth", [this](const words &of) { return std::to_string(step(of).depth()); }},
         {"offer", [this](const words &of) { return step(of).offer_json(); }},
-        {"commit", [this](const words &of) { return member("fired", std::to_string(step(of).commit())); }},
+        {"commit", [this](const words &of) { return commit(of); }},
         {"close", [this](const words &) { return journal_ = storage_.value().close(), "null"; }},
-        {"journal", [this](const words &) { return check(journal_); }},
-        {"check", [this](const words &of) { return check(text(of[0])); }},
+        {"journal", [this](const words &) { return check(journal_, recorded()); }},
+        {"check", [this](const words &of) { return check(text(of[0]), 0); }},
         {"replay", [](const words &of) { return folugben::replay_json(text(of[0])); }},
         {"audit", [this](const words &of) { return audit(text(of[0])); }},
         {"aggregate", [](const words &of) { return folugben::aggregate_json(of[0], of[1]); }},
@@ -234,9 +263,9 @@ bool is_refused_so(const refusal &told, const std::string &wanted) {
 }
 
 // How many calls of the table were answered as they should be.
-int replayed(const std::string &path) {
+int replayed(const std::string &path, bool is_recording) {
     std::ifstream file(path);
-    replayer calls;
+    replayer calls(is_recording);
     std::string line, name;
     int count = 0;
     for (int number = 1; std::getline(file, line); ++number) {
@@ -266,12 +295,14 @@ int main(int count, char **of) {
     const std::string folder = count > 1 ? of[1] : "";
     int all = 0;
     for (const char *name : {"moves", "calls", "steps", "journals"}) {
-        const int told = replayed(folder + "/" + name + ".jsonl");
-        if (told < 20) {
-            std::printf("%s: %d calls\n", name, told);
-            return 1;
+        for (const bool is_recording : {false, true}) {
+            const int told = replayed(folder + "/" + name + ".jsonl", is_recording);
+            if (told < 20) {
+                std::printf("%s: %d calls%s\n", name, told, is_recording ? ", recorded" : "");
+                return 1;
+            }
+            all += told;
         }
-        all += told;
     }
     std::printf("%d calls answered as in the table\n", all);
     return 0;

@@ -20,6 +20,7 @@ static struct {
     __typeof__(asm_push) *push;
     __typeof__(asm_extend) *extend;
     __typeof__(asm_commit) *commit;
+    __typeof__(asm_commit_recorded) *commit_recorded;
     __typeof__(asm_peek_at) *peek_at;
     __typeof__(asm_get_at) *get_at;
     __typeof__(asm_instruct) *instruct;
@@ -41,9 +42,12 @@ TEXT_CALL(see)
 TEXT_CALL(push)
 TEXT_CALL(extend)
 
-static jint JNICALL commit(OWN, jlong agent, jlong step, jlong numbers) {
-    return library.commit(AT(agent), AT(step), AT(numbers));
-}
+#define COMMIT_CALL(name)                                                    \
+    static jint JNICALL name(OWN, jlong agent, jlong step, jlong numbers) { \
+        return library.name(AT(agent), AT(step), AT(numbers));              \
+    }
+COMMIT_CALL(commit)
+COMMIT_CALL(commit_recorded)
 
 static jint JNICALL peek_at(OWN, jlong agent, jlong at, jlong number, jlong value, TEXTS) {
     return library.peek_at(AT(agent), AT(at), AT(number), AT(value), TEXTS_AT);
@@ -78,6 +82,7 @@ static const struct {
     {{"asm_push", "(JJJJJJJ)I", (void *)push}, &library.push},
     {{"asm_extend", "(JJJJJJJ)I", (void *)extend}, &library.extend},
     {{"asm_commit", "(JJJ)I", (void *)commit}, &library.commit},
+    {{"asm_commit_recorded", "(JJJ)I", (void *)commit_recorded}, &library.commit_recorded},
     {{"asm_peek_at", "(JJJJJJJ)I", (void *)peek_at}, &library.peek_at},
     {{"asm_get_at", "(JJJJJJJ)I", (void *)get_at}, &library.get_at},
     {{"asm_instruct", "(JJIIJJJI)I", (void *)instruct}, &library.instruct},

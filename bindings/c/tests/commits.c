@@ -113,6 +113,8 @@ static void moved(void) {
     ANSWERS(ASM_MOVED, asm_step_scan(&agents[0], &step, TEXT("x"), OUT));
     ANSWERS(ASM_MOVED, asm_push(&agents[0], &step, TEXT("[]"), OUT));
     ANSWERS(ASM_MOVED, asm_extend(&agents[0], &step, TEXT("[['inc',['c'],1]]"), OUT));
+    asm_numbers numbers;
+    REQUIRE(asm_commit_recorded(&agents[0], &step, &numbers) == ASM_MOVED);
     REQUIRE(is_same(agents[0], was[0]) && is_same(step, was[1]) && asm_depth(&step) == depth);
 }
 
@@ -298,6 +300,39 @@ static void steps_of_another_storage(void) {
     end_all();
 }
 
+/* The receipt of the read stays where the fire is refused, and the step may be begun again. */
+static void recorded_refusals(void) {
+    begin_with(3);
+    gets("['x']", 0, "7");
+    fire(&agents[1], "[['put',['x'],70]]");
+    refused_by(asm_commit_recorded, ASM_STALE, "{'stale':['x']}");
+    /* The commit has followed what made it stale. */
+    records_nothing(ASM_MOVED, "{'stale':['x']}");
+    begins_at(1);
+    push("[['add',['s'],2]]");
+    fire(&agents[1], "[['put',['s'],0]]");
+    refused_by(asm_commit_recorded, ASM_CLASH, "{'clash':[['s'],'Kind']}");
+    fire(&agents[1], "[]");
+    begins_at(3);
+    gets("['x']", 3, "70");
+    refused_by(asm_commit_recorded, ASM_FULL, "'full'");
+    refused_by(asm_commit_recorded, ASM_FULL, "'full'");
+    journal_is("{'agent':0,'call':{'read':[['x']]},'reply':{'number':0,'values':[7]}}\n"
+               "{'agent':1,'call':{'fire':[['put',['x'],70]],'reads':[]},'reply':{'fired':1}}\n"
+               "{'agent':0,'call':{'fire':[],'reads':[[['x'],0]]},'reply':{'stale':['x']}}\n"
+               "{'agent':0,'call':{'read':[]},'reply':{'number':1,'values':[]}}\n"
+               "{'agent':1,'call':{'fire':[['put',['s'],0]],'reads':[]},'reply':{'fired':2}}\n"
+               "{'agent':0,'call':{'fire':[['add',['s'],2]],'reads':[]},"
+               "'reply':{'clash':[['s'],'Kind']}}\n"
+               "{'agent':1,'call':{'fire':[],'reads':[]},'reply':{'fired':3}}\n"
+               "{'agent':0,'call':{'read':[['x']]},'reply':{'number':3,'values':[70]}}\n"
+               "{'agent':0,'call':{'fire':[],'reads':[[['x'],3]]},'reply':'full'}\n"
+               "{'agent':0,'call':{'read':[['x']]},'reply':{'number':3,'values':[70]}}\n"
+               "{'agent':0,'call':{'fire':[],'reads':[[['x'],3]]},'reply':'full'}\n",
+               11, 3);
+    end_all();
+}
+
 static long kilobytes(void) {
     struct rusage usage;
     REQUIRE(!getrusage(RUSAGE_SELF, &usage));
@@ -343,6 +378,7 @@ int main(void) {
     shared_steps();
     agents_behind();
     steps_of_another_storage();
+    recorded_refusals();
     steady_memory();
     puts("passed");
     return 0;

@@ -44,12 +44,15 @@ static inline void gets(const char *location, uint32_t number, const char *value
     TELLS(ASM_DONE, text, asm_get(&agents[0], &step, TEXT(locations), OUT));
 }
 
+/* asm_commit or asm_commit_recorded. */
+typedef int32_t commit_call(struct asm_agent *agent, struct asm_step *step, asm_numbers *numbers);
+
 /* The commit is refused with this code and this answer, and the step stays. */
-static inline void refused(int32_t wanted, const char *answer) {
+static inline void refused_by(commit_call *commit, int32_t wanted, const char *answer) {
     asm_slot was[2] = {agents[0].slot, step.slot};
     asm_numbers numbers = {9, 9, 9};
     uint32_t depth = asm_depth(&step), won = asm_won(&agents[0]);
-    REQUIRE(asm_commit(&agents[0], &step, &numbers) == wanted);
+    REQUIRE(commit(&agents[0], &step, &numbers) == wanted);
     REQUIRE(numbers.fired == 0 && numbers.from == 0 && numbers.to == 0);
     REQUIRE(is_same(agents[0], was[0]) && is_same(step, was[1]));
     REQUIRE(asm_depth(&step) == depth && asm_won(&agents[0]) == won);
@@ -57,12 +60,16 @@ static inline void refused(int32_t wanted, const char *answer) {
         TELLS(ASM_DONE, answer, asm_answer(&agents[0], OUT));
 }
 
+static inline void refused(int32_t wanted, const char *answer) {
+    refused_by(asm_commit, wanted, answer);
+}
+
 /* The commit fires the move with this number; the step is over, and its slot is empty. */
-static inline void fired(uint32_t move) {
+static inline void fired_by(commit_call *commit, uint32_t move) {
     char answer[32];
     asm_numbers numbers = {9, 9, 9};
     uint32_t won = asm_won(&agents[0]);
-    REQUIRE(asm_commit(&agents[0], &step, &numbers) == ASM_DONE);
+    REQUIRE(commit(&agents[0], &step, &numbers) == ASM_DONE);
     REQUIRE(numbers.fired == move && numbers.from == 0 && numbers.to == 0);
     REQUIRE(!step.slot.full && step.slot.at == NULL && asm_depth(&step) == 0);
     REQUIRE(asm_won(&agents[0]) == won + 1 && asm_seen(&agents[0]) == move);
@@ -70,6 +77,24 @@ static inline void fired(uint32_t move) {
     TELLS(ASM_DONE, answer, asm_answer(&agents[0], OUT));
     ANSWERS(ASM_EMPTY, asm_get(&agents[0], &step, TEXT("[]"), OUT));
     REQUIRE(asm_pop(&step) == ASM_EMPTY);
+}
+
+static inline void fired(uint32_t move) { fired_by(asm_commit, move); }
+
+/* The recorded commit answers ASM_MOVED or ASM_MANY, and nothing changes: the agent has no receipt
+ * more, has seen no more, and its state is where it was. */
+static inline void records_nothing(int32_t wanted, const char *last_answer) {
+    asm_slot was[2] = {agents[0].slot, step.slot};
+    asm_numbers numbers = {9, 9, 9};
+    uint32_t depth = asm_depth(&step), won = asm_won(&agents[0]), seen = asm_seen(&agents[0]);
+    REQUIRE(asm_commit_recorded(&agents[0], &step, &numbers) == wanted);
+    REQUIRE(numbers.fired == 0 && numbers.from == 0 && numbers.to == 0);
+    REQUIRE(is_same(agents[0], was[0]) && is_same(step, was[1]) && asm_depth(&step) == depth);
+    REQUIRE(asm_won(&agents[0]) == won && asm_seen(&agents[0]) == seen);
+    if (last_answer)
+        TELLS(ASM_DONE, last_answer, asm_answer(&agents[0], OUT));
+    else
+        ANSWERS(ASM_NO_ANSWER, asm_answer(&agents[0], OUT));
 }
 
 /* All that follows the header in the journal of both agents. */

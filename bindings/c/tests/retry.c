@@ -390,6 +390,42 @@ static void go_on(const char *left) {
     asm_free_storage(&next);
 }
 
+/* A commit that records and had no memory fired nothing: it is made again. The read's receipt may be
+ * there from before, so the journal isn't printed; it has the read once or twice, and the fire once. */
+static void record(void) {
+    const char *read = "{'agent':0,'call':{'read':[['x']]},'reply':{'number':0,'values':[7]}}\n";
+    const char *fire = "{'agent':0,'call':{'fire':[['inc',['x'],2]],'reads':[[['x'],0]]},"
+                       "'reply':{'fired':1}}\n";
+    uint8_t out[ROOM];
+    struct asm_storage of = {0};
+    size_t len, written;
+    uint32_t number, missing;
+    asm_numbers numbers = {9, 9, 9};
+    REQUIRE(AGAIN(asm_open(TEXT("[[['x'],7]]"), 8, &of)) == ASM_DONE);
+    REQUIRE(AGAIN(asm_agent(&of, 0, &agents[0])) == ASM_DONE);
+    REQUIRE(AGAIN(asm_begin(&agents[0], &step, &number)) == ASM_DONE && number == 0);
+    REQUIRE(AGAIN(asm_get(&agents[0], &step, TEXT("[['x']]"), out, ROOM, &written)) == ASM_DONE);
+    REQUIRE(AGAIN(asm_push(&agents[0], &step, TEXT("[['inc',['x'],2]]"), out, ROOM, &written)) ==
+            ASM_DONE);
+    bool had_none = again(asm_commit_recorded(&agents[0], &step, &numbers));
+    if (had_none) {
+        REQUIRE(step.slot.full && asm_depth(&step) == 1 && asm_won(&agents[0]) == 0);
+        REQUIRE(numbers.fired == 0 && numbers.from == 0 && numbers.to == 0);
+        last_code = asm_commit_recorded(&agents[0], &step, &numbers);
+    }
+    REQUIRE(last_code == ASM_DONE && numbers.fired == 1 && !step.slot.full);
+    REQUIRE(AGAIN(asm_give(&of, &agents[0])) == ASM_DONE);
+    REQUIRE(AGAIN(asm_close(&of, &missing)) == ASM_DONE && missing == 0);
+    REQUIRE(AGAIN(asm_journal(&of, out, ROOM, &len)) == ASM_DONE);
+    const char *end = (const char *)out + len, *event = memchr(out, '\n', len);
+    size_t reads = 0, length = strlen(read);
+    for (event++; (size_t)(end - event) > length && !memcmp(event, json(read), length); reads++)
+        event += length;
+    REQUIRE(reads == 1 || (reads == 2 && had_none));
+    REQUIRE((size_t)(end - event) == strlen(fire) && !memcmp(event, json(fire), strlen(fire)));
+    asm_free_storage(&of);
+}
+
 int main(int argc, char **argv) {
     const char *left = "[[['s'],{'set':[1,3]}],[['x'],22],[['y'],'why']]";
     open_all();
@@ -401,6 +437,7 @@ int main(int argc, char **argv) {
     close_all(&storage, 3, 6, 2, left);
     go_on(left);
     go_on_full();
+    record();
     if (argc > 1)
         printf("%s %u\n", argv[1], refused);
     return 0;

@@ -80,6 +80,9 @@ static void on_nothing(struct asm_agent *agent, struct asm_step *of_step) {
     ANSWERS(ASM_EMPTY, asm_extend(agent, of_step, TEXT("[]"), OUT));
     REQUIRE(asm_commit(agent, of_step, &numbers) == ASM_EMPTY);
     REQUIRE(numbers.fired == 0 && numbers.from == 0 && numbers.to == 0);
+    numbers = (asm_numbers){9, 9, 9};
+    REQUIRE(asm_commit_recorded(agent, of_step, &numbers) == ASM_EMPTY);
+    REQUIRE(numbers.fired == 0 && numbers.from == 0 && numbers.to == 0);
     REQUIRE(is_same(*agent, was[0]) && is_same(*of_step, was[1]));
 }
 

@@ -1,4 +1,5 @@
-/* What a step was told by a refusal, or by a move that it popped, belongs to its read set. */
+/* What a step was told by a refusal, or by a move that it popped, belongs to its read set; and a
+ * commit may record what the read set has. */
 #include "commits.h"
 
 static const char *const shelf = "[[['b'],{'bag':[['e',1]]}],[['c'],0],[['s'],{'set':[1]}]]";
@@ -230,6 +231,135 @@ static void no_trace(void) {
     end_at_shelf();
 }
 
+/* The journal has the values that the step read in front of its fire: of what it got, of what its
+ * moves depend on, and of what a refusal told of, and not those of the function that it scanned. */
+static void recorded_reads(void) {
+    begin_with(8);
+    gets("['y']", 0, "9");
+    push("[['inc',['x'],1]]");
+    push("[['inc',['x'],1],['put',['y'],5]]");
+    gets("['y']", 0, "5");
+    TELLS(ASM_DONE, "[[['c'],0]]", asm_step_scan(&agents[0], &step, TEXT("c"), OUT));
+    TELLS(ASM_CLASH, "{'clash':[['s'],'Kind']}",
+          asm_push(&agents[0], &step, TEXT("[['inc',['s'],1]]"), OUT));
+    fired_by(asm_commit_recorded, 1);
+    begins_at(1);
+    gets("['x']", 1, "9");
+    gets("['none']", 1, "null");
+    fired_by(asm_commit_recorded, 2);
+    begins_at(2);
+    push("[['put',['x'],0]]");
+    fired_by(asm_commit_recorded, 3);
+    begins_at(3);
+    gets("['x']", 3, "0");
+    fired(4);
+    journal_is("{'agent':0,'call':{'read':[['s'],['x'],['y']]},"
+               "'reply':{'number':0,'values':[{'set':[1]},7,9]}}\n"
+               "{'agent':0,'call':{'fire':[['inc',['x'],2],['put',['y'],5]],"
+               "'reads':[[['s'],0],[['x'],0],[['y'],0]]},'reply':{'fired':1}}\n"
+               "{'agent':0,'call':{'read':[['none'],['x']]},'reply':{'number':1,'values':[null,9]}}\n"
+               "{'agent':0,'call':{'fire':[],'reads':[[['none'],1],[['x'],1]]},'reply':{'fired':2}}\n"
+               "{'agent':0,'call':{'read':[]},'reply':{'number':2,'values':[]}}\n"
+               "{'agent':0,'call':{'fire':[['put',['x'],0]],'reads':[]},'reply':{'fired':3}}\n"
+               "{'agent':0,'call':{'fire':[],'reads':[[['x'],3]]},'reply':{'fired':4}}\n",
+               7, 4);
+    end_all();
+}
+
+/* A check refuses the journal of a recorded step once a value in it is another. */
+static void recorded_lies(void) {
+    uint64_t calls = 9;
+    uint32_t moves = 9;
+    begin_with(8);
+    gets("['x']", 0, "7");
+    fired_by(asm_commit_recorded, 1);
+    REQUIRE(asm_give(&storage, &agents[0]) == ASM_DONE);
+    char *journal = journal_of(&storage);
+    is_legal(journal, 2, 1);
+    char *value = strstr(journal, "\"values\":[7]");
+    REQUIRE(value != NULL);
+    value[strlen("\"values\":[")] = '8';
+    REQUIRE(asm_check(bytes(journal), strlen(journal), &calls, &moves) == ASM_ILLEGAL);
+    REQUIRE(calls == 0 && moves == 0);
+    free(journal);
+    end_all();
+}
+
+/* Where the agent's own state has moved on, or another agent's state is there, the step is begun
+ * again. */
+static void recorded_elsewhere(void) {
+    uint32_t number;
+    begin_with(8);
+    gets("['x']", 0, "7");
+    push("[['put',['y'],1]]");
+    fire(&agents[1], "[['put',['c'],1]]");
+    REQUIRE(asm_follow(&agents[0], &number) == ASM_DONE && number == 1);
+    records_nothing(ASM_MOVED, NULL);
+    REQUIRE(asm_read(&agents[0], TEXT("[]")) == ASM_DONE);
+    records_nothing(ASM_MOVED, "{'number':1,'values':[]}");
+    begins_at(1);
+    gets("['x']", 1, "7");
+    push("[['put',['y'],1]]");
+    fired_by(asm_commit_recorded, 2);
+    begins_at(2);
+    REQUIRE(asm_take_state(&agents[1], &agents[0]) == ASM_DONE);
+    records_nothing(ASM_MOVED, "{'fired':2}");
+    begins_at(2);
+    fired_by(asm_commit_recorded, 3);
+    journal_is("{'agent':1,'call':{'fire':[['put',['c'],1]],'reads':[]},'reply':{'fired':1}}\n"
+               "{'agent':0,'call':{'read':[]},'reply':{'number':1,'values':[]}}\n"
+               "{'agent':0,'call':{'read':[['x']]},'reply':{'number':1,'values':[7]}}\n"
+               "{'agent':0,'call':{'fire':[['put',['y'],1]],'reads':[[['x'],1]]},"
+               "'reply':{'fired':2}}\n"
+               "{'agent':0,'call':{'read':[]},'reply':{'number':2,'values':[]}}\n"
+               "{'agent':0,'call':{'fire':[],'reads':[]},'reply':{'fired':3}}\n",
+               6, 3);
+    end_all();
+}
+
+/* The agent's state is at the step's number, and behind a fire of its own. */
+static void recorded_behind(void) {
+    begin_with(8);
+    gets("['x']", 0, "7");
+    fire(&agents[0], "[['put',['y'],1]]");
+    gets("['x']", 0, "7");
+    records_nothing(ASM_MOVED, "{'fired':1}");
+    fired(2);
+    begins_at(2);
+    gets("['y']", 2, "1");
+    fired_by(asm_commit_recorded, 3);
+    end_all();
+}
+
+/* One place too many is reported before anything else, also of an agent that has moved. */
+static void recorded_places(void) {
+    uint32_t number;
+    begin_at_shelf();
+    takes_places(256);
+    push("[['inc',['c'],1]]");
+    ANSWERS(ASM_DONE, asm_extend(&agents[0], &step, TEXT("[['inc',['c'],1]]"), OUT));
+    records_nothing(ASM_MANY, NULL);
+    fire(&agents[1], "[]");
+    REQUIRE(asm_follow(&agents[0], &number) == ASM_DONE && number == 1);
+    records_nothing(ASM_MANY, NULL);
+    refused(ASM_MANY, NULL);
+    for (uint32_t scans = 0; scans < 2; scans++) {
+        begins_at(1 + scans);
+        takes_places(255 - (int)scans);
+        if (scans)
+            TELLS(ASM_DONE, "[]", asm_step_scan(&agents[0], &step, TEXT("v"), OUT));
+        push("[['inc',['c'],1]]");
+        ANSWERS(ASM_DONE, asm_extend(&agents[0], &step, TEXT("[['inc',['c'],1]]"), OUT));
+        fired_by(asm_commit_recorded, 2 + scans);
+    }
+    REQUIRE(asm_give(&storage, &agents[0]) == ASM_DONE);
+    REQUIRE(asm_give(&storage, &agents[1]) == ASM_DONE);
+    char *journal = journal_of(&storage);
+    is_legal(journal, 5, 3);
+    free(journal);
+    end_at_shelf();
+}
+
 int main(void) {
     refused_moves();
     smaller_locations();
@@ -240,6 +370,11 @@ int main(void) {
     pushed_again();
     resting_groups();
     no_trace();
+    recorded_reads();
+    recorded_lies();
+    recorded_elsewhere();
+    recorded_behind();
+    recorded_places();
     puts("passed");
     return 0;
 }

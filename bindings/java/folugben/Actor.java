@@ -143,12 +143,20 @@ public sealed interface Actor extends AutoCloseable permits Agent, RunAgent, Sha
         }
 
         /**
-         * Whether a named location was written since it was read, or 64 offers were lost; of a step
-         * also whether its updates clash, as they do only with what was written since it began; and
-         * of a run whether its part is full, as another step goes on in the next one.
+         * Whether to begin again.
+         *
+         * <p>That is so where
+         *
+         * <ul>
+         *   <li>a named location was written since it was read,
+         *   <li>64 offers were lost,
+         *   <li>the updates of a step clash, as they do only with what was written since it began,
+         *   <li>an agent that records has moved past the version of the step (MOVED), or
+         *   <li>the part of a run is full, as another step goes on in the next one.
+         * </ul>
          */
         public boolean shouldRetry() {
-            return isStale() || code == Code.BUSY || (isOfStep && isClash())
+            return isStale() || code == Code.BUSY || (isOfStep && (isClash() || code == Code.MOVED))
                     || (isOfRun && code == Code.FULL);
         }
 
@@ -167,8 +175,9 @@ public sealed interface Actor extends AutoCloseable permits Agent, RunAgent, Sha
          *
          * @throws FolugbenException as a {@link StaleException}, {@link ClashException}, {@link
          *         FullException} or {@link BusyException} where it is another reply; of a step as a
-         *         {@link CommitClashException} for a {@link ClashException}; of a run as a {@link
-         *         PartException} for a {@link FullException}
+         *         {@link CommitClashException} for a {@link ClashException}, or as a {@link
+         *         CommitMovedException}; of a run as a {@link PartException} for a {@link
+         *         FullException}
          */
         public long orThrow() {
             if (code != Code.DONE)

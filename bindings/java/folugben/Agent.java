@@ -17,10 +17,8 @@ public final class Agent extends AgentCalls implements Actor {
 
     private static final Object LEARNING = new Object();
 
-
     /** By which its storage knows it without keeping it. */
     final WeakReference<Agent> weak = new WeakReference<>(this);
-
 
     /** Its number among the agents of its storage. */
     @Override
@@ -28,7 +26,22 @@ public final class Agent extends AgentCalls implements Actor {
         return number;
     }
 
-
+    /**
+     * Has each commit of a step record what the step read, or not, which is the default.
+     *
+     * <p>A commit that records first adds a receipt of a read: the locations that its move names,
+     * with their values at the step's version. So the journal shows what the move was computed
+     * from, and {@link Storage#check} judges that too. What {@link Step#scan} found stays out of
+     * the journal, and so does what {@link Step#see} returned. Each commit then takes about twice
+     * the receipts. Where this agent has moved past the step's version, as by {@link #follow} within
+     * the step, the commit is a conflict ({@link CommitMovedException}), and play begins again.
+     *
+     * @return this agent
+     */
+    public Agent record(boolean isRecording) {
+        setRecording(isRecording);
+        return this;
+    }
 
     /** Reads the locations [LOC, ..]; the answer is {"number":N,"values":[VALUE, ..]}. */
     public String read(String locations) {
@@ -150,15 +163,6 @@ public final class Agent extends AgentCalls implements Actor {
             return reply;
         }
     }
-
-
-
-
-
-
-
-
-
 
     /**
      * Begins a step on the agent's own state, which follows all moves that are found first. Several

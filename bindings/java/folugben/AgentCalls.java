@@ -12,6 +12,8 @@ abstract sealed class AgentCalls permits Agent {
     /** What it is of where that is of a run; else null. */
     volatile Run.Chained chain;
     int vain;
+    /** Whether commits add a receipt of what their step read; with its lock. */
+    private boolean isRecording;
     /** Tells that it was given back, if this code was answered for that; to be called with its lock. */
     Code held(Code code) {
         if (code != Code.EMPTY || slot.isFull())
@@ -52,10 +54,31 @@ abstract sealed class AgentCalls permits Agent {
                 answer = lastAnswer();
             }
             case FULL -> vain++;
-            case BUSY -> {}
+            case BUSY, MOVED -> {}
             default -> expect(code);
         }
         return new Actor.Reply(code, move, from, to, answer, isOfStep, chain != null);
+    }
+    /** Has commits record what their step read, or not. */
+    final void setRecording(boolean isRecording) {
+        synchronized (slot) {
+            this.isRecording = isRecording;
+        }
+    }
+    /** Whether commits record what their step read; with its lock. */
+    final boolean isRecording() {
+        return isRecording;
+    }
+    /** Commits the step, with its lock: the code, and the numbers in the room. */
+    final Code commit(long step) {
+        if (!isRecording)
+            return Code.of(Calls.asm_commit(slot.at, step, room.numbers()));
+        Code code = Code.of(Calls.asm_commit_recorded(slot.at, step, room.numbers()));
+        switch (code) {
+            case DONE, STALE, CLASH, FULL, BUSY -> vain++; // the receipt of the read
+            default -> {}
+        }
+        return code;
     }
     /** Whether it is one of a run. */
     boolean isOfRun() {

@@ -123,6 +123,8 @@ final class Calls {
 
     static native int asm_commit(long agent, long step, long numbers);
 
+    static native int asm_commit_recorded(long agent, long step, long numbers);
+
     static native int asm_location(byte[] location, long len, long at);
 
     static native int asm_peek_at(

@@ -1,11 +1,13 @@
 package folugben;
 
 /**
- * Other agents were quicker: what was tried is to be begun anew, as {@link Agent#play} does. It is
- * the one exception that a loop catches for that.
+ * Reports that other agents were quicker: begin again, as {@link Agent#play} does.
+ *
+ * <p>It is the one exception that a loop by hand catches.
  */
 public abstract sealed class ConflictException extends FolugbenException
-        permits BusyException, CommitClashException, PartException, StaleException {
+        permits BusyException, CommitClashException, CommitMovedException, PartException,
+                StaleException {
     private static final long serialVersionUID = 1;
 
     ConflictException(Code code, long number, String said, String where, String answer) {

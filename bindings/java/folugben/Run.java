@@ -50,13 +50,16 @@ public final class Run implements AutoCloseable {
         LAST
     }
 
-    /** How many answered calls a part keeps, for each move, before it ends at rest. */
+    /** How many receipts a part keeps, for each move, before it ends at rest. */
     private static final int RECEIPTS = 2;
+    /** The number of receipts where none is said. */
+    private static final long UNSAID = Long.MIN_VALUE;
 
     private final RunAgent[] agents = new RunAgent[Storage.AGENTS];
     private final Path folder;
     private final PartWriter writer;
     private final long receipts;
+    private volatile boolean isRecording;
     private volatile Part newest;
     private volatile RunException failure;
     private volatile boolean isClosed;
@@ -85,14 +88,15 @@ public final class Run implements AutoCloseable {
 
     /** The same with so many moves in a part, 1 to 1,048,576. */
     public static Run open(Map<Location, ?> init, Path path, int moves) {
-        return open(init, path, moves, (long) RECEIPTS * moves);
+        return open(init, path, moves, UNSAID);
     }
 
     /**
-     * The same; a part in which more calls than this were answered ends before it is full, once no
-     * agent is in a step, while all that begin one wait for that, a tenth of a second at most. Stale tries are
-     * answered too, and each takes memory and a line of the journal, as a move does. Where it isn't
-     * said, it is twice the number of moves.
+     * The same; a part with more receipts than this ends before it is full, once no agent is in a
+     * step, while all that begin one wait for that, a tenth of a second at most. Each answered call
+     * has a receipt, which takes memory and a line of the journal: a move, a stale try, and what a
+     * commit records. Where it isn't said, it is twice the number of moves, or four times that of a
+     * run that records.
      */
     public static Run open(Map<Location, ?> init, Path path, int moves, long receipts) {
         return open(JsonWriter.state(init, "init"), path, moves, receipts);
@@ -133,12 +137,12 @@ public final class Run implements AutoCloseable {
 
     /** The same, which audits no more than is said. */
     public static Run resume(Path path, Check check) {
-        return resume(path, MOVES, (long) RECEIPTS * MOVES, check);
+        return resume(path, MOVES, UNSAID, check);
     }
 
     /** The same with so many moves in each further part. */
     public static Run resume(Path path, int moves) {
-        return resume(path, moves, (long) RECEIPTS * moves, Check.ALL);
+        return resume(path, moves, UNSAID, Check.ALL);
     }
 
     /** The same; a part ends at rest as that of {@link #open} does. */
@@ -211,8 +215,18 @@ public final class Run implements AutoCloseable {
             expectGoing();
             if (agents[number] != null && !agents[number].isClosed())
                 throw FolugbenException.numberTaken(number);
-            return agents[number] = new RunAgent(this, number);
+            return agents[number] = new RunAgent(this, number, isRecording);
         }
+    }
+
+    /**
+     * Has agents that are made from now on record, or not, as {@link Agent#record} does.
+     *
+     * @return this run
+     */
+    public Run record(boolean isRecording) {
+        this.isRecording = isRecording;
+        return this;
     }
 
     /**
@@ -285,9 +299,11 @@ public final class Run implements AutoCloseable {
         return newest;
     }
 
-    /** How many answered calls a part keeps before it ends at rest. */
+    /** How many receipts a part keeps before it ends at rest. */
     long receipts() {
-        return receipts;
+        if (receipts != UNSAID)
+            return receipts;
+        return (isRecording ? 2L : 1L) * RECEIPTS * newest.capacity;
     }
 
     /** Has agents begin in this part from now on; with the lock of the part before. */

@@ -22,11 +22,13 @@ public final class RunAgent implements Actor {
     private long won;
     /** Whether its last step is by turns, in which time has no part. */
     private boolean isByTurns;
+    private boolean isRecording;
     private boolean isClosed;
 
-    RunAgent(Run run, int number) {
+    RunAgent(Run run, int number, boolean isRecording) {
         this.run = run;
         this.number = number;
+        this.isRecording = isRecording;
     }
 
     /** Its number among the agents of the run. */
@@ -57,6 +59,22 @@ public final class RunAgent implements Actor {
                 part.passOn(agent);
             return null;
         });
+    }
+
+    /**
+     * Has each commit of a step record what the step read, or not, as {@link Agent#record} does.
+     *
+     * <p>A commit then has two receipts, which both count for the end of a part.
+     *
+     * @return this agent
+     */
+    public RunAgent record(boolean isRecording) {
+        synchronized (lock) {
+            this.isRecording = isRecording;
+            if (own != null)
+                own.setRecording(isRecording);
+        }
+        return this;
     }
 
     /**
@@ -173,6 +191,7 @@ public final class RunAgent implements Actor {
             return false;
         vain = 0;
         won -= taken.won();
+        taken.setRecording(isRecording);
         part = newest;
         own = taken;
         return true;

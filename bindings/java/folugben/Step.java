@@ -38,10 +38,6 @@ public sealed class Step extends StepCalls implements AutoCloseable permits Shar
         return before() + number;
     }
 
-
-
-
-
     /**
      * What is seen through the pushed moves at the locations [LOC, ..], as
      * {"number":N,"values":[VALUE, ..]}. A location is got, and the fire names it, where its value
@@ -78,6 +74,24 @@ public sealed class Step extends StepCalls implements AutoCloseable permits Shar
      */
     public long getNumber(Location location) {
         return get(location).asLong();
+    }
+
+    /**
+     * Returns the boolean there.
+     *
+     * @throws IllegalStateException if the value is no boolean
+     */
+    public boolean getBoolean(Location location) {
+        return get(location).asBoolean();
+    }
+
+    /**
+     * Returns the text there.
+     *
+     * @throws IllegalStateException if the value is no text
+     */
+    public String getText(Location location) {
+        return get(location).asText();
     }
 
     /**
@@ -247,8 +261,6 @@ public sealed class Step extends StepCalls implements AutoCloseable permits Shar
         grow(Calls::asm_extend_move, Calls::asm_extend, move);
     }
 
-
-
     /**
      * Takes away the move that was pushed last, and what it rests on; what was got stays got.
      *
@@ -257,6 +269,7 @@ public sealed class Step extends StepCalls implements AutoCloseable permits Shar
     public void pop() {
         Turns.Player.call(this);
         synchronized (agent.slot) {
+            namesMore = true;
             FolugbenException.expect(Code.of(Calls.asm_pop(slot().at)));
         }
     }
@@ -334,7 +347,8 @@ public sealed class Step extends StepCalls implements AutoCloseable permits Shar
      *
      * @throws FolugbenException MANY if more than 256 locations would be named and functions
      *         were scanned
-     * @throws LargeException on a run, if the move's line would be longer than an audit reads
+     * @throws LargeException on a run, if the line of the move, or of the read that is recorded,
+     *         would be longer than an audit reads
      */
     public Agent.Reply tryCommit() {
         return commits();
@@ -345,8 +359,8 @@ public sealed class Step extends StepCalls implements AutoCloseable permits Shar
      * thrown, so none is lost.
      *
      * @throws ConflictException where another step is to be begun, as {@link Agent#play} does: as a
-     *         {@link StaleException}, {@link BusyException}, {@link CommitClashException} or {@link
-     *         PartException}
+     *         {@link StaleException}, {@link BusyException}, {@link CommitClashException}, {@link
+     *         CommitMovedException} or {@link PartException}
      * @throws FolugbenException as a {@link FullException} or {@link ManyException}
      */
     public long commit() {

@@ -1,5 +1,6 @@
 package folugben;
 
+import java.util.List;
 import java.util.Objects;
 
 /** What a step has, and its calls on the library, with the lock of its agent. */
@@ -9,8 +10,11 @@ abstract sealed class StepCalls permits Step {
     final Room room;
     final int number;
     final long before;
-    /** How many bytes it was passed by now, of which a run's journal gets no more than some. */
+    /** How many bytes it was passed and has returned, of which a run's journal gets at most these. */
     long size;
+    private boolean isPushed;
+    /** Whether a commit may name locations of whose values nothing was returned. */
+    boolean namesMore;
     /** The step's slot, until the step is over: the agent then has it for another. */
     final Slot.AgentSlot.StepSlot slot;
     void end() {
@@ -59,6 +63,7 @@ abstract sealed class StepCalls permits Step {
                     (at, out, length, written)
                             -> call.call(
                                     agent.slot.at, step, at, text.length, out, length, written));
+            size += told.text().length();
             agent.held(told.code());
             return told;
         }
@@ -84,17 +89,30 @@ abstract sealed class StepCalls permits Step {
             ManyException.expectPlaces(code);
             location.expect(agent.held(code));
         }
+        size += room.written();
         player.reads(location);
         player.hears(room);
     }
     void grow(Call call, String move) {
         byte[] text = Texts.utf8(move, "move");
         Turns.Player player = Turns.Player.call(this);
-        Calls.Told told = told(call, text);
+        Calls.Told told;
+        synchronized (agent.slot) {
+            told = pushed(told(call, text));
+        }
         FolugbenException.expectNoObjection(told);
         ManyException.expectMove(told.code(), "the one move of all that are pushed");
         FolugbenException.expectMove(told.code(), move, "");
         player.pushes(self());
+    }
+    /**
+     * Notes what a push returned, with the lock. Where it is refused, or another move is pushed
+     * already, the commit may name locations that have partial updates.
+     */
+    private Calls.Told pushed(Calls.Told told) {
+        namesMore |= told.code() != Code.DONE || isPushed;
+        isPushed = true;
+        return told;
     }
     /** A call on an agent, a step and a move that tells a text. */
     interface MoveCall {
@@ -110,11 +128,11 @@ abstract sealed class StepCalls permits Step {
             synchronized (move.slot) {
                 move.expectOpen();
                 size += move.bytes;
-                told = move.size() == 0
-                        ? told(textCall, NO_INSTRUCTIONS)
-                        : room.told((text, out, length, written)
-                                            -> call.call(agent.slot.at, step, move.slot.at, out,
-                                                    length, written));
+                told = pushed(move.size() == 0
+                                ? told(textCall, NO_INSTRUCTIONS)
+                                : room.told((text, out, length, written)
+                                                    -> call.call(agent.slot.at, step, move.slot.at,
+                                                            out, length, written)));
             }
             agent.held(told.code());
         }
@@ -133,7 +151,7 @@ abstract sealed class StepCalls permits Step {
         }
     }
     Code committed() {
-        Code code = Code.of(Calls.asm_commit(agent.slot.at, slot().at, room.numbers()));
+        Code code = agent.commit(slot().at);
         if (code == Code.DONE)
             end();
         return code;
@@ -169,13 +187,28 @@ abstract sealed class StepCalls permits Step {
         }
     }
 
+    /** Expects that the lines of a commit are short enough for a run's journal; with the lock. */
+    private void expectLines() {
+        String offer = offered();
+        Texts.Lines.expectCall(Texts.utf8(offer, "call"));
+        if (!agent.isRecording())
+            return;
+        List<Named> reads = JsonReader.offer(offer).reads();
+        byte[] places = Texts.utf8(
+                JsonWriter.locations(reads.stream().map(Named::location).toList()), "locations");
+        Calls.Told told = agent.slot.peek(places);
+        agent.expect(told.code());
+        Texts.Lines.expectRead(places.length, told.text());
+    }
+
     /** The reply to a commit. */
     final Actor.Reply commits() {
         Turns.Player player = Turns.Player.look(this);
         player.fires(self());
         synchronized (agent.slot) {
-            if (agent.isOfRun() && size > Texts.Lines.SHORT && !isOver())
-                Texts.Lines.expectCall(Texts.utf8(offered(), "call"));
+            boolean mayBeLong = size > Texts.Lines.SHORT || namesMore && agent.isRecording();
+            if (agent.isOfRun() && mayBeLong && !isOver())
+                expectLines();
             Actor.Reply reply = agent.reply(committed(), true);
             player.fired(reply);
             return reply;
@@ -202,6 +235,7 @@ abstract sealed class StepCalls permits Step {
             long step = slot().at;
             synchronized (into.slot) {
                 into.bytes = size;
+                namesMore = true;
                 Code code = agent.held(into.takePopped(step));
                 ManyException.expectMove(code, "the one move of those that are popped");
                 FolugbenException.expect(code);

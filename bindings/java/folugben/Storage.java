@@ -32,6 +32,9 @@ public final class Storage implements AutoCloseable {
     /** Those that were made and not given back, by their numbers; with the lock of the slot. */
     private final Agent[] agents = new Agent[AGENTS];
 
+    /** Whether agents that are made or taken record; with the lock of the slot. */
+    private boolean isRecording;
+
     /** The agent that each thread has played last. */
     private final ThreadLocal<WeakReference<Agent>> last = new ThreadLocal<>();
 
@@ -96,6 +99,26 @@ public final class Storage implements AutoCloseable {
         return new Storage(JsonWriter.state(init, "init"), capacity);
     }
 
+    /**
+     * Has agents that are made or taken from now on record, or not, as {@link Agent#record} does.
+     *
+     * <p>The storages of {@link #next} and {@link Agent#goOn} do as this one.
+     *
+     * @return this storage
+     */
+    public Storage record(boolean isRecording) {
+        synchronized (slot) {
+            this.isRecording = isRecording;
+        }
+        return this;
+    }
+
+    private boolean isRecording() {
+        synchronized (slot) {
+            return isRecording;
+        }
+    }
+
     static void expectNumber(int number) {
         if (number < 0 || number >= AGENTS)
             throw new IllegalArgumentException("agent " + number + ": numbers are 0 to 255");
@@ -117,6 +140,7 @@ public final class Storage implements AutoCloseable {
                     throw FolugbenException.numberTaken(number);
                 expect(code);
             }
+            agent.setRecording(isRecording);
             agents[number] = agent;
         }
         return agent;
@@ -135,6 +159,7 @@ public final class Storage implements AutoCloseable {
             synchronized (agent.slot) {
                 expect(Code.of(Calls.asm_take(slot.at, number, agent.slot.at)));
             }
+            agent.setRecording(isRecording);
             agents[number] = agent;
         }
         return agent;
@@ -269,14 +294,14 @@ public final class Storage implements AutoCloseable {
             synchronized (next.slot) {
                 expect(Code.of(Calls.asm_next(slot.at, capacity, next.slot.at)));
             }
+            return next.record(isRecording);
         }
-        return next;
     }
 
     /** The storage that goes on from the agent's own state. */
     static Storage behind(Agent agent, int capacity) {
         expectCapacity(capacity);
-        Storage next = new Storage((Path) null);
+        Storage next = new Storage((Path) null).record(agent.storage.isRecording());
         synchronized (agent.slot) {
             synchronized (next.slot) {
                 Code code = agent.slot.goOn(capacity, next.slot);

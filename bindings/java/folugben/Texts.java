@@ -160,6 +160,13 @@ final class Texts {
                 expectCall(Texts.utf8(call, "call"));
         }
 
+        /** Expects that the line of a read is short enough, with locations of so many bytes. */
+        static void expectRead(long locations, String answer) {
+            long length = locations + bytes(answer) + ROOM;
+            if (length > LIMIT)
+                throw LargeException.line("the read", length);
+        }
+
         /** Expects that a journal may open with a state whose text has so many bytes. */
         static void expectState(long length) {
             if (length + ROOM > LIMIT)

@@ -294,7 +294,7 @@ PyObject *agent_go_on(Agent *self, PyObject *words, PyObject *named)
 {
     uint32_t capacity;
     int32_t code;
-    Storage *next = storage_next_of(&self->held, words, named, &capacity);
+    Storage *next = storage_next_of(self->storage, words, named, &capacity);
     if (!next || UNREADY(&self->held)) {
         Py_XDECREF((PyObject *)next);
         return NULL;

@@ -63,7 +63,7 @@ typedef struct {
     uint32_t last;      /* the greatest number of a move that is known to be fired */
     int64_t closed;     /* how many moves the last journal has, -1 without one */
     int is_abandoned;   /* an agent was freed that wasn't given back */
-    char is_made;
+    char is_made, records; /* whether commits record what their steps got */
     Agent *first;       /* its agents, without references */
     PyObject *journal;  /* the path of its journal, or null */
     Turn turns[TURNS];
@@ -87,8 +87,9 @@ struct Step {
     Agent *agent;
     uint32_t number, fired;
     unsigned long thread; /* that began it */
-    uint64_t size; /* about how many bytes of text it has got and pushed */
+    uint64_t size; /* about how many bytes of text it has got and pushed, and will record */
     char is_fired, is_tried, is_pushed, is_open;
+    char is_partial; /* a pushed move may have partial updates */
 };
 
 typedef struct {
@@ -227,7 +228,7 @@ void change_end(Change *its);
     {"inc", METHOD(type##_inc), METH_FASTCALL, "inc($self, at, by, /)\n--\n\nRaise a number, by 0 or less too."}
 
 /* storage.c, and move.c */
-Storage *storage_next_of(Held *held, PyObject *words, PyObject *named, uint32_t *capacity);
+Storage *storage_next_of(const Storage *behind, PyObject *words, PyObject *named, uint32_t *capacity);
 PyObject *storage_refused(Storage *self, int32_t code);
 PyObject *location_refused(Location *self, int32_t code);
 

@@ -103,11 +103,12 @@ static PyObject *step_offer_text(Step *self, PyObject *Py_UNUSED(none))
     return offer(self, 1);
 }
 
-/* Commits, and writes the answer of a refusal. */
+/* Commits, and writes the answer of a refusal. Only a commit that records answers that the agent has gone on. */
 static int32_t commits(Step *self, asm_numbers *numbers, Room *room)
 {
     Agent *agent = self->agent;
-    int32_t answered, code = asm_commit(SLOT(agent), SLOT(self), numbers);
+    int32_t answered, code = agent->storage->records ? asm_commit_recorded(SLOT(agent), SLOT(self), numbers)
+                                                     : asm_commit(SLOT(agent), SLOT(self), numbers);
     if (ODD(room && (code == ASM_STALE || code == ASM_CLASH))) {
         TOLD(answered, room, asm_answer(SLOT(agent), ROOM(room)));
         code = answered == ASM_DONE ? code : answered;
@@ -136,7 +137,7 @@ int64_t step_fires(Step *self, int is_try)
         return (int64_t)(agent->base + numbers.fired);
     }
     self->is_tried |= code != ASM_EMPTY;
-    int is_vain = is_try && (code == ASM_STALE || code == ASM_CLASH || code == ASM_BUSY);
+    int is_vain = is_try && (code == ASM_STALE || code == ASM_CLASH || code == ASM_BUSY || code == ASM_MOVED);
     if (!is_vain && code == ASM_EMPTY)
         step_refused(self, code);
     else if (!is_vain)
@@ -263,8 +264,8 @@ static PyMethodDef methods[] = {
         "offer($self, /)\n--\n\nReturn what `commit` would offer: {\"fire\": [..], \"reads\": [..]}, which `Agent.fire` takes. Scans aren't in it."},
     {"commit", (PyCFunction)step_commit, METH_NOARGS,
         "commit($self, /)\n--\n\nFire one move that does what the pushed moves do in turn. Return its number; the step is over then.\n\n"
-        "A `ConflictError` where the step is to be begun again: `StaleError`, `BusyError`, or `CommitClashError` where what is written\n"
-        "by now doesn't bear an update. `FullError` as of a fire; `ManyError` where more than 256 locations and functions are named."},
+        "A `ConflictError` where the step is to be begun again: `StaleError`, `BusyError`, `CommitClashError` where what is written\n"
+        "by now doesn't bear an update, or `CommitMovedError` where it records and its agent has gone on. `FullError` as of a fire; `ManyError` where more than 256 locations and functions are named."},
     {"try_commit", (PyCFunction)step_try_commit, METH_NOARGS,
         "try_commit($self, /)\n--\n\nThe same, but return 0 where the step is to be begun again."},
     {"fire", step_fire, METH_NOARGS, NULL},

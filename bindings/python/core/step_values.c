@@ -13,6 +13,27 @@ static int32_t told(Step *self, TextCall call, const uint8_t *text, size_t len, 
     return code;
 }
 
+/* Counts a text that is got with its place: a commit may record it. */
+static void got(Step *self, size_t place, const Room *room)
+{
+    self->size += place + (self->agent->storage->records ? room->written : 0);
+}
+
+/* The fire may name locations now of whose values nothing is known. */
+static void names_more(Step *self)
+{
+    self->size += self->agent->storage->records ? LINE_LIMIT : 0;
+}
+
+/* Has pushed a move: where one before it has partial updates, the fire may name what both write. */
+static void grew(Step *self, int is_partial)
+{
+    self->is_pushed = 1;
+    if (self->is_partial)
+        names_more(self);
+    self->is_partial |= is_partial;
+}
+
 static PyObject *values_of(Step *self, TextCall call, PyObject *places)
 {
     Core *core = self->held.core;
@@ -25,7 +46,7 @@ static PyObject *values_of(Step *self, TextCall call, PyObject *places)
     room_begin(&room);
     if (!UNREADY(&self->agent->held)) {
         int32_t code = told(self, call, BYTES(&text), &room);
-        self->size += text.len;
+        got(self, text.len, &room);
         if (code == ASM_DONE)
             values = read_values(core, &room, &number);
         else if (code == ASM_EMPTY || code == ASM_MOVED)
@@ -55,7 +76,7 @@ PyObject *step_at(Step *self, PyObject *place)
         int is_placed = code == ASM_DONE;
         if (is_placed)
             TOLD(code, &room, asm_get_at(SLOT(agent), SLOT(self), AT(&at), &value, ROOM(&room)));
-        self->size += at.held ? (uint64_t)PyBytes_Size(at.held->text) : at.text.len;
+        got(self, at.held ? (size_t)PyBytes_Size(at.held->text) : at.text.len, &room);
         if (!ODD(code != ASM_DONE))
             one = value_of(core, &value, &room);
         else if (!is_placed || (code == ASM_EMPTY && IS_FULL(self) && IS_FULL(agent)))
@@ -103,6 +124,7 @@ static PyObject *not_pushed(Step *self, int32_t code, const char *move, size_t l
 {
     if (code == ASM_EMPTY || code == ASM_MOVED)
         return step_refused(self, code);
+    names_more(self);
     return refuse(self->held.core, code, "pushed", "(iy#y#O)", (int)code, move, (Py_ssize_t)len, room->at,
         (Py_ssize_t)(code == ASM_CLASH || code == ASM_LARGE ? room->written : 0), (PyObject *)self);
 }
@@ -119,7 +141,8 @@ static PyObject *grow_by_text(Step *self, TextCall call, PyObject *move)
         int32_t code = told(self, call, BYTES(&text), &room);
         self->size += text.len;
         /* A move of no instructions is none that is missed. */
-        self->is_pushed |= code == ASM_DONE && text.len > 2;
+        if (code == ASM_DONE && text.len > 2)
+            grew(self, 1);
         done = code == ASM_DONE ? Py_NewRef(Py_None) : not_pushed(self, code, text.at, text.len, &room);
     }
     room_end(&room);
@@ -146,7 +169,8 @@ static PyObject *grow(Step *self, TextCall text_call, MoveCall call, PyObject *i
     else
         code = told(self, text_call, (const uint8_t *)"[]", 2, &room);
     self->size += move->size;
-    self->is_pushed |= code == ASM_DONE && IS_FULL(move);
+    if (code == ASM_DONE && IS_FULL(move))
+        grew(self, 1);
     PyObject *done = ODD(code != ASM_DONE) ? not_pushed(self, code, "", 0, &room) : Py_NewRef(Py_None);
     room_end(&room);
     return done;
@@ -180,10 +204,10 @@ static PyObject *change(Step *self, PyObject *const *words, Py_ssize_t count, in
             TOLD(code, &room, asm_extend_move(SLOT(agent), SLOT(self), &move, ROOM(&room)));
         asm_free(&move.slot);
         self->size += change_size(&its);
-        self->is_pushed |= code == ASM_DONE;
-        if (code == ASM_DONE)
+        if (code == ASM_DONE) {
+            grew(self, verb != ASM_PUT);
             done = Py_NewRef(Py_None);
-        else if (its.code != ASM_DONE)
+        } else if (its.code != ASM_DONE)
             change_refused(core, &its);
         else
             not_pushed(self, code, "", 0, &room);
@@ -200,6 +224,7 @@ PyObject *step_pop(Step *self, PyObject *Py_UNUSED(none))
     if (UNREADY(&self->agent->held))
         return NULL;
     int32_t code = asm_pop(SLOT(self));
+    names_more(self);
     self->is_pushed &= asm_depth(SLOT(self)) > 0;
     return code == ASM_DONE ? Py_NewRef(Py_None) : step_refused(self, code);
 }
@@ -213,6 +238,7 @@ PyObject *step_pop_move(Step *self, PyObject *Py_UNUSED(none))
         return NULL;
     }
     int32_t code = asm_pop_move(SLOT(self), SLOT(move));
+    names_more(self);
     self->is_pushed &= asm_depth(SLOT(self)) > 0;
     if (code == ASM_DONE) {
         move->is_popped = 1;

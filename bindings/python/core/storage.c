@@ -31,13 +31,15 @@ static int storage_note(Storage *self, PyObject *journal)
 
 static int storage_init(Storage *self, PyObject *words, PyObject *named)
 {
-    static char *names[] = {"init", "capacity", "journal", NULL};
+    static char *names[] = {"init", "capacity", "journal", "record", NULL};
     Core *core = self->held.core;
     PyObject *init = NULL, *most = NULL, *journal = NULL;
     uint32_t capacity = 4096;
+    int records = 0;
     Text text;
-    if (!PyArg_ParseTupleAndKeywords(words, named, "|OOO", names, &init, &most, &journal) || storage_note(self, journal))
+    if (!PyArg_ParseTupleAndKeywords(words, named, "|OOO$p", names, &init, &most, &journal, &records) || storage_note(self, journal))
         return -1;
+    self->records = (char)records;
     PyObject *pairs = !init ? PyList_New(0) : PyDict_Check(init) ? PyMapping_Items(init) : PySequence_List(init);
     int failed = !pairs || write_named(core, &text, pairs, "init");
     Py_XDECREF(pairs);
@@ -54,20 +56,22 @@ static int storage_init(Storage *self, PyObject *words, PyObject *named)
     return failed || code != ASM_DONE ? -1 : 0;
 }
 
-/* A storage that opens with a state that is a text. */
+/* A storage that opens with a state that is a text; a third word says whether it records. */
 static PyObject *storage_opened(PyTypeObject *type, PyObject *words)
 {
     const uint8_t *text;
     Py_ssize_t len;
     unsigned capacity;
     int32_t code;
-    if (!PyArg_ParseTuple(words, "y#I", &text, &len, &capacity))
+    int records = 0;
+    if (!PyArg_ParseTuple(words, "y#I|p", &text, &len, &capacity, &records))
         return NULL;
     Storage *self = (Storage *)storage_new(type, NULL, NULL);
     if (!self || storage_note(self, NULL)) {
         Py_XDECREF((PyObject *)self);
         return NULL;
     }
+    self->records = (char)records;
     CALL(code, &self->held, 1, asm_open(text, (size_t)len, capacity, SLOT(self)));
     if (code == ASM_DONE)
         return (PyObject *)self;
@@ -76,18 +80,21 @@ static PyObject *storage_opened(PyTypeObject *type, PyObject *words)
     return NULL;
 }
 
-/* A storage whose slot is empty, and its capacity, of the words (capacity, journal) of a call that opens it behind another. */
-Storage *storage_next_of(Held *held, PyObject *words, PyObject *named, uint32_t *capacity)
+/* A storage whose slot is empty, and its capacity, of the words (capacity, journal) of a call that opens it behind another. It
+ * records where that one does. */
+Storage *storage_next_of(const Storage *behind, PyObject *words, PyObject *named, uint32_t *capacity)
 {
     static char *names[] = {"capacity", "journal", NULL};
     PyObject *most = NULL, *journal = NULL;
     *capacity = 4096;
     if (!PyArg_ParseTupleAndKeywords(words, named, "|OO", names, &most, &journal) ||
-        (most && number_of(held->core, most, "capacity", 1, CAPACITY, capacity)))
+        (most && number_of(behind->held.core, most, "capacity", 1, CAPACITY, capacity)))
         return NULL;
-    Storage *next = (Storage *)storage_new(held->core->storage, NULL, NULL);
+    Storage *next = (Storage *)storage_new(behind->held.core->storage, NULL, NULL);
     if (next && storage_note(next, journal))
         Py_CLEAR(next);
+    if (next)
+        next->records = behind->records;
     return next;
 }
 
@@ -198,7 +205,7 @@ static PyObject *storage_next(Storage *self, PyObject *words, PyObject *named)
 {
     uint32_t capacity, moves = 0;
     int32_t code;
-    Storage *next = storage_next_of(&self->held, words, named, &capacity);
+    Storage *next = storage_next_of(self, words, named, &capacity);
     if (!next || UNREADY(&self->held)) {
         Py_XDECREF((PyObject *)next);
         return NULL;
@@ -265,11 +272,20 @@ static PyMethodDef methods[] = {
     {"__exit__", METHOD(storage_exit), METH_FASTCALL, NULL},
     {0},
 };
+static PyMemberDef members[] = {
+    {"__weaklistoffset__", T_PYSSIZET, offsetof(Held, weak), READONLY, NULL},
+    {"record", T_BOOL, offsetof(Storage, records), READONLY, "Whether the commits of its agents record what their steps got."},
+    {0},
+};
 static PyType_Slot slots[] = {
-    {Py_tp_doc, "Storage(init=(), capacity=4096, journal=None)\n--\n\n"
+    {Py_tp_doc, "Storage(init=(), capacity=4096, journal=None, *, record=False)\n--\n\n"
                 "A storage with an opening state, a dict of values by location or pairs of the two, for so many moves.\n\n"
                 "Where `journal` names a file, the journal is written there at the end of the `with`, also after an exception, once the\n"
-                "agents are given back."},
+                "agents are given back.\n\n"
+                "With `record` each commit of its agents also records what the step got from the state: the journal then has these\n"
+                "locations with their values, as a read before the fire, and `check` judges them. What scans found stays out of it.\n"
+                "Such a commit of a step beyond which its agent has gone on raises `CommitMovedError`, and `play` begins again. `next`\n"
+                "and `go_on` open a storage that records where this one does."},
     {Py_tp_new, storage_new}, {Py_tp_init, storage_init}, {Py_tp_dealloc, storage_gone}, {Py_tp_methods, methods},
-    {Py_tp_members, held_members}, {Py_tp_getset, held_gets}, {Py_tp_repr, storage_repr}, {0}};
+    {Py_tp_members, members}, {Py_tp_getset, held_gets}, {Py_tp_repr, storage_repr}, {0}};
 PyType_Spec storage_spec = {"folugben.Storage", sizeof(Storage), 0, Py_TPFLAGS_DEFAULT | Py_TPFLAGS_BASETYPE, slots};

@@ -20,6 +20,11 @@ An agent may also read locations and fire moves that name what they depend on; e
     number, (count,) = agent.read([("count",)])
     agent.fire([("put", "count", count + 1)], reads=[("count", number)])
 
+The journal tells of a step its fire alone. With `Storage(.., record=True)`, or `Run(.., record=True)`, each commit also records what
+the step got of the state, as a read before the fire, so that `check` and `audit` judge what a `get` returned. What scans found stays
+out of the journal. A commit that records raises `CommitMovedError` where its agent has gone on since the step began; it is a
+`ConflictError`, and `play` begins again.
+
 For annotations there are the types `Value`, `Element`, `Place` and `Update`: a location as a tuple or a list is a Place.
 
 A Location is prepared once, and a Move is gathered, for steps that write and read no text, which are quicker:
@@ -67,9 +72,9 @@ except ImportError as error:
 
 from ._auditor import Auditor, Counts
 from ._core import Agent, Location, Move, Played, Step, Storage
-from ._errors import BadJournalError, BrokenError, BusyError, ClashError, CommitClashError, ConflictError, DamagedError, DeepError
-from ._errors import Error, FullError, LargeError, ManyError, MismatchError, MissingError, MovedError, OverError, PastError
-from ._errors import StaleError, TooLongError, UnknownError, error_text, explain
+from ._errors import BadJournalError, BrokenError, BusyError, ClashError, CommitClashError, CommitMovedError, ConflictError
+from ._errors import DamagedError, DeepError, Error, FullError, LargeError, ManyError, MismatchError, MissingError, MovedError, OverError
+from ._errors import PastError, StaleError, TooLongError, UnknownError, error_text, explain
 from ._explore import DiffersError, Explored, explore
 from ._functions import aggregate, check, compose, replay, trace, version
 from ._held import ForkedError, NestedError
@@ -86,9 +91,9 @@ from ._types import Element, Place, Update, Value
 __version__ = "0.2.0"
 
 __all__ = [
-    "Agent", "Auditor", "BadJournalError", "BrokenError", "BusyError", "ClashError", "Code", "CommitClashError", "ConflictError",
-    "Counts", "DamagedError", "DeepError", "DiffersError", "Element", "EndlessError", "Error", "Explored", "ForkedError", "FullError",
-    "LargeError", "Location", "ManyError", "MismatchError", "MissingError", "Move", "MovedError", "NestedError", "OverError",
+    "Agent", "Auditor", "BadJournalError", "BrokenError", "BusyError", "ClashError", "Code", "CommitClashError", "CommitMovedError",
+    "ConflictError", "Counts", "DamagedError", "DeepError", "DiffersError", "Element", "EndlessError", "Error", "Explored", "ForkedError",
+    "FullError", "LargeError", "Location", "ManyError", "MismatchError", "MissingError", "Move", "MovedError", "NestedError", "OverError",
     "PastError", "Place", "Played", "Run", "RunAgent", "SharedAgent", "SharedRun", "StaleError", "Step", "Storage", "TextForm", "TooLongError",
     "UnknownError", "Update", "Value", "aggregate", "audit", "check", "compose", "error_text", "explain", "explore", "import_run",
     "interleave", "part", "replay", "states", "trace", "version",

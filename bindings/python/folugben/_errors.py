@@ -9,7 +9,14 @@ from ._library import Code, ERROR_TEXT, EXPLAIN, TextForm
 
 CODES = frozenset(Code)
 # The codes whose own line says less than what an error says.
-_SAID = frozenset({Code.NOT_JSON, Code.CAPACITY, Code.AGENTS, Code.AHEAD, Code.OPERAND, Code.NO_FORM, Code.MANY, Code.LONG_MOVE})
+_SAID = frozenset({
+    Code.NOT_JSON, Code.SHAPE, Code.CAPACITY, Code.AGENTS, Code.AHEAD, Code.OPERAND, Code.NO_FORM, Code.MANY, Code.LONG_MOVE,
+})
+# What the library says of a text, and what that is of the values which the text was made of.
+_OF_VALUES = {
+    "are an array": "are a list or a tuple", "is an array of": "is a tuple or a list of", "an object is": "a dict is",
+    'a list is written {"list":[..]}': 'a list is a tuple, or written {"list":[..]}',
+}
 
 # A text in UTF-8, or as Python has it.
 Text: TypeAlias = bytes | bytearray | memoryview | str
@@ -53,6 +60,8 @@ class Error(Exception):
     named reads and scans that were, which is named at a number that the agent hasn't seen.
     """
 
+    _said_alone = _SAID
+
     def __init__(self, code: int, numbers: Iterable[int] = (), said: str = "") -> None:
         self.code = Code(code) if code in CODES else code
         self.numbers = tuple(numbers) if code in NUMBERS else ()
@@ -62,7 +71,7 @@ class Error(Exception):
     def __str__(self) -> str:
         text = error_text(self.code)
         if self.said:
-            text = self.said if self.code in _SAID else f"{text}: {self.said}"
+            text = self.said if self.code in self._said_alone else f"{text}: {self.said}"
         where = NUMBERS[self.code].format(*self.numbers) if self.numbers else ""
         return text if text.endswith(where) else f"{text} ({where})"
 
@@ -122,6 +131,10 @@ class DeepError(Error):
 
 class MovedError(Error):
     """The agent's own state doesn't stand at the number of the step, as it has moved on since: begin another step."""
+
+
+class CommitMovedError(MovedError, ConflictError):
+    """A commit records what its step got, and its agent has gone on since the step began; nothing was done."""
 
 
 class PastError(ConflictError):
@@ -186,6 +199,8 @@ class BadJournalError(Error):
     An audit tells the number of the part besides, from 0 up.
     """
 
+    # What it says is of a line of JSON.
+    _said_alone = _SAID - {Code.SHAPE}
     part: int | None = None
 
     @property
@@ -297,12 +312,13 @@ def is_json(text: bytes) -> bool:
 
 
 def expect_read(code: int, form: int, text: bytes) -> None:
-    """Raises what the code of a call says that was passed a text of this form, unless it is DONE."""
+    """Raises what the code of a call says that was passed values, as a text of this form, unless it is DONE."""
     if code == Code.NOT_JSON and is_json(text):
         expect(Code.SHAPE, said="lists nest at most 8 deep")
     if code in (Code.NOT_JSON, Code.SHAPE):
         said = explain(form, text)
-        said = said.replace('a list is written {"list":[..]}', 'a list is a tuple, or written {"list":[..]}')
+        for its, of_values in _OF_VALUES.items():
+            said = said.replace(its, of_values)
         if " is whole, from " in said and (at := refused_number(text)):
             said += f", and {at}"
         expect(code, said=said)
@@ -314,7 +330,7 @@ def expect_scans(code: int, scans: Iterable[Any]) -> None:
     if code == Code.SHAPE:
         for place, scan in enumerate(scans, 1):
             if not is_scan(scan):
-                expect(code, said=f"scan {place}: a scan is an array of a function's name and a number, from 0 to 4,294,967,295")
+                expect(code, said=f"scan {place}: a scan is a tuple or a list of a function's name and a number, from 0 to 4,294,967,295")
     expect(code)
 
 

@@ -5,6 +5,9 @@ from ._errors import TooLongError
 from ._library import Code
 from ._texts import decoded, encoded
 
+if TYPE_CHECKING:
+    from ._core import Agent
+
 # How many bytes a line may have, its line feed apart: what an audit reads, and what is written.
 LINE_LIMIT = 1_073_741_824
 # What a line has at most besides its call and the location of its reply, or besides its state.
@@ -27,6 +30,13 @@ def expect_call(call: bytes) -> None:
     length = len(call) + max((len(encoded(place, "place")) for place in places), default=0) + ROOM
     if length > LINE_LIMIT:
         raise too_long("the move", length)
+
+
+def expect_recorded(call: bytes, agent: "Agent") -> None:
+    """Expect that the line of the read is short enough which the commit of such a call records; `TooLongError` otherwise."""
+    length = agent._peek_length([at for at, _ in decoded(call)["reads"]]) + ROOM
+    if length > LINE_LIMIT:
+        raise too_long("what the step got", length)
 
 
 def expect_state(length: int) -> None:

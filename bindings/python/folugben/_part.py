@@ -5,7 +5,7 @@ from typing import TYPE_CHECKING, Any
 from ._core import Agent, Step, Storage
 from ._errors import Error, FullError, MissingError, PastError
 from ._library import Code
-from ._lines import SHORT, expect_call
+from ._lines import SHORT, expect_call, expect_recorded
 from ._turns import here
 
 if TYPE_CHECKING:
@@ -13,7 +13,7 @@ if TYPE_CHECKING:
 
 # How long a part that has ended, or is to end, waits for an agent in a step.
 PATIENCE = 0.1
-# After so many calls that leave a receipt an agent has them counted with those of all.
+# After so many receipts an agent has them counted with those of all.
 _EACH = 32
 
 
@@ -33,7 +33,7 @@ class PartStep(Step):
         return offer | {"reads": tuple((at, base + number) for at, number in offer["reads"])}
 
     def commit(self) -> int:
-        """The same as of any step; `PastError` where its part has ended, `TooLongError` where the move's line would be too long."""
+        """The same as of any step; `PastError` where its part has ended, `TooLongError` where a line of the journal would be too long."""
         self._try()
         try:
             return super().commit()
@@ -42,17 +42,21 @@ class PartStep(Step):
 
     def try_commit(self) -> int:
         """The same, but 0 where the step is to be begun again, also where its part has ended."""
-        self._try()
         try:
+            self._try()
             return super().try_commit()
         except (FullError, PastError):
             self._is_tried = True
             return 0
 
     def _try(self) -> None:
+        receipts = 2 if self._agent.part.storage.record else 1
         if self._size > SHORT:
-            expect_call(self._offer_text())
-        self._agent.tried()
+            call = self._offer_text()
+            expect_call(call)
+            if receipts > 1:
+                expect_recorded(call, self._agent)
+        self._agent.tried(receipts)
 
 
 class PartAgent(Agent):
@@ -72,11 +76,12 @@ class PartAgent(Agent):
         self.is_by_turns = here.is_by_turns
         return PartStep(self)
 
-    def tried(self) -> None:
-        """Counts a call that leaves a receipt."""
-        self._tries += 1
-        if self._tries % _EACH == 0:
-            self.part.chain.count(self.part, _EACH)
+    def tried(self, receipts: int = 1) -> None:
+        """Counts the receipts that a call leaves."""
+        self._tries += receipts
+        if self._tries >= _EACH:
+            self._tries, tries = 0, self._tries
+            self.part.chain.count(self.part, tries)
 
     def _expect_held(self) -> None:
         self.part.chain.expect_going()

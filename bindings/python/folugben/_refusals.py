@@ -6,8 +6,8 @@ import sys
 from typing import TYPE_CHECKING, Any, NoReturn
 
 from . import _core
-from ._errors import INSTRUCTIONS, READS, BusyError, ClashError, CommitClashError, Error, MissingError, OverError, ahead, expect
-from ._errors import expect_part, expect_read, expect_scans, explain, refusal
+from ._errors import INSTRUCTIONS, READS, BusyError, ClashError, CommitClashError, CommitMovedError, Error, MissingError, OverError
+from ._errors import ahead, expect, expect_part, expect_read, expect_scans, explain, refusal
 from ._held import ForkedError
 from ._library import Code, INC, TEXT, TextForm
 from ._play import back_off, no_rule, play
@@ -174,7 +174,7 @@ def answered(code: int, told: bytes, from_: int, to: int, clash: type[ClashError
 
 def committed(code: int, told: bytes, from_: int, to: int) -> None:
     answered(code, told, from_, to, CommitClashError)
-    expect(code)
+    expect(code, CommitMovedError if code == Code.MOVED else None)
 
 
 def pushed(code: int, move: bytes, told: bytes, step: "Step") -> None:

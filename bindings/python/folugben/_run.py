@@ -41,6 +41,9 @@ class Run:
     agents have kept more than `receipts` receipts (twice the number of moves unless another is told), as stale fires leave some
     too, and `every` so many seconds after its first move, if that is told; it then waits for steps for 0.1 s.
 
+    With `record` each commit also records what its step got, as of a `Storage`: an audit then judges that too. It leaves two
+    receipts, so that `receipts` is four times the number of moves unless another is told.
+
         with Run("count.run", init=[[["count"], 0]]) as run, run.agent(0) as agent:
             agent.play(lambda step: step.push([["inc", ["count"], 1]]))
             run.flush()
@@ -61,10 +64,10 @@ class Run:
 
     def __init__(
         self, path: str | os.PathLike[str], init: Iterable[Form] = (), moves: int = 100_000, *, every: float | None = None,
-        receipts: int | None = None,
+        receipts: int | None = None, record: bool = False,
     ) -> None:
-        capacity = self._prepare(path, moves, every, receipts)
-        with Storage(init, capacity) as opening:
+        capacity = self._prepare(path, moves, every, receipts, record)
+        with Storage(init, capacity, record=record) as opening:
             journal = memoryview(opening.close_journal())
             expect_state(len(journal))
             self._begin(RunWriter.created(self._path, journal), lambda: opening.next(capacity), capacity)
@@ -72,11 +75,12 @@ class Run:
     @classmethod
     def resume(
         cls, path: str | os.PathLike[str], moves: int = 100_000, *, check: Literal["all", "last"] = "all",
-        every: float | None = None, receipts: int | None = None,
+        every: float | None = None, receipts: int | None = None, record: bool = False,
     ) -> "Run":
         """Go on with an earlier run, from the end of its last segment, also where its process was killed.
 
-        Before that all segments are audited, or with check="last" the last one alone. Nothing is changed or removed.
+        Before that all segments are audited, or with check="last" the last one alone. Nothing is changed or removed. Whether
+        the run recorded before has no part in whether it does now.
 
         Raises:
             FileNotFoundError: there is no run.
@@ -88,7 +92,7 @@ class Run:
         if check not in ("all", "last"):
             raise ValueError(f"check is 'all' or 'last', and not {check!r}")
         run = cls.__new__(cls)
-        capacity = run._prepare(path, moves, every, receipts)
+        capacity = run._prepare(path, moves, every, receipts, record)
         folder, segments = RunWriter.resumed(run._path)
         try:
             with Reading(folder) as reading:
@@ -98,17 +102,19 @@ class Run:
         except BaseException:
             folder.close()
             raise
-        run._begin(folder, lambda: Storage._opened(state, capacity), capacity)
+        run._begin(folder, lambda: Storage._opened(state, capacity, record), capacity)
         return run
 
-    def _prepare(self, path: str | os.PathLike[str], moves: int, every: float | None, receipts: int | None) -> int:
+    def _prepare(
+        self, path: str | os.PathLike[str], moves: int, every: float | None, receipts: int | None, record: bool
+    ) -> int:
         """What the run goes by, before anything is made; the capacity of its parts."""
         self._path, capacity = pathlib.Path(path), capacity_of(moves)
         if every is not None and not (isinstance(every, (int, float)) and every > 0):
             raise ValueError(f"every is a number of seconds above 0, and not {every!r}")
         if receipts is not None and not (isinstance(receipts, int) and receipts >= 0):
             raise ValueError(f"receipts is a whole number from 0, and not {receipts!r}")
-        self._every, self._receipts = every, 2 * capacity if receipts is None else receipts
+        self._every, self._receipts = every, (4 if record else 2) * capacity if receipts is None else receipts
         self._agents: weakref.WeakValueDictionary[int, RunAgent] = weakref.WeakValueDictionary()
         return capacity
 

@@ -39,20 +39,20 @@ def live_all(
         life.result()
 
 
-def run(init: Any, programs: list[Program]) -> bytes:
-    """The journal of a run of all programs."""
-    with Storage(init, 10_000) as storage:
+def run(init: Any, programs: list[Program], record: bool = False) -> bytes:
+    """The journal of a run of all programs, with what their steps got where it records that."""
+    with Storage(init, 10_000, record=record) as storage:
         live_all(storage, programs)
         return storage.close_journal()
 
 
-def run_on(path: str, init: Any, programs: list[Program], seconds: float, moves: int = 100_000) -> None:
+def run_on(path: str, init: Any, programs: list[Program], seconds: float, moves: int = 100_000, record: bool = False) -> None:
     """Plays the rules for so many seconds, in parts of so many moves; where the folder has a run, that goes on."""
     endless: list[Program] = [(rule, lambda agent: False) for rule, _ in programs]
     try:
-        there = Run.resume(path, moves)
+        there = Run.resume(path, moves, record=record)
     except FileNotFoundError:
-        there = Run(path, init, moves)
+        there = Run(path, init, moves, record=record)
     with there as run:
         live_all(run, endless, seconds)
 

@@ -48,9 +48,9 @@ JOURNAL = _journal()
 class World:
     """A storage with agents, and what steps are made of."""
 
-    def __init__(self, capacity: int = 100) -> None:
+    def __init__(self, capacity: int = 100, record: bool = False) -> None:
         init = [[["x", k], 0] for k in range(8)] + [[["t"], "text"], [["s"], {"set": [1, 2]}], [["b"], Counter("aab")]]
-        self.storage = Storage(init, capacity)
+        self.storage = Storage(init, capacity, record=record)
         self.agent, self.other = self.storage.agent(0), self.storage.agent(1)
         self.at, self.text, self.set, self.move = Location(["x", 3]), Location(["t"]), Location(["s"]), Move()
         self.freed = Location(["x", 9])
@@ -155,10 +155,15 @@ def refused(call: Callable[[], object]) -> None:
     raise AssertionError("nothing was refused")
 
 
+# The calls that commit, which are made on a storage that records too.
+COMMITS = {"fire", "stale", "play", "idle plays", "writes", "unite"}
+
+
 def leaks(times: int = 1000) -> None:
     warnings.simplefilter("ignore")
-    world, left = World(100_000), {}
-    for name, call in world.calls().items():
+    plain, records, left = World(100_000), World(100_000, record=True), {}
+    calls = [*plain.calls().items(), *((name, call) for name, call in records.calls().items() if name in COMMITS)]
+    for name, call in calls:
         # Calls that leave receipts or moves keep memory, which the storage has.
         keeps = {"fire", "stale", "play", "read", "agent's fire", "stale fire", "close"}
         for _ in range(20):
@@ -181,9 +186,9 @@ def refusals() -> None:
     library.shim_left.restype = ctypes.c_long
     warnings.simplefilter("ignore")
     count = 0
-    for name, call in World().calls().items():
+    for name, record in [(name, False) for name in World().calls()] + [(name, True) for name in sorted(COMMITS)]:
         for number in itertools.count(1):
-            world = World()
+            world = World(record=record)
             call = world.calls()[name]
             library.shim_refuse(ctypes.c_long(number))
             try:

@@ -1,5 +1,14 @@
-"""What Python's own values have to be for JSON, written apart from the package."""
-from collections import Counter
+"""What Python's own values have to be for JSON, written apart from the package, and what gets return beside what is recorded."""
+import contextlib
+import json
+import pathlib
+import sys
+import unittest
+from collections import Counter, defaultdict
+from unittest import mock
+
+import folugben
+from folugben._texts import encoded
 
 
 def value(it):
@@ -29,3 +38,90 @@ def call(it):
     """A move with its reads."""
     fire = tuple((word, place(at), *map(value, operands)) for word, at, *operands in it["fire"])
     return {"fire": fire, "reads": tuple((place(at), number) for at, number in it["reads"])}
+
+
+class Watch:
+    """Notes what gets return, and has `check` judge each journal with that in the place of what commits have recorded there."""
+
+    def __init__(self):
+        self._check, self.faults = folugben.check, []
+        # What gets returned, by the storage and the number of moves; how often agents read; how many reads commits have recorded
+        # in a journal.
+        self._got, self._reads, self._recorded = defaultdict(dict), Counter(), {}
+
+    def got(self, step, places, values):
+        """Notes what was got of the state, through no pushed move."""
+        if step.depth == 0:
+            names = (repr(place(json.loads(encoded(getattr(at, "place", at), "place")))) for at in places)
+            self._got[step._agent._storage, step._own_number].update(zip(names, values))
+
+    def read(self, agent):
+        self._reads[agent._storage] += 1
+
+    def closed(self, storage, journal):
+        """Judges the journal of a storage, and returns it."""
+        if storage.record:
+            header, *events = journal.splitlines(keepends=True)
+            reads = [at for at, line in enumerate(events) if b'"call":{"read"' in line]
+            self._recorded[journal] = len(reads) - self._reads[storage]
+            for at in reads:
+                events[at] = self._as_got(storage, json.loads(events[at]))
+            try:
+                self._check(b"".join([header, *events]))
+            except folugben.BadJournalError as bad:
+                self.faults.append(f"{bad}: {events[bad.call or 0]}")
+        return journal
+
+    def _as_got(self, storage, event):
+        """The line of a read, with what was got."""
+        reply = event["reply"]
+        got = self._got.get((storage, reply["number"]), {})
+        for at, where in enumerate(event["call"]["read"]):
+            name = repr(place(where))
+            if name in got:
+                reply["values"][at] = json.loads(encoded(got[name], "value"))
+        return json.dumps(event, separators=(",", ":")).encode() + b"\n"
+
+    def counted(self, counts, its):
+        """What `check` or `audit` has counted of a journal or a run, without the reads that commits have recorded."""
+        journals = [its] if isinstance(its, bytes) else [file.read_bytes() for file in pathlib.Path(its).glob("*.journal")]
+        calls, *others = counts
+        told = calls - sum(self._recorded.get(journal, 0) for journal in journals), *others
+        return told if type(counts) is tuple else type(counts)(*told)
+
+
+class Recorded(unittest.TestCase):
+    """The tests of a case once more, with storages and runs that record. Calls are counted without the reads that commits record."""
+
+    # What another commit of a step raises whose agent has gone on.
+    again = folugben.CommitMovedError
+
+    def setUp(self):
+        self.watch, self.patches = Watch(), contextlib.ExitStack()
+        self.addCleanup(self.assert_judged)
+        self.patch(folugben.Step, "get", self.noted)
+        self.patch(folugben.Step, "__getitem__", self.noted)
+        self.patch(folugben.Agent, "read", lambda read: lambda its, places: (read(its, places), self.watch.read(its))[0])
+        self.patch(folugben.Storage, "close_journal", lambda close: lambda its: self.watch.closed(its, close(its)))
+        for kind, name in (folugben.Storage, "__init__"), (folugben.Run, "__init__"), (folugben.Run, "resume"):
+            self.patch(kind, name, lambda make: lambda *words, **named: make(*words, **{"record": True} | named))
+        for module in sys.modules[type(self).__module__], folugben:
+            for name in {"audit", "check"} & vars(module).keys():
+                self.patch(module, name, lambda counts: lambda its: self.watch.counted(counts(its), its))
+        super().setUp()
+
+    def patch(self, owner, name, make):
+        self.patches.enter_context(mock.patch.object(owner, name, make(getattr(owner, name))))
+
+    def noted(self, get):
+        def got(step, places):
+            told = get(step, places)
+            is_list = isinstance(told, list) and get.__name__ == "get"
+            self.watch.got(step, places if is_list else [places], told if is_list else [told])
+            return told
+
+        return got
+
+    def assert_judged(self):
+        self.patches.close()
+        self.assertEqual(self.watch.faults, [])

@@ -236,14 +236,18 @@ class Agents(unittest.TestCase):
     def test_a_refused_text_says_where(self):
         agent = self.storage.agent(0)
         nested = [["add", ["s"], 1], ["inc", ["x"], 2], ["put", ["s"], {"set": [{"set": []}]}]]
-        shape = "JSON of another shape: "
         for said, call, *arguments in [
-            (shape + "pair 1: a pair is an array of a location and its value", Storage, [1]),
-            (shape + "init[0][1] is nan, which is no whole number: pass int(..) of it, or str(..)", Storage, [[["x"], float("nan")]]),
-            (shape + "location 2: a location can't hold a bag", agent.read, [["x"], ["y", {"bag": []}]]),
-            (shape + "instruction 3: a set can't hold a set", agent.fire, nested),
-            (shape + "4,097 instructions, at most 4,096", agent.fire, [["put", ["x"], 1]] * 4097),
-            (shape + "read 2: a read is an array of a location and a number", agent.fire, [], [[["x"], 0], ["x"]]),
+            ("pair 1: a pair is a tuple or a list of a location and its value", Storage, [1]),
+            ("init[0][1] is nan, which is no whole number: pass int(..) of it, or str(..)", Storage, [[["x"], float("nan")]]),
+            ("location 2: a location can't hold a bag", agent.read, [["x"], ["y", {"bag": []}]]),
+            ("the locations are a list or a tuple", agent.read, "x"),
+            ("the locations are a list or a tuple", agent.peek, {"x": 1}),
+            ("location 1: a location is a tuple or a list of a name and at most 8 arguments", agent.peek, ["x"]),
+            ("location 2: a dict is a list, a set or a bag, and has one member", agent.read, [("x",), ("y", {"lists": []})]),
+            ("the instructions are a list or a tuple", agent.fire, "put"),
+            ("instruction 3: a set can't hold a set", agent.fire, nested),
+            ("4,097 instructions, at most 4,096", agent.fire, [["put", ["x"], 1]] * 4097),
+            ("read 2: a read is a tuple or a list of a location and a number", agent.fire, [], [[["x"], 0], ["x"]]),
         ]:
             with self.assertRaises(Error) as caught:
                 call(*arguments)

@@ -6,7 +6,8 @@ import unittest
 from unittest import mock
 
 import crashes
-from folugben import BadJournalError, BrokenError, DamagedError, Location, Move, Run, TooLongError, _lines, _part, _run_agent, audit, part, states
+from folugben import BadJournalError, BrokenError, ClashError, DamagedError, Location, Move, Run, TooLongError, audit, part, states
+from folugben import _lines, _part, _run_agent
 from folugben._folder import RunWriter
 from folugben._reading import save, verify
 from rooms import COUNT, INIT, Rooms, raised, segments, text_of, until
@@ -260,6 +261,32 @@ class Lines(Rooms):
             with self.assertRaisesRegex(TooLongError, "the read would make a line"):
                 agent.read([["x"], ["y"]])
         self.assertEqual(audit(self.path), (2, 2, 2))
+
+    def test_what_a_step_got_that_is_too_long(self):
+        places = [("s", own) for own in range(8)]
+        added = [[("add", at, number) for at in places] for number in range(3)]
+
+        def refused(step):
+            with self.assertRaises(ClashError):
+                step.push([*added[0], ("inc", ("t",), 1)])
+
+        gets = [
+            lambda step: step.get(places), lambda step: [step[at] for at in places], lambda step: [step.get(Location(at)) for at in places],
+            lambda step: (step.push(added[0]), step.pop()), refused,
+            # These depend on what both add to.
+            lambda step: (step.push(added[1]), step.push(added[2])), lambda step: [step.add(*it[1:]) for it in added[1] + added[2]],
+        ]
+        for record in False, True:
+            path = self.room / str(record)
+            with Run(path, [], 100, record=record) as run, run.agent(0) as agent:
+                for at in places:
+                    agent.play(lambda step: step.put(at, {at[0] * 2_500}))
+                for get in gets:
+                    with self.assertRaisesRegex(TooLongError, "what the step got would make a line") if record else contextlib.nullcontext():
+                        agent.play(lambda step: (get(step), step.put("y", 1)))
+                    # Half of it isn't too long.
+                    agent.play(lambda step: (step.get(places[:4]), step.push(added[1][:3]), step.pop(), step.put("z", 1)))
+            self.assertEqual(audit(path).moves, len(places) + len(gets) * (1 if record else 2))
 
     def test_what_the_checks_let_pass_is_not_written(self):
         """The writer looks at what it writes."""

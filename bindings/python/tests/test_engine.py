@@ -8,6 +8,7 @@ import unittest
 from threading import Event
 
 import folugben_engine
+import own
 from checkout import ROOT
 from folugben import ClashError, Run, StaleError, Storage, audit, check
 from folugben_engine import bank, colony, crossing, philosophers
@@ -134,7 +135,7 @@ class Rules(unittest.TestCase):
         self.agent.give()
         rival.give()
         events = map(json.loads, self.storage.close_journal().splitlines()[1:])
-        replies = [event["reply"] for event in events if event["agent"] == 2]
+        replies = [event["reply"] for event in events if event["agent"] == 2 and "fire" in event["call"]]
         self.assertEqual(replies, [{"clash": [list(COUNT), "Kind"]}] * 2 + [{"fired": 6}])
 
     def test_a_clash_in_a_sequence_is_told(self):
@@ -223,6 +224,18 @@ class Page(unittest.TestCase):
             exec(first, {"agent": agent})
             agent.follow()
             self.assertEqual(agent.peek([COUNT, ["double"]]), (1, [4, 8]))
+
+
+class RecordedRules(own.Recorded, Rules):
+    pass
+
+
+class RecordedMachines(own.Recorded, Machines):
+    pass
+
+
+class RecordedEndless(own.Recorded, Endless):
+    pass
 
 
 if __name__ == "__main__":

@@ -54,10 +54,10 @@ class Looks(unittest.TestCase):
             self.agent.fire([], [[["g"], 0]], [["g", 0], ["f", 1]])
         self.assertEqual(str(caught.exception), where + '"f" is named at 1, and the agent has seen 0')
         for scan in (["f"], ["f", 0, 0], [["f"], 0], ["f", -1], ["f", 2**32], ["f", 0.5], ["f", True], "f", 7):
-            with self.subTest(scan), self.assertRaisesRegex(Error, "scan 2: a scan is an array") as caught:
+            with self.subTest(scan), self.assertRaisesRegex(Error, "scan 2: a scan is a tuple or a list") as caught:
                 self.agent.fire([], [], [["g", 0], scan])
             self.assertEqual(caught.exception.code, folugben.Code.SHAPE)
-        with self.assertRaisesRegex(Error, "read 1: a read is an array"):
+        with self.assertRaisesRegex(Error, "read 1: a read is a tuple or a list"):
             self.agent.fire([], [["g"]], [["f"]])
         self.assertEqual((self.agent.seen, self.agent.misses), (0, 0))
 
@@ -101,11 +101,10 @@ class Looks(unittest.TestCase):
         self.assertEqual(self.agent.peek(COUNT * 1000), (1, [0] * 1000))
 
     def test_codes(self):
-        shape = "JSON of another shape: "
         for said, call, *arguments in [
-            (shape + "location 2: a location can't hold a bag", self.agent.peek, [["x"], ["y", {"bag": []}]]),
-            (shape + "read 2: a read is an array of a location and a number", self.agent.stands, [[["x"], 0], ["x"]]),
-            (shape + "reads[0][1] is nan, which is no whole number: pass int(..) of it, or str(..)", self.agent.stands, [[["x"], float("nan")]]),
+            ("location 2: a location can't hold a bag", self.agent.peek, [["x"], ["y", {"bag": []}]]),
+            ("read 2: a read is a tuple or a list of a location and a number", self.agent.stands, [[["x"], 0], ["x"]]),
+            ("reads[0][1] is nan, which is no whole number: pass int(..) of it, or str(..)", self.agent.stands, [[["x"], float("nan")]]),
         ]:
             with self.subTest(said), self.assertRaises(Error) as caught:
                 call(*arguments)

@@ -17,10 +17,9 @@ class Moves(unittest.TestCase):
         self.assertEqual(len(aggregate([], half)), 4096)
 
     def test_a_refused_text_says_where(self):
-        shape = "JSON of another shape: "
         for said, call, *arguments in [
-            (shape + "4,097 instructions, at most 4,096", aggregate, [], [["put", X, 1]] * 4097),
-            (shape + "instructions[0][2] is nan, which is no whole number: pass int(..) of it, or str(..)", aggregate, [], [["put", ["x"], float("nan")]]),
+            ("4,097 instructions, at most 4,096", aggregate, [], [["put", X, 1]] * 4097),
+            ("instructions[0][2] is nan, which is no whole number: pass int(..) of it, or str(..)", aggregate, [], [["put", ["x"], float("nan")]]),
         ]:
             with self.subTest(said), self.assertRaises(Error) as caught:
                 call(*arguments)

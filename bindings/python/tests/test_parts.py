@@ -7,6 +7,7 @@ import time
 import unittest
 from unittest import mock
 
+import own
 from folugben import BrokenError, ClashError, Error, Move, PastError, ConflictError, Run, StaleError
 from folugben import _folder, audit, check, interleave, states
 from rooms import AT, BANK, COUNT, INIT, Rooms, raised, text_of, transfer, until
@@ -14,6 +15,8 @@ from threads import in_threads
 
 
 class Parts(Rooms):
+    again = StaleError
+
     def test_agents_in_threads_go_on_from_part_to_part(self):
         agents, times, told = 4, 300, [[] for _ in range(4)]
 
@@ -54,14 +57,15 @@ class Parts(Rooms):
                 step.push([["inc", COUNT, 1]])
                 # It is stale too.
                 self.assertEqual((step.get(AT), step.try_commit(), step.fired), (1, 0, 0))
-                self.assertRaises(StaleError, step.commit)
+                self.assertRaises(self.again, step.commit)
             self.assertEqual(slow.play(raised), (13, None))
             with slow.step() as step:
                 step.push([["inc", COUNT, 1]])
                 for _ in range(12):
                     quick.play(raised)
                 self.assertEqual((step.get([["x"]]), step.try_commit(), step.fired), ([None], 0, 0))
-                with self.assertRaisesRegex(PastError, "begin another step") as caught:
+                past = (PastError, "begin another step") if self.again is StaleError else (self.again, "another number of moves")
+                with self.assertRaisesRegex(*past) as caught:
                     step.commit()
                 self.assertIsInstance(caught.exception, ConflictError)
             with slow.step() as step:
@@ -422,6 +426,10 @@ class Receipts(Rooms):
                     agent.read([COUNT])
             self.assertRegex(str(caught.exception), "part 1 couldn't be written: .*: agent 1 was abandoned .move 1.")
         self.assertEqual(audit(self.path), (0, 0, 1))
+
+class RecordedParts(own.Recorded, Parts):
+    pass
+
 
 if __name__ == "__main__":
     unittest.main()

@@ -33,6 +33,8 @@ def gather(move, places, instruction):
 
 
 class Plain(unittest.TestCase):
+    again = StaleError
+
     def setUp(self):
         self.storage = Storage([[["v", k], value] for k, value in enumerate(VALUES) if value is not None], 50)
         self.addCleanup(self.storage.free)
@@ -162,7 +164,7 @@ class Plain(unittest.TestCase):
                 self.assertEqual(step["count"], 6)
                 step.put("count", 7)
                 agent.fire([("put", "count", 8)])
-                self.assertRaises(StaleError, step.commit)
+                self.assertRaises(self.again, step.commit)
 
     def test_what_is_no_value_has_a_way_round(self):
         class Number:
@@ -285,7 +287,7 @@ class Plain(unittest.TestCase):
     def test_a_text_that_is_no_location_says_why(self):
         code, said = self.code_of(Location, 7)
         self.assertEqual(code, folugben.Code.SHAPE)
-        self.assertEqual(said, "location 1: a location is an array of a name and at most 8 arguments")
+        self.assertEqual(said, "location 1: a location is a tuple or a list of a name and at most 8 arguments")
         self.assertEqual(self.code_of(Location, ["1x"])[0], folugben.Code.SHAPE)
         self.assertEqual(self.code_of(Location, ["x", 2**63])[0], folugben.Code.SHAPE)
         self.assertEqual(self.code_of(Location, ["x", float("nan")])[0], folugben.Code.SHAPE)
@@ -325,7 +327,7 @@ class Plain(unittest.TestCase):
             step.get(count)
             self.rival.fire([["put", ["count"], 5]])
             self.assertEqual((step.try_commit(), self.agent.answer()), (0, {"stale": ("count",)}))
-            self.assertRaises(StaleError, step.commit)
+            self.assertRaises(self.again, step.commit)
         move.inc(count, 1)
         while (fired := self.increased(move)) < 50:
             pass
@@ -367,6 +369,11 @@ class Plain(unittest.TestCase):
             step.push(shared)
             self.assertEqual((step.get(at), step.get(other), step.commit()), (800, len(shared), 801))
         self.assertEqual(check(storage.close_journal())[1], 801)
+
+class RecordedPlain(own.Recorded, Plain):
+    # A step commits there whose agent has gone on.
+    test_what_is_over_or_freed_or_moved_on = None
+
 
 if __name__ == "__main__":
     unittest.main()

@@ -4,6 +4,7 @@ import time
 import unittest
 
 import folugben
+import own
 from folugben import Code, ConflictError, Error, Location, ManyError, Move, MovedError, Played, StaleError, Storage, check
 from folugben import Run, compose, explain, interleave
 from rooms import Rooms
@@ -174,6 +175,10 @@ class Said(unittest.TestCase):
         """The journal, once those are back that the test has dropped."""
         self.agent.give()
         return self.storage.close_journal()
+
+
+class RecordedPlays(own.Recorded, Plays):
+    pass
 
 
 if __name__ == "__main__":

@@ -7,7 +7,7 @@ from collections import Counter
 import own
 import random_moves
 from folugben._texts import encoded
-from folugben import BusyError, ClashError, MovedError, StaleError, Storage, check, replay
+from folugben import ClashError, ConflictError, MovedError, StaleError, Storage, check, replay
 from threads import in_threads
 
 moves, values = random_moves.model("moves"), random_moves.model("values")
@@ -147,7 +147,7 @@ class Threads(unittest.TestCase):
                             agent.stands([])
                         try:
                             done += step.commit() > 0
-                        except (StaleError, BusyError) as error:
+                        except ConflictError as error:
                             refused.append(error)
                     looks.append(agent.state())
 
@@ -183,6 +183,14 @@ class Threads(unittest.TestCase):
                 self.assertEqual(in_threads(work, 8), ([], True))
                 self.assertEqual(agent.read([["count"]]), (400, [400]))
             self.assertEqual(check(storage.close_journal())[1], 400)
+
+
+class RecordedRandomSteps(own.Recorded, RandomSteps):
+    pass
+
+
+class RecordedThreads(own.Recorded, Threads):
+    pass
 
 
 if __name__ == "__main__":

@@ -11,6 +11,7 @@ import unittest
 from collections import Counter
 from unittest import mock
 
+import own
 from folugben import BadJournalError, Storage, TooLongError, check, interleave, replay, states
 from folugben import _exports
 from folugben._texts import encoded
@@ -233,6 +234,10 @@ class Exports(unittest.TestCase):
             self.assertIn("is read, so it can't be written", told.stderr)
             told = json.loads(call("itf", str(good), "--from", "2", "--to", "3").stdout)
             self.assertEqual([it["#meta"]["index"] for it in told["states"]], [2, 3])
+
+
+class RecordedRuns(own.Recorded, Runs):
+    pass
 
 
 if __name__ == "__main__":

@@ -2,6 +2,7 @@
 import contextlib
 import io
 import itertools
+import os
 import random
 import signal
 import subprocess
@@ -11,9 +12,88 @@ import time
 import unittest
 from unittest import mock
 
-from folugben import BadJournalError, Error, PastError, Run, Storage, __main__, audit, import_run, interleave, states
+from folugben import BadJournalError, Error, PastError, Run, Storage, __main__, _part, _parts, audit, check, import_run, interleave, states
 from rooms import AT, BANK, COUNT, INIT, Rooms, called, environment, raised, segments, text_of, transfer, until
+from test_steps import memory
 from threads import in_threads
+
+
+class Clock:
+    """The time of runs, which goes on as a test says; nobody waits for it."""
+
+    sleep = staticmethod(time.sleep)
+
+    def __init__(self):
+        self.now = 5.0
+
+    def monotonic(self):
+        return self.now
+
+
+class Days(Rooms):
+    """Runs of few moves, whose parts end by the clock."""
+
+    def setUp(self):
+        super().setUp()
+        self.clock = Clock()
+        for module in _part, _parts:
+            self.enterContext(mock.patch.object(module, "time", self.clock))
+        # The writer looks at the clock again and again.
+        for name in "_SOON", "_LATER":
+            self.enterContext(mock.patch.object(_parts, name, 0.001))
+
+    def test_a_day_of_a_slow_run(self):
+        rng = random.Random(3)
+        moves, parts, grown = self.live_a_day([rng.expovariate(1 / 600) for _ in range(200)], 60.0)
+        self.assertGreater(moves, 100)
+        self.assertGreater(parts, 80)
+        self.assertLess(grown, 2**22)
+
+    def live_a_day(self, gaps, every):
+        """Plays a move behind each of so many seconds, for 24 hours. Return how many moves and parts there are, and how many
+        bytes of memory came in the second half."""
+        times = [at for at in itertools.accumulate(gaps) if at < 86_400]
+        begun, wanted, before, clock = self.clock.now, [0], 0, self.clock
+        with Run(self.path, INIT, every=every) as run, run.agent(0) as agent:
+            for at in times:
+                if wanted[1:] and begun + at >= ends:
+                    clock.now = ends
+                    self.end_part(run, agent, wanted)
+                clock.now = begun + at
+                is_first = run._chain.newest().moves() == 0
+                self.assertEqual(agent.play(raised)[0], sum(wanted) + 1)
+                if is_first:
+                    until(lambda: run._chain.newest().begun == clock.now)
+                    ends = clock.now + every
+                    wanted.append(0)
+                wanted[-1] += 1
+                before = before or memory() * (at > 43_200)
+            clock.now = ends
+            self.end_part(run, agent, wanted)
+            grown = memory() - before
+            self.assertEqual(run.state(), (len(times), [(COUNT, len(times))]))
+        self.assertEqual([check(file.read_bytes())[1] for file in segments(self.path)], wanted)
+        self.assertEqual(audit(self.path), (len(times), len(times), len(wanted)))
+        self.assertEqual(len(os.listdir(self.path)), len(wanted) + 1)
+        with Run.resume(self.path, every=every) as run, run.agent(0) as agent:
+            self.assertEqual(agent.play(raised)[0], len(times) + 1)
+        self.assertEqual(self.last_state(), [(COUNT, len(times) + 1)])
+        return len(times), len(wanted), grown
+
+    def end_part(self, run, agent, wanted):
+        """Waits until the part is on the disk whose time is over; who is in a step is waited for."""
+        if len(wanted) % 10 == 0:
+            with agent.step() as step:
+                raised(step)
+                until(lambda: run._chain.newest().most == 0)
+                self.assertEqual(run.parts, len(wanted) - 1)
+                self.clock.now += 2 * _part.PATIENCE
+                until(lambda: run.parts == len(wanted))
+                self.assertRaises(PastError, step.commit)
+        until(lambda: run.parts == len(wanted))
+        self.assertEqual(run.saved, sum(wanted))
+        # It was the only one that wasn't saved.
+        self.assertIs(run._chain._oldest, run._chain.newest())
 
 
 class Races(Rooms):

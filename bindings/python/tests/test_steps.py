@@ -7,7 +7,9 @@ import unittest
 from collections import Counter
 
 import folugben
-from folugben import ClashError, DeepError, Error, FullError, Location, ManyError, MovedError, OverError, StaleError, Storage, _refusals, check
+import own
+from folugben import ClashError, CommitMovedError, ConflictError, DeepError, Error, FullError, Location, ManyError, MovedError, OverError
+from folugben import StaleError, Storage, _refusals, check
 
 COUNT = [["count"]]
 
@@ -22,6 +24,8 @@ def memory():
 
 
 class Steps(unittest.TestCase):
+    again = StaleError
+
     def setUp(self):
         init = [[["count"], 0], [["bag"], {"bag": [["e", 1]]}], [["f", 1], 1], [["f", 2], 2]]
         self.storage = Storage(init, 50)
@@ -97,7 +101,7 @@ class Steps(unittest.TestCase):
         self.assertEqual(self.agent.answer(), {"stale": ("count",)})
         for call, *arguments in [(step.get, COUNT), (step.scan, "f"), (step.push, []), (step.extend, [])]:
             self.assertRaises(MovedError, call, *arguments)
-        self.assertRaises(StaleError, step.commit)
+        self.assertRaises(self.again, step.commit)
         self.assertEqual(step.depth, 1)
         with self.agent.step() as again:
             self.assertEqual((again.number, again.get(COUNT)), (1, [5]))
@@ -186,13 +190,12 @@ class Steps(unittest.TestCase):
             self.assertEqual(step.commit(), 1)
 
     def test_refused_texts(self):
-        shape = "JSON of another shape: "
         with self.agent.step() as step:
             for said, call, *arguments in [
-                (shape + "location 2: a location can't hold a bag", step.get, [["x"], ["y", {"bag": []}]]),
-                (shape + "instruction 2: a set can't hold a set", step.push, put(1) + put({"set": [{"set": []}]})),
-                (shape + "4,097 instructions, at most 4,096", step.extend, put(1) * 4097),
-                (shape + "instructions[0][2] is nan, which is no whole number: pass int(..) of it, or str(..)", step.push, put(float("nan"))),
+                ("location 2: a location can't hold a bag", step.get, [["x"], ["y", {"bag": []}]]),
+                ("instruction 2: a set can't hold a set", step.push, put(1) + put({"set": [{"set": []}]})),
+                ("4,097 instructions, at most 4,096", step.extend, put(1) * 4097),
+                ("instructions[0][2] is nan, which is no whole number: pass int(..) of it, or str(..)", step.push, put(float("nan"))),
             ]:
                 with self.subTest(said), self.assertRaises(Error) as caught:
                     call(*arguments)
@@ -272,6 +275,113 @@ class Steps(unittest.TestCase):
         self.agent.give()
         self.rival.give()
         self.assertEqual(check(self.storage.close_journal()), (0, 0))
+
+
+class RecordedSteps(own.Recorded, Steps):
+    # Two steps of one agent commit there.
+    test_two_steps_of_one_agent = None
+
+    def test_gets_and_a_fire_leave_one_receipt(self):
+        with self.agent.step() as step:
+            step.push(put(7, "g"))
+            step.get([["bag"], ["count"], ["g"], ["none"]])
+            step[["f", 2]]
+            step.see([["f", 1]])
+            step.scan("f")
+            step.commit()
+        with self.agent.step() as step:
+            step.get(COUNT)
+            self.rival.fire(put(5))
+            self.assertEqual(step.try_commit(), 0)
+        self.agent.give()
+        self.rival.give()
+        journal = self.storage.close_journal()
+        events = list(map(json.loads, journal.splitlines()[1:]))
+        places = [["bag"], ["count"], ["f", 2], ["none"]]
+        values = [{"bag": [["e", 1]]}, 0, 2, None]
+        self.assertEqual([(it["agent"], it["call"].get("read"), it["reply"]) for it in events], [
+            (0, places, {"number": 0, "values": values}), (0, None, {"fired": 1}),
+            (0, [["count"]], {"number": 1, "values": [0]}), (1, None, {"fired": 2}), (0, None, {"stale": ["count"]}),
+        ])
+        self.assertEqual(events[1]["call"], {"fire": put(7, "g"), "reads": [[at, 0] for at in places]})
+        self.assertEqual(folugben.check(journal), (3, 2))
+
+    def test_what_a_get_returned_is_judged(self):
+        self.agent.play(lambda step: step.put("g", step["f", 2]))
+        self.agent.give()
+        journal = self.storage.close_journal()
+        self.assertIn(b'"values":[2]', journal)
+        with self.assertRaises(folugben.BadJournalError) as caught:
+            check(journal.replace(b'"values":[2]', b'"values":[1]'))
+        self.assertEqual(caught.exception.call, 0)
+
+    def test_a_get_that_returns_something_else_is_found(self):
+        with Storage({"x": 1}, record=True) as storage, storage.agent(0) as agent:
+            agent.play(lambda step: step.put("x", step["x"]))
+            with agent.step() as step:
+                step.put("y", step["x"])
+                step.commit()
+            with agent.step() as step:
+                step["y"], step["x"]
+                # As if 1 had been read as True.
+                self.watch.got(step, ["y"], [True])
+                step.commit()
+            agent.give()
+            storage.close_journal()
+        (fault,) = self.watch.faults
+        self.watch.faults.clear()
+        self.assertRegex(fault, "call 4, counted from 0.*true")
+
+    def test_a_commit_whose_agent_has_gone_on_is_begun_again(self):
+        for limits in ({}, {"tries": 5}):
+            tries = []
+
+            def rule(step):
+                tries.append(step["count"])
+                step.put("count", tries[-1] + 1)
+                if len(tries) < 3:
+                    self.rival.fire([])
+                    self.agent.follow()
+
+            number = self.storage.moves()
+            played = self.agent.play(rule, **limits)
+            self.assertEqual((played.number, played.retries), (number + 3, 2))
+        with self.assertRaises(CommitMovedError):
+            self.agent.play(lambda step: (step.put("count", 1), self.rival.fire([]), self.agent.follow()), tries=2)
+        first, second = self.agent.step(), self.agent.step()
+        first.push(put(1))
+        second.push(put(2))
+        moves = second.commit()
+        with self.assertRaises(ConflictError) as caught:
+            first.commit()
+        self.assertEqual((type(caught.exception), caught.exception.code), (CommitMovedError, folugben.Code.MOVED))
+        self.assertIsInstance(caught.exception, MovedError)
+        self.assertEqual((first.try_commit(), first.depth, self.storage.moves()), (0, 1, moves))
+
+    def test_who_goes_on_records_too(self):
+        with Storage({"x": 0}, 2, record=True) as first:
+            self.assertTrue(first.record)
+            with self.assertRaises(AttributeError):
+                first.record = False
+            agent = first.agent(0)
+            agent.fire([])
+            agent.fire([])
+            agent.follow()
+            with agent.go_on(1) as second, second.agent(0) as other:
+                other.play(lambda step: step.put("x", step["x"] + 1))
+                other.give()
+                self.assertEqual((second.record, check(second.close_journal())), (True, (1, 1)))
+            agent.give()
+            first.close_journal()
+            with first.next(5) as third:
+                self.assertTrue(third.record)
+        self.assertRaises(TypeError, Storage, [], 5, None, True)
+
+    def test_nothing_is_recorded_unless_it_is_wanted(self):
+        with Storage({"x": 0}, 2, record=False) as storage, storage.agent(0) as agent:
+            agent.play(lambda step: step.put("x", step["x"] + 1))
+            agent.give()
+            self.assertEqual((storage.record, storage.close_journal().count(b"\n")), (False, 2))
 
 
 if __name__ == "__main__":

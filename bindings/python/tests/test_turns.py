@@ -4,6 +4,7 @@ import threading
 import time
 import unittest
 
+import own
 import random_moves
 from folugben import ClashError, Code, Error, Location, ManyError, Move, MovedError, Storage, check
 from threads import in_threads
@@ -181,6 +182,10 @@ class United(unittest.TestCase):
             popped = step.pop_move()
             step.push(Move().put("y", 2) | popped)
             self.assertEqual((step["count"], step["y"], step.commit()), (1, 2, 1))
+
+
+class RecordedTurns(own.Recorded, Turns):
+    pass
 
 
 if __name__ == "__main__":

@@ -46,6 +46,7 @@ pub struct Agent {
     pub(crate) slots: Arc<AgentSlots>,
     shared: Arc<Shared>,
     number: AgentNumber,
+    is_recording: bool,
     /// It isn't Sync.
     in_one_thread: PhantomData<Cell<()>>,
 }
@@ -53,7 +54,8 @@ pub struct Agent {
 impl Agent {
     pub(crate) fn new(agent: Held, shared: &Arc<Shared>, number: AgentNumber) -> Agent {
         let slots = Arc::new(AgentSlots::new(agent, Arc::as_ptr(shared).addr()));
-        Agent { slots, shared: Arc::clone(shared), number, in_one_thread: PhantomData }
+        let is_recording = shared.is_recording();
+        Agent { slots, shared: Arc::clone(shared), number, is_recording, in_one_thread: PhantomData }
     }
 
     pub(crate) fn is_of(&self, shared: &Arc<Shared>) -> bool {
@@ -64,6 +66,36 @@ impl Agent {
     #[must_use]
     pub fn number(&self) -> AgentNumber {
         self.number
+    }
+
+    /// Has each commit of a step record what the step read, or not, which is the default.
+    ///
+    /// A commit that records first adds a receipt of a read: the locations that its move names, with their values at the step's
+    /// version. So the journal shows what the move was computed from, and [`Journal::check`](crate::Journal::check) judges that
+    /// too. What [`Step::scan`] found stays out of the journal, and so does what [`Step::see`] returned. Each commit then takes
+    /// about twice the receipts.
+    ///
+    /// ```
+    /// use folugben::{Error, Storage};
+    /// # fn main() -> Result<(), Error> {
+    /// let storage = Storage::open([("n".into(), 6.into())], 10)?;
+    /// let mut agent = storage.agent(0)?;
+    /// agent.set_recording(true);
+    /// agent.play(|step| step.put("double", 2 * step.get("n")?.as_num().unwrap_or(0)))?;
+    /// drop(agent);
+    /// let journal = String::from_utf8_lossy(storage.close()?.as_bytes()).into_owned();
+    /// assert!(journal.contains(r#""call":{"read":[["n"]]},"reply":{"number":0,"values":[6]}"#));
+    /// # Ok(())
+    /// # }
+    /// ```
+    pub fn set_recording(&mut self, is_recording: bool) {
+        self.is_recording = is_recording;
+    }
+
+    /// Whether commits record what their steps read.
+    #[must_use]
+    pub fn is_recording(&self) -> bool {
+        self.is_recording
     }
 
     /// How many moves it has seen.
@@ -300,7 +332,9 @@ impl Agent {
             sys::CAPACITY => Err(OutOfRange::capacity(capacity)),
             code => {
                 done(code)?;
-                Storage::of(next)
+                let next = Storage::of(next)?;
+                next.set_recording(self.shared.is_recording());
+                Ok(next)
             }
         }
     }

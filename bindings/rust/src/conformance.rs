@@ -1,4 +1,5 @@
 //! Does the calls of the table of conformance, and compares the answers: bindings/conformance/README.md says what its lines are.
+//! They are done twice, the second time by agents that record.
 use crate::holder::{Holder, commit};
 use crate::instruction::{Instruction, Move};
 use crate::json::{Json, ToJson, read};
@@ -57,12 +58,49 @@ fn fired(number: MoveNumber) -> String {
 
 #[derive(Default)]
 struct Replayer {
+    is_recording: bool,
     storage: Option<Storage>,
     agents: BTreeMap<u8, Agent>,
+    /// The number of moves at which each agent's step began, and how many reads its commits recorded.
+    begun: BTreeMap<u8, u64>,
+    recorded: BTreeMap<u8, u64>,
     journal: Option<Journal>,
 }
 
 impl Replayer {
+    fn new(is_recording: bool) -> Replayer {
+        Replayer { is_recording, ..Replayer::default() }
+    }
+
+    fn open(&mut self, storage: Storage) {
+        let is_recording = self.is_recording;
+        storage.set_recording(is_recording);
+        *self = Replayer { storage: Some(storage), ..Replayer::new(is_recording) };
+    }
+
+    /// Commits; where the agent has moved on, without recording, as nothing was done then.
+    fn commit(&mut self, number: u8) -> Told {
+        let (is_recording, begun) = (self.is_recording, self.begun.get(&number).copied());
+        let agent = self.agent(number)?;
+        let has_moved = is_recording && Some(agent.peek(&[])?.number.get()) != begun;
+        let mut told = commit(agent);
+        let is_moved = told == Err(Error::Unknown(sys::MOVED));
+        assert!(has_moved == is_moved || told == Err(Error::Unknown(sys::EMPTY)), "{told:?}");
+        if is_moved {
+            agent.set_recording(false);
+            told = commit(agent);
+            agent.set_recording(true);
+        } else if is_recording && !matches!(told, Err(Error::Unknown(sys::EMPTY) | Error::Many(_))) {
+            *self.recorded.entry(number).or_default() += 1;
+        }
+        Ok(fired(told?.into()))
+    }
+
+    /// How many reads were recorded by the agents that were given back.
+    fn recorded(&self) -> u64 {
+        self.recorded.iter().filter(|(number, _)| !self.agents.contains_key(number)).map(|(_, count)| count).sum()
+    }
+
     fn storage(&self) -> &Storage {
         self.storage.as_ref().unwrap()
     }
@@ -85,19 +123,19 @@ impl Replayer {
         let mut words = words.into_iter();
         let mut next = || words.next().unwrap();
         match name {
-            "case" => *self = Replayer::default(),
+            "case" => *self = Replayer::new(self.is_recording),
             "open" => {
                 let (state, capacity) = (typed(next().pairs())?, typed(next().number())?);
-                *self = Replayer { storage: Some(Storage::open(state, capacity)?), ..Replayer::default() };
+                self.open(Storage::open(state, capacity)?);
             }
             "next" => {
                 let storage = self.storage().next(typed(next().number())?)?;
-                *self = Replayer { storage: Some(storage), ..Replayer::default() };
+                self.open(storage);
             }
             "moves" => return Ok(self.storage().moves().to_string()),
             "close" => self.journal = Some(self.storage().close()?),
-            "journal" => return checked(self.journal.as_ref().unwrap()),
-            "check" => return checked(&next().text().unwrap().into_bytes().into()),
+            "journal" => return checked(self.journal.as_ref().unwrap(), self.recorded()),
+            "check" => return checked(&next().text().unwrap().into_bytes().into(), 0),
             "replay" => {
                 let journal = Journal::from(next().text().unwrap().into_bytes());
                 return Ok(journal.replay().map_err(Refusal::Journal)?.as_slice().json());
@@ -152,12 +190,13 @@ impl Replayer {
             "misses" => return Ok(self.agent(number)?.misses().to_string()),
             "begin" => {
                 let step = self.agent(number)?.step()?;
-                let begun = step.number().to_string();
+                let begun = step.number();
                 mem::forget(step);
-                return Ok(begun);
+                self.begun.insert(number, begun.get());
+                return Ok(begun.to_string());
             }
             "end" => self.agent(number)?.slots.end_step(),
-            "commit" => return Ok(fired(commit(self.agent(number)?)?.into())),
+            "commit" => return self.commit(number),
             "get" => return self.step(number, |it| Ok(it.get_each(&places(next())?)?.as_slice().json())),
             "see" => return self.step(number, |it| Ok(it.see(&places(next())?)?.as_slice().json())),
             "get_all" => return self.step(number, |it| Ok(it.scan(&next().text().unwrap())?.as_slice().json())),
@@ -180,9 +219,9 @@ impl Replayer {
     }
 }
 
-fn checked(journal: &Journal) -> Told {
+fn checked(journal: &Journal, recorded: u64) -> Told {
     match journal.check().map_err(Refusal::Journal)? {
-        Legality::Legal { calls, moves } => Ok(format!("[{calls},{moves}]")),
+        Legality::Legal { calls, moves } => Ok(format!("[{},{moves}]", calls - recorded)),
         Legality::Illegal { call } => Err(Refusal::Illegal(call)),
     }
 }
@@ -298,13 +337,13 @@ fn last_word(line: &str) -> &str {
 }
 
 /// How many calls of a table there are, and how many of them can't be written in Rust.
-fn replay(path: &Path) -> (usize, usize) {
-    let (mut replayer, mut calls, mut untyped) = (Replayer::default(), 0, 0);
+fn replay(path: &Path, is_recording: bool) -> (usize, usize) {
+    let (mut replayer, mut calls, mut untyped) = (Replayer::new(is_recording), 0, 0);
     for (i, line) in fs::read_to_string(path).unwrap().lines().enumerate() {
         let mut words = read(line.as_bytes()).and_then(Json::list).unwrap();
         let name = words.remove(0).text().unwrap();
         match name.as_str() {
-            "case" => replayer = Replayer::default(),
+            "case" => replayer = Replayer::new(is_recording),
             // The sentences alone; errors of the crate have them.
             "explain" => {}
             _ => {
@@ -332,6 +371,9 @@ fn calls_are_answered_as_in_the_table() {
         eprintln!("left out: no tables in {}", folder.display());
         return;
     }
-    let told = ["moves", "calls", "steps", "journals"].map(|it| replay(&folder.join(format!("{it}.jsonl"))));
-    assert!(told.iter().all(|(calls, untyped)| *calls > 15 && untyped * 8 < *calls), "{told:?}");
+    for is_recording in [false, true] {
+        let told =
+            ["moves", "calls", "steps", "journals"].map(|it| replay(&folder.join(format!("{it}.jsonl")), is_recording));
+        assert!(told.iter().all(|(calls, untyped)| *calls > 15 && untyped * 8 < *calls), "{told:?}");
+    }
 }

@@ -6,6 +6,19 @@ use crate::number::AgentNumber;
 use crate::run::Lent;
 use crate::sys;
 
+/// How a step's pushed moves changed.
+pub(crate) enum Change {
+    Pushed { is_partial: bool },
+    /// A push was refused, or moves were popped.
+    Other,
+}
+
+impl Change {
+    pub(crate) fn of(code: i32, is_partial: bool) -> Change {
+        if code == sys::DONE { Change::Pushed { is_partial } } else { Change::Other }
+    }
+}
+
 /// The agent that a step works with: one that it borrows, or one that a run has lent it.
 pub(crate) enum Holder<'a> {
     Own(&'a mut Agent),
@@ -42,13 +55,23 @@ impl Holder<'_> {
             lent.count(size);
         }
     }
+
+    /// Notes a push, or a pop.
+    pub(crate) fn note(&self, change: &Change) {
+        if let Holder::Lent(lent) = self {
+            lent.note(change);
+        }
+    }
 }
 
-/// Fires what the agent's step has pushed.
+/// Fires what the agent's step has pushed, behind a receipt of what the step read if the agent is recording.
+///
+/// A commit that records isn't `MOVED`: a step borrows its agent, so the agent's own state is at the step's version.
 pub(crate) fn commit(agent: &Agent) -> Result<u32, Error> {
+    let call = if agent.is_recording() { sys::asm_commit_recorded } else { sys::asm_commit };
     let mut numbers = sys::Numbers::default();
     // SAFETY: the slots are of one agent and its step, which this thread alone has, and the texts and numbers outlive the call.
-    let code = unsafe { sys::asm_commit(agent.slots.agent(), agent.slots.step(), &raw mut numbers) };
+    let code = unsafe { call(agent.slots.agent(), agent.slots.step(), &raw mut numbers) };
     match code {
         sys::STALE | sys::CLASH => Err(of_text(code, &agent.last_answer()?).of_fire()),
         code => {

@@ -34,6 +34,10 @@ impl Instruction {
             | Instruction::Inc(at, _) => at,
         }
     }
+
+    pub(crate) fn is_partial(&self) -> bool {
+        !matches!(self, Instruction::Put(..))
+    }
 }
 
 /// Instructions that are carried out at once: each location gets one value by all of them, or they clash.

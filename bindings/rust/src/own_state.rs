@@ -23,6 +23,11 @@ impl Agent {
     ///
     /// [`Error::Refused`], [`Error::Memory`].
     pub fn peek(&self, places: &[Location]) -> Result<Reading, Error> {
+        answer(&self.peek_text(places)?, Reading::of)
+    }
+
+    /// The same as the text `{"number":N,"values":[VALUE, ..]}`.
+    pub(crate) fn peek_text(&self, places: &[Location]) -> Result<Vec<u8>, Error> {
         self.catch_up()?;
         let text = places.json();
         // SAFETY: the slots are held by this agent, no call is at work on them, and the texts and numbers outlive the call.
@@ -30,7 +35,7 @@ impl Agent {
             sys::asm_peek(self.slots.agent(), text.as_ptr(), text.len(), out, room, written)
         });
         done_with(code, sys::FORM_LOCATIONS, &text)?;
-        answer(&told, Reading::of)
+        Ok(told)
     }
 
     /// The value of a prepared location in its own state, with the number of moves of that state.

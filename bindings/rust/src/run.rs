@@ -86,12 +86,13 @@ pub struct RunOptions {
     moves: u32,
     receipts: Option<u64>,
     every: Option<Duration>,
+    is_recording: bool,
 }
 
 impl RunOptions {
     /// Parts of 100,000 moves.
     pub fn new() -> RunOptions {
-        RunOptions { moves: MOVES, receipts: None, every: None }
+        RunOptions { moves: MOVES, receipts: None, every: None, is_recording: false }
     }
 
     /// A part ends after so many moves, 1 to 1,048,576.
@@ -99,7 +100,8 @@ impl RunOptions {
         RunOptions { moves, ..self }
     }
 
-    /// A part ends where its agents have fired more often than that, in vain too: twice the number of moves if it isn't told.
+    /// A part ends where its agents have more receipts than that: one of each fire, also in vain, and one of each read that a
+    /// commit records. By default that is twice the number of moves, or four times that of a run that records.
     pub fn receipts(self, receipts: u64) -> RunOptions {
         RunOptions { receipts: Some(receipts), ..self }
     }
@@ -107,6 +109,11 @@ impl RunOptions {
     /// A part ends so long after its first move.
     pub fn every(self, every: Duration) -> RunOptions {
         RunOptions { every: Some(every), ..self }
+    }
+
+    /// The agents of the run record what their steps read, or not, as [`Agent::set_recording`](crate::Agent::set_recording) does.
+    pub fn record(self, is_recording: bool) -> RunOptions {
+        RunOptions { is_recording, ..self }
     }
 
     /// Opens a run with this state in a folder that isn't there yet, or is empty. It begins with a segment without a move, so
@@ -161,8 +168,9 @@ impl RunOptions {
     }
 
     fn start(self, storage: Storage, folder: RunFolder) -> Result<Run, Error> {
-        let receipts = self.receipts.unwrap_or(2 * u64::from(self.moves));
-        let limits = Limits { moves: self.moves, receipts, every: self.every };
+        let each = if self.is_recording { 4 } else { 2 };
+        let receipts = self.receipts.unwrap_or(each * u64::from(self.moves));
+        let limits = Limits { moves: self.moves, receipts, every: self.every, is_recording: self.is_recording };
         let core = Arc::new(Core::new(storage, limits, folder.counts()));
         let (path, shared) = (folder.path().to_owned(), Arc::clone(&core));
         let writer =

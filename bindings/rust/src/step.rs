@@ -2,7 +2,7 @@
 use crate::agent::Reading;
 use crate::error::{Error, answer, done, done_or_told, done_with};
 use crate::held::told;
-use crate::holder::{Holder, commit, offer_text};
+use crate::holder::{Change, Holder, commit, offer_text};
 use crate::instruction::{Instruction, Move};
 use crate::json::{Json, ToJson};
 use crate::number::MoveNumber;
@@ -70,7 +70,7 @@ impl Step<'_> {
         let (code, told) = self.told(|slot, step, out, room, written| unsafe {
             call(slot, step, text.as_ptr(), text.len(), out, room, written)
         })?;
-        self.agent.count(text.len());
+        self.agent.count(text.len() + told.len());
         done_with(code, sys::FORM_LOCATIONS, &text)?;
         Ok(answer(&told, Reading::of)?.values)
     }
@@ -96,7 +96,7 @@ impl Step<'_> {
         let (code, bytes) = self.told(|slot, step, out, room, written| unsafe {
             sys::asm_get_at(slot, step, at.slot.at(), &raw mut head, out, room, written)
         })?;
-        self.agent.count(at.size);
+        self.agent.count(at.size + bytes.len());
         done(code)?;
         value_of(&head, &bytes)
     }
@@ -147,6 +147,7 @@ impl Step<'_> {
             call(slot, step, text.as_ptr(), text.len(), out, room, written)
         })?;
         self.agent.count(text.len());
+        self.agent.note(&Change::of(code, instructions.iter().any(Instruction::is_partial)));
         match code {
             sys::NOT_JSON | sys::SHAPE => {
                 let call = format!("{{\"fire\":{text},\"reads\":[]}}");
@@ -184,6 +185,7 @@ impl Step<'_> {
             call(slot, step, instructions.slot.at(), out, room, written)
         })?;
         self.agent.count(instructions.size);
+        self.agent.note(&Change::of(code, true));
         done_or_told(code, &told)
     }
 
@@ -253,6 +255,7 @@ impl Step<'_> {
     /// - [`Error::NoMove`]: none is pushed.
     /// - [`Error::Many`], [`Error::Memory`].
     pub fn pop(&mut self) -> Result<(), Error> {
+        self.agent.note(&Change::Other);
         // SAFETY: the slots are of one agent and its step, which this thread alone has, and the texts and numbers outlive the call.
         self.agent.with(|agent| match unsafe { sys::asm_pop(agent.slots.step()) } {
             sys::NO_PUSH => Err(Error::NoMove),
@@ -271,6 +274,7 @@ impl Step<'_> {
     /// - [`Error::Many`]: the one move would have more than 4,096 instructions; nothing is popped.
     /// - [`Error::Memory`].
     pub fn pop_move(&mut self) -> Result<PreparedMove, Error> {
+        self.agent.note(&Change::Other);
         PreparedMove::put_by(|slot| {
             // SAFETY: the slots are of one agent and its step, which this thread alone has, and the texts and numbers outlive the call.
             self.agent.with(|agent| match unsafe { sys::asm_pop_move(agent.slots.step(), slot) } {

@@ -10,6 +10,7 @@ use crate::sys;
 use crate::turns::AgentSlots;
 use crate::value::{Location, Value};
 use std::fmt;
+use std::sync::atomic::{AtomicBool, Ordering};
 use std::sync::{Arc, Mutex, MutexGuard, PoisonError};
 
 /// How many agents a storage makes at most.
@@ -18,6 +19,8 @@ const AGENTS: usize = 256;
 /// What a storage and its agents share.
 pub(crate) struct Shared {
     slots: Mutex<Slots>,
+    /// Whether agents that are made or taken record.
+    is_recording: AtomicBool,
 }
 
 struct Slots {
@@ -32,6 +35,10 @@ impl Shared {
     fn slots(&self) -> MutexGuard<'_, Slots> {
         // A call that panicked left the slots as the library did, which is whole.
         self.slots.lock().unwrap_or_else(PoisonError::into_inner)
+    }
+
+    pub(crate) fn is_recording(&self) -> bool {
+        self.is_recording.load(Ordering::Relaxed)
     }
 
     /// Gives the agent back, or keeps it until there is memory.
@@ -134,8 +141,18 @@ impl Storage {
         // Letting an agent go can't be refused memory.
         waiting.try_reserve_exact(AGENTS).map_err(|_| Error::Memory)?;
         Ok(Storage {
-            shared: Arc::new(Shared { slots: Mutex::new(Slots { storage, made: [false; AGENTS], waiting }) }),
+            shared: Arc::new(Shared {
+                slots: Mutex::new(Slots { storage, made: [false; AGENTS], waiting }),
+                is_recording: AtomicBool::new(false),
+            }),
         })
+    }
+
+    /// Has agents that are made or taken from now on record, or not, as [`Agent::set_recording`] does.
+    ///
+    /// The storages of [`Storage::next`] and [`Agent::go_on`] do as this one.
+    pub fn set_recording(&self, is_recording: bool) {
+        self.shared.is_recording.store(is_recording, Ordering::Relaxed);
     }
 
     /// Makes an agent with this number. A storage has one agent of each number for its whole life.
@@ -245,7 +262,9 @@ impl Storage {
             sys::CAPACITY => Err(OutOfRange::capacity(capacity)),
             code => {
                 done(code)?;
-                Storage::of(next)
+                let next = Storage::of(next)?;
+                next.set_recording(self.shared.is_recording());
+                Ok(next)
             }
         }
     }

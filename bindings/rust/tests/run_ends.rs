@@ -298,6 +298,32 @@ fn come_and_go(run: &Run, mut agent: RunAgent, mut draw: Draw) -> Vec<u64> {
     }
 }
 
+/// Has 4 agents in threads raise one number for 30 s, or as many as `FOLUGBEN_STRESS` says, in parts of 200 moves.
+#[test]
+#[ignore = "it takes 30 s"]
+fn no_run_ends_under_stress() {
+    let seconds = std::env::var("FOLUGBEN_STRESS").map_or(30, |it| it.parse().unwrap());
+    let room = Room::new("stress");
+    let run = open(&room, 200);
+    let end = std::time::Instant::now() + Duration::from_secs(seconds);
+    let work = |mut agent: RunAgent| {
+        let mut own = Vec::new();
+        while std::time::Instant::now() < end {
+            own.push(add_one(&mut agent).unwrap());
+        }
+        own
+    };
+    let mut all: Vec<u64> = thread::scope(|threads| {
+        let works: Vec<_> = run.agents(4).unwrap().into_iter().map(|it| threads.spawn(|| work(it))).collect();
+        works.into_iter().flat_map(|it| it.join().unwrap()).collect()
+    });
+    let told = run.close().unwrap();
+    all.sort_unstable();
+    assert!(all.iter().copied().eq(1..=told.moves), "{told}: {} were told", all.len());
+    assert_eq!(room.audited(), (told, vec![(count(), i64::try_from(told.moves).unwrap().into())]));
+    println!("stress {seconds} s: {told}");
+}
+
 #[test]
 fn agents_come_and_go_and_each_move_that_was_told_is_saved() {
     for round in 1..=6 {

@@ -78,7 +78,7 @@ short b actions = list_any (λ e. nat_lt (count b e) (amount_in Removed actions 
 abbrev pub large : ElementBag → List Action → Bool
 large b actions = list_any (λ e. is_large (new_count b actions e)) (named actions)
 
--- what partial updates of bags give on a bag, which they leave as it is where there are none
+-- what partial updates of bags give on a bag; no partial updates leave it unchanged
 abbrev pub tabled : ElementBag → List Action → GroupResult
 tabled b actions =
     if short b actions then Err Short
@@ -130,7 +130,7 @@ bag_actions f es = bag_side Added (f Added) es ++ bag_side Removed (f Removed) e
 abbrev pub is_either_large : (Side → Element → ℕ) → Element → Bool
 is_either_large f e = is_large (f Added e) || is_large (f Removed e)
 
--- the list that stands for the first and then the second
+-- the list that does what the first and then the second do
 abbrev pub bag_joins : List Action → List Action → Joined
 bag_joins first second =
     let es = named (first ++ second) in

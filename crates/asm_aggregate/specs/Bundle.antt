@@ -68,14 +68,15 @@ HaveRoom M N groups =
 abbrev pub by_place : {X : Type 0} → List (Bor Place × X) → List (Place × X)
 by_place es = map (λ e. (e.0.now, e.1)) es
 
--- the update set of the move, or its clash at the least location that has no result; an allocation failure tells nothing
+-- the update set of the move, or its clash at the smallest location that has no result; an allocation failure says
+-- nothing
 abbrev pub IsAggregate : Part → Old → Move → Result Updates AggError → Type 0
 IsAggregate part old M (Ok U) = IsUpdateSet part old M U
 IsAggregate part old M (Err (Clashes clash)) = IsLeastClash part old M clash
 IsAggregate part old M (Err Memory) = Unit {0}
 
--- whether the move has an update set, or its clash at the least location that has no result; a refusal of memory tells
--- nothing
+-- whether the move has an update set, or its clash at the smallest location that has no result; a refusal of memory
+-- says nothing
 abbrev pub IsAdmission : Part → Old → Move → Result (Unit {0}) AggError → Type 0
 IsAdmission part old M (Ok _) = (U : Updates) × IsUpdateSet part old M U
 IsAdmission part old M (Err (Clashes clash)) = IsLeastClash part old M clash

@@ -24,7 +24,7 @@ use Rattle.asm_aggregate.specs.PairMeaning.{refused, unless}
 use Rattle.asm_aggregate.specs.declared.composition.ComposeError.{ComposeError}
 use Rattle.asm_aggregate.specs.declared.composition.ComposeError.TheVariants as compose_error
 
--- what actions give on a value: none of them leave it as it is
+-- what actions give on a value: no actions leave it unchanged
 abbrev pub gives : Part → Value → List Action → GroupResult
 gives part v [] = Ok v
 gives part v (x ∷ xs) = res part v (x ∷ xs)
@@ -81,7 +81,8 @@ composed_at a M N l = composed a (bundle_of (actions_at M l)) (bundle_of (action
 abbrev pub composition : Meaning → Move → Move → Result Move (Place × NoJoin)
 composition a M N = in_turn (map (λ l. (l, composed_at a M N l)) (locations (M ++ N)))
 
--- the answer is the composition, or its refusal; a list of more than 4,096 is too long; an allocation failure tells nothing
+-- the answer is the composition, or its refusal; a list of more than 4,096 is too long; an allocation failure says
+-- nothing
 abbrev pub IsComposition : Meaning → Move → Move → Result Move ComposeError → Type 0
 IsComposition a M N (Ok C) = (composition a M N ≡ Ok C) × (length C ≤ instructions_limit)
 IsComposition a M N (Err (compose_error.Clash c)) = composition a M N ≡ Err (c.at, Refused c.cause)
@@ -89,11 +90,12 @@ IsComposition a M N (Err (compose_error.Large l)) = composition a M N ≡ Err (l
 IsComposition a M N (Err compose_error.ManyInstructions) = (C : Move) × (composition a M N ≡ Ok C) × (instructions_limit < length C)
 IsComposition a M N (Err compose_error.Memory) = Unit {0}
 
--- on each proper state that the first move fires on, the third does what the second does after it, clashes included
+-- on each well-formed state that the first move fires on, the third does what the second does after it, clashes
+-- included
 abbrev pub IsSequence : Part → Move → Move → Move → Type 0
 IsSequence part M N C = (A : State) → IsProper A → IsOk (fire part A M) → fire part A C ≡ sequence part A M N
 
--- no proper state lets the first and then the second fire
+-- no well-formed state lets the first and then the second fire
 abbrev pub NeverFires : Part → Move → Move → Type 0
 NeverFires part M N = (A : State) → IsProper A → IsErr (sequence part A M N)
 
@@ -120,7 +122,7 @@ IsLimited list (Err compose_error.ManyInstructions) = instructions_limit < lengt
 IsLimited list (Err compose_error.Memory) = Unit {0}
 IsLimited list (Err _) = ⊥
 
--- the answer is the refusal of this location; an allocation failure tells nothing
+-- the answer is the refusal of this location; an allocation failure says nothing
 abbrev pub IsRefusalAt : Place → JoinError → ComposeError → Type 0
 IsRefusalAt l (join_error.Cause cause) (compose_error.Clash c) = (c.at ≡ l) × (c.cause ≡ cause)
 IsRefusalAt l join_error.Large (compose_error.Large k) = k ≡ l

@@ -57,7 +57,7 @@ count_result old regular partials =
     ∷ [])
     (values.Plain (Num (new_number (number base) partials)))
 
--- whether no two counters are as far apart as the number: it is above 18,446,744,073,709,551,615, or below its negative
+-- whether no two counters have this distance: it is above 18,446,744,073,709,551,615, or below its negative
 abbrev pub is_beyond : ℤ → Bool
 is_beyond s = int_lt s (negsuc 18446744073709551614) || int_lt (pos 18446744073709551615) s
 
@@ -77,13 +77,13 @@ abbrev pub stands_alone : List Action → List Action → Bool
 stands_alone [] (x ∷ xs) = true
 stands_alone _ _ = false
 
--- the increments of a sum. A sum of 0 needs none; but where the second list stands alone, an increment by 0 asks for a
+-- the increments of a sum. A sum of 0 needs none; but if the second list is alone, an increment by 0 asks for a
 -- number as the list did
 abbrev pub increments : List Action → List Action → ℤ → List Action
 increments first second s =
     if int_eq s (pos 0) && not (stands_alone first second) then [] else map Increment (split s)
 
--- the list that stands for the first and then the second
+-- the list that does what the first and then the second do
 abbrev pub count_joins : List Action → List Action → Joined
 count_joins first second =
     let s = total first +ℤ total second in

@@ -63,7 +63,7 @@ set_result old regular partials =
     ∷ [])
     (unwrap_or regular (values.Set (updated (members base) partials)))
 
--- the elements of both lists on a side, but for those of the first that the second has on the other side
+-- the elements of both lists on a side, except those of the first that the second has on the other side
 abbrev pub joined_elements : List Action → List Action → Side → ElementSet
 joined_elements first second side =
     union (difference (elements_on side first) (elements_on (other side) second)) (elements_on side second)
@@ -81,7 +81,7 @@ set_side side s = map (λ e. set_action side e) (elements s)
 abbrev pub set_actions : (Side → ElementSet) → List Action
 set_actions s = set_side Added (s Added) ++ set_side Removed (s Removed)
 
--- the list that stands for the first and then the second
+-- the list that does what the first and then the second do
 abbrev pub set_joins : List Action → List Action → Joined
 set_joins first second =
     first_cause

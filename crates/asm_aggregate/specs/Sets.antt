@@ -44,7 +44,7 @@ with_element s (Some e) = insert s e
 abbrev pub is_among : List (Bor Element) → Element → Bool
 is_among refs e = list_any (λ r. eq_by_cmp element_cmp e r.now) refs
 
--- besides the elements that are noted of each, two sets have the same
+-- besides the elements that are recorded of each, two sets have the same
 pub record IsSameBesides (s : ElementSet) (of_s : List (Bor Element)) (t : ElementSet) (of_t : List (Bor Element)) : Type 0 where
   pub same : (e : Element) → (contains s e && not (is_among of_s e)) ≡ (contains t e && not (is_among of_t e))
 

@@ -1,4 +1,4 @@
--- What a list of actions adds and removes of each element, kept in a map by references to the elements.
+-- What a list of actions adds and removes of each element, in a map by references to the elements.
 use Rattle.std.specs.Prelude.{◌≡◌, ℕ, ◌+◌, ◌<◌, ◌≤◌, ◌^◌, List, unwrap_or}
 use Rattle.std.specs.Borrow.{Bor}
 use Rattle.std.specs.BTreeMap as tree

@@ -9,8 +9,9 @@ use asm_element::Location;
 use asm_update::{AggError, Aggregator, Cause, Instructions, Lookup, ResultError};
 use std::alloc::Global;
 
-/// Whether what a move does at one location has a result; only where there are partial updates is the
-/// lookup asked.
+/// Return whether what a move does at one location has a result.
+///
+/// The lookup is asked only if there are partial updates.
 fn admit_at<A: Aggregator, L: Lookup>(
     alloc: Global,
     aggregator: &A,
@@ -26,18 +27,22 @@ fn admit_at<A: Aggregator, L: Lookup>(
         return Err(ResultError::Cause(Cause::Two));
     }
     if bundle.partials().is_empty() {
-        // That it has a regular value is what the goal needs.
+        // Proof: that it has a regular value is what the goal needs.
         let _regular = bundle.regular();
         return Ok(());
     }
     bundle.admit_by(alloc, aggregator, lookup.get(at))
 }
 
-/// Whether a move has an update set: `aggregate` would answer it, or the same clash.
+/// Test whether a move has an update set: as `aggregate`, or the same clash.
 ///
-/// No value is made for it, so it costs less than `aggregate`. `Memory` comes only where memory was
-/// refused. The lookup is asked for the old values of locations with partial updates alone, once each, in
-/// ascending order, and for none above a clash.
+/// It makes no value, so it costs less than `aggregate`. It asks the lookup for the old values of locations with
+/// partial updates alone, once each, in ascending order, and for none above a clash.
+///
+/// # Errors
+///
+/// - `AggError::Clash` exactly if `aggregate` would return it.
+/// - `Memory` only if memory is refused.
 pub fn admit<A: Aggregator, L: Lookup>(
     alloc: Global,
     aggregator: &A,

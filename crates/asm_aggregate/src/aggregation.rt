@@ -16,8 +16,9 @@ use asm_update::{
 };
 use std::alloc::{AllocError, Global};
 
-/// The result of what a move does at one location; only where there are partial updates is the
-/// lookup asked.
+/// Return the result of what a move does at one location.
+///
+/// The lookup is asked only if there are partial updates.
 fn result_at<A: Aggregator, L: Lookup>(
     alloc: Global,
     aggregator: &A,
@@ -41,7 +42,7 @@ fn result_at<A: Aggregator, L: Lookup>(
     }
 }
 
-/// Puts the value at the location.
+/// Put the value at the location.
 fn put_at(
     alloc: Global,
     updates: &mut UpdateSet,
@@ -54,7 +55,7 @@ fn put_at(
     updates.put(at, value)
 }
 
-/// The clash of a location.
+/// Return the clash of a location.
 pub(crate) fn clash_at(alloc: Global, at: &Location, error: ResultError) -> AggError
     ensures { (c : clashes.Clash) → result ≡ agg_error.Clash c →
         (c.at ≡ at.now) × (error ≡ result_error.Cause c.cause) }
@@ -68,14 +69,17 @@ pub(crate) fn clash_at(alloc: Global, at: &Location, error: ResultError) -> AggE
     }
 }
 
-/// Gathers the instructions of a move at each location into an update set, which has each written
-/// location's result and no other location.
+/// Gather the instructions of a move at each location into an update set.
 ///
-/// `AggError::Clash` comes exactly where some location's instructions have no result: at the least
-/// such location, with the first cause of its group. `Memory` comes only where memory was refused.
-/// The lookup is asked for the old values of locations with partial updates alone, once each, in
-/// ascending order, and for none above a clash. Source: aggregation of partial updates in CoreASM; the
-/// choice of the clash is of this project's profile.
+/// The set has the result of each written location and no other location. The lookup is asked for the old values of
+/// locations with partial updates alone, once each, in ascending order, and for none above a clash. Source: aggregation
+/// of partial updates in CoreASM; the choice of the clash is of this project's profile.
+///
+/// # Errors
+///
+/// - `AggError::Clash` exactly if some location's instructions have no result: at the smallest such location, with the
+///   first cause of its group.
+/// - `Memory` only if memory is refused.
 pub fn aggregate<A: Aggregator, L: Lookup>(
     alloc: Global,
     aggregator: &A,
@@ -97,10 +101,13 @@ pub fn aggregate<A: Aggregator, L: Lookup>(
     Ok(updates)
 }
 
-/// The update set of a move as `aggregate` gathers it, or the same clash, beside the move's own locations: no
-/// location is copied.
+/// Return the update set of a move beside the move's own locations.
 ///
-/// `AggError::Clash` and `Memory` come as from `aggregate`, and the lookup is asked as there.
+/// The results are those of `aggregate`, no location is copied, and the lookup is asked as there.
+///
+/// # Errors
+///
+/// - `AggError::Clash` and `Memory` as from `aggregate`.
 pub fn results<'a, A: Aggregator, L: Lookup>(
     alloc: Global,
     aggregator: &A,

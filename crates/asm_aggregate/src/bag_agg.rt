@@ -24,12 +24,12 @@ use asm_element::{ElemBag, ElemSet, Element, Value};
 use asm_update::{Action, Aggregator, Amount, Cause, Family, Group, JoinError, ResultError};
 use std::alloc::{AllocError, Global};
 
-/// The aggregator of bags: it owns `Family::Bag` alone (partial updates of bags are of this project's profile).
+/// The aggregator of bags: it owns `Family::Bag` alone.
 ///
-/// A group's result has of each element the old count, less what is removed, and then what is added.
-/// There is none where the base isn't a bag (`Kind`), beside a regular value (`Against`), where more
-/// of an element is removed than the old bag has (`Short`), or where a new count would be above
-/// 4,294,967,295 (`Large`).
+/// A group's result has of each element the old count, less what is removed, and then what is added. There is no result
+/// where the base isn't a bag (`Kind`), beside a regular value (`Against`), where more of an element is removed than
+/// the old bag has (`Short`), or where a new count would be above 4,294,967,295 (`Large`). Partial updates of bags are
+/// of this project's profile.
 #[derive(Clone, Copy, Debug)]
 pub struct BagAgg;
 
@@ -88,7 +88,7 @@ fn put_added(alloc: Global, bag: &mut ElemBag, action: &Action) -> Result<(), Re
     Ok(())
 }
 
-/// The bag less what the actions remove.
+/// Return the bag less what the actions remove.
 pub(crate) fn without(mut bag: ElemBag, actions: &[Action]) -> Result<ElemBag, ResultError>
     ensures ok { IfOk result (λ b. IsMoreBy (count b) (count bag) (amount_in sides.Removed actions.now)) }
     ensures err { IfErr result (IsShort (count bag) (amount_in sides.Removed actions.now)) }
@@ -99,7 +99,7 @@ pub(crate) fn without(mut bag: ElemBag, actions: &[Action]) -> Result<ElemBag, R
     Ok(bag)
 }
 
-/// The bag and what the actions add.
+/// Return the bag and what the actions add.
 pub(crate) fn with(
     alloc: Global,
     mut bag: ElemBag,
@@ -140,7 +140,7 @@ fn note_elements(
     Ok(())
 }
 
-/// The elements that the actions of both lists add or remove.
+/// Return the elements that the actions of both lists add or remove.
 fn named_by(alloc: Global, first: &[Action], second: &[Action]) -> Result<ElemSet, AllocError>
     ensures { IfOk result (λ s. set.elements s ≡ named (first.now ++ second.now)) }
 {
@@ -150,7 +150,7 @@ fn named_by(alloc: Global, first: &[Action], second: &[Action]) -> Result<ElemSe
     Ok(elements)
 }
 
-/// What the first and then the second list add to the element's count, and what they remove from it.
+/// Return what the two lists in turn add to a count and what they remove from it.
 fn joined_amounts<'a>(first: &Sums<'a>, second: &Sums<'a>, element: &'a Element) -> Amounts
     ensures added { result.added ≡ joined_amount first.now second.now sides.Added element.now }
     ensures removed { result.removed ≡ joined_amount first.now second.now sides.Removed element.now }
@@ -163,7 +163,11 @@ fn joined_amounts<'a>(first: &Sums<'a>, second: &Sums<'a>, element: &'a Element)
     }
 }
 
-/// The amount of a number, None for 0; `Large` where it is above 4,294,967,295.
+/// Return the amount of a number, and None for 0.
+///
+/// # Errors
+///
+/// - `Large` exactly if the number is above 4,294,967,295.
 fn amount_from(total: u128) -> Result<Option<Amount>, JoinError>
     ensures ok { IfOk result (λ amount. is_large total ≡ false) }
     ensures none { IfOk result (λ amount. IfNone amount (total ≡ 0)) }
@@ -185,7 +189,7 @@ fn action_of(side: Side, element: Element, amount: Amount) -> Action
     }
 }
 
-/// Appends the addition of so many of the element, or their removal, where they aren't 0.
+/// Append the addition or the removal of so many of the element, unless it is of 0.
 fn push_side(
     alloc: Global,
     actions: &mut Vec<Action>,
@@ -203,7 +207,7 @@ fn push_side(
     Ok(())
 }
 
-/// Additions by element, then removals by element, of what the first and then the second list do.
+/// Return additions by element, then removals by element, of the two lists in turn.
 fn joined_actions<'a>(
     alloc: Global,
     elements: &'a ElemSet,

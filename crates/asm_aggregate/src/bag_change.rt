@@ -19,15 +19,15 @@ use asm_element::{ElemBag, Element, Value};
 use asm_update::{Action, Cause, Family, Group, ResultError};
 use std::alloc::{AllocError, Global};
 
-/// How often a bag has the elements that a group names, before the group and after it.
+/// The counts of the elements that a group names, before and after the group.
 #[derive(Drop)]
 pub(crate) struct Recount {
     before: ElemBag,
     after: ElemBag,
 }
 
-// Does nothing. Its contract tells that the bag's counts are those that a bag can hold, which the sums of old and new
-// counts need: they fit where each count does.
+// State for proofs that the bag's counts are those that a bag can hold, which the sums of old and new counts need:
+// they fit where each count does; do nothing at run time.
 fn counted(elements: &ElemBag)
     ensures { All bag.IsCount (bag.counts elements.now) }
 {
@@ -58,7 +58,9 @@ fn lower_one(elements: &mut ElemBag, to: &ElemBag, element: Option<&Element>)
     }
 }
 
-/// Raises the counts of what the actions name to the other bag's. After an error some of them are raised.
+/// Raise the counts of what the actions name to the other bag's.
+///
+/// On error, some of them are raised.
 fn raise(
     alloc: Global,
     elements: &mut ElemBag,
@@ -74,7 +76,9 @@ fn raise(
     Ok(())
 }
 
-/// Lowers the counts of what the actions name to the other bag's, for which no memory is needed.
+/// Lower the counts of what the actions name to the other bag's.
+///
+/// It needs no memory.
 fn lower(elements: &mut ElemBag, to: &ElemBag, actions: &[Action])
     ensures { IsMoved lowered (names_in actions.now) elements.old to.now elements.new }
 {
@@ -83,7 +87,7 @@ fn lower(elements: &mut ElemBag, to: &ElemBag, actions: &[Action])
     }
 }
 
-/// What the bag has of the elements that the actions name.
+/// Return the part of the bag that has the elements that the actions name.
 fn excerpt(alloc: Global, elements: &ElemBag, actions: &[Action]) -> Result<ElemBag, AllocError>
     ensures { IfOk result (λ b. IsMoved raised (names_in actions.now) bag.empty elements.now b) }
 {
@@ -92,7 +96,7 @@ fn excerpt(alloc: Global, elements: &ElemBag, actions: &[Action]) -> Result<Elem
     Ok(part)
 }
 
-/// The counts before and after the actions, or why these have no result on the bag.
+/// Return the counts before and after the actions, or why there is no result.
 fn recount_of(alloc: Global, elements: &ElemBag, actions: &[Action]) -> Result<Recount, ResultError>
     ensures before { IfOk result (λ r. IsMoved raised (names_in actions.now) bag.empty elements.now r.before) }
     ensures ok { IfOk result (λ r. tabled elements.now actions.now
@@ -107,7 +111,7 @@ fn recount_of(alloc: Global, elements: &ElemBag, actions: &[Action]) -> Result<R
     Ok(Recount { before, after })
 }
 
-/// The counts before and after a group, where it has a result on the old value.
+/// Return the counts before and after a group that has a result on the old value.
 pub(crate) fn admitted(
     alloc: Global,
     old: Option<&Value>,
@@ -136,8 +140,9 @@ pub(crate) fn admitted(
     recount_of(alloc, base, partials)
 }
 
-/// Changes the counts of what the actions name in place: first those that grow, since the others take no
-/// memory. After an error the bag is as it was.
+/// Change the counts of what the actions name in place.
+///
+/// Those that grow come first, since the others take no memory. On error, the bag is unchanged.
 pub(crate) fn change_bag(
     alloc: Global,
     elements: &mut ElemBag,

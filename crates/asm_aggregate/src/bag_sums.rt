@@ -20,7 +20,9 @@ pub(crate) struct Amounts {
     pub(crate) removed: u128,
 }
 
-/// A list of actions with what they add and remove of each element. Contracts see the actions.
+/// A list of actions with what they add and remove of each element.
+///
+/// Contracts see the actions.
 #[derive(Drop)]
 pub(crate) struct Sums<'a> {
     actions: &'a [Action],
@@ -43,7 +45,7 @@ impl<'a> Model for Sums<'a> {
     ghost invariant = { λ s. AreSums s.actions.now (2 ^ 96) s.by_element };
 }
 
-/// How many of the element the action adds, or how many it removes.
+/// Return how many of the element the action adds, or how many it removes.
 fn amount_of(side: Side, action: &Action, element: &Element) -> u32
     ensures { result ≡ amount side element.now action.now }
 {
@@ -84,7 +86,7 @@ fn add_to<'a>(
 }
 
 impl<'a> Sums<'a> {
-    /// The actions with their sums, by one walk.
+    /// Return the actions with their sums, by one walk.
     pub(crate) fn of(alloc: Global, actions: &'a [Action]) -> Result<Sums<'a>, AllocError>
         ensures { IfOk result (λ sums. sums ≡ actions.now) }
     {
@@ -98,7 +100,7 @@ impl<'a> Sums<'a> {
         })
     }
 
-    /// How many of the element the actions add together and how many they remove.
+    /// Return how many of the element the actions add and how many they remove.
     pub(crate) fn at(&self, element: &'a Element) -> Amounts
         ensures added { result.added ≡ amount_in sides.Added self.now element.now }
         ensures removed { result.removed ≡ amount_in sides.Removed self.now element.now }

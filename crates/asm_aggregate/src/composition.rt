@@ -22,12 +22,15 @@ use thiserror::Error;
 /// Why two moves have no composition.
 #[derive(Debug, Drop, PartialEq, Eq, Error)]
 pub enum ComposeError {
-    /// At the least location that refuses no state lets the first and then the second fire; with
-    /// the cause.
+    /// No state lets the first and then the second fire, with the cause.
+    ///
+    /// The location is the smallest that refuses.
     #[error("the two moves clash at {0}")]
     Clash(Clash),
-    /// At the least location that refuses, a composed amount of a bag would be above 4,294,967,295, or
-    /// the sum of the increments of a counter is farther from 0 than 18,446,744,073,709,551,615.
+    /// A composed update would be too large, at the smallest location that refuses.
+    ///
+    /// A composed amount of a bag would be above 4,294,967,295, or the sum of the increments of a counter is farther
+    /// from 0 than 18,446,744,073,709,551,615.
     #[error("a composed amount or sum is too large at {0}")]
     Large(Location),
     /// No location refuses, and there would be more than 4,096 instructions.
@@ -54,7 +57,7 @@ impl<T: Drop> From<AllocFailed<T>> for ComposeError {
     }
 }
 
-/// The refusal of a location.
+/// Return the refusal of a location.
 fn refusal_at(alloc: Global, at: &Location, error: JoinError) -> ComposeError
     ensures { IsRefusalAt at.now error result }
 {
@@ -69,7 +72,7 @@ fn refusal_at(alloc: Global, at: &Location, error: JoinError) -> ComposeError
     }
 }
 
-/// The cause for which a group has no result, if it has none.
+/// Return the cause for which a group has no result, if it has none.
 fn cause_of(admitted: Result<(), ResultError>) -> Result<(), JoinError>
     ensures { (o : GroupResult) → IsAdmitted admitted o → IsRefusedFor result (cause_of o) }
 {
@@ -80,7 +83,7 @@ fn cause_of(admitted: Result<(), ResultError>) -> Result<(), JoinError>
     }
 }
 
-/// The clash of a bundle with a regular value, if it has one.
+/// Return the clash of a bundle with a regular value, if it has one.
 fn clash_of_regular<A: Aggregator>(
     alloc: Global,
     aggregator: &A,
@@ -98,7 +101,7 @@ fn clash_of_regular<A: Aggregator>(
     cause_of(bundle.admit_by(alloc, aggregator, None))
 }
 
-/// The clash of partial updates alone, if they have one.
+/// Return the clash of partial updates alone, if they have one.
 fn clash_of_partials<A: Aggregator>(
     alloc: Global,
     aggregator: &A,
@@ -113,7 +116,9 @@ fn clash_of_partials<A: Aggregator>(
     cause_alone(aggregator, alloc, bundle.partials())
 }
 
-/// What partial updates alone give on the value, which they leave as it is where there are none.
+/// Return what partial updates alone give on the value.
+///
+/// No partial updates leave it unchanged.
 fn result_on<A: Aggregator>(
     alloc: Global,
     aggregator: &A,
@@ -129,14 +134,14 @@ fn result_on<A: Aggregator>(
     bundle.result_by(alloc, aggregator, Some(value))
 }
 
-/// The list of the one regular update that writes the value.
+/// Return the list of the one regular update that writes the value.
 fn one_put(alloc: Global, value: Value) -> Result<Vec<Action>, JoinError>
     ensures { IsJoined result (Ok (Regular value ∷ [])) }
 {
     Ok(vec![in alloc; Action::Regular(value)]?)
 }
 
-/// A value as the list of the one regular update that writes it.
+/// Return a value as the list of the one regular update that writes it.
 fn as_regular(alloc: Global, value: Result<Value, ResultError>) -> Result<Vec<Action>, JoinError>
     ensures { (o : GroupResult) → IsOutcome value o → IsJoined result (as_regular o) }
 {
@@ -147,7 +152,7 @@ fn as_regular(alloc: Global, value: Result<Value, ResultError>) -> Result<Vec<Ac
     }
 }
 
-/// The second's regular value, unless the second clashes of itself.
+/// Return the second's regular value, unless the second clashes of itself.
 fn put_by_second<A: Aggregator>(
     alloc: Global,
     aggregator: &A,
@@ -162,7 +167,7 @@ fn put_by_second<A: Aggregator>(
     one_put(alloc, value.copy(alloc)?)
 }
 
-/// What does at a location what the first and then the second do.
+/// Return the actions at a location that do what the first and then the second do.
 fn composed_at<A: Aggregator>(
     alloc: Global,
     aggregator: &A,
@@ -190,7 +195,7 @@ fn composed_at<A: Aggregator>(
     }
 }
 
-/// Appends the instructions of the actions at the location.
+/// Append the instructions of the actions at the location.
 fn append(
     alloc: Global,
     list: &mut Vec<Instruction>,
@@ -206,7 +211,7 @@ fn append(
     Ok(())
 }
 
-/// The composed instructions of all locations, however many they are.
+/// Return the composed instructions of all locations, any number of them.
 fn composed_list<'a, A: Aggregator>(
     alloc: Global,
     aggregator: &A,
@@ -227,7 +232,7 @@ fn composed_list<'a, A: Aggregator>(
     Ok(list)
 }
 
-/// The instructions as a move, if they aren't more than 4,096.
+/// Return the instructions as a move, if they aren't more than 4,096.
 fn limited(alloc: Global, list: Vec<Instruction>) -> Result<Instructions, ComposeError>
     ensures { IsLimited list.items result }
 {
@@ -239,23 +244,27 @@ fn limited(alloc: Global, list: Vec<Instruction>) -> Result<Instructions, Compos
             Err(InstructionsError::Memory) => return Err(ComposeError::Memory),
         }
     }
-    // That there are at most 4,096 is what the goal needs.
+    // Proof: that there are at most 4,096 is what the goal needs.
     let _few = instructions.len();
     Ok(instructions)
 }
 
-/// One move that does what the first and then the second do, by location in ascending order.
+/// Compose two moves into one, by location in ascending order.
 ///
-/// On a state on which the first fires, firing the composed move is firing the first and then the second,
-/// clashes included. On a state on which the first clashes nothing is promised, and the composed move may
-/// fire: an addition to a bag and a removal of the same element compose to no instruction, which fires
-/// where there is no bag. So judge the first move on the state before its composition is fired.
+/// On a state on which the first fires, firing the composed move is firing the first and then the second, clashes
+/// included. On a state on which the first clashes nothing is promised, and the composed move may fire: an addition to
+/// a bag and a removal of the same element compose to no instruction, which fires where there is no bag. So judge the
+/// first move on the state before its composition is fired.
 ///
-/// `Clash` and `Large` come exactly where some location refuses, at the least one: no state then lets the
-/// first and then the second fire. `ManyInstructions` comes exactly where none refuses and the composed list
-/// has more than 4,096 instructions, and `Memory` only where memory was refused. Partial updates at one
-/// location are joined: additions by element, then removals by element, and none with an amount of 0.
-/// Source: sequential composition, by Börger and Stärk; the joins are of this project's profile.
+/// Partial updates at one location are joined: additions by element, then removals by element, and none with an amount
+/// of 0. Source: sequential composition, by Börger and Stärk; the joins are of this project's profile.
+///
+/// # Errors
+///
+/// - `Clash` and `Large` exactly if some location refuses, at the smallest one: no state then lets the first and then
+///   the second fire.
+/// - `ManyInstructions` exactly if none refuses and the composed list has more than 4,096 instructions.
+/// - `Memory` only if memory is refused.
 pub fn compose<A: Aggregator>(
     alloc: Global,
     aggregator: &A,
@@ -265,7 +274,7 @@ pub fn compose<A: Aggregator>(
     ensures composition { IsComposition (A.meaning aggregator.now) first.now second.now result }
     ensures sequence { KeepsSequence (A.meaning aggregator.now).part first.now second.now result }
 {
-    // The sequence is promised of proper moves.
+    // Proof: the sequence is promised of well-formed moves.
     first.proper();
     second.proper();
     match composed_list(alloc, aggregator, first, second) {

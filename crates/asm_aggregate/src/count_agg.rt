@@ -18,11 +18,11 @@ use asm_element::{Element, Value};
 use asm_update::{Action, Aggregator, Cause, Family, Group, JoinError, ResultError};
 use std::alloc::{AllocError, Global};
 
-/// The aggregator of counters: it owns `Family::Count` alone (increments are of this project's profile).
+/// The aggregator of counters: it owns `Family::Count` alone.
 ///
-/// A group's result is the old number and the sum of the increments. There is none where the base
-/// isn't a number (`Kind`), beside a regular value (`Against`), or where the new number would be
-/// outside the range of i64 (`Large`), whatever the increments pass on the way.
+/// A group's result is the old number and the sum of the increments. There is no result where the base isn't a number
+/// (`Kind`), beside a regular value (`Against`), or where the new number would be outside the range of i64 (`Large`),
+/// whatever the sums on the way are. Increments are of this project's profile.
 #[derive(Clone, Copy, Debug)]
 pub struct CountAgg;
 
@@ -45,7 +45,7 @@ fn increment_of(action: &Action) -> i64
     }
 }
 
-/// The sum of the increments.
+/// Return the sum of the increments.
 fn total_of(actions: &[Action]) -> i128
     ensures sum { result ≡ total actions.now }
     ensures below { result ≤ℤ pos (18446744073709551615 * 9223372036854775808) }
@@ -58,7 +58,7 @@ fn total_of(actions: &[Action]) -> i128
     sum
 }
 
-/// The counter with this number, if a counter can have it.
+/// Return the counter with this number, if a counter can have it.
 fn counter_of(number: i128) -> Result<Value, ResultError>
     ensures { IsOutcome result (if is_outside number then Err Large else Ok (values.Plain (element.Num number))) }
 {
@@ -68,7 +68,7 @@ fn counter_of(number: i128) -> Result<Value, ResultError>
     }
 }
 
-/// The sum of both totals, if two counters can be as far apart.
+/// Return the sum of both totals, if it is at most the distance of two counters.
 fn sum_of(first: i128, second: i128) -> Option<i128>
     ensures some { IfSome result (λ s. (s ≡ first +ℤ second) × (is_beyond s ≡ false)) }
     ensures none { IfNone result (is_beyond (first +ℤ second) ≡ true) }
@@ -81,7 +81,9 @@ fn sum_of(first: i128, second: i128) -> Option<i128>
     Some(sum)
 }
 
-/// A sum as increments: the greatest or the least one while the rest is outside the range, then the rest.
+/// Return a sum as increments.
+///
+/// Each is the greatest or the smallest one while the rest is outside the range; the last is the rest.
 fn split_into(alloc: Global, sum: i128) -> Result<Vec<Action>, AllocError>
     requires { is_beyond sum ≡ false }
     ensures { IfOk result (λ v. v.items ≡ map action.Increment (split sum)) }
@@ -107,7 +109,9 @@ fn split_into(alloc: Global, sum: i128) -> Result<Vec<Action>, AllocError>
     }
 }
 
-/// The increments of a sum: none of 0, but where the second list stands alone.
+/// Return the increments of a sum.
+///
+/// There are none of 0, except where the second list is alone.
 fn increments_of(
     alloc: Global,
     first: &[Action],

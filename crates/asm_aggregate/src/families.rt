@@ -16,14 +16,14 @@ fn belongs_to(action: &Action, family: Family) -> bool
     action.family() == Some(family)
 }
 
-/// Whether the actions are all partial updates of the family.
+/// Return whether the actions are all partial updates of the family.
 pub(crate) fn are_all_of(family: Family, actions: &[Action]) -> bool
     ensures { result ≡ list_all (is_of family) actions.now }
 {
     actions.iter().all(|action| belongs_to(action, family))
 }
 
-/// The family of all the actions, if there is one.
+/// Return the family of all the actions, if there is one.
 pub(crate) fn common_family(actions: &[Action]) -> Option<Family>
     ensures { result ≡ families.common_family actions.now }
 {
@@ -40,7 +40,7 @@ pub(crate) fn common_family(actions: &[Action]) -> Option<Family>
     }
 }
 
-/// The family of all the actions of both lists, if there is one.
+/// Return the family of all the actions of both lists, if there is one.
 pub(crate) fn family_of_both(first: &[Action], second: &[Action]) -> Option<Family>
     ensures { result ≡ families.common_family (first.now ++ second.now) }
 {
@@ -57,7 +57,9 @@ pub(crate) fn family_of_both(first: &[Action], second: &[Action]) -> Option<Fami
     }
 }
 
-/// The value that a group's partial updates change: the regular value, or else the old one.
+/// Return the value that a group's partial updates change.
+///
+/// It is the regular value, or else the old one.
 pub(crate) fn base_of<'a>(old: Option<&'a Value>, group: &'a Group) -> Option<&'a Value>
     ensures { unwrap_or (option_copied result) undef
         ≡ unwrap_or group.now.regular (unwrap_or (option_copied old.entry) undef) }
@@ -68,7 +70,7 @@ pub(crate) fn base_of<'a>(old: Option<&'a Value>, group: &'a Group) -> Option<&'
     }
 }
 
-/// The value as it is, in memory of its own.
+/// Return a copy of the value, in its own memory.
 pub(crate) fn unchanged(alloc: Global, value: &Value) -> Result<Value, ResultError>
     ensures { IsOutcome result (Ok value.now) }
 {

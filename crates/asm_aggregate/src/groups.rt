@@ -20,8 +20,9 @@ use std::collections::BTreeMap;
 use std::collections::btree_map::IntoIter;
 use std::marker::Model;
 
-/// What a move does at one location: its first regular value, whether another one differs from it,
-/// and its partial updates.
+/// What a move does at one location.
+///
+/// It has the first regular value, whether another one differs from it, and the partial updates.
 #[derive(Debug, Drop)]
 pub(crate) struct Bundle<'a> {
     regular: Option<&'a Value>,
@@ -82,7 +83,7 @@ impl<'a> Bundle<'a> {
         Ok(())
     }
 
-    /// What the instructions do, taken for those at one location.
+    /// Return what the instructions do, as if all were at one location.
     pub(crate) fn of(
         alloc: Global,
         instructions: &[&'a Instruction],
@@ -96,21 +97,21 @@ impl<'a> Bundle<'a> {
         Ok(bundle)
     }
 
-    /// Whether two of the regular values differ.
+    /// Return whether two of the regular values differ.
     pub(crate) fn differs(&self) -> bool
         ensures { result ≡ self.now.differ }
     {
         self.differ
     }
 
-    /// The first regular value, if there is one.
+    /// Return the first regular value, if there is one.
     pub(crate) fn regular(&self) -> Option<&'a Value>
         ensures { option_copied result ≡ self.now.regular }
     {
         self.regular
     }
 
-    /// The partial updates.
+    /// Return the partial updates.
     pub(crate) fn partials(&self) -> &[Action]
         ensures partials { result.now ≡ self.now.partials }
         ensures partial { list_all is_partial self.now.partials ≡ true }
@@ -118,7 +119,7 @@ impl<'a> Bundle<'a> {
         self.partials.as_slice()
     }
 
-    /// The group of the first regular value, which is copied, and the partial updates.
+    /// Return the group of a copy of the first regular value, and the partial updates.
     pub(crate) fn into_group(self, alloc: Global) -> Result<Group, AllocError>
         requires { self.partials ≢ [] }
         ensures { IfOk result (λ group.
@@ -131,7 +132,7 @@ impl<'a> Bundle<'a> {
         Ok(Group::new(regular, self.partials))
     }
 
-    /// What the aggregator makes of the first regular value and the partial updates.
+    /// Return the result of the first regular value and the partial updates.
     pub(crate) fn result_by<A: Aggregator>(
         self,
         alloc: Global,
@@ -146,7 +147,7 @@ impl<'a> Bundle<'a> {
         aggregator.result(alloc, old, &self.into_group(alloc)?)
     }
 
-    /// Whether the aggregator makes something of the first regular value and the partial updates.
+    /// Return whether the first regular value and the partial updates have a result.
     pub(crate) fn admit_by<A: Aggregator>(
         self,
         alloc: Global,
@@ -208,7 +209,7 @@ impl<'a> Groups<'a> {
         bundle.add(&instruction.action)
     }
 
-    /// The groups of the instructions, in one walk.
+    /// Return the groups of the instructions, in one walk.
     pub(crate) fn of(
         alloc: Global,
         instructions: &'a Instructions,
@@ -222,7 +223,7 @@ impl<'a> Groups<'a> {
         Ok(groups)
     }
 
-    /// The locations with what the move does there, in ascending order.
+    /// Return the locations with what the move does there, in ascending order.
     pub(crate) fn into_entries(self) -> IntoIter<&'a Location, Bundle<'a>>
         ensures { by_place result ≡ map.entries self.entry }
     {
@@ -239,7 +240,7 @@ impl<'a> Groups<'a> {
         Ok(())
     }
 
-    /// Makes an empty bundle at each location that the instructions write and that has none.
+    /// Make an empty bundle at each written location that has none.
     fn make_room(&mut self, alloc: Global, instructions: &'a Instructions) -> Result<(), AllocError>
         ensures { OnOk result ((M : Move) → AreGroups M self.old → HaveRoom M instructions.now self.new) }
     {
@@ -249,7 +250,9 @@ impl<'a> Groups<'a> {
         Ok(())
     }
 
-    /// The groups of the first, with an empty bundle at each location that only the second writes.
+    /// Return the groups of the first move, with room for the second.
+    ///
+    /// Each location that only the second writes has an empty bundle.
     pub(crate) fn with_room(
         alloc: Global,
         first: &'a Instructions,
@@ -262,7 +265,7 @@ impl<'a> Groups<'a> {
         Ok(groups)
     }
 
-    /// Takes out what the move does at the location, which is nothing where it isn't written.
+    /// Take out what the move does at the location: nothing if it doesn't write it.
     pub(crate) fn take(&mut self, alloc: Global, at: &'a Location) -> Bundle<'a>
         ensures taken { result ≡ unwrap_or (map.get self.old at.now) (bundle_of []) }
         ensures rest { self.new ≡ map.remove self.old at.now }

@@ -15,9 +15,10 @@ use asm_element::Value;
 use asm_update::{Action, Aggregator, Cause, Family, Group, JoinError, ResultError};
 use std::alloc::Global;
 
-/// Two aggregators as one: it owns what either of them owns, and leaves each group to the one that
-/// owns its family. Partial updates of two families, or of one that neither owns, are `Mixed`
-/// (this project's profile).
+/// Two aggregators as one, which owns what either of them owns.
+///
+/// Each group goes to the one that owns its family. Partial updates of two families, or of one that neither owns, are
+/// `Mixed` (this project's profile).
 #[derive(Debug, Drop)]
 pub struct Pair<A, B> {
     a: A,
@@ -31,7 +32,7 @@ enum Owner {
     Neither,
 }
 
-/// The cause for which the aggregator refuses the actions with nothing after them, if it refuses them.
+/// Return why the aggregator refuses the actions with nothing after them, if so.
 pub(crate) fn cause_alone<A: Aggregator>(
     aggregator: &A,
     alloc: Global,
@@ -50,7 +51,9 @@ pub(crate) fn cause_alone<A: Aggregator>(
 }
 
 impl<A: Aggregator, B: Aggregator> Pair<A, B> {
-    /// The two as one. No family may be owned by both.
+    /// Return the two as one.
+    ///
+    /// No family may be owned by both.
     pub fn new(a: A, b: B) -> Pair<A, B>
         requires { (f : family.Family) → (A.meaning a).owns f ≡ true → (B.meaning b).owns f ≡ false }
         ensures { ⟦<Pair<A, B> as Aggregator>⟧.meaning result ≡ pair_meaning (A.meaning a) (B.meaning b) }
@@ -58,7 +61,7 @@ impl<A: Aggregator, B: Aggregator> Pair<A, B> {
         Pair { a, b }
     }
 
-    /// Which of the two owns the family, if there is one.
+    /// Return which of the two owns the family, if there is one.
     fn owner(&self, family: Option<Family>) -> Owner
         ensures { result ≡ by_owner (A.meaning self.now.a) (B.meaning self.now.b) family
             Owner.One Owner.Other Owner.Neither }
@@ -70,7 +73,7 @@ impl<A: Aggregator, B: Aggregator> Pair<A, B> {
         }
     }
 
-    /// The cause for which the owner of the actions refuses them with nothing after them, if it refuses them.
+    /// Return why the owner of the actions refuses them with nothing after them, if so.
     fn cause_by_owner(&self, alloc: Global, actions: &[Action]) -> Result<(), JoinError>
         ensures { IsRefusedFor result (cause_by_owner (A.meaning self.now.a) (B.meaning self.now.b) actions.now) }
     {
@@ -142,7 +145,7 @@ impl<A: Aggregator, B: Aggregator> Aggregator for Pair<A, B> {
 /// The type of `standard()`.
 pub type Standard = Pair<Pair<SetAgg, BagAgg>, CountAgg>;
 
-/// The aggregator of sets, bags and counters.
+/// Return the aggregator of sets, bags and counters.
 pub fn standard() -> Standard
     ensures { ⟦<Standard as Aggregator>⟧.meaning result ≡ standard_meaning }
 {

@@ -16,9 +16,10 @@ fn put_of(instruction: &Instruction) -> Option<(&Location, &Value)>
     }
 }
 
-/// The location and the value of a move that is one regular update; None for each other move.
+/// Return the location and the value of a move that is one regular update.
 ///
-/// Such a move has this one update on every state, so who follows it needs no update set.
+/// `None` is the answer for each other move. Such a move has this one update on every state, so following it needs no
+/// update set.
 pub fn only_put(instructions: &Instructions) -> Option<(&Location, &Value)>
     ensures some { IfSome result (λ p. specs.only_put instructions.now ≡ Some (p.0.now, p.1.now)) }
     ensures none { IsNone result → specs.only_put instructions.now ≡ None }

@@ -9,10 +9,10 @@ use asm_element::{Location, Value};
 use std::alloc::{AllocError, Global};
 use std::marker::Model;
 
-/// One value for each of some locations of a move, in ascending order of the locations, which belong to the move.
+/// One value for each of some locations of a move, in ascending order of locations.
 ///
-/// Contracts see it as a finite map, as they see an `UpdateSet`. Who has most of the locations already writes the
-/// values without a copy of a location.
+/// The locations belong to the move. Contracts see it as a finite map, as they see an `UpdateSet`. A caller who has
+/// most of the locations already writes the values without a copy of a location.
 #[derive(Debug, Drop)]
 pub struct Results<'a> {
     list: Vec<(&'a Location, Value)>,
@@ -38,7 +38,7 @@ impl<'a> Model for Results<'a> {
 }
 
 impl<'a> Results<'a> {
-    /// No result yet, and room for so many.
+    /// Return an empty list of results, with room for so many.
     pub(crate) fn with_room(alloc: Global, room: usize) -> Result<Results<'a>, AllocError>
         ensures { IfOk result (λ results. results ≡ map.empty) }
     {
@@ -47,7 +47,7 @@ impl<'a> Results<'a> {
         })
     }
 
-    /// Puts the value of a location behind those of the locations below it.
+    /// Put the value of a location behind those of the locations below it.
     pub(crate) fn push(&mut self, at: &'a Location, value: Value) -> Result<(), AllocError>
         requires { (l : Place) → is_some (map.get self.old l) ≡ true → location_cmp l at.now ≡ Less }
         ensures { OnOk result (self.new ≡ map.insert self.old at.now value) }
@@ -56,14 +56,14 @@ impl<'a> Results<'a> {
         Ok(())
     }
 
-    /// How many locations there are.
+    /// Return how many locations there are.
     pub fn len(&self) -> usize
         ensures { result ≡ map.len self.now }
     {
         self.list.len()
     }
 
-    /// The locations with their values, in ascending order of the locations.
+    /// Return the locations with their values, in ascending order of the locations.
     pub fn into_vec(self) -> Vec<(&'a Location, Value)>
         ensures { by_place result.items ≡ map.entries self.entry }
     {

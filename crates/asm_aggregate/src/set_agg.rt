@@ -23,12 +23,12 @@ use asm_element::{ElemSet, Element, Value};
 use asm_update::{Action, Aggregator, Cause, Family, Group, JoinError, ResultError};
 use std::alloc::{AllocError, Global};
 
-/// The aggregator of sets: it owns `Family::Set` alone (CoreASM's partial updates of sets).
+/// The aggregator of sets: it owns `Family::Set` alone.
 ///
-/// A group's result is its base without the removed elements and with the added ones. There is none
-/// where the base isn't a set (`Kind`), where one element is both added and removed (`Both`), or
-/// where a regular value lacks an added element or has a removed one (`Against`). Removing an absent
-/// element is allowed.
+/// A group's result is its base without the removed elements and with the added ones. There is no result where the base
+/// isn't a set (`Kind`), where one element is both added and removed (`Both`), or where a regular value lacks an added
+/// element or has a removed one (`Against`). Removing an absent element is allowed. These are CoreASM's partial updates
+/// of sets.
 #[derive(Clone, Copy, Debug)]
 pub struct SetAgg;
 
@@ -64,7 +64,7 @@ fn is_within(inner: &ElemSet, outer: &ElemSet) -> bool
     inner.iter().all(|element| outer.contains(element))
 }
 
-/// The element that the action adds, or the one that it removes.
+/// Return the element that the action adds, or the one that it removes.
 fn element_of(side: Side, action: &Action) -> Option<&Element>
     ensures { option_copied result ≡ element_on side action.now }
 {
@@ -75,7 +75,7 @@ fn element_of(side: Side, action: &Action) -> Option<&Element>
     }
 }
 
-/// What the actions add and what they remove, by one walk.
+/// Gather what the actions add and what they remove, by one walk.
 fn sides_of(alloc: Global, actions: &[Action]) -> Result<Sides, AllocError>
     ensures added { IfOk result (λ s. s.added ≡ elements_on sides.Added actions.now) }
     ensures removed { IfOk result (λ s. s.removed ≡ elements_on sides.Removed actions.now) }
@@ -114,7 +114,7 @@ fn action_of(side: Side, element: Element) -> Action
     }
 }
 
-/// Appends the additions of the elements, or their removals.
+/// Append the additions of the elements, or their removals.
 fn push_side(
     alloc: Global,
     actions: &mut Vec<Action>,
@@ -129,7 +129,7 @@ fn push_side(
     Ok(())
 }
 
-/// Takes the elements out of the set, for which no memory is needed.
+/// Take the elements out of the set, for which no memory is needed.
 fn take_all(set: &mut ElemSet, gone: &ElemSet)
     ensures { set.new ≡ difference set.old gone.now }
 {
@@ -138,8 +138,9 @@ fn take_all(set: &mut ElemSet, gone: &ElemSet)
     }
 }
 
-/// Puts the element into the set, and notes it where it is new there. What the set has besides those that are noted
-/// stays, also after an error.
+/// Put the element into the set, and record it if it is new there.
+///
+/// Elements of the set that aren't recorded stay, also on error.
 fn put_noting<'a>(
     alloc: Global,
     elements: &mut ElemSet,
@@ -159,7 +160,9 @@ fn put_noting<'a>(
     Ok(())
 }
 
-/// Puts the elements into the set, and notes those that are new there, also of those that are in it after an error.
+/// Put the elements into the set, and record those that are new there.
+///
+/// On error, those that are already in the set are recorded too.
 fn put_all<'a>(
     alloc: Global,
     elements: &mut ElemSet,
@@ -175,7 +178,7 @@ fn put_all<'a>(
     Ok(())
 }
 
-/// Takes out again what was noted, for which no memory is needed.
+/// Take the recorded elements out again, which needs no memory.
 fn take_back(elements: &mut ElemSet, noted: Vec<&Element>)
     ensures { IsSameBesides elements.old noted.entry.items elements.new [] }
 {
@@ -184,7 +187,9 @@ fn take_back(elements: &mut ElemSet, noted: Vec<&Element>)
     }
 }
 
-/// Changes the set in place: the additions first, since the removals take no memory. After an error it is as it was.
+/// Change the set in place: the additions first, since the removals take no memory.
+///
+/// On error, it is unchanged.
 fn change_set(alloc: Global, set: &mut ElemSet, sides: &Sides) -> Result<(), AllocError>
     requires { meets sides.now.added sides.now.removed ≡ false }
     ensures ok { OnOk result (set.new ≡ union (difference set.old sides.now.removed) sides.now.added) }
@@ -203,7 +208,7 @@ fn change_set(alloc: Global, set: &mut ElemSet, sides: &Sides) -> Result<(), All
     }
 }
 
-/// The set without what is removed and with what is added.
+/// Return the set without what is removed and with what is added.
 fn updated(alloc: Global, base: &ElemSet, sides: &Sides) -> Result<Value, ResultError>
     ensures { IsOutcome result (Ok (values.Set (union (difference base.now sides.now.removed) sides.now.added))) }
 {
@@ -211,7 +216,7 @@ fn updated(alloc: Global, base: &ElemSet, sides: &Sides) -> Result<Value, Result
     Ok(Value::Set(with(alloc, rest, &sides.added)?))
 }
 
-/// What a group adds and removes, where it has a result on the old value.
+/// Gather what a group adds and removes, if it has a result on the old value.
 fn admitted(alloc: Global, old: Option<&Value>, group: &Group) -> Result<Sides, ResultError>
     ensures added { IfOk result (λ s. s.added ≡ elements_on sides.Added group.now.partials) }
     ensures removed { IfOk result (λ s. s.removed ≡ elements_on sides.Removed group.now.partials) }
@@ -241,7 +246,9 @@ fn admitted(alloc: Global, old: Option<&Value>, group: &Group) -> Result<Sides, 
     Ok(sides)
 }
 
-/// The sides of a list that a join takes: its actions are of sets, and it adds nothing that it removes.
+/// Return the sides of a list that a join accepts.
+///
+/// Its actions are of sets, and it adds nothing that it removes.
 fn sides_of_sets(alloc: Global, actions: &[Action]) -> Result<Sides, JoinError>
     ensures added { IfOk result (λ s. s.added ≡ elements_on sides.Added actions.now) }
     ensures removed { IfOk result (λ s. s.removed ≡ elements_on sides.Removed actions.now) }
@@ -263,7 +270,7 @@ fn sides_of_sets(alloc: Global, actions: &[Action]) -> Result<Sides, JoinError>
     Ok(sides)
 }
 
-/// The additions and then the removals.
+/// Return the additions and then the removals.
 fn listed(alloc: Global, added: &ElemSet, removed: &ElemSet) -> Result<Vec<Action>, AllocError>
     ensures { IfOk result (λ v. v.items ≡ set_side sides.Added added.now ++ set_side sides.Removed removed.now) }
 {
@@ -273,7 +280,7 @@ fn listed(alloc: Global, added: &ElemSet, removed: &ElemSet) -> Result<Vec<Actio
     Ok(joined)
 }
 
-/// What the first sides and then the second do.
+/// Return the actions that do what the first sides and then the second do.
 fn joined_sides(alloc: Global, one: Sides, two: &Sides) -> Result<Vec<Action>, AllocError>
     ensures { IfOk result (λ v. v.items
         ≡ set_side sides.Added (union (difference one.added two.now.removed) two.now.added)
@@ -284,7 +291,7 @@ fn joined_sides(alloc: Global, one: Sides, two: &Sides) -> Result<Vec<Action>, A
     listed(alloc, &added, &removed)
 }
 
-/// The join of a list that has these sides with the second list.
+/// Return the join of a list that has these sides with the second list.
 fn join_after(alloc: Global, one: Sides, second: &[Action]) -> Result<Vec<Action>, JoinError>
     ensures { IsJoined result
         (first_cause

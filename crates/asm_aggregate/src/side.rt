@@ -12,7 +12,7 @@ pub(crate) enum Side {
     Removed,
 }
 
-/// Puts the element into the set, if there is one.
+/// Put the element into the set, if there is one.
 pub(crate) fn note(
     alloc: Global,
     elements: &mut ElemSet,

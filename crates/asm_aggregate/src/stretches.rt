@@ -16,14 +16,16 @@ pub(crate) struct Stretch<'a, 's> {
     pub(crate) instructions: &'s [&'a Instruction],
 }
 
-/// A walk of a move in ascending order of its locations, one stretch after the other.
+/// A walk of a move's instructions in ascending order of locations, by stretches.
 #[derive(Clone, Copy, Debug)]
 pub(crate) struct Stretches<'a, 's> {
     list: &'s [&'a Instruction],
     done: usize,
 }
 
-/// The instructions in ascending order of their locations; those at one location stay in their order.
+/// Return the instructions in ascending order of locations.
+///
+/// Those at one location stay in their order.
 pub(crate) fn ascending<'a>(
     alloc: Global,
     instructions: &'a Instructions,
@@ -38,7 +40,7 @@ pub(crate) fn ascending<'a>(
     Ok(list)
 }
 
-/// How many instructions at the head of the list are at the location.
+/// Return how many instructions at the head of the list are at the location.
 fn count_at(list: &[&Instruction], at: &Location) -> usize
     ensures within { result ≤ length list.now }
     ensures here { AllByRecursion (λ i. eq_by_cmp location_cmp i.at at.now ≡ true) (referred (take result list.now)) }
@@ -59,7 +61,7 @@ impl<'a, 's> Stretches<'a, 's> {
         Stretches { list, done: 0 }
     }
 
-    /// The first stretch of what is left, unless nothing is.
+    /// Return the first stretch of what is left, unless nothing is.
     pub(crate) fn next(&mut self) -> Option<Stretch<'a, 's>>
         ensures { MatchOption result (left_in self.old.list.now self.old.done ≡ []) (λ stretch.
             IsParted (left_in self.old.list.now self.old.done) (referred stretch.instructions.now)

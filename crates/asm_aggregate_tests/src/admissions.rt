@@ -9,7 +9,7 @@ use asm_update::{AggError, Aggregator, Cause, Instructions, PlainState, ResultEr
 use std::alloc::{AllocError, Global};
 use std::test::Fail;
 
-/// Whether the move is admitted on the state; both are dropped.
+/// Return whether the move is admitted on the state; both are dropped.
 fn admit_on<A: Aggregator>(
     alloc: Global,
     aggregator: &A,
@@ -19,7 +19,7 @@ fn admit_on<A: Aggregator>(
     admit(alloc, aggregator, &state, &instructions)
 }
 
-/// Whether the row's move is admitted exactly where the row has a value, and else has the row's clash at x.
+/// Return whether the row's move is admitted exactly where the row has a value, and else has the row's clash at x.
 pub(crate) fn admits<A: Aggregator>(alloc: Global, aggregator: &A, row: Row) -> Result<bool, Fail> {
     let state = state_with(alloc, row.0)?;
     let instructions = move_of(alloc, row.1, row.2)?;
@@ -31,8 +31,9 @@ pub(crate) fn admits<A: Aggregator>(alloc: Global, aggregator: &A, row: Row) -> 
     }
 }
 
-/// Whether the answer goes with what is left: the new value, or for the wanted cause the old one. Also where
-/// memory was refused the old one has to be left.
+/// Return whether the answer matches what is left.
+///
+/// That is the new value, or for the wanted cause the old one. Also if memory was refused the old one has to be left.
 fn is_told(
     answer: Result<(), ResultError>,
     is_new: bool,
@@ -51,7 +52,7 @@ fn is_told(
     }
 }
 
-/// What a change at x by the row's group answers; None where the row has no group.
+/// Return what a change at x by the row's group answers; None where the row has no group.
 fn change_of_x<A: Aggregator>(
     alloc: Global,
     aggregator: &A,
@@ -65,7 +66,7 @@ fn change_of_x<A: Aggregator>(
     })
 }
 
-/// Whether the state has the wanted value at x, and nothing else.
+/// Return whether the state has the wanted value at x, and nothing else.
 fn is_state(alloc: Global, state: &PlainState, want: Result<Old, Cause>) -> Result<bool, Fail> {
     match want {
         Ok(value) => Ok(*state == state_with(alloc, value)?),
@@ -73,8 +74,8 @@ fn is_state(alloc: Global, state: &PlainState, want: Result<Old, Cause>) -> Resu
     }
 }
 
-/// Whether a change by the row's group of a state with the old value at x leaves the row's value there, or for
-/// the row's cause the old state.
+/// Return whether a change by the row's group of a state with the old value at x leaves the row's value there, or
+/// for the row's cause the old state.
 pub(crate) fn changes_a_state<A: Aggregator>(
     alloc: Global,
     aggregator: &A,
@@ -125,7 +126,7 @@ static GROWN: [Row; 8] = [
     Row(Num(5), &[], &[Inc(3), Inc(-9)], Ok(Num(-1))),
 ];
 
-/// Whether the aggregator admits the rows and changes a state to what they tell.
+/// Return whether the aggregator admits the rows and changes a state to theirs.
 fn admits_and_changes_all<A: Aggregator>(
     alloc: Global,
     aggregator: &A,

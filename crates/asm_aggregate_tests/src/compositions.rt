@@ -34,7 +34,7 @@ pub(crate) struct Row(
     pub(crate) Result<&'static [Line], NoComposition>,
 );
 
-/// The move of these lines.
+/// Return the move of these lines.
 pub(crate) fn steps(alloc: Global, lines: &[Line]) -> Result<Instructions, Fail> {
     let mut list = Instructions::new(alloc);
     for line in lines {
@@ -65,7 +65,11 @@ fn is_refusal(error: &ComposeError, want: Result<&[Line], NoComposition>) -> boo
     }
 }
 
-/// Whether it is the wanted move, or the wanted refusal. `AllocError` comes only where memory was refused.
+/// Return whether it is the wanted move, or the wanted refusal.
+///
+/// # Errors
+///
+/// - `AllocError` only if memory is refused.
 fn is_composed(
     alloc: Global,
     answer: Result<Instructions, ComposeError>,
@@ -78,7 +82,7 @@ fn is_composed(
     }
 }
 
-/// The composition of the two moves, which are dropped.
+/// Return the composition of the two moves, which are dropped.
 pub(crate) fn compose_of<A: Aggregator>(
     alloc: Global,
     aggregator: &A,
@@ -236,7 +240,7 @@ static TOO_LARGE_ALONE: [Row; 4] = [
     ),
 ];
 
-/// Whether the move gives this at x where that stands there.
+/// Return whether the move has this result at x on a state with that value there.
 pub(crate) fn fires(
     alloc: Global,
     list: &Instructions,

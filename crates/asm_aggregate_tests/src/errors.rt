@@ -5,7 +5,7 @@ use asm_update::{Cause, Clash};
 use std::alloc::Global;
 use std::test::Fail;
 
-/// An error for each kind, and further ones where it has parts.
+/// Return an error for each kind, and further ones where it has parts.
 fn errors(alloc: Global) -> Result<Vec<ComposeError>, Fail> {
     let mut errors = Vec::new(alloc);
     for (name, cause) in [("a", Cause::Two), ("b", Cause::Two), ("a", Cause::Kind)] {
@@ -30,7 +30,7 @@ static TEXTS: [&str; 7] = [
     "out of memory",
 ];
 
-/// Whether each error has its text, where there is one.
+/// Return whether each error has its text, where there is one.
 fn have_texts(alloc: Global, errors: &[ComposeError]) -> Result<bool, Fail> {
     for (error, text) in errors.iter().zip(TEXTS) {
         if !text.is_empty() && error.to_string(alloc)?.as_str() != text {

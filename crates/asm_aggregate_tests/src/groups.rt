@@ -19,7 +19,9 @@ use std::alloc::{AllocError, Global};
 use std::process::Abort;
 use std::test::Fail;
 
-/// What stands at x, what a move puts there, its partial updates there, and what the aggregator makes of them.
+/// A row: the value at x, what a move puts there, its partial updates, the result.
+///
+/// The result is what the aggregator makes of them.
 #[derive(Clone, Copy)]
 pub(crate) struct Row(
     pub(crate) Old,
@@ -39,7 +41,11 @@ fn are_updates(alloc: Global, updates: &UpdateSet, want: Result<Old, Cause>) -> 
     }
 }
 
-/// Whether it is the wanted value at x alone, or the wanted clash there. `AllocError` comes only where memory was refused.
+/// Return whether it is the wanted value at x alone, or the wanted clash there.
+///
+/// # Errors
+///
+/// - `AllocError` only if memory is refused.
 pub(crate) fn is_wanted(
     alloc: Global,
     answer: Result<UpdateSet, AggError>,
@@ -55,7 +61,7 @@ pub(crate) fn is_wanted(
     }
 }
 
-/// What the move gives on the state, both of which are dropped.
+/// Return what the move gives on the state, both of which are dropped.
 pub(crate) fn aggregate_on<A: Aggregator>(
     alloc: Global,
     aggregator: &A,
@@ -85,7 +91,7 @@ fn put_of(alloc: Global, puts: &[Old]) -> Result<Option<Value>, Fail> {
     }
 }
 
-/// The group, if its actions are partial updates, and some.
+/// Return the group, if its actions are partial updates, and some.
 pub(crate) fn group_of(regular: Option<Value>, partials: Vec<Action>) -> Option<Group> {
     if partials.is_empty() || !are_partial(partials.as_slice()) {
         return None;
@@ -104,7 +110,11 @@ pub(crate) fn is_value(
     }
 }
 
-/// Whether it is the wanted value, or the wanted cause. `AllocError` comes only where memory was refused.
+/// Return whether it is the wanted value, or the wanted cause.
+///
+/// # Errors
+///
+/// - `AllocError` only if memory is refused.
 fn is_result(
     alloc: Global,
     answer: Result<Value, ResultError>,
@@ -120,7 +130,7 @@ fn is_result(
     }
 }
 
-/// What the aggregator makes of the group on the old value, both of which are dropped.
+/// Return what the aggregator makes of the group on the old value, both of which are dropped.
 fn result_by<A: Aggregator>(
     alloc: Global,
     aggregator: &A,
@@ -145,13 +155,13 @@ fn results<A: Aggregator>(alloc: Global, aggregator: &A, row: Row) -> Result<boo
     }
 }
 
-/// Whether the row is for a group: with partial updates and at most one put.
+/// Return whether the row is for a group: with partial updates and at most one put.
 fn is_of_group(row: Row) -> bool {
     row.1.len() <= 1 && !row.2.is_empty()
 }
 
-/// Whether the aggregator makes of the row what it tells, by `aggregate` and, for a group, by `result`, `admit` and
-/// `change`.
+/// Return whether the aggregator makes of the row what it shows, by `aggregate` and, for a group, by `result`,
+/// `admit` and `change`.
 fn judges<A: Aggregator>(alloc: Global, aggregator: &A, row: Row) -> Result<bool, Fail> {
     if !aggregates(alloc, aggregator, row)? || !admits(alloc, aggregator, row)? {
         return Ok(false);
@@ -270,7 +280,7 @@ fn owns_both<A: Aggregator>(aggregator: &A) -> bool {
     aggregator.owns(Family::Set) && aggregator.owns(Family::Bag)
 }
 
-/// A pair of pairs that owns both families.
+/// Return a pair of pairs that owns both families.
 pub(crate) fn pairs() -> Pair<Pair<Nobody, BagAgg>, Pair<SetAgg, Nobody>> {
     Pair::new(Pair::new(Nobody, BagAgg), Pair::new(SetAgg, Nobody))
 }

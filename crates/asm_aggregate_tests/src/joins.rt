@@ -27,7 +27,11 @@ fn are_actions(
     }
 }
 
-/// Whether they are the wanted actions, or it is the wanted refusal. `AllocError` comes only where memory was refused.
+/// Return whether they are the wanted actions, or it is the wanted refusal.
+///
+/// # Errors
+///
+/// - `AllocError` only if memory is refused.
 fn is_joined(
     alloc: Global,
     answer: Result<Vec<Action>, JoinError>,
@@ -56,7 +60,7 @@ fn join_by<R: Abort, A: Aggregator>(
     aggregator.join(alloc, first, second)
 }
 
-/// What joins the two lists, which are dropped.
+/// Return what joins the two lists, which are dropped.
 pub(crate) fn join_of<R: Abort, A: Aggregator>(
     rt: &R,
     alloc: Global,

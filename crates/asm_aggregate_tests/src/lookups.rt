@@ -13,7 +13,7 @@ use std::alloc::{AllocError, Global};
 use std::cell::Cell;
 use std::test::Fail;
 
-/// A look-up that notes what it is asked for, in turn: 1 for b, 2 for c, 3 for any other location.
+/// A look-up that records what it is asked for: 1 for b, 2 for c, 3 for any other.
 #[derive(Drop)]
 struct Noting {
     state: PlainState,
@@ -35,14 +35,14 @@ impl Lookup for Noting {
     }
 }
 
-/// The location of this name with a number.
+/// Return the location of this name with a number.
 fn numbered(alloc: Global, name: &str, n: i64) -> Result<Location, Fail> {
     let name = String::from_str(alloc, name)?;
     let args = vec![in alloc; Element::Num(n)]?;
     Ok(Location::new(name, args)?)
 }
 
-/// A state in which b and c are empty bags.
+/// Return a state in which b and c are empty bags.
 fn two_empty_bags(alloc: Global) -> Result<PlainState, Fail> {
     let mut state = PlainState::new(alloc);
     for name in ["b", "c"] {
@@ -51,14 +51,14 @@ fn two_empty_bags(alloc: Global) -> Result<PlainState, Fail> {
     Ok(state)
 }
 
-/// A look-up in which b and c are empty bags, and which was asked for nothing.
+/// Return a look-up that was asked for nothing, in which b and c are empty bags.
 fn noting_two_bags(alloc: Global) -> Result<Noting, Fail> {
     let state = two_empty_bags(alloc)?;
     let asked = Cell::new(0);
     Ok(Noting { state, asked })
 }
 
-/// What the look-up is asked for until the move is aggregated, and whether it has an update set.
+/// Return what the look-up is asked for until the move is aggregated, and whether it has an update set.
 fn aggregate_on(
     alloc: Global,
     lookup: Noting,
@@ -72,7 +72,7 @@ fn aggregate_on(
     Ok((lookup.asked.get(), has_updates))
 }
 
-/// The same of its results beside its own locations.
+/// Return the same of its results beside its own locations.
 fn results_on(
     alloc: Global,
     lookup: Noting,
@@ -86,7 +86,7 @@ fn results_on(
     Ok((lookup.asked.get(), has_results))
 }
 
-/// What the look-up is asked for until the move is admitted or not, and which of the two it is.
+/// Return what the look-up is asked for until the move is admitted or not, and which of the two it is.
 fn admit_on(alloc: Global, lookup: Noting, list: &Instructions) -> Result<(u64, bool), AllocError> {
     let is_admitted = match admit(alloc, &standard(), &lookup, list) {
         Ok(()) => true,
@@ -96,8 +96,8 @@ fn admit_on(alloc: Global, lookup: Noting, list: &Instructions) -> Result<(u64, 
     Ok((lookup.asked.get(), is_admitted))
 }
 
-/// Whether an aggregation, a list of results and an admission of the move each ask for this, and find that it fires
-/// or clashes.
+/// Return whether an aggregation, a list of results and an admission of the move each ask for this, and find that
+/// it fires or clashes.
 fn asks(alloc: Global, list: &Instructions, asked: u64, fires: bool) -> Result<bool, Fail> {
     let aggregated = aggregate_on(alloc, noting_two_bags(alloc)?, list)?;
     let listed = results_on(alloc, noting_two_bags(alloc)?, list)?;
@@ -166,7 +166,7 @@ fn partial_updates_up_to_a_clash_are_looked_up(rt: HostRuntime) -> Result<(), Fa
     Ok(())
 }
 
-/// What the move gives where b and c are empty bags.
+/// Return what the move gives where b and c are empty bags.
 fn updates_of(alloc: Global, list: &Instructions) -> Result<UpdateSet, Fail> {
     let state = two_empty_bags(alloc)?;
     Ok(aggregate(alloc, &standard(), &state, list)?)
@@ -199,7 +199,7 @@ fn each_location_is_looked_up_once_in_ascending_order(rt: HostRuntime) -> Result
     Ok(())
 }
 
-/// Puts at so many locations of this name, the greatest first.
+/// Put at so many locations of this name, the greatest first.
 fn puts_downwards(alloc: Global, name: &str, count: i64) -> Result<Instructions, Fail> {
     let mut list = Instructions::new(alloc);
     for n in (0..count).rev() {
@@ -235,7 +235,7 @@ fn puts_are_not_looked_up(rt: HostRuntime) -> Result<(), Fail> {
     Ok(())
 }
 
-/// How many instructions it has; None where they are too many.
+/// Return how many instructions it has; None where they are too many.
 fn length_of(answer: Result<Instructions, ComposeError>) -> Result<Option<usize>, Fail> {
     match answer {
         Ok(list) => Ok(Some(list.len())),
@@ -255,7 +255,7 @@ static LENGTHS: [Lengths; 3] = [
     Lengths(("x", 1), ("y", 4096), None),
 ];
 
-/// How many instructions the row's moves compose to.
+/// Return how many instructions the row's moves compose to.
 fn composed_length(alloc: Global, row: Lengths) -> Result<Option<usize>, Fail> {
     let first = puts_downwards(alloc, row.0.0, row.0.1)?;
     let second = puts_downwards(alloc, row.1.0, row.1.1)?;

@@ -5,7 +5,9 @@ use asm_update::{Action, Amount, Instruction, Instructions, PlainState, UpdateSe
 use std::alloc::Global;
 use std::test::Fail;
 
-/// A value, in few letters. A bag has these counts of e and of f.
+/// A value, in few letters.
+///
+/// A bag has these counts of e and of f.
 #[derive(Clone, Copy)]
 pub(crate) enum Old {
     Undef,
@@ -127,7 +129,7 @@ pub(crate) fn move_of(alloc: Global, puts: &[Old], partials: &[Act]) -> Result<I
     Ok(list)
 }
 
-/// Gives the location of this name the value.
+/// Give the location of this name the value.
 pub(crate) fn set_at(
     alloc: Global,
     state: &mut PlainState,
@@ -146,7 +148,7 @@ pub(crate) fn state_with(alloc: Global, old: Old) -> Result<PlainState, Fail> {
     Ok(state)
 }
 
-/// Puts the value at the location of this name.
+/// Put the value at the location of this name.
 pub(crate) fn write_at(
     alloc: Global,
     updates: &mut UpdateSet,

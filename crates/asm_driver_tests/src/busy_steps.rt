@@ -1,4 +1,4 @@
-//! A step whose offers are lost.
+//! A step whose attempts are lost.
 use asm_aggregate::Standard;
 use asm_play::aggregator::chosen;
 use asm_play::{Passage, Player, StepEnd};
@@ -13,8 +13,10 @@ use std::test::Fail;
 /// A step that reads and fires.
 const STEP: &str = r#"{"init":[],"agents":[[[[["put",["n"],{"val":["m"]}]]]]]}"#;
 
-/// Takes the calls of one agent: how many began and ended, and whether one of these had another count than the next.
-/// Just before each of the first 64 offers another agent fires.
+/// Receives an agent's calls, and fires before each of its first 64 attempts.
+///
+/// It has how many calls began and ended, and whether one of these had another count than the next. The agent that
+/// fires is another one.
 #[derive(Drop)]
 struct Rivalry<'s> {
     storage: &'s Storage<Standard>,
@@ -33,7 +35,7 @@ impl<'s> Rivalry<'s> {
     }
 }
 
-/// Whether a new agent fires a move without instructions.
+/// Return whether a new agent fires a move without instructions.
 fn fires(alloc: Global, storage: &Storage<Standard>) -> bool {
     let Ok(mut agents) = storage.agents(alloc, 1) else {
         return false;
@@ -68,7 +70,7 @@ impl<'r, 's> Passage for Meddling<'r, 's> {
     }
 }
 
-/// The number that the agent's only step fired.
+/// Return the number that the agent's only step fired.
 fn fired_among_rivals<R: Wait>(
     rt: &R,
     alloc: Global,

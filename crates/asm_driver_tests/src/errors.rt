@@ -67,7 +67,7 @@ fn causes_of_scripts_are_told_apart(rt: HostRuntime) {
     );
 }
 
-/// An error for each kind, and a second one where it has parts.
+/// Return an error for each kind, and a second one where it has parts.
 fn step_errors(alloc: Global) -> Result<Vec<StepError>, Fail> {
     let mut errors = Vec::new(alloc);
     for (name, cause) in [("x", Cause::Two), ("x", Cause::Kind), ("y", Cause::Two)] {

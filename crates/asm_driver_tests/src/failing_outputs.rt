@@ -25,9 +25,10 @@ const SEQUENCE_JOURNAL_1: &str =
 {"agent":0,"call":{"fire":[["add",["s"],1],["put",["y"],{"set":[1]}]],"reads":[[["s"],0]]},"reply":{"fired":1}}
 "#;
 
-/// Whether the program with these words and this input, when its output fails or takes nothing after so many bytes, or
-/// when its flush fails, ends with status 4, and these bytes of the journal went out. The error is an allocation failure: its
-/// line begins otherwise than a journal.
+/// Return whether the program with these words and this input, when its output fails or takes nothing after so many
+/// bytes, or when its flush fails, ends with status 4, and these bytes of the journal went out.
+///
+/// The error is an allocation failure: its line begins otherwise than a journal.
 fn ends_after<T: Threads + Wait + Sync>(
     rt: &T,
     alloc: Global,
@@ -46,8 +47,8 @@ fn ends_after<T: Threads + Wait + Sync>(
 
 const FAULT: Option<ErrorKind> = Some(ErrorKind::Interrupted);
 
-/// Asserts that the program ends so after each number of bytes, where the output fails or takes nothing, and with all bytes
-/// where the flush fails.
+/// Asserts that the program ends so after each number of bytes, where the output fails or takes nothing, and with
+/// all bytes where the flush fails.
 fn assert_failures<T: Threads + Wait + Sync + Abort>(
     rt: &T,
     alloc: Global,

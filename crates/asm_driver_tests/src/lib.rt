@@ -1,5 +1,5 @@
-//! Tests of `asm_driver` and of what it stands on, `asm_play`, `asm_script` and `asm_step`, which see their public items alone,
-//! of what no case of the program shows.
+//! Tests of `asm_driver` and of what it uses, `asm_play`, `asm_script` and `asm_step`. They see public items alone, and
+//! test what no case of the program shows.
 #![tactic(auto)]
 
 #[cfg(test)]

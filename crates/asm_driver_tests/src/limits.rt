@@ -15,7 +15,7 @@ use std::sync::Wait;
 use std::test::Fail;
 use std::thread::Threads;
 
-/// Whether a script is refused for this capacity.
+/// Return whether a script is refused for this capacity.
 fn is_refused<R: Threads + Wait + Sync>(
     rt: &R,
     alloc: Global,
@@ -45,7 +45,7 @@ fn a_capacity_is_from_1_to_1048576(rt: HostRuntime) -> Result<(), Fail> {
     Ok(())
 }
 
-// Does nothing; its contract tells the limits of a step's tries, which stand in definitions alone.
+// Does nothing; its contract states the limits of a step's tries, which are in definitions alone.
 fn tries_have_limits()
     ensures in_vain { (own : Meaning) (m : Machine) (q : List Move) (s : Step) (places : List Place) (n : ℕ)
         (es : List Event) (vain : AreInVain own m q s places n es) →

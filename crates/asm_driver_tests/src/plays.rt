@@ -15,7 +15,7 @@ const SUM: &str = r#"[[["put",["n"],{"sum":[{"val":["n"]},1]}]]]"#;
 
 const RESET: &str = r#"[[["put",["n"],0]]]"#;
 
-/// Appends an agent with the step so many times.
+/// Append an agent with the step so many times.
 fn push_agent(text: &mut String, step: &str, count: usize) -> Result<(), Fail> {
     text.push_str("[")?;
     for index in 0..count {
@@ -28,7 +28,7 @@ fn push_agent(text: &mut String, step: &str, count: usize) -> Result<(), Fail> {
     Ok(())
 }
 
-/// The script of these agents, each with a step that it has so many times.
+/// Return the script of these agents, each with a step that it has so many times.
 fn script_of(alloc: Global, init: &str, agents: &[(&str, usize)]) -> Result<Script, Fail> {
     let mut text = String::from_str(alloc, r#"{"init":["#)?;
     text.push_str(init)?;
@@ -44,7 +44,7 @@ fn script_of(alloc: Global, init: &str, agents: &[(&str, usize)]) -> Result<Scri
     Ok(parse_script(alloc, text.as_bytes())?)
 }
 
-/// What a run of this script behind the gate leaves.
+/// Return what a run of this script behind the gate leaves.
 fn play_behind<R: Threads + Wait + Sync, G: Gate>(
     rt: &R,
     alloc: Global,
@@ -56,7 +56,7 @@ fn play_behind<R: Threads + Wait + Sync, G: Gate>(
     Ok(run_script(rt, alloc, &script, 4096, gate)?)
 }
 
-/// Whether the location of this name has the number after all moves.
+/// Return whether the location of this name has the number after all moves.
 fn has_number(alloc: Global, played: &Played, name: &str, number: i64) -> Result<bool, Fail> {
     let at = location(alloc, name)?;
     let state = replay(alloc, &standard(), &played.history)?;
@@ -66,11 +66,14 @@ fn has_number(alloc: Global, played: &Played, name: &str, number: i64) -> Result
     })
 }
 
-/// How often an agent looks for another, at most. Between two looks it lets other threads run, so that it finds the
-/// other on a busy machine too.
+/// The most times that an agent polls for another.
+///
+/// Between two polls it lets other threads run, so that it finds the other on a busy machine too.
 const LOOKS: u64 = 50_000_000;
 
-/// At its first call each of so many agents looks for the others, all of them together so often at most.
+/// At its first call each of so many agents waits for the others.
+///
+/// All of them together poll at most so often.
 #[derive(Drop)]
 struct Meeting {
     agents: u64,
@@ -102,7 +105,7 @@ impl Gate for Meeting {
     fn after<R: Wait>(&self, _rt: &R, _agent: u32, _call: u64) {}
 }
 
-/// Whether agents of this text that fire one move each all see each other before.
+/// Return whether agents of this text that fire one move each all see each other before.
 fn meet<R: Threads + Wait + Sync>(
     rt: &R,
     alloc: Global,
@@ -126,8 +129,9 @@ fn agents_play_at_once(rt: HostRuntime) -> Result<(), Fail> {
     Ok(())
 }
 
-/// Between the calls of each try of agent 0 stands a call of agent 1. Where an agent ended with an error, the other
-/// looks for it in vain, and from then on for none.
+/// Puts a call of agent 1 between the calls of each try of agent 0.
+///
+/// If an agent ended with an error, the other waits for it in vain, and from then on for none.
 #[derive(Drop)]
 struct Overtaking {
     tried: AtomicU64,
@@ -167,7 +171,7 @@ impl Gate for Overtaking {
     }
 }
 
-/// What the two agents leave, of which the second writes before each fire of the first.
+/// Return what the two agents leave, of which the second writes before each fire of the first.
 fn overtaken<R: Threads + Wait + Sync>(rt: &R, alloc: Global) -> Result<Played, Fail> {
     let gate = Overtaking {
         tried: AtomicU64::new(0),
@@ -183,7 +187,7 @@ fn overtaken<R: Threads + Wait + Sync>(rt: &R, alloc: Global) -> Result<Played, 
     )
 }
 
-/// Whether the only step of the first agent was given up.
+/// Return whether the only step of the first agent was given up.
 fn gave_up(played: &Played) -> bool {
     match played.outcomes.as_slice().first() {
         Some(outcomes) => matches!(outcomes.as_slice(), [Outcome::GaveUp]),

@@ -13,8 +13,9 @@ const ONE_PUT_REPORT: &str = r#"[["x"],1]
 moves 1
 "#;
 
-/// The program's status with these words, over an input and an output. The error is an allocation failure, of which the
-/// program tells.
+/// Return the program's status with these words, over an input and an output.
+///
+/// The error is an allocation failure, which the program reports.
 fn status_of<T: Threads + Wait + Sync, R: Read, W: Write>(
     rt: &T,
     alloc: Global,
@@ -28,8 +29,9 @@ fn status_of<T: Threads + Wait + Sync, R: Read, W: Write>(
     }
 }
 
-/// Gives spaces: so many bytes, and then the end, or a fault of this kind and then the end. It counts its bytes and its
-/// reads.
+/// Gives spaces: so many bytes, and then the end, or a fault of this kind and then the end.
+///
+/// It counts its bytes and its reads.
 #[derive(Clone, Copy)]
 pub(crate) struct Spaces {
     left: usize,
@@ -77,7 +79,7 @@ struct Ending {
     text: &'static str,
 }
 
-/// Whether the program ends so.
+/// Return whether the program ends so.
 fn ends<T: Threads + Wait + Sync>(
     rt: &T,
     alloc: Global,
@@ -152,7 +154,7 @@ fn long_and_failing_inputs_are_refused(rt: HostRuntime) -> Result<(), Fail> {
     Ok(())
 }
 
-/// How often the input is read with these words, and the status.
+/// Return how often the input is read with these words, and the status.
 fn reads_of<T: Threads + Wait + Sync>(
     rt: &T,
     alloc: Global,
@@ -203,11 +205,14 @@ impl Read for Slow<'_> {
     }
 }
 
-/// How much room an output has, and with which faults a write then fails and its flush does. Without the first, a write
-/// takes none.
+/// How much room an output has, and with which faults a write then fails and its flush does.
+///
+/// Without the first, a write takes none.
 pub(crate) type Failing = (usize, Option<ErrorKind>, Option<ErrorKind>);
 
-/// Takes as many bytes as it has room for. Then a write takes none, or fails; its first flush may fail. It counts its calls.
+/// Takes as many bytes as it has room for.
+///
+/// Then a write takes none, or fails; its first flush may fail. It counts its calls.
 #[derive(Drop)]
 pub(crate) struct Short {
     taken: Vec<u8>,
@@ -266,8 +271,10 @@ impl Write for Short {
     }
 }
 
-/// Whether over an output that fails so the program ends with status 4 after so many calls of the output, which has the
-/// text. The error is an allocation failure: its line begins otherwise than a report.
+/// Return whether over an output that fails so the program ends with status 4 after so many calls of the output,
+/// which has the text.
+///
+/// The error is an allocation failure: its line begins otherwise than a report.
 fn fails_over<T: Threads + Wait + Sync>(
     rt: &T,
     alloc: Global,
@@ -292,7 +299,8 @@ fn an_output_that_takes_nothing_more_is_a_fault(rt: HostRuntime) -> Result<(), F
     Ok(())
 }
 
-/// Whether no call of the output comes after a write that fails so, at once or later, or after a flush that does.
+/// Return whether no call of the output comes after a write that fails so, at once or later, or after a flush that
+/// does.
 fn is_called_no_more<T: Threads + Wait + Sync>(
     rt: &T,
     alloc: Global,

@@ -9,7 +9,7 @@ ghost use Rattle.asm_driver.specs.declared.ports.input.InputError.TheVariants as
 ghost use Rattle.asm_driver.specs.declared.program.refusal.Refusal.TheVariants as refusal;
 ghost use Rattle.asm_script.specs.declared.script.ScriptError.TheVariants as script;
 
-// Does nothing; its contract tells the line and the status of errors that no input brings about.
+// Does nothing; its contract states the line and the status of errors that no input causes.
 fn rare_refusals()
     ensures missing { refusal_line (refusal_of_run (run.Missing 7)) ≡ line (codes "missing move 7") }
     ensures last_missing { refusal_line (refusal_of_run (run.Missing 4294967295))

@@ -18,8 +18,10 @@ pub(crate) fn words_of(alloc: Global, words: &[&str]) -> Result<Vec<String>, All
     Ok(list)
 }
 
-/// Whether the program ends with this status, and writes this. The error is an allocation failure, also where the program
-/// tells of it: an output for which there is none is a fault to the program.
+/// Return whether the program ends with this status, and writes this.
+///
+/// The error is an allocation failure, also if the program reports it: an output for which there is none is a fault to
+/// the program.
 pub(crate) fn ends<T: Threads + Wait + Sync>(
     rt: &T,
     alloc: Global,

@@ -1,4 +1,4 @@
-//! Audits that tell how far they are, over inputs and outputs that are slow or failing.
+//! Audits that report their progress, over inputs and outputs that are slow or failing.
 use crate::ports::{Failing, Short, Slow};
 use crate::running::words_of;
 use asm_driver::run_main;
@@ -16,8 +16,8 @@ const JOURNAL: &str = r#"{"agents":1,"capacity":2,"events":3,"init":[],"version"
 {"agent":0,"call":{"read":[["x"]]},"reply":{"number":2,"values":[2]}}
 "#;
 
-/// How a watched audit of the journal ends, over an input of one byte at a time: its status, how many bytes it leaves
-/// unread, how often the output is called, and what that takes.
+/// How a watched audit of the journal ends, over an input of one byte at a time: its status, how many bytes it
+/// leaves unread, how often the output is called, and what that takes.
 struct Ending {
     output: Failing,
     status: u8,
@@ -59,7 +59,9 @@ static ENDINGS: [Ending; 4] = [
     },
 ];
 
-/// Whether a watched audit ends so. The error is an allocation failure, of which the program tells.
+/// Return whether a watched audit ends so.
+///
+/// The error is an allocation failure, which the program reports.
 fn ends<T: Threads + Wait + Sync>(
     rt: &T,
     alloc: Global,

@@ -33,7 +33,7 @@ static ENDINGS: [(&[&str], Ending); 6] = [
         &["asm_driver", "trace", "--part", "1", "--to", "0"],
         (0, 70, OPENING),
     ),
-    // That a part has too few calls is told by its header, and that a run has too few parts at its end.
+    // The header shows that a segment has too few calls, and the run's end that it has too few segments.
     (
         &["asm_driver", "trace", "--to", "3"],
         (2, 292, "part 0 has 2 calls\n"),
@@ -52,8 +52,9 @@ static ENDINGS: [(&[&str], Ending); 6] = [
     ),
 ];
 
-/// Whether the program ends so with these words, over the run that comes one byte at a time. The error is an allocation
-/// failure, of which the program tells.
+/// Return whether the program ends so with these words, over a slow run.
+///
+/// The run comes one byte at a time. The error is an allocation failure, which the program reports.
 fn ends_slowly<T: Threads + Wait + Sync>(
     rt: &T,
     alloc: Global,

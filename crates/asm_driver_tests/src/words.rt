@@ -114,7 +114,7 @@ fn help_is_no_mistake(rt: HostRuntime) -> Result<(), Fail> {
     Ok(())
 }
 
-/// Whether the program ends so where the system gives no words, with an error of this kind.
+/// Return whether the program ends so where the system gives no words, with an error of this kind.
 fn ends_without_words<T: Threads + Wait + Sync>(
     rt: &T,
     alloc: Global,
@@ -128,7 +128,9 @@ fn ends_without_words<T: Threads + Wait + Sync>(
     Ok(status == wanted.0 && output.as_slice() == wanted.1.as_bytes())
 }
 
-/// The words as the system gives them: one isn't UTF-8, or there was no memory for them.
+/// Test that words which the system can't give end the program.
+///
+/// One isn't UTF-8, or there was no memory for them.
 #[test]
 fn words_that_are_not_given_end_the_program(rt: HostRuntime) -> Result<(), Fail> {
     let alloc = rt.alloc();

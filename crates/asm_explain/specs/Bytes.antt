@@ -20,11 +20,11 @@ ReadAs IsForm bytes x = (d : Data) × IsJson bytes d × IsForm x d
 abbrev pub AreLocations : List element.Place → Data → Type 0
 AreLocations = IsListForm IsLocationForm
 
--- named reads and a move, {"fire":[INSTR, ..],"reads":[NAMED, ..]}
+-- declared reads and a move, {"fire":[INSTR, ..],"reads":[NAMED, ..]}
 abbrev pub IsFireForm : List Named × Move → Data → Type 0
 IsFireForm fire d = IsCallForm (call.Fire fire.0 fire.1) d
 
--- the bytes are JSON of a move with these named reads, {"fire":[INSTR, ..],"reads":[NAMED, ..]}
+-- the bytes are JSON of a move with these declared reads, {"fire":[INSTR, ..],"reads":[NAMED, ..]}
 abbrev pub ReadAsFire : List ℕ → List Named → Move → Type 0
 ReadAsFire bytes reads M = ReadAs IsFireForm bytes (reads, M)
 
@@ -36,13 +36,13 @@ IsNoJson bytes = (d : Data) → ¬ IsJson bytes d
 abbrev pub IsOtherJson : {X : Type 0} → (X → Data → Type 0) → List ℕ → Type 0
 IsOtherJson {X} IsForm bytes = (d : Data) × IsJson bytes d × ((x : X) → ¬ IsForm x d)
 
--- why the bytes weren't read as JSON; that memory was refused tells nothing of them
+-- why the bytes weren't read as JSON; that memory was refused says nothing of them
 abbrev pub IsUnread : List ℕ → TextError → Type 0
 IsUnread bytes error.NotJson = IsNoJson bytes
 IsUnread bytes error.Shape = ⊥
 IsUnread bytes error.Memory = Unit {0}
 
--- why the bytes weren't read as a value with this form; that memory was refused tells nothing of them
+-- why the bytes weren't read as a value with this form; that memory was refused says nothing of them
 abbrev pub IsMisread : {X : Type 0} → (X → Data → Type 0) → List ℕ → TextError → Type 0
 IsMisread IsForm bytes error.NotJson = IsNoJson bytes
 IsMisread IsForm bytes error.Shape = IsOtherJson IsForm bytes

@@ -1,4 +1,4 @@
--- The sentence that is told of a journal's first fault.
+-- The sentence on a journal's first fault.
 use Rattle.std.specs.Prelude.{◌≡◌, ◌≢◌, ◌==◌, ◌+◌, ◌++◌, ℕ, List, [], codes, count_by}
 use Rattle.std.specs.Fmt.{decimal}
 use Rattle.asm_journal.specs.Fault.{IsRefused}
@@ -6,7 +6,7 @@ use Rattle.asm_journal.specs.Reading.{HasNoLineFeed}
 use Rattle.asm_journal.specs.declared.error.JournalError.{JournalError}
 use Rattle.asm_journal.specs.declared.error.JournalError.TheVariants as error
 
--- the sentence that tells this of a line
+-- the sentence that says this of a line
 abbrev pub line_sentence : ℕ → List ℕ → List ℕ
 line_sentence k why = codes "journal line " ++ decimal k ++ codes ": " ++ why
 

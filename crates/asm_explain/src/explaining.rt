@@ -23,11 +23,11 @@ use std::alloc::{AllocError, Global};
 pub enum Form {
     /// Locations, `[LOC, ..]`.
     Locations,
-    /// A move with its named reads, `{"fire":[INSTR, ..],"reads":[NAMED, ..]}`.
+    /// A move with its declared reads, `{"fire":[INSTR, ..],"reads":[NAMED, ..]}`.
     Move,
     /// A state, `[PAIR, ..]`.
     State,
-    /// An event, as a journal's lines behind the first.
+    /// An event, as in a journal's lines after the first.
     Event,
     /// A script.
     Script,
@@ -109,12 +109,16 @@ fn sentence(alloc: Global, form: Form, text: &[u8]) -> Result<String, AllocError
     told(alloc, said)
 }
 
-/// Where and why a text isn't of this form, in a sentence that isn't empty and has no line feed; `None` where it is.
+/// Explain where and why a text isn't of this form; return None if it is.
 ///
-/// It tells what the readers of these forms accept, and nothing that another call is refused for: more than 256
-/// locations are locations. A script is accepted where `parse_script` reads it, within its limits. Agents, steps,
-/// blocks, instructions and pairs of a script are counted from 0, as in its report; the parts of other texts, bytes and
-/// lines from 1. Which sentence comes is tested. `AllocError` comes only where memory was refused.
+/// The sentence isn't empty and has no line feed. The call judges what the readers of these forms accept, and nothing
+/// for which another call is refused: more than 256 locations are locations. A script is accepted if `parse_script`
+/// reads it, within its limits. Agents, steps, blocks, instructions and pairs of a script are counted from 0, as in its
+/// report; the parts of other texts, bytes and lines from 1. The choice of the sentence is tested.
+///
+/// # Errors
+///
+/// - `AllocError` only if memory is refused.
 pub fn explain(alloc: Global, form: Form, text: &[u8]) -> Result<Option<String>, AllocError>
     ensures accepted { IfOk result (λ said. IfNone said (IsOfForm form text.now)) }
     ensures refused { IfOk result (λ said. IfSome said (λ s. IsOfNoForm form text.now)) }

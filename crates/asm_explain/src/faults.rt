@@ -193,7 +193,7 @@ fn why_no_read(alloc: Global, json: &Json) -> Result<Why, AllocError> {
     Ok(Why::Says("the number of a read is whole, from 0 to 4,294,967,295"))
 }
 
-/// Why JSON is no list of locations.
+/// Return why JSON is no list of locations.
 pub(crate) fn fault_of_locations(alloc: Global, json: &Json) -> Result<Fault, AllocError> {
     let Json::Array(items) = json else {
         return Ok(Fault::of(Why::Says("the locations are an array")));
@@ -204,7 +204,7 @@ pub(crate) fn fault_of_locations(alloc: Global, json: &Json) -> Result<Fault, Al
     }
 }
 
-// Why JSON is no list of named reads.
+// Why JSON is no list of declared reads.
 fn fault_of_reads(alloc: Global, json: &Json) -> Result<Fault, AllocError> {
     let Json::Array(items) = json else {
         return Ok(Fault::of(Why::Says("the reads are an array")));
@@ -215,7 +215,7 @@ fn fault_of_reads(alloc: Global, json: &Json) -> Result<Fault, AllocError> {
     }
 }
 
-/// Why JSON is no move with its reads.
+/// Return why JSON is no move with its reads.
 pub(crate) fn fault_of_move(alloc: Global, json: &Json) -> Result<Fault, AllocError> {
     let Some((instrs, reads)) = two_members(json, "fire", "reads") else {
         return Ok(Fault::of(Why::Says(MOVE)));
@@ -250,7 +250,7 @@ pub(crate) fn why_no_pair(alloc: Global, json: &Json) -> Result<Option<Why>, All
     Ok(None)
 }
 
-/// Why JSON is no state.
+/// Return why JSON is no state.
 pub(crate) fn fault_of_state(alloc: Global, json: &Json) -> Result<Fault, AllocError> {
     let Json::Array(pairs) = json else {
         return Ok(Fault::of(Why::Says("a state is an array of pairs")));
@@ -271,7 +271,7 @@ fn fault_of_call(alloc: Global, json: &Json) -> Result<Fault, AllocError> {
     }
 }
 
-/// Why JSON is no event.
+/// Return why JSON is no event.
 pub(crate) fn fault_of_event(alloc: Global, json: &Json) -> Result<Fault, AllocError> {
     let (Some(agent), Some(call), Some(reply)) = (
         json.get("agent"),

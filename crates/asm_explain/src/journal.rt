@@ -122,7 +122,7 @@ fn wrong_event(alloc: Global, agents: u32, json: &Json) -> Result<String, AllocE
     String::from_str(alloc, LISTS)
 }
 
-// The number of the line of the last event, by the number of events that the header tells.
+// The number of the line of the last event, by the number of events in the header.
 fn last_by(header: &Json) -> u64 {
     match number_in(header, "events") {
         Some(events) => u64::from(events) + 1,
@@ -200,7 +200,7 @@ fn why_cut(alloc: Global, text: &[u8], number: u64) -> Result<String, AllocError
     }
 }
 
-// The sentence that tells this of the line.
+// The sentence that says this of the line.
 fn line_sentence(alloc: Global, line: u64, why: &String) -> Result<String, AllocError>
     ensures { IfOk result (λ s. string_bytes s ≡ sentence_of line (string_bytes why.now)) }
 {
@@ -215,7 +215,7 @@ fn at_line(alloc: Global, line: u64, said: String) -> Result<String, AllocError>
     line_sentence(alloc, line, &why)
 }
 
-// The sentence that tells of this fault of the text.
+// The sentence on this fault of the text.
 fn sentence(alloc: Global, text: &[u8], fault: JournalError) -> Result<String, AllocError>
     ensures { IfOk result (λ s. TellsFault text.now fault (string_bytes s)) }
 {
@@ -231,11 +231,15 @@ fn sentence(alloc: Global, text: &[u8], fault: JournalError) -> Result<String, A
     }
 }
 
-/// Where and why a text is no journal, in a sentence that begins with the line: `journal line 12: an empty line`.
+/// Explain where and why a text is no journal; return None if it is one.
 ///
-/// `None` where `from_text` reads the text; else the sentence names the line of the first fault, and of a journal that
-/// is cut the last line, which is missing or has no line feed. The sentence has no line feed. What it says of the line
-/// is tested. `AllocError` comes only where memory was refused.
+/// The sentence begins with the line: `journal line 12: an empty line`. `None` is the answer exactly if `from_text`
+/// reads the text. Else the sentence names the line of the first fault, and of a journal that is cut the last line,
+/// which is missing or has no line feed. The sentence has no line feed. What it says of the line is tested.
+///
+/// # Errors
+///
+/// - `AllocError` only if memory is refused.
 pub fn explain_journal(alloc: Global, text: &[u8]) -> Result<Option<String>, AllocError>
     ensures accepted { IfOk result (λ said. IfNone said ((h : History) × ReadsAs text.now h)) }
     ensures refused { IfOk result (λ said. IfSome said (λ s. TellsRefusal text.now (string_bytes s))) }

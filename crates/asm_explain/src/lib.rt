@@ -1,7 +1,7 @@
 //! Where and why a text is refused that should be a script, a journal, or one of the texts of the library for C.
 //!
-//! The readers of these texts alone decide what is accepted: a sentence is told exactly where they refuse. What it says
-//! is found by looking at the refused text once more.
+//! The readers of these texts alone decide what is accepted: there is a sentence exactly if they refuse. What it says
+//! is found by a second pass over the refused text.
 #![tactic(auto)]
 
 mod explaining;

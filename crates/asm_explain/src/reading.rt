@@ -37,10 +37,12 @@ fn json_of(alloc: Global, bytes: &[u8]) -> Result<Json, TextError>
     }
 }
 
-/// The value of this type whose JSON the bytes are.
+/// Read the value of this type whose JSON the bytes are.
 ///
-/// `NotJson` and `Shape` tell why they are none, and come where no value has this JSON; `Memory` comes only where
-/// memory was refused.
+/// # Errors
+///
+/// - `NotJson` and `Shape` if no value has this JSON; they say why.
+/// - `Memory` only if memory is refused.
 pub fn read_as<T: FromJson>(alloc: Global, bytes: &[u8]) -> Result<T, TextError>
     ensures ok { IfOk result (ReadAs T.is_form bytes.now) }
     ensures err { IfErr result (IsMisread T.is_form bytes.now) }
@@ -56,7 +58,13 @@ pub fn read_as<T: FromJson>(alloc: Global, bytes: &[u8]) -> Result<T, TextError>
     }
 }
 
-/// Reads the value whose JSON the bytes are, as `read_as` does; bytes in compact JSON make no value of `serde_json`.
+/// Read a value as `read_as` does, faster for compact JSON.
+///
+/// Bytes in compact JSON make no value of `serde_json`.
+///
+/// # Errors
+///
+/// - Those of `read_as`.
 pub fn read_quickly<T: FromFront>(alloc: Global, bytes: &[u8]) -> Result<T, TextError>
     requires { T.nests ≤ max_depth }
     ensures ok { IfOk result (ReadAs T.is_form bytes.now) }
@@ -68,18 +76,21 @@ pub fn read_quickly<T: FromFront>(alloc: Global, bytes: &[u8]) -> Result<T, Text
     }
 }
 
-/// A move with its named reads.
+/// A move with its declared reads.
 #[derive(Drop)]
 pub struct Fire {
-    /// The named reads.
+    /// The declared reads.
     pub reads: Items<Named>,
     /// The move.
     pub instrs: Instructions,
 }
 
-/// The move of `{"fire":[INSTR, ..],"reads":[NAMED, ..]}`.
+/// Read the move of `{"fire":[INSTR, ..],"reads":[NAMED, ..]}`.
 ///
-/// `NotJson` and `Shape` tell why the bytes are none; `Memory` comes only where memory was refused.
+/// # Errors
+///
+/// - `NotJson` and `Shape` if the bytes are none; they say why.
+/// - `Memory` only if memory is refused.
 pub fn fire_of(alloc: Global, bytes: &[u8]) -> Result<Fire, TextError>
     ensures ok { IfOk result (λ f. ReadAsFire bytes.now f.reads f.instrs) }
     ensures err { IfErr result (IsMisread IsFireForm bytes.now) }

@@ -11,7 +11,7 @@ use asm_update::{INSTRUCTIONS_LIMIT, PlainState, UpdateSet};
 use serde_json::Value as Json;
 use std::alloc::{AllocError, Global};
 
-/// A level of a script's lists: how the list is written, what its items are, and how many it may have.
+/// A level of a script's lists: its form, its items, and how many it may have.
 struct Level {
     form: &'static str,
     item: &'static str,
@@ -130,7 +130,7 @@ fn wrong_reads(alloc: Global, agents: &Json) -> Result<String, AllocError> {
     Ok(String::new(alloc))
 }
 
-// The first pair whose location stands in an earlier one.
+// The first pair whose location is in an earlier one.
 fn first_twice(alloc: Global, pairs: &[Json]) -> Result<Option<usize>, AllocError> {
     let mut seen = UpdateSet::new(alloc);
     for (index, pair) in pairs.iter().enumerate() {
@@ -149,7 +149,7 @@ fn first_twice(alloc: Global, pairs: &[Json]) -> Result<Option<usize>, AllocErro
     Ok(None)
 }
 
-/// What is wrong with JSON as an opening state, where it is none.
+/// Return why JSON is no opening state; it must not be one.
 pub(crate) fn wrong_init(alloc: Global, init: &Json) -> Result<String, AllocError> {
     let Json::Array(pairs) = init else {
         return String::from_str(alloc, "init is an array of pairs");
@@ -166,7 +166,7 @@ pub(crate) fn wrong_init(alloc: Global, init: &Json) -> Result<String, AllocErro
     }
 }
 
-// Without what stands in front of the first word, or in front of the whole.
+// Without what is in front of the first word, or in front of the complete script.
 fn trimmed(alloc: Global, said: &str) -> Result<String, AllocError> {
     String::from_str(
         alloc,
@@ -174,8 +174,9 @@ fn trimmed(alloc: Global, said: &str) -> Result<String, AllocError> {
     )
 }
 
-/// What is wrong with a text, which is this JSON, as a script, where it is none: first a wrong form, then too few or
-/// too many of something.
+/// Return why a text, which is this JSON, is no script; it must not be one.
+///
+/// A wrong form comes first, then too few or too many of something.
 pub(crate) fn wrong_script(alloc: Global, text: &[u8], json: &Json) -> Result<String, AllocError> {
     let Some((agents, init)) = two_members(json, "agents", "init") else {
         return String::from_str(

@@ -15,7 +15,7 @@ pub(crate) enum Why {
 }
 
 impl Why {
-    /// What is wrong, in words.
+    /// Return in words what is wrong.
     pub(crate) fn words(self, alloc: Global) -> Result<String, AllocError> {
         match self {
             Why::Says(words) => String::from_str(alloc, words),
@@ -28,7 +28,7 @@ impl Why {
     }
 }
 
-/// What is wrong, in which part, by its index, or in the whole.
+/// A fault: its kind and its part, by index, or the complete text.
 #[derive(Clone, Copy, Drop)]
 pub(crate) struct Fault {
     part: Option<(&'static str, usize)>,
@@ -47,7 +47,7 @@ impl Fault {
         }
     }
 
-    /// The fault in words, where parts are counted from 1 up.
+    /// Return the fault in words, where parts are counted from 1 up.
     pub(crate) fn sentence(self, alloc: Global) -> Result<String, AllocError> {
         let words = self.why.words(alloc)?;
         match self.part {
@@ -60,7 +60,7 @@ impl Fault {
     }
 }
 
-/// The number with a comma before each three of its last digits.
+/// Return the number with a comma before each three of its last digits.
 pub(crate) fn grouped(alloc: Global, number: usize) -> Result<String, AllocError> {
     let digits = format!(in alloc; "{number}")?;
     let mut left = digits.len();
@@ -81,7 +81,9 @@ fn has_no_line_feed(text: &[u8]) -> bool
     text.iter().all(|byte| *byte != b'\n')
 }
 
-/// What is said, which has to be one line and not empty; else that the text has another shape.
+/// Return the sentence if it is one line and not empty.
+///
+/// Else return the sentence that the text has another shape.
 pub(crate) fn told(alloc: Global, said: String) -> Result<String, AllocError>
     ensures some { IfOk result (λ s. string_bytes s ≢ []) }
     ensures one_line { IfOk result (λ s. HasNoLineFeed (string_bytes s)) }
@@ -108,7 +110,9 @@ fn byte_of(text: &[u8], line: usize, column: usize) -> usize {
     column.saturating_add(behind)
 }
 
-/// What is said of a text that isn't JSON; its line too, where that is asked for and isn't the first.
+/// Return the sentence on a text that isn't JSON.
+///
+/// It has the line, if that is wanted and isn't the first.
 pub(crate) fn not_json(
     alloc: Global,
     text: &[u8],

@@ -87,7 +87,7 @@ fn is_word(word: &str) -> bool {
     )
 }
 
-// Whether the word may stand in a sentence as it is: it is short, and none of its bytes ends a line or a quotation.
+// Whether the word may be quoted in a sentence: it is short, and none of its bytes ends a line or a quotation.
 fn is_plain(word: &str) -> bool {
     word.len() <= 64
         && word
@@ -106,7 +106,9 @@ fn unknown_word(alloc: Global, word: &str) -> Result<String, AllocError> {
     )
 }
 
-/// What is wrong with JSON as an instruction of a script, in words; `None` where it is one.
+/// Return in words what is wrong with JSON as an instruction of a script.
+///
+/// `None` means that it is one.
 pub(crate) fn wrong_instruction(alloc: Global, json: &Json) -> Result<Option<String>, AllocError> {
     let Some((word, at, operands)) = instruction_parts(json) else {
         let why = Why::Says("an instruction is an array of a word, a location and operands");

@@ -42,7 +42,7 @@ IsLegality m events (Illegal number) = IsFirstWrong m events number
 
 -- ---- one event
 
--- the reply that tells an objection
+-- the reply that reports an objection
 abbrev pub objection_reply : Objection → Reply
 objection_reply (objection.Stale l) = reply.Stale l
 objection_reply (objection.Clash c) = reply.Clash c
@@ -61,8 +61,8 @@ was_fired _ = false
 abbrev pub moves_with : List Move → Event → List Move
 moves_with q e = q ++ cons_option (move_of e) []
 
--- whether the answer is right after the moves that the state stands for; if so, the new state stands for the event's
--- move too, and else it is the old one
+-- whether the answer is right after the moves that the state has followed; if so, the new state has followed the
+-- event's move too, and else it is the old one
 abbrev pub IsStep : Part → ℕ → Event → StateView → StateView → Bool → Type 0
 IsStep part capacity e old new true = (init : State) (q : List Move) → Stands part init old q →
     (e.answer ≡ reply_to (machine part init capacity) q e.call) × Stands part init new (moves_with q e)

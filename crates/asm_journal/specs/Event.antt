@@ -86,7 +86,7 @@ IsMoveOf M list = (M ≡ list) × (length list ≤ instructions_limit)
 abbrev pub IsMoveForm : Move → Data → Type 0
 IsMoveForm = IsMadeForm IsInstructionForm IsMoveOf
 
--- the locations of a read, or the instructions and the named reads of a fire
+-- the locations of a read, or the instructions and the declared reads of a fire
 abbrev pub IsCallForm : Call → Data → Type 0
 IsCallForm (call.Read locations) d =
     (list : Data) × (d ≡ one_of (codes "read") list) × IsListForm IsLocationForm locations list

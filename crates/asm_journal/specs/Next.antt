@@ -1,4 +1,4 @@
--- A run that goes on in another storage.
+-- A run that continues in another storage.
 use Rattle.std.specs.Prelude.{ℕ, List, ◌++◌}
 use Rattle.asm_storage.specs.declared.history.Event.{Event}
 use Rattle.asm_storage.specs.History.{fired_moves, IsRun, steps_from}

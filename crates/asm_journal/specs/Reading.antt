@@ -65,7 +65,7 @@ ReadsAs text h =
     (d : Data) × (rest : List ℕ) × (v : ℕ) × HasLine text d rest
     × IsHeader v h.agents h.capacity (length h.events) h.init d × HasEvents v h.agents rest h.events []
 
--- The text of a history that is proper and fits a journal reads as that history.
+-- The text of a history that is well-formed and fits a journal reads as that history.
 abbrev pub TextReadsBack : Type 0
 TextReadsBack = (h : History) → IsProper h → Fits h → ReadsAs (text_of h) h
 

@@ -1,4 +1,4 @@
--- The JSON of sets and bags: written in ascending order, and read in any order. No element stands twice.
+-- The JSON of sets and bags: written in ascending order, and read in any order. No element is there twice.
 use Rattle.std.specs.Prelude.{◌≡◌, ℕ, List, [], ◌∷◌, map, codes}
 use Rattle.std.specs.Map.{keys_of}
 use Rattle.serde_json.specs.Data.{Data, array, Items}

@@ -78,10 +78,10 @@ BeginsItems later AreItems text x rest = (ds : Items) × (text ≡ items_text la
 abbrev pub IsVersion : ℕ → Type 0
 IsVersion v = (v ≡ 1) ⊎ (v ≡ 2)
 
--- Whether an object with the key "list" stands anywhere in the value. Of the objects of headers and events none but a
+-- Whether an object with the key "list" is anywhere in the value. Of the objects of headers and events none but a
 -- list has this key: their own keys are "agent", "agents", "bag", "call", "capacity", "clash", "events", "fire",
--- "fired", "init", "number", "read", "reads", "reply", "set", "stale", "values" and "version". So a header or an event
--- has a list in it exactly where this answers true, and a further key "list" is a wrong shape in each version.
+-- "fired", "init", "number", "read", "reads", "reply", "set", "stale", "values" and "version". So a header or an
+-- event has a list in it exactly where this answers true, and a further key "list" is a wrong shape in each version.
 abbrev mutual
   pub has_list : Data → Bool
   has_list null = false

@@ -39,7 +39,7 @@ numbers_members_of agents capacity events init rest =
     member (codes "agents") (number_json_of agents) (member (codes "capacity") (number_json_of capacity)
     (member (codes "events") (number_json_of events) (member (codes "init") (state_json_of init) rest)))
 
--- those of a history, which its journal and its trace tell alike, and what follows
+-- those of a history, which its journal and its trace write alike, and what follows
 abbrev pub header_members_of : History → Members → Members
 header_members_of h rest = numbers_members_of h.agents h.capacity (length h.events) h.init rest
 

@@ -32,7 +32,7 @@ pair_json_of p = pair_of (location_json_of p.0) (value_json_of p.1)
 abbrev pub IsPairForm : Place × Value → Data → Type 0
 IsPairForm p d = (at value : Data) × (d ≡ pair_of at value) × IsLocationForm p.0 at × IsValueForm p.1 value
 
--- no location stands twice, and the state has these values at their locations; undef is no value
+-- no location is there twice, and the state has these values at their locations; undef is no value
 abbrev pub IsStateOf : State → List (Place × Value) → Type 0
 IsStateOf A ps = AreDistinct place.location_cmp (keys_of ps) × (A ≡ write_all state.empty ps)
 

@@ -57,7 +57,7 @@ IsCleanNumber (negative (pos n)) = ⊥
 IsCleanNumber (negative (negsuc n)) = n < 2 ^ 63
 IsCleanNumber (float x) = ⊥
 
--- its numbers are whole, its texts and keys are UTF-8, and its members stand in the order in which they are kept
+-- its numbers are whole, its texts and keys are UTF-8, and its members are in the order in which they are stored
 abbrev mutual
   pub IsClean : Data → Type 0
   IsClean null = ⊤

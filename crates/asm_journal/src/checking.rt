@@ -8,16 +8,16 @@ use asm_storage::{Answer, Call, Event, History, Reply, have_values};
 use asm_update::Aggregator;
 use std::alloc::{AllocError, Global};
 
-/// Whether a history is legal: whether each answer is the one that the storage of one thread gives.
+/// Whether a history is legal: each answer is the one of the sequential storage.
 #[derive(Clone, Copy, Debug, Drop, PartialEq, Eq)]
 pub enum Legality {
     /// It is legal, with so many calls (its events) and so many fired moves.
     Legal { calls: u64, moves: u32 },
-    /// It isn't: the first call (event) with another answer has this number, counted from 0.
+    /// It isn't; the first call with another answer has this number, counted from 0.
     Illegal { call: u64 },
 }
 
-/// Whether the reply tells the objection to a move.
+/// Return whether the reply reports the objection to a move.
 fn tells(objection: &Objection, reply: &Reply) -> bool
     ensures { IsTrue result ↔ (reply.now ≡ objection_reply objection.now) }
 {
@@ -30,7 +30,9 @@ fn tells(objection: &Objection, reply: &Reply) -> bool
     }
 }
 
-/// Whether this is the reply, after so many moves, to a move without an objection.
+/// Return whether this is the reply to a move without an objection.
+///
+/// The move comes after so many others.
 fn is_taken(capacity: u32, number: u32, reply: &Reply) -> bool
     ensures { IsTrue result ↔ (reply.now ≡ taken_reply capacity number) }
 {
@@ -41,7 +43,9 @@ fn is_taken(capacity: u32, number: u32, reply: &Reply) -> bool
     }
 }
 
-/// Whether this is the reply, after so many moves, to a move with this objection or with none.
+/// Return whether this is the reply to a move with this objection or with none.
+///
+/// The move comes after so many others.
 fn is_reply(objection: &Option<Objection>, capacity: u32, number: u32, reply: &Reply) -> bool
     ensures { IsTrue result ↔ (reply.now ≡ judged_reply capacity number objection.now) }
 {
@@ -51,17 +55,23 @@ fn is_reply(objection: &Option<Objection>, capacity: u32, number: u32, reply: &R
     }
 }
 
-/// Whether the move was fired.
+/// Return whether the move was fired.
 fn is_fired(reply: &Reply) -> bool
     ensures { result ≡ was_fired reply.now }
 {
     matches!(reply, Reply::Fired(_))
 }
 
-/// Whether the event's answer is the one that the storage of one thread, with this capacity, gives after the moves
-/// that the state has followed. Where it is, the state follows the event's move too; else it is as it was.
+/// Judge whether the event's answer is the one that the sequential storage gives.
 ///
-/// `AllocError` comes only where memory was refused; the state is then as it was.
+/// The storage has this capacity and the moves that the state has followed. If the answer is right, the state follows
+/// the event's move too; else it is unchanged.
+///
+/// # Errors
+///
+/// - `AllocError` only if memory is refused.
+///
+/// On error, the state is unchanged.
 pub fn judge_event<A: Aggregator>(
     alloc: Global,
     aggregator: &A,
@@ -94,10 +104,14 @@ pub fn judge_event<A: Aggregator>(
     }
 }
 
-/// Whether each event of a history has the answer that the storage of one thread gives.
+/// Check whether each event of a history has the answer of the sequential storage.
 ///
-/// It costs one judgement for each event, however many came before it. `AllocError` comes only where memory was
-/// refused. Source: Herlihy and Shavit, where a history is legal by the sequential specification of its object.
+/// It costs one judgement for each event, independent of how many came before it. Source: Herlihy and Shavit, where a
+/// history is legal by the sequential specification of its object.
+///
+/// # Errors
+///
+/// - `AllocError` only if memory is refused.
 pub fn check<A: Aggregator>(
     alloc: Global,
     aggregator: &A,

@@ -6,13 +6,15 @@ ghost use Rattle.asm_journal.specs.declared.error.WriteError.TheVariants as writ
 use std::alloc::{AllocError, AllocFailed};
 use thiserror::Error;
 
-/// The first fault of a journal, in the order of its lines. Lines count from 1.
+/// The first fault of a journal, in the order of its lines.
+///
+/// Lines count from 1.
 #[derive(Clone, Copy, Debug, Drop, PartialEq, Eq, Error)]
 pub enum JournalError {
     /// The line with this number isn't JSON.
     #[error("line {0} is not JSON")]
     NotJson(u64),
-    /// The line with this number isn't a header or an event of the journal, or is one line too many.
+    /// The line isn't a header or an event of the journal, or is one line too many.
     #[error("line {0} has a wrong shape")]
     Shape(u64),
     /// The header's version is a whole number other than 1 and 2.
@@ -42,7 +44,7 @@ impl<T: Drop> From<AllocFailed<T>> for JournalError {
     }
 }
 
-/// Why a journal wasn't written whole.
+/// Why a journal wasn't written completely.
 #[derive(Clone, Copy, Debug, Drop, PartialEq, Eq, Error)]
 pub enum WriteError {
     /// A write failed or took no byte, after this many bytes of the text.

@@ -35,9 +35,11 @@ pub trait FromJson: Drop {
     // the JSON that is read as this value
     ghost is_form: { Self → Data → Type 0 };
 
-    /// The value with this form, or `None` where no value has it.
+    /// Return the value with this form, or `None` where no value has it.
     ///
-    /// `AllocError` comes only where memory was refused.
+    /// # Errors
+    ///
+    /// - `AllocError` only if memory is refused.
     fn from_json(alloc: Global, json: &Json) -> Result<Option<Self>, AllocError>
     where
         Self: Sized,
@@ -51,12 +53,14 @@ pub trait ToJson {
 
     /// Its form.
     ///
-    /// `AllocError` comes only where memory was refused.
+    /// # Errors
+    ///
+    /// - `AllocError` only if memory is refused.
     fn to_json(&self, alloc: Global) -> Result<Json, AllocError>
         ensures { IfOk result (λ json. view json ≡ json_of self.now) };
 }
 
-/// Reads a whole number from 0 to 4,294,967,295.
+/// Read a whole number from 0 to 4,294,967,295.
 pub(crate) fn read_number(json: &Json) -> Option<u32>
     ensures { IsParsed IsNumberForm (view json.now) result }
 {

@@ -19,14 +19,16 @@ pub(crate) mod scalars;
 mod state;
 mod value;
 
-/// A value that can be read from the front of a compact text, without a value of `serde_json` between.
+/// A value that can be read directly from the front of a compact text.
+///
+/// No value of `serde_json` is made on the way.
 pub trait FromFront: FromJson {
     // how deep it nests at most
     ghost nests: { ℕ };
 
-    /// Reads the value whose compact JSON the text begins with, and returns the rest of the text too.
+    /// Read the value whose compact JSON the text begins with; return the rest too.
     ///
-    /// `None`: the text is written in another way, or memory was refused.
+    /// `None` means that the text is written in another way, or that memory is refused.
     fn from_front(alloc: Global, text: &[u8]) -> Option<(Self, &[u8])>
     where
         Self: Sized,
@@ -36,7 +38,7 @@ pub trait FromFront: FromJson {
     ghost clean: { (x : Self) (d : Data) → Self.is_form x d → IsCleanTo nests d };
 }
 
-/// Reads the value whose compact JSON the bytes are.
+/// Read the value whose compact JSON the bytes are.
 ///
 /// `None`: the bytes are written in another way, or memory was refused.
 pub fn read_compact<T: FromFront>(alloc: Global, bytes: &[u8]) -> Option<T>

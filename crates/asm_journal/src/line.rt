@@ -9,7 +9,7 @@ use crate::error::JournalError;
 use serde_json::Value as Json;
 use std::alloc::Global;
 
-/// Splits a text behind its first line feed, into the line before it and the rest.
+/// Split a text behind its first line feed, into the line before it and the rest.
 fn split_line(text: &[u8]) -> Option<(&[u8], &[u8])>
     ensures some { IfSome result (λ p. EndsLine text.now p.0.now p.1.now) }
     ensures none { IfNone result (HasNoLineFeed text.now) }
@@ -18,7 +18,9 @@ fn split_line(text: &[u8]) -> Option<(&[u8], &[u8])>
     Some((&text[..end], &text[end + 1..]))
 }
 
-/// Parses the line with this number. In a stack frame of its own, as `serde_json` reads with 16 KiB of the stack.
+/// Parse the line with this number.
+///
+/// In a stack frame of its own, as `serde_json` reads with 16 KiB of the stack.
 #[inline(never)]
 fn parse(alloc: Global, line: &[u8], number: u64) -> Result<Json, JournalError>
     ensures ok { IfOk result (λ v. IsJson line.now (view v)) }
@@ -32,7 +34,9 @@ fn parse(alloc: Global, line: &[u8], number: u64) -> Result<Json, JournalError>
     }
 }
 
-/// Parses the first line of a text, which is the line with this number, and gives the rest of the text too.
+/// Parse the first line of a text, and return the rest of the text too.
+///
+/// The line has this number.
 pub(crate) fn json_line(
     alloc: Global,
     text: &[u8],

@@ -10,7 +10,7 @@ use asm_storage::History;
 use std::alloc::Global;
 use std::io::Write;
 
-/// Writes all the bytes, or answers how many went out.
+/// Write all the bytes, or return how many went out.
 fn write_bytes<W: Write>(out: &mut W, bytes: &[u8]) -> Result<(), WriteError>
     ensures ok { OnOk result (Appends (W.contents out.old) (W.contents out.new) bytes.now) }
     ensures err { IfErr result (Stops (W.contents out.old) (W.contents out.new) bytes.now) }
@@ -29,11 +29,15 @@ fn write_bytes<W: Write>(out: &mut W, bytes: &[u8]) -> Result<(), WriteError>
     Ok(())
 }
 
-/// Writes the journal of a history: makes the whole text, and then writes it in as many calls as it takes.
+/// Write the journal of a history to an output.
 ///
-/// The history must be within the limits of a journal, which `History::fits` tests. `Output` comes only where a write
-/// failed or took no byte; the first `written` bytes of the text went out then. `Memory` comes only where memory was
-/// refused, and then nothing went out. The output isn't flushed.
+/// It makes the complete text, and then writes it in as many calls as it takes. The history must be within the limits
+/// of a journal, which `History::fits` tests. The output isn't flushed.
+///
+/// # Errors
+///
+/// - `Output` only if a write failed or took no byte; the first `written` bytes of the text went out then.
+/// - `Memory` only if memory is refused, and then nothing went out.
 pub fn write_text<W: Write>(alloc: Global, out: &mut W, history: &History) -> Result<(), WriteError>
     requires { Fits history.now }
     ensures ok { OnOk result

@@ -26,7 +26,7 @@ use asm_update::PlainState;
 use serde_json::Value as Json;
 use std::alloc::{AllocError, Global};
 
-/// What the header of a journal tells.
+/// What the header of a journal says.
 #[derive(Drop)]
 pub struct Header {
     /// The numbers of the journal.
@@ -35,7 +35,9 @@ pub struct Header {
     pub init: PlainState,
 }
 
-/// Whether the value is an object whose version is a whole number other than 1 and 2.
+/// Return whether the value is an object with another version than 1 and 2.
+///
+/// Its version is a whole number.
 fn has_other_version(json: &Json) -> bool
     ensures { IsTrue result ↔ HasOtherVersion (view json.now) }
 {
@@ -47,20 +49,22 @@ fn has_other_version(json: &Json) -> bool
     }
 }
 
-/// The numbers that the header of a journal tells.
+/// The numbers in the header of a journal.
 #[derive(Clone, Copy, Drop)]
 pub struct Limits {
     /// How many agents there are, at most 256: each agent's number is below.
     pub agents: u32,
     /// The most moves that the storage takes, from 1 to 1,048,576.
     pub capacity: u32,
-    /// How many events stand behind the header, each on a line of its own.
+    /// How many events follow the header, each on a line of its own.
     pub events: u32,
     /// The version of the journal, 1 or 2.
     pub version: u32,
 }
 
-/// Whether a journal of this version is read, and may have so many agents and this capacity.
+/// Return whether a journal of this version is read.
+///
+/// It must be allowed so many agents and this capacity.
 fn are_taken(version: u32, agents: u32, capacity: u32) -> bool
     ensures { IsTrue result ↔ (IsVersion version
         × (agents ≤ agents_limit) × (1 ≤ capacity) × (capacity ≤ capacity_limit)) }
@@ -68,7 +72,9 @@ fn are_taken(version: u32, agents: u32, capacity: u32) -> bool
     is_version(version) && agents <= AGENTS_LIMIT && 1 <= capacity && capacity <= CAPACITY_LIMIT
 }
 
-/// Reads the numbers of a header, unless one is outside its limits or no journal of the version is read.
+/// Read the numbers of a header.
+///
+/// `None` means that one is outside its limits, or that no journal of the version is read.
 fn limits_of(agents: &Json, capacity: &Json, events: &Json, version: &Json) -> Option<Limits>
     ensures some { IfSome result (λ l. AreNumbers l.version l.agents l.capacity l.events
         (view agents.now) (view capacity.now) (view events.now) (view version.now)) }
@@ -90,7 +96,7 @@ fn limits_of(agents: &Json, capacity: &Json, events: &Json, version: &Json) -> O
     })
 }
 
-/// Reads a header from the value of its line.
+/// Read a header from the value of its line.
 fn header_from(alloc: Global, json: &Json) -> Result<Option<Header>, AllocError>
     ensures { IfOk result (IsParsed (λ h d. IsHeader h.limits.version h.limits.agents h.limits.capacity
         h.limits.events h.init d) (view json.now)) }
@@ -111,9 +117,9 @@ fn header_from(alloc: Global, json: &Json) -> Result<Option<Header>, AllocError>
     }
 }
 
-/// Reads a header of version 2 from a first line in compact JSON, and returns the text behind that line too.
+/// Read a header of version 2 from a first line in compact JSON.
 ///
-/// `None` says nothing about the text.
+/// The text after that line is returned too. `None` says nothing about the text.
 fn compact_header(alloc: Global, text: &[u8]) -> Option<(Header, &[u8])>
     ensures { IfSome result (λ p. (d : Data) × HasLine text.now d p.1.now
         × IsHeader p.0.limits.version p.0.limits.agents p.0.limits.capacity p.0.limits.events p.0.init d) }
@@ -139,7 +145,9 @@ fn compact_header(alloc: Global, text: &[u8]) -> Option<(Header, &[u8])>
     Some((Header { limits, init }, rest))
 }
 
-/// Reads a header as `read_header` does, by way of a value of `serde_json`, in a stack frame of its own.
+/// Read a header as `read_header` does, by way of a value of `serde_json`.
+///
+/// It has a stack frame of its own.
 #[inline(never)]
 fn whole_header(alloc: Global, text: &[u8]) -> Result<(Header, &[u8]), JournalError>
     ensures ok { IfOk result (λ p. (d : Data) × HasLine text.now d p.1.now
@@ -156,13 +164,17 @@ fn whole_header(alloc: Global, text: &[u8]) -> Result<(Header, &[u8]), JournalEr
     }
 }
 
-/// Reads a header from the first line of a text, and gives the text behind that line too.
+/// Read a header from the first line of a text, and return the text after it too.
 ///
-/// `Cut`: the text is empty, or its first line is JSON that no line feed ends. `NotJson(1)`: the first line isn't JSON.
-/// `Version`: it is an object whose version is a whole number other than 1 and 2. `Shape(1)`: it is other JSON, and no
-/// header. `Memory` comes only where memory was refused.
+/// It costs one pass over the line, and doesn't look at what follows.
 ///
-/// It costs one pass over the line, and doesn't look behind it.
+/// # Errors
+///
+/// - `Cut` if the text is empty, or its first line is JSON that no line feed ends.
+/// - `NotJson(1)` if the first line isn't JSON.
+/// - `Version` if it is an object whose version is a whole number other than 1 and 2.
+/// - `Shape(1)` if it is other JSON, and no header.
+/// - `Memory` only if memory is refused.
 pub fn read_header(alloc: Global, text: &[u8]) -> Result<(Header, &[u8]), JournalError>
     ensures ok { IfOk result (λ p. (d : Data) × HasLine text.now d p.1.now
         × IsHeader p.0.limits.version p.0.limits.agents p.0.limits.capacity p.0.limits.events p.0.init d) }
@@ -174,9 +186,9 @@ pub fn read_header(alloc: Global, text: &[u8]) -> Result<(Header, &[u8]), Journa
     }
 }
 
-/// Reads the event of a journal of version 2 from a first line in compact JSON, and returns the text behind that line too.
+/// Read an event of version 2 from a first line in compact JSON.
 ///
-/// `None` says nothing about the text.
+/// The text after that line is returned too. `None` says nothing about the text.
 fn compact_event(alloc: Global, text: &[u8], limits: Limits) -> Option<(Event, &[u8])>
     ensures { IfSome result (λ p. (d : Data) × HasLine text.now d p.1.now
         × IsEventBelow limits.version limits.agents p.0 d) }
@@ -195,7 +207,9 @@ fn compact_event(alloc: Global, text: &[u8], limits: Limits) -> Option<(Event, &
     Some((event, rest))
 }
 
-/// Reads an event as `read_event` does, by way of a value of `serde_json`, in a stack frame of its own.
+/// Read an event as `read_event` does, by way of a value of `serde_json`.
+///
+/// It has a stack frame of its own.
 #[inline(never)]
 fn whole_event(
     alloc: Global,
@@ -217,15 +231,19 @@ fn whole_event(
     }
 }
 
-/// Reads an event from the first line of a text, as one of a journal with this version and so many agents, and gives the
-/// text behind that line too.
+/// Read an event from the first line of a text, and return the text after it too.
 ///
-/// `number` is the line's number in the journal, which the errors tell. `Cut`: the text is empty, or its first line is
-/// JSON that no line feed ends. `NotJson(number)`: the first line isn't JSON. `Shape(number)`: it is JSON, and no event
-/// of such a journal, perhaps as its agent's number isn't below the number of agents or, in version 1, as it has a list.
-/// `Memory` comes only where memory was refused.
+/// It is read as one of a journal with this version and so many agents. `number` is the line's number in the journal,
+/// which the errors name. It costs one pass over the line, in version 1 one more over its value, and doesn't look at
+/// what follows.
 ///
-/// It costs one pass over the line, in version 1 one more over its value, and doesn't look behind it.
+/// # Errors
+///
+/// - `Cut` if the text is empty, or its first line is JSON that no line feed ends.
+/// - `NotJson(number)` if the first line isn't JSON.
+/// - `Shape(number)` if it is JSON, and no event of such a journal, perhaps as its agent's number isn't below the
+///   number of agents or, in version 1, as it has a list.
+/// - `Memory` only if memory is refused.
 pub fn read_event(
     alloc: Global,
     text: &[u8],
@@ -242,7 +260,7 @@ pub fn read_event(
     }
 }
 
-/// Reads as many events as the limits say, each on its line, and gives the rest of the text too.
+/// Read as many events as the limits say, each on its line, and return the rest.
 fn read_events(
     alloc: Global,
     text: &[u8],
@@ -264,7 +282,7 @@ fn read_events(
     Ok((events, rest))
 }
 
-/// Reads a journal, or answers its first fault.
+/// Read a journal, or return its first fault.
 fn read_journal(alloc: Global, bytes: &[u8]) -> Result<History, JournalError>
     ensures ok { IfOk result (ReadsAs bytes.now) }
     ensures err { IfErr result (IsRefused bytes.now) }
@@ -286,15 +304,19 @@ fn read_journal(alloc: Global, bytes: &[u8]) -> Result<History, JournalError>
     Ok(history)
 }
 
-/// Reads a journal, of version 1 or 2, or answers its first fault.
+/// Read a journal, of version 1 or 2, or return its first fault.
 ///
 /// Lines are judged in turn: a line that isn't JSON is `NotJson`, a text that ends before a line or before its line
 /// feed is `Cut`, and a line of a wrong shape is `Shape`, in this order for each line. Another version in the header is
-/// `Version`, before the header's shape. In version 1 a line with a list in it has a wrong shape. Bytes behind the
-/// last line are one line more, of a wrong shape. `Memory` comes only where memory was refused.
+/// `Version`, before the header's shape. In version 1 a line with a list in it has a wrong shape. Bytes behind the last
+/// line are one line more, of a wrong shape.
 ///
 /// It costs one pass over the text, and in version 1 one more over each line's value. No memory is reserved by the
 /// numbers in the header. A history that was read fits a journal, so it may be written as one.
+///
+/// # Errors
+///
+/// - `Memory` only if memory is refused.
 pub fn from_text(alloc: Global, bytes: &[u8]) -> Result<History, JournalError>
     ensures ok { IfOk result (ReadsAs bytes.now) }
     ensures err { IfErr result (IsRefused bytes.now) }

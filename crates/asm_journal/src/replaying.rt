@@ -1,4 +1,4 @@
-//! The state that a history leaves, and the storage that goes on from it.
+//! The state that a history leaves, and the storage that continues from it.
 ghost use Rattle.std.specs.Prelude.{◌≡◌, ◌↔◌, OnOk, IfOk, IsErrOf};
 ghost use Rattle.asm_row.specs.Limits.{IsNoCapacity};
 ghost use Rattle.asm_update.specs.State.{overwrite};
@@ -20,7 +20,9 @@ use asm_storage::{Closing, Event, History, Storage, StorageError};
 use asm_update::{AggError, Aggregator, Group, Instructions, PlainState, ResultError, UpdateSet};
 use std::alloc::{AllocError, Global};
 
-/// Writes the updates one by one. Where memory is refused, those before are written.
+/// Write the updates one by one.
+///
+/// Where memory is refused, those before are written.
 fn write_updates(state: &mut PlainState, updates: UpdateSet) -> Result<(), AllocError>
     ensures { OnOk result (state.new ≡ overwrite state.old updates) }
 {
@@ -30,7 +32,9 @@ fn write_updates(state: &mut PlainState, updates: UpdateSet) -> Result<(), Alloc
     Ok(())
 }
 
-/// Fires a move by its update set. A move that clashes changes nothing.
+/// Fire a move by its update set.
+///
+/// A move that clashes changes nothing.
 fn fire_all<A: Aggregator>(
     alloc: Global,
     aggregator: &A,
@@ -47,7 +51,9 @@ fn fire_all<A: Aggregator>(
     }
 }
 
-/// Fires a move of one location by its group. A move that clashes changes nothing.
+/// Fire a move of one location by its group.
+///
+/// A move that clashes changes nothing.
 fn change_or_keep<A: Aggregator>(
     alloc: Global,
     aggregator: &A,
@@ -65,7 +71,9 @@ fn change_or_keep<A: Aggregator>(
     }
 }
 
-/// Fires a move. A move that clashes changes nothing.
+/// Fire a move.
+///
+/// A move that clashes changes nothing.
 fn fire_or_keep<A: Aggregator>(
     alloc: Global,
     aggregator: &A,
@@ -81,10 +89,13 @@ fn fire_or_keep<A: Aggregator>(
     }
 }
 
-/// The state that events leave: the opening state, which moves in, with their moves fired in order. A move that clashes
-/// changes nothing.
+/// Return the state that events leave: the opening state with their moves fired.
 ///
-/// `AllocError` comes only where memory was refused.
+/// The opening state moves in, and the moves are fired in order. A move that clashes changes nothing.
+///
+/// # Errors
+///
+/// - `AllocError` only if memory is refused.
 pub fn replay_over<A: Aggregator>(
     alloc: Global,
     aggregator: &A,
@@ -102,10 +113,14 @@ pub fn replay_over<A: Aggregator>(
     Ok(state)
 }
 
-/// The state that the history of agents leaves: the opening state, which is copied, with its moves fired in order. A move
-/// that clashes changes nothing.
+/// Return the state that the history of agents leaves.
 ///
-/// `AllocError` comes only where memory was refused.
+/// It is the opening state, which is copied, with the history's moves fired in order. A move that clashes changes
+/// nothing.
+///
+/// # Errors
+///
+/// - `AllocError` only if memory is refused.
 pub fn replay_closing<A: Aggregator>(
     alloc: Global,
     aggregator: &A,
@@ -123,10 +138,13 @@ pub fn replay_closing<A: Aggregator>(
     Ok(state)
 }
 
-/// The state that a history leaves: its opening state, with its moves fired in order. A move that clashes changes
-/// nothing.
+/// Return the state that a history leaves.
 ///
-/// It copies the opening state. `AllocError` comes only where memory was refused.
+/// It is a copy of the opening state, with the history's moves fired in order. A move that clashes changes nothing.
+///
+/// # Errors
+///
+/// - `AllocError` only if memory is refused.
 pub fn replay<A: Aggregator>(
     alloc: Global,
     aggregator: &A,
@@ -139,12 +157,16 @@ pub fn replay<A: Aggregator>(
     replay_over(alloc, aggregator, init, history.events.as_slice())
 }
 
-/// A storage that goes on where a history ended, for at most `capacity` moves, from 1 to 1,048,576: it opens with the
-/// state that the history's moves leave, and its agents start anew.
+/// Open a storage that continues where a history ended.
 ///
-/// What is then fired goes on with the history's run (`laws::run_goes_on`); its moves are numbered from 1 again.
-/// `StorageError::BadCapacity` comes exactly for another capacity, before any memory is asked for; `Memory` only where
-/// memory was refused.
+/// It is for at most `capacity` moves, from 1 to 1,048,576. It opens with the state that the history's moves leave, and
+/// its agents start again. What is then fired continues the history's run (`laws::run_goes_on`); its moves are numbered
+/// from 1 again.
+///
+/// # Errors
+///
+/// - `StorageError::BadCapacity` exactly for another capacity, before any memory is asked for.
+/// - `Memory` only if memory is refused.
 pub fn next_storage<A: Aggregator + Sync + Drop>(
     alloc: Global,
     aggregator: A,

@@ -11,7 +11,7 @@ use asm_update::{Instructions, PlainState, UpdateSet};
 use serde_json::Value as Json;
 use std::alloc::{AllocError, Global};
 
-/// The compact text of a value without floats.
+/// Return the compact text of a value without floats.
 fn compact(alloc: Global, json: &Json) -> Result<String, AllocError>
     requires { has_float (view json.now) ≡ false }
     ensures { IfOk result (λ s. string_bytes s ≡ compact_text (view json.now)) }
@@ -19,9 +19,13 @@ fn compact(alloc: Global, json: &Json) -> Result<String, AllocError>
     json.to_string(alloc)
 }
 
-/// Writes an answer as it stands in a journal: the number and the values of a read, or the reply to a fire.
+/// Write an answer as a journal does.
 ///
-/// `AllocError` comes only where memory was refused.
+/// It is the number and the values of a read, or the reply to a fire.
+///
+/// # Errors
+///
+/// - `AllocError` only if memory is refused.
 #[tactic(auto, using(crate::proofs::Floats::answer_no_float))]
 pub fn answer_text(alloc: Global, answer: &Answer) -> Result<String, AllocError>
     ensures { IfOk result (λ s. string_bytes s ≡ compact_text (answer_json_of answer.now)) }
@@ -29,9 +33,13 @@ pub fn answer_text(alloc: Global, answer: &Answer) -> Result<String, AllocError>
     compact(alloc, &answer.to_json(alloc)?)
 }
 
-/// Writes a state as an opening state stands in a journal: its locations in ascending order, each with its value.
+/// Write a state as a journal writes an opening state.
 ///
-/// `AllocError` comes only where memory was refused.
+/// It has the locations in ascending order, each with its value.
+///
+/// # Errors
+///
+/// - `AllocError` only if memory is refused.
 #[tactic(auto, using(crate::proofs::Floats::state_no_float))]
 pub fn state_text(alloc: Global, state: &PlainState) -> Result<String, AllocError>
     ensures { IfOk result (λ s. string_bytes s ≡ compact_text (state_json_of state.now)) }
@@ -39,9 +47,13 @@ pub fn state_text(alloc: Global, state: &PlainState) -> Result<String, AllocErro
     compact(alloc, &state.to_json(alloc)?)
 }
 
-/// Writes an update set as a state is written: its locations in ascending order, each with its value, undef among them.
+/// Write an update set as a state is written.
 ///
-/// `AllocError` comes only where memory was refused.
+/// It has the locations in ascending order, each with its value, which may be undef.
+///
+/// # Errors
+///
+/// - `AllocError` only if memory is refused.
 #[tactic(auto, using(crate::proofs::Floats::state_no_float))]
 pub fn updates_text(alloc: Global, updates: &UpdateSet) -> Result<String, AllocError>
     ensures { IfOk result (λ s. string_bytes s ≡ compact_text (state_json_of updates.now)) }
@@ -49,9 +61,11 @@ pub fn updates_text(alloc: Global, updates: &UpdateSet) -> Result<String, AllocE
     compact(alloc, &updates.to_json(alloc)?)
 }
 
-/// Writes a move as it stands in a fire: its instructions, in their order.
+/// Write a move as a journal does in a fire: its instructions, in their order.
 ///
-/// `AllocError` comes only where memory was refused.
+/// # Errors
+///
+/// - `AllocError` only if memory is refused.
 #[tactic(auto, using(crate::proofs::Floats::move_no_float))]
 pub fn move_text(alloc: Global, instrs: &Instructions) -> Result<String, AllocError>
     ensures { IfOk result (λ s. string_bytes s ≡ compact_text (move_json_of instrs.now)) }

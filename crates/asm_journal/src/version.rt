@@ -5,15 +5,16 @@ ghost use Rattle.asm_journal.specs.Shape.{IsVersion, IsOfVersion, has_list as ha
 
 use serde_json::{Map, Value as Json};
 
-/// Whether a journal of this version is read.
+/// Return whether a journal of this version is read.
 pub(crate) fn is_version(version: u32) -> bool
     ensures { IsTrue result ↔ IsVersion version }
 {
     version == 1 || version == 2
 }
 
-/// Whether there is a list anywhere in the value. It recurses as deep as the value nests, at most 127 levels in what
-/// was read from a text.
+/// Return whether there is a list anywhere in the value.
+///
+/// It recurses as deep as the value nests, at most 127 levels in what was read from a text.
 #[cycle(has_list)]
 fn has_list(json: &Json) -> bool
     ensures { result ≡ has_list_of (view json.now) }
@@ -25,7 +26,7 @@ fn has_list(json: &Json) -> bool
     }
 }
 
-/// Whether there is a list anywhere in one of the items.
+/// Return whether there is a list anywhere in one of the items.
 #[cycle(has_list)]
 fn items_have_list(items: &[Json]) -> bool
     ensures { result ≡ items_have_list_of (items_view items.now) }
@@ -38,7 +39,7 @@ fn items_have_list(items: &[Json]) -> bool
     false
 }
 
-/// Whether the members are those of a list, or there is a list anywhere in one of them.
+/// Return whether the members are those of a list, or one of them has a list in it.
 #[cycle(has_list)]
 fn members_have_list(members: &Map<String, Json>) -> bool
     ensures { result ≡ members_have_list_of (members_view members.now.entries) }
@@ -51,7 +52,7 @@ fn members_have_list(members: &Map<String, Json>) -> bool
     false
 }
 
-/// Whether a journal of this version may have the value.
+/// Return whether a journal of this version may have the value.
 pub(crate) fn is_of_version(json: &Json, version: u32) -> bool
     ensures { IsTrue result ↔ IsOfVersion version (view json.now) }
 {

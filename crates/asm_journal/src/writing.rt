@@ -14,7 +14,9 @@ use asm_update::PlainState;
 use serde_json::{Map, Value as Json};
 use std::alloc::{AllocError, Global};
 
-/// What a header tells: the numbers of agents, of moves that there is room for and of events, and the opening state.
+/// The contents of a header.
+///
+/// They are the numbers of agents, of moves that there is room for and of events, and the opening state.
 #[derive(Drop)]
 struct Numbers<'a> {
     agents: u32,
@@ -36,7 +38,7 @@ impl Numbers<'_> {
         Ok(members)
     }
 
-    /// The JSON of a journal's header.
+    /// Return the JSON of a journal's header.
     fn header_json(&self, alloc: Global) -> Result<Json, AllocError>
         ensures { IfOk result (λ json. view json ≡
             header_of self.now.agents self.now.capacity self.now.events (state_json_of self.now.init.now)) }
@@ -46,7 +48,7 @@ impl Numbers<'_> {
         Ok(Json::Object(header))
     }
 
-    /// The text of a journal's header: its line.
+    /// Return the text of a journal's header: its line.
     fn header_line(&self, alloc: Global) -> Result<String, AllocError>
         ensures { IfOk result (λ text. string_bytes text ≡ line (header_of
             self.now.agents self.now.capacity self.now.events (state_json_of self.now.init.now))) }
@@ -58,7 +60,7 @@ impl Numbers<'_> {
     }
 }
 
-// What the history's header tells.
+// The numbers in the history's header.
 fn numbers_of(history: &History) -> Numbers<'_>
     requires { length history.now.events ≤ events_limit }
     ensures agents { result.agents ≡ history.now.agents }
@@ -74,10 +76,14 @@ fn numbers_of(history: &History) -> Numbers<'_>
     }
 }
 
-/// What the headers of a history's journal and of its trace have in common: its numbers and its opening state, without a
-/// version.
+/// Return what the headers of a history's journal and of its trace have in common.
 ///
-/// There are at most as many events as a journal has. `AllocError` comes only where memory was refused.
+/// It is the header's numbers and the opening state, without a version. There are at most as many events as a journal
+/// has.
+///
+/// # Errors
+///
+/// - `AllocError` only if memory is refused.
 pub fn header_members(alloc: Global, history: &History) -> Result<Map<String, Json>, AllocError>
     requires { length history.now.events ≤ events_limit }
     ensures { IfOk result (λ members. members_view members.entries ≡ header_members_of history.now no_members) }
@@ -85,9 +91,11 @@ pub fn header_members(alloc: Global, history: &History) -> Result<Map<String, Js
     numbers_of(history).members(alloc)
 }
 
-/// Appends the compact text of a value without floats, and a line feed.
+/// Append the compact text of a value without floats, and a line feed.
 ///
-/// `AllocError` comes only where memory was refused.
+/// # Errors
+///
+/// - `AllocError` only if memory is refused.
 pub fn push_line(alloc: Global, text: &mut String, json: &Json) -> Result<(), AllocError>
     requires { has_float (view json.now) ≡ false }
     ensures { OnOk result (string_bytes text.new ≡ string_bytes text.old ++ line (view json.now)) }
@@ -105,10 +113,13 @@ fn push_event(alloc: Global, text: &mut String, event: &Event) -> Result<(), All
     push_line(alloc, text, &event.to_json(alloc)?)
 }
 
-/// Writes a history as a journal of version 2: a header line, and a line for each event.
+/// Write a history as a journal of version 2: a header, and a line for each event.
 ///
-/// The history must be within the limits of a journal, which `History::fits` tests. `AllocError`
-/// comes only where memory was refused. It costs one pass over the text.
+/// The history must be within the limits of a journal, which `History::fits` tests. It costs one pass over the text.
+///
+/// # Errors
+///
+/// - `AllocError` only if memory is refused.
 pub fn to_text(alloc: Global, history: &History) -> Result<String, AllocError>
     requires { Fits history.now }
     ensures { IfOk result (λ s. string_bytes s ≡ text_of history.now) }
@@ -120,10 +131,14 @@ pub fn to_text(alloc: Global, history: &History) -> Result<String, AllocError>
     Ok(text)
 }
 
-/// Writes the history of agents as `to_text` does, of which each event is made for its line and then dropped.
+/// Write the history of agents as `to_text` does, with one event in memory.
 ///
-/// The history must be within the limits of a journal, which `Closing::fits` tests. `AllocError` comes only where memory
-/// was refused.
+/// Each event is made for its line and then dropped. The history must be within the limits of a journal, which
+/// `Closing::fits` tests.
+///
+/// # Errors
+///
+/// - `AllocError` only if memory is refused.
 pub fn closing_text(alloc: Global, closing: &Closing<'_>) -> Result<String, AllocError>
     requires { Fits closing.now }
     ensures { IfOk result (λ s. string_bytes s ≡ text_of closing.now) }

@@ -27,7 +27,7 @@ impl Read for BrokenOff<'_> {
     }
 }
 
-/// What is told of an input that gives this text and then fails.
+/// Return the verdict on an input that gives this text and then fails.
 fn told_of_broken_off(alloc: Global, text: &str) -> Result<Verdict, AuditInputError> {
     audit(
         alloc,
@@ -38,7 +38,7 @@ fn told_of_broken_off(alloc: Global, text: &str) -> Result<Verdict, AuditInputEr
     )
 }
 
-/// Texts, of which some are wrong or at fault, and what is told where the read behind them fails.
+/// Texts, some wrong or at fault, with the verdict if the read after them fails.
 static BROKEN_OFF: [(&str, Result<Verdict, AuditInputError>); 5] = [
     ("", Err(AuditInputError::Input)),
     (

@@ -1,4 +1,4 @@
-//! The forms of locations, values and instructions, by themselves: those that a text has are written as they were read.
+//! The forms of locations, values and instructions, by themselves: those that a text has are written unchanged read.
 use asm_journal::{
     instruction_json, location_json, read_instruction, read_location, read_value, value_json,
 };
@@ -14,7 +14,7 @@ enum Form {
     Instruction,
 }
 
-/// The location that JSON is read as, written; none where it is read as none.
+/// Return the location that JSON is read as, written; none where it is read as none.
 fn location_again(alloc: Global, json: &Json) -> Result<Option<Json>, AllocError> {
     match read_location(alloc, json)? {
         Some(location) => Ok(Some(location_json(alloc, &location)?)),
@@ -22,7 +22,7 @@ fn location_again(alloc: Global, json: &Json) -> Result<Option<Json>, AllocError
     }
 }
 
-/// The same for a value.
+/// Return the same for a value.
 fn value_again(alloc: Global, json: &Json) -> Result<Option<Json>, AllocError> {
     match read_value(alloc, json)? {
         Some(value) => Ok(Some(value_json(alloc, &value)?)),
@@ -30,7 +30,7 @@ fn value_again(alloc: Global, json: &Json) -> Result<Option<Json>, AllocError> {
     }
 }
 
-/// The same for an instruction.
+/// Return the same for an instruction.
 fn instruction_again(alloc: Global, json: &Json) -> Result<Option<Json>, AllocError> {
     match read_instruction(alloc, json)? {
         Some(instruction) => Ok(Some(instruction_json(alloc, &instruction)?)),
@@ -38,7 +38,7 @@ fn instruction_again(alloc: Global, json: &Json) -> Result<Option<Json>, AllocEr
     }
 }
 
-/// The text of what JSON is read as in this form; none where it is read as none.
+/// Return the text of what JSON is read as in this form; none where it is read as none.
 fn text_again(alloc: Global, form: Form, json: &Json) -> Result<Option<String>, AllocError> {
     let again = match form {
         Form::Location => location_again(alloc, json)?,
@@ -51,7 +51,7 @@ fn text_again(alloc: Global, form: Form, json: &Json) -> Result<Option<String>, 
     }
 }
 
-/// Whether a text is written as it was read in this form, or where it has another form is read as none.
+/// Return whether a text is written unchanged read in this form, or where it has another form is read as none.
 fn is_form(alloc: Global, form: Form, text: &str, is_kept: bool) -> Result<bool, Fail> {
     let json = Json::from_str(alloc, text).ok().ok_or("the text is JSON")?;
     match text_again(alloc, form, &json)? {

@@ -14,8 +14,10 @@ const BLOCKS: &str =
 {"agent":0,"call":{"fire":[["add",["s"],1],["put",["y"],{"set":[1]}]],"reads":[[["s"],0]]},"reply":{"fired":1}}
 "#;
 
-/// An output that takes some bytes, a few at a time. Then one write takes none or fails, and the next ones take all. It
-/// counts its calls, and knows whether each was a write of all that is left of `BLOCKS`, which was something.
+/// An output that takes some bytes, a few at a time.
+///
+/// Then one write takes none or fails, and the next ones take all. It counts its calls, and knows whether each was
+/// a write of all that is left of `BLOCKS`, which was something.
 #[derive(Clone, Copy)]
 struct Short {
     room: usize,
@@ -52,11 +54,11 @@ impl Write for Short {
     }
 }
 
-/// An output with this much room, that takes at most so much in one write, and then fails so or takes nothing; and how
-/// often it is called.
+/// An output with this much room, that takes at most so much in one write, and then fails so or takes nothing; and
+/// how often it is called.
 type Row = (usize, usize, Option<ErrorKind>, u32);
 
-/// Whether the history's journal, `BLOCKS`, goes out as far as there is room, and the answer says so.
+/// Return whether the history's journal, `BLOCKS`, goes out as far as there is room, and the answer says so.
 fn goes_out(
     alloc: Global,
     history: &History,
@@ -98,7 +100,7 @@ static ROWS: [Row; 12] = [
     (4096, 4096, None, 1),
 ];
 
-/// Whether the journal `BLOCKS` goes out so.
+/// Return whether the journal `BLOCKS` goes out so.
 fn blocks_go_out(alloc: Global, row: Row) -> Result<bool, JournalError> {
     let history = from_text(alloc, BLOCKS.as_bytes())?;
     Ok(goes_out(alloc, &history, row)?)

@@ -1,4 +1,4 @@
-//! A replay, and a storage that goes on after it.
+//! A replay, and a storage that continues from it.
 use asm_aggregate::standard;
 use asm_journal::{JournalError, from_text, next_storage, replay, state_text};
 use asm_storage::{CloseError, History, StorageError};
@@ -17,7 +17,9 @@ const JOURNAL: &str =
 /// What the moves leave of which two clash.
 const LEFT: &str = r#"[[["s"],{"set":[1,2]}]]"#;
 
-/// Whether a storage that goes on after the history, for so many moves, opens with this state.
+/// Return whether a storage that continues from the history opens with this state.
+///
+/// It is for so many moves.
 fn opens_next(
     alloc: Global,
     history: &History,
@@ -34,7 +36,7 @@ fn opens_next(
     }
 }
 
-/// Whether it does for the most moves, and is refused for one more.
+/// Return whether it does for the most moves, and is refused for one more.
 fn goes_on(alloc: Global, history: &History, left: &PlainState) -> Result<bool, AllocError> {
     for (capacity, is_good) in [(1_048_576, true), (1_048_577, false)] {
         match opens_next(alloc, history, capacity, left) {
@@ -47,7 +49,9 @@ fn goes_on(alloc: Global, history: &History, left: &PlainState) -> Result<bool, 
     Ok(true)
 }
 
-/// Whether a replay of the journal leaves this state, with which a storage that goes on opens.
+/// Return whether a replay of the journal leaves this state.
+///
+/// A storage that continues from it opens with the same state.
 fn leaves(alloc: Global, journal: &str, state: &str) -> Result<bool, JournalError> {
     let history = from_text(alloc, journal.as_bytes())?;
     let left = replay(alloc, &standard(), &history)?;

@@ -9,7 +9,7 @@ use asm_element::{Location, Value};
 use asm_update::Lookup;
 use std::marker::Model;
 
-/// An overlay, and below it what gives the values of the locations that no frame has.
+/// An overlay over a look-up for the locations that no frame has.
 ///
 /// Contracts see it as the overlay's frames and what is below them.
 #[derive(Drop)]
@@ -31,7 +31,7 @@ impl<'a, L> Model for Over<'a, L> {
 }
 
 impl<'a, L> Over<'a, L> {
-    /// The overlay over what is looked up below it.
+    /// Return the overlay over what is looked up below it.
     pub fn new(overlay: &'a Overlay, below: &'a L) -> Over<'a, L>
         ensures { result ≡ record { frames = overlay.now; below = below.now } }
     {
@@ -42,8 +42,9 @@ impl<'a, L> Over<'a, L> {
 impl<'a, L: Lookup> Lookup for Over<'a, L> {
     ghost value_at = { λ over. seen_through over.frames (L.value_at over.below) };
 
-    /// The value of the topmost frame that has the location, else the one below the overlay; None
-    /// exactly where that is undef.
+    /// Return the value of the topmost frame that has the location, else the one below.
+    ///
+    /// `None` is the answer exactly if that is undef.
     fn get(&self, at: &Location) -> Option<&Value>
         ensures value { unwrap_or (option_copied result) undef
             ≡ seen_through self.now.frames (L.value_at self.now.below) at.now }

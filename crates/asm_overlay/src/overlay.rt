@@ -13,7 +13,7 @@ use thiserror::Error;
 /// The most frames of one overlay.
 pub const FRAMES_LIMIT: usize = 64;
 
-/// Why a frame isn't pushed; the frame that was passed is handed back.
+/// Why a frame isn't pushed; the frame that was passed is returned.
 #[derive(Debug, Drop, PartialEq, Eq, Error)]
 pub enum OverlayError {
     /// There are 64 frames already; this is found before memory is asked for.
@@ -35,8 +35,8 @@ pub enum Seen<'a> {
 
 /// A stack of at most 64 frames, each an update set.
 ///
-/// Contracts see it as the list of its frames, the oldest first. Source: pushed and popped states,
-/// in CoreASM; the limit is of this project's profile.
+/// Contracts see it as the list of its frames, the oldest first. Source: pushed and popped states, in CoreASM; the
+/// limit is of this project's profile.
 #[derive(Debug, Drop)]
 pub struct Overlay {
     frames: Vec<UpdateSet>,
@@ -59,7 +59,7 @@ impl Model for Overlay {
 }
 
 impl Overlay {
-    /// No frames.
+    /// Return the overlay without frames.
     pub fn new(alloc: Global) -> Self
         ensures { result ≡ [] }
     {
@@ -68,10 +68,14 @@ impl Overlay {
         }
     }
 
-    /// Puts a frame on top of the others.
+    /// Put a frame on top of the others.
     ///
-    /// `Deep` comes exactly where there are 64 frames, before memory is asked for; `Memory` only
-    /// where memory was refused. Either hands back the frame that was passed, and nothing changes.
+    /// # Errors
+    ///
+    /// - `Deep` exactly if there are 64 frames, before memory is asked for.
+    /// - `Memory` only if memory is refused.
+    ///
+    /// Either returns the frame that was passed. On error, nothing changes.
     pub fn push(&mut self, frame: UpdateSet) -> Result<(), OverlayError>
         ensures ok { OnOk result (self.new ≡ self.old ++ frame ∷ []) }
         ensures err { OnErr result (self.new ≡ self.old) }
@@ -89,7 +93,7 @@ impl Overlay {
         }
     }
 
-    /// Takes the topmost frame away, and gives it back; None where there is no frame.
+    /// Take the topmost frame away, and give it back; None where there is no frame.
     pub fn pop(&mut self) -> Option<UpdateSet>
         ensures some { IfSome result (λ frame. self.old ≡ self.new ++ frame ∷ []) }
         ensures none { IfNone result ((self.old ≡ []) × (self.new ≡ [])) }
@@ -97,7 +101,7 @@ impl Overlay {
         self.frames.pop()
     }
 
-    /// How many frames there are, at most 64.
+    /// Return how many frames there are, at most 64.
     pub fn depth(&self) -> usize
         ensures value { result ≡ length self.now }
         ensures within { length self.now ≤ frames_limit }
@@ -105,7 +109,7 @@ impl Overlay {
         self.frames.len()
     }
 
-    /// What the frames show at a location: the value of the topmost one that has it, or `Below`.
+    /// Return the value of the topmost frame that has the location, or `Below`.
     ///
     /// It costs one look-up in each frame, from the top, and stops at the first that has the location.
     pub fn get(&self, at: &Location) -> Seen<'_>

@@ -3,7 +3,7 @@ use Rattle.std.specs.Prelude.{◌≡◌, ◌⊎◌, List, [], ◌∷◌, Result,
 use Rattle.asm_play.specs.declared.outcome.RunError.{RunError}
 use Rattle.asm_play.specs.declared.outcome.RunError.TheVariants.{NoThread, Memory}
 
--- each job gave what stands at its place
+-- each job gave what is at its place
 abbrev pub GivesEach : {J X : Type 0} → (J → X → Type 0) → List J → List X → Type 0
 GivesEach gives [] [] = Unit {0}
 GivesEach gives (j ∷ jobs) (x ∷ done) = gives j x × GivesEach gives jobs done
@@ -19,8 +19,8 @@ abbrev pub foremost_error : RunError → RunError → RunError
 foremost_error NoThread _ = NoThread
 foremost_error _ other = other
 
--- the error that is told of two halves: that of one, the foremost of two, and an allocation failure where there is none,
--- as what both gave was to be put together
+-- the error of two halves: that of one, the foremost of two, and an allocation failure where there is none, as what
+-- both gave was to be put together
 abbrev pub error_of_both : {X Y : Type 0} → Result X RunError → Result Y RunError → RunError
 error_of_both (Ok x) (Ok y) = Memory
 error_of_both (Ok x) (Err g) = g

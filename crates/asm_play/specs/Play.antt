@@ -15,7 +15,7 @@ use Rattle.asm_play.specs.declared.outcome.Played.{Played}
 abbrev pub machine_of : Plan → ℕ → Machine
 machine_of plan capacity = record { part = standard_part; init = plan.init; capacity = capacity }
 
--- from this agent on, the events of each are those of its steps, each step's told by how it ended
+-- from this agent on, the events of each are those of its steps, each step's according to how it ended
 abbrev pub AreAgentsTold : Machine → List Event → ℕ → List (List Step) → List (List StepEnd) → Type 0
 AreAgentsTold m h id [] [] = Unit {0}
 AreAgentsTold m h id [] (os ∷ oss) = ⊥
@@ -24,9 +24,9 @@ AreAgentsTold m h id (ss ∷ sss) (os ∷ oss) =
     AreTold standard_meaning m (fired_moves h) ss os (events_of h id) × AreAgentsTold m h (id + 1) sss oss
 
 -- What a script's playing leaves: a legal history from the script's opening state and with the given capacity, with
--- one end for each step of each agent, which tells the events of that step, and no event of another agent. The move of a
--- step that fired leaves what the step's blocks in turn leave on the state before it. The outcomes are those of the ends,
--- and beside them stand the terms without a value that ended steps.
+-- one end for each step of each agent, which determines the events of that step, and no event of another agent. The
+-- move of a step that fired leaves what the step's blocks in turn leave on the state before it. The outcomes are
+-- those of the ends, and beside them are the terms without a value that ended steps.
 pub record IsPlayOf (plan : Plan) (capacity : ℕ) (p : Played) : Type 0 where
   pub opened : p.history.init ≡ plan.init
   pub capacity_is : p.history.capacity ≡ capacity

@@ -1,4 +1,4 @@
--- What the agents of a storage leave when each played its steps, and how faults of playing are told.
+-- What the agents of a storage leave when each played its steps, and how faults of playing are reported.
 use Rattle.std.specs.Prelude.{◌+◌, ℕ, List, [], ◌∷◌, get_or}
 use Rattle.asm_update.specs.Aggregator.{Meaning}
 use Rattle.asm_storage.specs.Agents.{AgentView}
@@ -11,7 +11,7 @@ use Rattle.asm_play.specs.declared.outcome.RunError.{RunError}
 use Rattle.asm_play.specs.declared.outcome.RunError.TheVariants as run_error
 use Rattle.asm_script.specs.declared.step.Step.{Step}
 
--- the steps that stand at the agent's number, or none
+-- the steps at the agent's number, or none
 abbrev pub steps_at : {A : Type 0} → List (List Step) → AgentAt A → List Step
 steps_at sss a = get_or sss a.account.id []
 
@@ -28,7 +28,7 @@ abbrev pub close_error_told : CloseError → RunError
 close_error_told (close_error.Missing k) = run_error.Missing k
 close_error_told close_error.Memory = run_error.Memory
 
--- why these agents weren't closed: the move without a receipt is the one that their storage tells, and else memory
+-- why these agents weren't closed: the move without a receipt is the one that their storage reports, and else memory
 -- was refused
 abbrev pub IsNotClosed : List AgentView → RunError → Type 0
 IsNotClosed agents (run_error.Missing k) = IsMissing agents (close_error.Missing k)

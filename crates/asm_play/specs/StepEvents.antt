@@ -1,4 +1,4 @@
--- What the ends of an agent's steps tell of its answered calls.
+-- How the ends of an agent's steps determine its answered calls.
 use Rattle.std.specs.Prelude.{◌≡◌, ◌+◌, ◌-◌, ◌*◌, ◌≤◌, ◌<◌, ◌⊎◌, ℕ, zero, suc, List, [], ◌∷◌, ◌++◌, length, map, take, All}
 use Rattle.std.specs.Prelude.{None, Ok, Err}
 use Rattle.asm_element.specs.Place.{Place}
@@ -64,7 +64,7 @@ HasNoRoom own m q step e =
     × (n : ℕ) × (n ≤ length q) × (m.capacity ≤ n) × (step_move_on own (state_at m q n) None step ≡ Ok M)
     × ((B : State) × (fire_blocks m.part (state_at m q n) step ≡ Ok B))
 
--- on the state that some first moves leave, the step has this fault, and its blocks stop as it tells
+-- on the state that some first moves leave, the step has this fault, and its blocks stop accordingly
 abbrev pub HasFault : Meaning → Machine → List Move → Step → StepFault → Type 0
 HasFault own m q step f = (n : ℕ) × (n ≤ length q) × StandsFor own (state_at m q n) step (Err f)
 
@@ -119,8 +119,8 @@ AreTries own m q step places zero es = es ≡ []
 AreTries own m q step places (suc n) es = (first last : List Event) × (es ≡ first ++ last)
     × AreTries own m q step places n first × IsVainTry own m q step places last
 
--- The events are those of so many tries in vain. Each was answered stale, but for some that were busy: they lost 64
--- offers each, to as many moves.
+-- The events are those of so many tries in vain. Each was answered stale, except for some that were busy: they lost
+-- 64 attempts each, to as many moves.
 pub record AreInVain (own : Meaning) (m : Machine) (q : List Move) (step : Step) (places : List Place) (n : ℕ)
     (es : List Event) : Type 0 where
   pub tries : AreTries own m q step places n es
@@ -160,7 +160,7 @@ HasTriesOf own m q step places _ es = IsEndedAfter own m q step places es
 abbrev pub HasTries : Meaning → Machine → List Move → Step → StepEnd → List Event → Type 0
 HasTries own m q step o es = (places : List Place) × AreReads step places × HasTriesOf own m q step places o es
 
--- the events are idle but for the last, which is so
+-- the events are idle except the last, which is so
 abbrev pub EndsWith : (Event → Type 0) → List Event → Type 0
 EndsWith P es = (idle : List Event) × (e : Event) × (es ≡ idle ++ e ∷ []) × All IsIdle idle × P e
 

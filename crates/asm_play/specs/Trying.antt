@@ -28,7 +28,7 @@ use Rattle.asm_script.specs.declared.fault.StepFault.TheVariants as fault
 use Rattle.asm_play.specs.declared.step_end.StepEnd.{StepEnd}
 use Rattle.asm_play.specs.declared.step_end.StepEnd.TheVariants as step_end
 
--- the value that stands where the location does; undef where it isn't among them
+-- the value at the place of the location; undef where it isn't among them
 abbrev pub value_among : List Place → List Value → Place → Value
 value_among [] vs l = undef
 value_among (p ∷ ps) [] l = undef
@@ -49,7 +49,7 @@ abbrev pub HasRead : {A : Type 0} → (A → Meaning) → AgentAt A → AgentAt 
 HasRead meaning old new places None = (places ≡ []) × (new ≡ old)
 HasRead meaning old new places (Some r) = (places ≢ []) × IsRead meaning old new places r
 
--- 64 offers were lost: as many entries more were seen at least
+-- 64 attempts were lost: as many entries more were seen at least
 pub record WasBusy {A : Type 0} (old new : AgentAt A) : Type 0 where
   pub begins : IsPrefix old.account.seen new.account.seen
   pub longer : length old.account.seen + offers_limit ≤ length new.account.seen
@@ -60,7 +60,7 @@ abbrev pub HasTried : {A : Type 0} → (A → Meaning) → AgentAt A → AgentAt
 HasTried meaning old new reads M None = WasBusy old new
 HasTried meaning old new reads M (Some r) = IsReplied meaning old new reads M r
 
--- how a step ended whose fire has this reply; none where the step is to be tried again
+-- how a step ended whose fire has this reply; none where the step must be retried
 abbrev pub end_of : Option Reply → Option StepEnd
 end_of (Some (reply.Fired k)) = Some (step_end.Fired k)
 end_of (Some (reply.Clash clash)) = Some (step_end.Clash clash)
@@ -87,8 +87,8 @@ abbrev pub EndsStale : List Receipt → Type 0
 EndsStale more = (first : List Receipt) × (r : Receipt) × (l : Place) × (more ≡ first ++ r ∷ [])
     × (r.answer ≡ answer.Fire (reply.Stale l))
 
--- why a try ended in nothing: it left one stale fire, which is its last receipt; or it left none and so, being in vain,
--- no fire at all, as 64 offers were lost
+-- why a try ended in nothing: it left one stale fire, which is its last receipt; or it left none and so, being in
+-- vain, no fire at all, as 64 attempts were lost
 abbrev pub IsVain : {A : Type 0} → AgentAt A → AgentAt A → List Receipt → Type 0
 IsVain old new more =
     (EndsStale more × (stale_fires (map (event_of old.account.id) more) ≡ 1))
@@ -106,7 +106,8 @@ pub record IsAgain {A : Type 0} (meaning : A → Meaning) (own : Meaning) (step 
       (map (event_of old.account.id) more)
   pub cause : IsVain old new more
 
--- the receipts that the agent has more are those of one try of the step, which reads these locations, and tell how it ended
+-- the receipts that the agent has more are those of one try of the step, which reads these locations, according to
+-- how it ended
 pub record IsEnded {A : Type 0} (meaning : A → Meaning) (own : Meaning) (old new : AgentAt A) (step : Step)
     (places : List Place) (o : StepEnd) : Type 0 where
   pub more : List Receipt
@@ -119,7 +120,7 @@ pub record IsEnded {A : Type 0} (meaning : A → Meaning) (own : Meaning) (old n
       IsTold own (machine_of meaning old.storage) (moves_seen new.account.seen) step o
       (map (event_of old.account.id) more)
 
--- one try of a step: the step ended, not by being given up, or is to be tried again
+-- one try of a step: the step ended, not by being given up, or must be retried
 abbrev pub IsTry : {A : Type 0} → (A → Meaning) → Meaning → AgentAt A → AgentAt A → Step → List Place →
     Option StepEnd → Type 0
 IsTry meaning own old new step places None = IsAgain meaning own step places old new

@@ -1,16 +1,15 @@
-//! What stands round each call of an agent.
+//! What is called before and after each call of an agent.
 use std::sync::Wait;
 
-/// A gate round each call of an agent to its storage, a read or a fire. Both methods may wait, so a gate may
-/// hold agents back and let them go, in any order.
+/// A gate that is called before and after each read and fire of an agent.
 ///
-/// Calls are counted for each agent from 0, those that end with an error too; the count stays at its greatest
-/// value once there.
+/// Both methods may wait, so a gate may hold agents back and release them, in any order. Calls are counted for each
+/// agent from 0, including those that end with an error; the counter saturates.
 pub trait Gate: Sync {
-    /// Called just before the agent's call with this count.
+    /// Be called just before the agent's call with this count.
     fn before<R: Wait>(&self, rt: &R, agent: u32, call: u64);
 
-    /// Called just after it, whatever it answered.
+    /// Be called just after it, whatever it answered.
     fn after<R: Wait>(&self, rt: &R, agent: u32, call: u64);
 }
 
@@ -24,21 +23,24 @@ impl Gate for Open {
     fn after<R: Wait>(&self, _rt: &R, _agent: u32, _call: u64) {}
 }
 
-// Apart from `Gate`, since the check can't pass on a bound that asks for `Sync` from a trait's method.
-/// What stands round each call of a player's agent, and before each offer of its fires. Calls are counted as for a gate.
+// Separate from `Gate`, since the check can't pass on a bound that asks for `Sync` from a trait's method.
+/// What is called before and after each call of a player's agent.
+///
+/// It is called before each attempt of its fires, too. Calls are counted as for a gate.
 pub trait Passage {
-    /// Called just before the agent's call with this count.
+    /// Be called just before the agent's call with this count.
     fn enter<R: Wait>(&self, rt: &R, agent: u32, call: u64);
 
-    /// Called just before each offer of a fire, when the agent has looked at what was fired. Where another agent fires
-    /// here, the offer is lost.
+    /// Be called just before each attempt of a fire, when the agent has polled the row.
+    ///
+    /// If another agent fires here, the attempt is lost.
     fn meddle(&self);
 
-    /// Called just after the call, whatever it answered.
+    /// Be called just after the call, whatever it answered.
     fn leave<R: Wait>(&self, rt: &R, agent: u32, call: u64);
 }
 
-// The passage through a gate, which has no say before an offer.
+// The passage through a gate, which isn't called before an attempt.
 pub(crate) struct Through<'g, G>(pub(crate) &'g G);
 
 impl<'g, G: Gate> Passage for Through<'g, G> {

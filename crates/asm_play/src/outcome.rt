@@ -21,12 +21,13 @@ pub enum Outcome {
     Full,
     /// A term of it has no value.
     Term,
-    /// A composed amount at this location, or the sum of the composed increments there, is too large.
+    /// A composed amount or sum of increments at this location is too large.
     Large(Location),
     /// Its blocks compose to more than 4,096 instructions.
     Many,
-    /// It was tried 1,001 times, and each time a location that it had read was written, or its offers were
-    /// lost to other agents.
+    /// It was tried 1,001 times, in vain.
+    ///
+    /// Each time a location that it had read was written, or its attempts were lost to other agents.
     GaveUp,
 }
 
@@ -35,11 +36,11 @@ pub enum Outcome {
 pub struct StepTerm {
     /// The number of the step among those of its agent, counted from 0.
     pub step: usize,
-    /// The first of its instructions whose term had no value on what the step read, and why.
+    /// The first instruction whose term had no value on what the step read, and why.
     pub term: FaultyTerm,
 }
 
-/// What playing a script leaves: its history, and the outcomes of each agent's steps.
+/// The result of playing a script: its history, and the outcomes of all steps.
 #[derive(Debug, Drop)]
 pub struct Played {
     /// The answered calls of the agents in one order.

@@ -68,7 +68,7 @@ impl<'p> Scripted for WrittenSteps<'p> {
     }
 }
 
-// Plays each agent with the steps that stand at its number.
+// Plays each agent with the steps at its number.
 struct Playing<'a, P, S> {
     player: Player<'a, Standard, P>,
     scripted: S,
@@ -95,8 +95,8 @@ impl<'a, 's, P: Passage + Sync, S: Scripted + Sync> Task<
     }
 }
 
-// Plays each agent on a thread of its own. The steps are a type parameter here, for the goal that `each` asks for a task
-// that is `Sync`.
+// Proof: plays each agent on a thread of its own. The steps are a type parameter here, for the goal that `each` asks
+// for a task that is `Sync`.
 fn played_apart<'s, 'a, R: Threads + Wait + Sync, P: Passage + Sync, S: Scripted + Sync>(
     rt: &R,
     alloc: Global,
@@ -112,8 +112,8 @@ fn played_apart<'s, 'a, R: Threads + Wait + Sync, P: Passage + Sync, S: Scripted
     workers::each(rt, alloc, playing, agents)
 }
 
-// Plays each agent, on a thread of its own, with the steps that are written at its number. It is apart from `played_apart`
-// for the goal `played_apart-requires-sync-S`: that the steps of a script are `Sync`.
+// Plays each agent, on a thread of its own, with the steps at its number in the script. Proof: it is separate from
+// `played_apart` for the goal `played_apart-requires-sync-S`: that the steps of a script are `Sync`.
 fn played_as_written<'s, 'a, 'p, R: Threads + Wait + Sync, P: Passage + Sync>(
     rt: &R,
     alloc: Global,
@@ -129,7 +129,7 @@ fn played_as_written<'s, 'a, 'p, R: Threads + Wait + Sync, P: Passage + Sync>(
     played_apart(rt, alloc, playing, agents)
 }
 
-// The storage that the script opens. The capacity is looked at before any memory is asked for.
+// The storage that the script opens. The capacity is tested before any memory is asked for.
 fn opened(alloc: Global, script: &Script, capacity: u32) -> Result<Storage<Standard>, RunError>
     ensures meaning { IfOk result (λ s. ⟦<Standard as Aggregator>⟧.meaning s.agg ≡ standard_meaning) }
     ensures init { IfOk result (λ s. s.init ≡ script.now.init) }
@@ -165,7 +165,7 @@ fn agents_of<'s>(
     }
 }
 
-// The agents that played, and what the ends of their steps tell.
+// The agents that played, and the outcomes of their steps.
 #[derive(Drop)]
 struct Ended<'s> {
     agents: Vec<Agent<'s, Standard>>,
@@ -199,7 +199,7 @@ fn told_apart<'s>(
     })
 }
 
-// What is left when the agents have played: their closed history, and what the ends of their steps tell.
+// The result of playing: the closed history of the agents, and the outcomes of their steps.
 fn closed<'s>(
     alloc: Global,
     storage: &Storage<Standard>,
@@ -222,7 +222,7 @@ fn closed<'s>(
     } = ended;
     match storage.close(alloc, agents.as_slice()) {
         Ok(history) => {
-            // For the clause `played`, which is proved of what a program can hold.
+            // Proof: for the clause `played`, which is proved of what a program can hold.
             history.proper();
             Ok(Played {
                 history,
@@ -272,12 +272,17 @@ fn play_on<R: Threads + Wait + Sync, G: Gate>(
     closed(alloc, storage, script, ended)
 }
 
-/// Plays the script on a storage for at most `capacity` moves, each agent on a thread of its own, behind the gate.
+/// Play the script on a storage, each agent on its own thread, behind the gate.
 ///
-/// The history is closed when all agents have ended. `RunError::BadCapacity` comes before anything else, and
-/// exactly for a capacity outside 1 to 1,048,576; `NoThread` where a thread for an agent couldn't be started,
-/// after the agents that were started have ended, and before `Memory`, which comes only where memory was
-/// refused; `Missing` where the agents' receipts don't close.
+/// The storage is for at most `capacity` moves. The history is closed when all agents have ended.
+///
+/// # Errors
+///
+/// - `RunError::BadCapacity` before anything else, and exactly for a capacity outside 1 to 1,048,576.
+/// - `NoThread` if a thread for an agent couldn't be started, after the agents that were started have ended, and before
+///   `Memory`.
+/// - `Memory` only if memory is refused.
+/// - `Missing` if the agents' receipts don't close.
 pub fn run_script<R: Threads + Wait + Sync, G: Gate>(
     rt: &R,
     alloc: Global,

@@ -22,7 +22,7 @@ use std::thread;
 /// The most tries of a step.
 const TRIES_LIMIT: u32 = 1001;
 
-/// The most times that an agent lets other threads run before it tries a step again.
+/// The most times that an agent yields to other threads before it retries a step.
 const PAUSES_LIMIT: u32 = 64;
 
 /// An agent after its steps were played, and how each ended.
@@ -38,9 +38,11 @@ pub struct PlayedAgent<'s, A: Aggregator + Sync + Drop> {
 pub struct Player<'a, A, P> {
     /// The allocator.
     pub alloc: Global,
-    /// The aggregator that composes the blocks of a step. It has to mean what the storage's means.
+    /// The aggregator that composes the blocks of a step.
+    ///
+    /// It must have the same meaning as the storage's.
     pub aggregator: &'a A,
-    /// What stands round each call of the agent.
+    /// What is called before and after each call of the agent.
     pub passage: P,
 }
 
@@ -58,7 +60,7 @@ fn names(alloc: Global, reading: &Option<Reading>) -> Result<Vec<Named>, AllocEr
     Ok(names)
 }
 
-// How a step ended whose fire was answered by this reply; `None` where the step is to be tried again.
+// How a step ended whose fire was answered by this reply; `None` means: retry.
 fn end_of(reply: Option<Reply>) -> Option<StepEnd>
     ensures { result ≡ end_of_reply reply }
 {
@@ -91,7 +93,7 @@ fn pause(tried: u32) {
     }
 }
 
-// The step's move on what was read. The clause `laws` is for `one_try`: the prover has the laws of a bound in no
+// The step's move on what was read. Proof: the clause `laws` is for `one_try`: the prover has the laws of a bound in no
 // function that may wait.
 fn move_of<A: Aggregator>(
     alloc: Global,
@@ -132,7 +134,7 @@ impl<'a, A: Aggregator + Sync + Drop, P: Passage> Player<'a, A, P> {
         }
     }
 
-    // One fire of the move; `None` where its offers were lost.
+    // One fire of the move; `None` if its attempts were lost.
     fn fire<'s, R: Wait>(
         &self,
         rt: &R,
@@ -162,7 +164,7 @@ impl<'a, A: Aggregator + Sync + Drop, P: Passage> Player<'a, A, P> {
         }
     }
 
-    // One try of the step; `None` where it is to be tried again.
+    // One try of the step; `None` means: retry.
     fn one_try<'s, R: Wait>(
         &self,
         rt: &R,
@@ -210,7 +212,13 @@ impl<'a, A: Aggregator + Sync + Drop, P: Passage> Player<'a, A, P> {
         Ok(StepEnd::GaveUp)
     }
 
-    /// Plays each of the steps, in order. `AllocError` comes only where memory was refused; the agent is then dropped.
+    /// Play each of the steps, in order.
+    ///
+    /// # Errors
+    ///
+    /// - `AllocError` only if memory is refused.
+    ///
+    /// On error, the agent is dropped.
     pub fn play<'s, R: Wait>(
         &self,
         rt: &R,

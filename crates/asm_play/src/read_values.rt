@@ -1,4 +1,4 @@
-//! The answer to a step's read as a look-up.
+//! The answer to a step's read, as a look-up.
 ghost use Rattle.std.specs.Prelude.{◌≡◌, ◌↔◌, IsNone, unwrap_or};
 ghost use Rattle.std.specs.Option.{option_copied};
 ghost use Rattle.asm_element.specs.Value.{undef};
@@ -8,7 +8,9 @@ use asm_element::{Location, Value};
 use asm_storage::Reading;
 use asm_update::Lookup;
 
-/// The values that a step read; all other locations are undef. A step that read nothing has no reading.
+/// The values that a step read; all other locations are undef.
+///
+/// A step that read nothing has no reading.
 #[derive(Drop)]
 pub(crate) struct ReadValues<'r> {
     pub(crate) reading: Option<&'r Reading>,

@@ -19,7 +19,7 @@ pub enum StepEnd {
     Full,
     /// A term of it has no value on what it read; this is the first.
     Term(FaultyTerm),
-    /// A composed amount at this location, or the sum of the composed increments there, is too large.
+    /// A composed amount or sum of increments at this location is too large.
     Large(Location),
     /// Its blocks compose to more than 4,096 instructions.
     Many,
@@ -28,7 +28,7 @@ pub enum StepEnd {
 }
 
 impl StepEnd {
-    /// The outcome, and the term that had no value, if that is why the step ended.
+    /// Return the outcome, and the term without a value, if that is why the step ended.
     pub(crate) fn split(self) -> (Outcome, Option<FaultyTerm>)
         ensures outcome { result.0 ≡ outcome_in self }
         ensures term { result.1 ≡ term_in self }
@@ -59,14 +59,14 @@ fn push_term(
     Ok(())
 }
 
-/// The outcomes of an agent's steps, and those of the steps that a term without a value ended.
+/// The outcomes of an agent's steps, and the terms without a value that ended some.
 #[derive(Drop)]
 pub(crate) struct AgentEnds {
     pub(crate) outcomes: Vec<Outcome>,
     pub(crate) terms: Vec<StepTerm>,
 }
 
-/// What the ends of an agent's steps tell.
+/// Collect the ends of an agent's steps.
 pub(crate) fn agent_ends(alloc: Global, ends: Vec<StepEnd>) -> Result<AgentEnds, AllocError>
     ensures outcomes { IfOk result (λ told. told.outcomes.items ≡ map outcome_in ends.items) }
     ensures terms { IfOk result (λ told. told.terms.items ≡ terms_in ends.items) }

@@ -13,12 +13,16 @@ use std::sync::Wait;
 use std::thread;
 use std::thread::{Promise, Threads};
 
-/// What is done with a job.
+/// A task, which is done with each job.
 pub trait Task<J, X>: Sync {
-    /// What a job may give.
+    /// What the task may return for a job.
     ghost gives: { Self → J → X → Type 0 };
 
-    /// Does the job. `AllocError` comes only where memory was refused.
+    /// Do the job.
+    ///
+    /// # Errors
+    ///
+    /// - `AllocError` only if memory is refused.
     fn run<R: Wait>(&self, rt: &R, job: J) -> Result<X, AllocError>
         ensures { IfOk result (λ x. gives self.now job x) };
 }
@@ -33,7 +37,7 @@ fn foremost_error(error: RunError, other: RunError) -> RunError
     }
 }
 
-// A worker's promise: it hands back what the task gives for each of its jobs.
+// A worker's promise: it returns what the task gives for each of its jobs.
 struct GivesEachOf<J, X, T: Task<J, X>> {
     task: Snapshot<T>,
     jobs: Snapshot<Vec<J>>,
@@ -55,11 +59,15 @@ impl<J, X, T: Task<J, X>> Promise<Result<Vec<X>, RunError>> for GivesEachOf<J, X
         × IfErr r IsUndone };
 }
 
-/// Does each job on a thread of its own, the last on this one. The results stand in the order of the jobs.
+/// Do each job on a thread of its own, the last on this one.
 ///
-/// The jobs are halved until they stand alone, so a worker starts the workers of its half. It returns when
-/// all of them have ended. The error is `NoThread` where a thread couldn't be started, and otherwise `Memory` where
-/// memory was refused. Fewer than two jobs start no thread.
+/// The results are in the order of the jobs. The jobs are halved until they are single, so a worker starts the workers
+/// of its half. The call returns when all of them have ended. Fewer than two jobs start no thread.
+///
+/// # Errors
+///
+/// - `NoThread` if a thread couldn't be started.
+/// - `Memory` otherwise, only if memory is refused.
 #[cycle(halves)]
 pub fn each<R: Threads + Wait + Sync, J: Send + Drop, X: Send + Drop, T: Task<J, X>>(
     rt: &R,

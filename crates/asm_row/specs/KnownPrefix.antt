@@ -6,7 +6,7 @@ use Rattle.std.specs.declared.option.Option.TheVariants.{Some}
 use Rattle.once_cell.specs.Once.{noted}
 
 module _ (R : RattleType) where
-  -- a note of each of the first cells of a row, which knows the entry that stands there for good
+  -- a note of each of the first cells of a row, which knows the final entry of that cell
   abbrev pub all_noted : List ℕ → List R.Denot → Fml
   all_noted cells [] = ftrue
   all_noted [] (x ∷ xs) = ffalse

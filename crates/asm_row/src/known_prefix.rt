@@ -6,10 +6,10 @@ use crate::row::Row;
 use once_cell::race::Note;
 use std::marker::{Model, PhantomData};
 
-/// The entries of a row's first cells, which are known for good.
+/// The entries of a row's first cells, which can't change any more.
 ///
-/// It takes no bytes, and stands for a note of each of those cells. Unlike a `Note` it can be read and
-/// copied behind a `&`.
+/// It takes no bytes, and replaces a note of each of those cells. Unlike a `Note` it can be read and copied behind a
+/// `&`.
 pub(crate) struct KnownPrefix<T> {
     marker: PhantomData<T>,
     pub(crate) ghost row: { List ℕ },
@@ -26,7 +26,7 @@ impl<T> Model for KnownPrefix<T> {
 }
 
 impl<T> KnownPrefix<T> {
-    /// Nothing is known of the row.
+    /// Return the empty prefix of the row.
     pub(crate) fn nothing(row: &Row<T>) -> KnownPrefix<T>
         ensures { (result.row ≡ row.now) × (result.seen ≡ []) }
     {
@@ -36,7 +36,7 @@ impl<T> KnownPrefix<T> {
         }
     }
 
-    /// The same prefix once more.
+    /// Return the same prefix once more.
     pub(crate) fn copy(&self) -> KnownPrefix<T>
         ensures { result ≡ self.now }
     {
@@ -45,7 +45,7 @@ impl<T> KnownPrefix<T> {
         }
     }
 
-    /// Adds the entry of the next cell, of which there is a note.
+    /// Add the entry of the next cell, of which there is a note.
     pub(crate) fn add(&mut self, note: &mut Note<T>)
         requires cell { slice_get self.old.row (length self.old.seen) ≡ Some note.old.cell }
         requires known { IsSome note.old.known }
@@ -53,14 +53,16 @@ impl<T> KnownPrefix<T> {
         ensures seen { IfSome note.old.known (λ entry. self.new.seen ≡ self.old.seen ++ entry ∷ []) }
     {}
 
-    /// Tells a note of the cell at place `at` the entry of that cell, if it is in the prefix.
+    /// Give a note of the cell at place `at` that cell's entry, if the prefix has it.
     pub(crate) fn tell(&self, at: usize, note: &mut Note<T>)
         requires { slice_get self.now.row at ≡ Some note.old.cell }
         ensures cell { note.new.cell ≡ note.old.cell }
         ensures known { note.new.known ≡ slice_get self.now.seen at }
     {}
 
-    /// Of two prefixes of one row, one begins the other, since a cell keeps its entry.
+    /// Prove that of two prefixes of one row one begins the other.
+    ///
+    /// A cell never changes its entry.
     pub(crate) fn agrees(&self, other: &KnownPrefix<T>)
         requires { other.now.row ≡ self.now.row }
         ensures { IsPrefix self.now.seen other.now.seen ⊎ IsPrefix other.now.seen self.now.seen }

@@ -5,9 +5,9 @@ use std::marker::Model;
 
 /// What one seat had seen when the mark was made.
 ///
-/// It holds no entry and no borrow, so it may leave the seat's thread and outlive the row: it is
-/// `Send` and `Sync` for every `T`. Contracts see it as its row and the list of those entries. Marks of
-/// this form are this project's profile.
+/// It holds no entry and no borrow, so it may leave the seat's thread and outlive the row: it is `Send` and `Sync`
+/// for every `T`. Contracts see it as its row and the list of those entries. Marks of this form are this project's
+/// profile.
 #[derive(Drop)]
 pub struct Mark<T> {
     pub(crate) len: u32,
@@ -26,7 +26,7 @@ impl<T> Model for Mark<T> {
 }
 
 impl<T> Mark<T> {
-    /// How many entries the mark holds: at most the capacity of its row.
+    /// Return how many entries the mark holds: at most the capacity of its row.
     pub fn len(&self) -> u32
         ensures value { result ≡ length self.now.seen }
         ensures within { length self.now.seen ≤ length self.now.row }
@@ -34,7 +34,7 @@ impl<T> Mark<T> {
         self.len
     }
 
-    /// Whether the mark holds no entry.
+    /// Return whether the mark holds no entry.
     pub fn is_empty(&self) -> bool
         ensures { IsTrue result ↔ (length self.now.seen ≡ 0) }
     {

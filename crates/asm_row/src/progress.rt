@@ -10,13 +10,12 @@ use once_cell::race::Note;
 use std::alloc::{AllocError, Global};
 use std::marker::Model;
 
-/// How far one thread has come at a row: what a `Seat` has beside its borrow of the row.
+/// How far one thread has followed a row: a `Seat` without its borrow of the row.
 ///
-/// It borrows nothing, so one value may hold it beside an owner of the row, which it may outlive. Each
-/// call that touches a cell is passed the row, which must be the one that made the progress; no call tests
-/// this. Contracts see it as they see a seat: its row, the entries that were seen, how many offers won, and
-/// how many looks found an empty cell. It is `Send` and `Sync` for every `T`. No call waits, takes a lock or asks for
-/// memory.
+/// It borrows nothing, so one value may hold it beside an owner of the row, which it may outlive. Each call that
+/// touches a cell is passed the row, which must be the one that made the progress; no call tests this. Contracts see it
+/// as they see a seat: its row, the entries that were seen, how many attempts to append won, and how many polls found
+/// an empty cell. It is `Send` and `Sync` for every `T`. No call waits, takes a lock or asks for memory.
 #[derive(Drop)]
 pub struct Progress<T> {
     capacity: u32,
@@ -37,7 +36,7 @@ impl<T> Model for Progress<T> {
 }
 
 impl<T> Progress<T> {
-    /// Nothing of `row` was seen, with no win and no miss.
+    /// Return the progress that has seen nothing of `row`, with no win and no miss.
     pub(crate) fn at_start(row: &Row<T>) -> Progress<T>
         ensures { result ≡ record { row = row.now; seen = []; won = 0; misses = 0 } }
     {
@@ -50,7 +49,7 @@ impl<T> Progress<T> {
         }
     }
 
-    /// How many entries were seen: at most the row's capacity.
+    /// Return how many entries were seen: at most the row's capacity.
     pub fn seen_len(&self) -> u32
         ensures value { result ≡ length self.now.seen }
         ensures within { length self.now.seen ≤ length self.now.row }
@@ -58,7 +57,7 @@ impl<T> Progress<T> {
         self.seen_len
     }
 
-    /// Whether an entry was seen in each cell of the row.
+    /// Return whether an entry was seen in each cell of the row.
     pub fn is_full(&self) -> bool
         ensures { MatchBool result
             (length self.now.seen ≡ length self.now.row)
@@ -67,7 +66,7 @@ impl<T> Progress<T> {
         self.seen_len == self.capacity
     }
 
-    /// The entry at place `k`, counted from 0, of those that were seen.
+    /// Return the entry at place `k`, counted from 0, of those that were seen.
     pub fn at<'r>(&self, row: &'r Row<T>, k: u32) -> &'r T
         requires own { row.now ≡ self.now.row }
         requires seen { k < length self.now.seen }
@@ -83,7 +82,7 @@ impl<T> Progress<T> {
         }
     }
 
-    /// How many offers won: at most as many as the entries that were seen.
+    /// Return how many attempts to append won: at most as many as the entries seen.
     pub fn won(&self) -> u32
         ensures value { result ≡ self.now.won }
         ensures within { self.now.won ≤ length self.now.seen }
@@ -91,7 +90,9 @@ impl<T> Progress<T> {
         self.won
     }
 
-    /// How many looks found an empty cell, counted up to 18,446,744,073,709,551,615.
+    /// Return how many polls found an empty cell, at most 18,446,744,073,709,551,615.
+    ///
+    /// The counter saturates there.
     pub fn misses(&self) -> u64
         ensures { result ≡ self.now.misses }
     {
@@ -109,11 +110,10 @@ impl<T> Progress<T> {
         self.seen_len += 1;
     }
 
-    /// Looks once at the first cell that was not seen.
+    /// Poll the first cell that was not seen, once.
     ///
-    /// An entry found there is returned, and is the next of those that were seen. `None` is one
-    /// miss, counted up to 18,446,744,073,709,551,615. Where all cells were seen, none is looked
-    /// at: the answer is `None`, and nothing changes.
+    /// An entry found there is returned, and is the next of those that were seen. `None` is one miss, counted up to
+    /// 18,446,744,073,709,551,615. If all cells were seen, none is polled: the answer is `None`, and nothing changes.
     pub fn next<'r>(&mut self, row: &'r Row<T>) -> Option<&'r T>
         requires own { row.now ≡ self.old.row }
         ensures row { self.new.row ≡ self.old.row }
@@ -141,9 +141,9 @@ impl<T> Progress<T> {
         }
     }
 
-    /// A mark of what was seen, which another seat or progress of the row can learn.
+    /// Return a mark of what was seen, which another seat or progress can learn.
     ///
-    /// The answer is always `Ok`: a mark takes no memory of its own.
+    /// The other one must be of the same row. The answer is always `Ok`: a mark takes no memory of its own.
     pub fn mark(&self, alloc: Global) -> Result<Mark<T>, AllocError>
         ensures made { IsOk result }
         ensures holds { IfOk result (λ mark.
@@ -156,10 +156,10 @@ impl<T> Progress<T> {
         })
     }
 
-    /// Takes in what a mark of the same row holds, without a look at the row.
+    /// Take in what a mark of the same row holds, without polling the row.
     ///
-    /// The mark's entries and those that were seen before are prefixes of one list; the longer of the two is
-    /// what was seen afterwards. Wins and misses stay as they are.
+    /// The mark's entries and those that were seen before are prefixes of one list; the longer of the two is what was
+    /// seen afterwards. Wins and misses are unchanged.
     pub fn learn(&mut self, mark: &Mark<T>)
         requires { mark.now.row ≡ self.old.row }
         ensures kept { self.new ≡ record self.old { seen = self.new.seen } }
@@ -174,7 +174,7 @@ impl<T> Progress<T> {
         }
     }
 
-    /// Takes in what another progress at the same row has seen, as `learn` does of its mark.
+    /// Take in what another progress at the same row has seen, as `learn` does.
     pub fn learn_from(&mut self, other: &Progress<T>)
         requires { other.now.row ≡ self.old.row }
         ensures kept { self.new ≡ record self.old { seen = self.new.seen } }
@@ -190,13 +190,15 @@ impl<T> Progress<T> {
 }
 
 impl<T: Drop> Progress<T> {
-    /// Offers `value` for the first cell that was not seen: one set where the cell is empty. Where another entry
-    /// stands there, it gives `value` back.
+    /// Attempt to append `value`: set the first unseen cell, if that is empty.
     ///
-    /// Either way one entry more was then seen, the one that stands in the cell. On `Ok` that is the
-    /// passed one, and `won` grows by one. `Err` has the same box, which may be offered again, for the
-    /// next cell; the entry that stands is the last of those that were seen.
-    /// Contracts speak of the seen cells alone; tests show that a lost value is put into no other cell.
+    /// Either way one entry more was then seen, the one in the cell: on `Ok` the passed one, and `won` grows by one.
+    /// Contracts cover the seen cells alone; tests show that a lost value is put into no other cell.
+    ///
+    /// # Errors
+    ///
+    /// - The same box, if another entry is in the cell. That entry is then the last of those that were seen, and the
+    ///   box may be passed again, for the next cell.
     pub fn try_offer(&mut self, row: &Row<T>, value: Box<T>) -> Result<(), Box<T>>
         requires own { row.now ≡ self.old.row }
         requires room { length self.old.seen < length self.old.row }

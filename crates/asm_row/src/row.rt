@@ -16,7 +16,9 @@ pub const CAPACITY_LIMIT: u32 = 1_048_576;
 /// Why a row was not made.
 #[derive(Debug, Drop, PartialEq, Eq, Error)]
 pub enum RowError {
-    /// The capacity is 0 or above 1,048,576. This is found before any memory is asked for.
+    /// The capacity is 0 or above 1,048,576.
+    ///
+    /// This is found before any memory is asked for.
     #[error("the capacity is not in 1 to 1,048,576")]
     BadCapacity,
     /// The memory for the cells was refused.
@@ -32,13 +34,13 @@ impl From<AllocError> for RowError {
     }
 }
 
-/// A row of cells, each set at most once, which threads share: it is `Sync` where `T` is `Send` and `Sync`.
+/// A row of cells, each set at most once, which threads share.
 ///
-/// It is the list of consensus objects of a universal construction (Herlihy and Shavit, "The Art of
-/// Multiprocessor Programming"): threads that look at it and offer to it agree on one list of
-/// entries. The number of cells is fixed (this project's profile). An entry stands for as long as
-/// the row, and is dropped with it. Contracts see a row as the names of its cells, which tell it
-/// from other rows; only seats tell what stands in the cells.
+/// It is the list of consensus objects of a universal construction (Herlihy and Shavit, "The Art of Multiprocessor
+/// Programming"): threads that poll it and append to it agree on one list of entries. It is `Sync` if `T` is `Send` and
+/// `Sync`. The number of cells is fixed (this project's profile). An entry exists as long as the row, and is dropped
+/// with it. Contracts see a row as the names of its cells, which distinguish it from other rows; only seats know the
+/// entries of the cells.
 #[derive(Drop)]
 pub struct Row<T> {
     cells: Vec<OnceBox<T>>,
@@ -57,10 +59,12 @@ impl<T> Model for Row<T> {
 }
 
 impl<T: Drop> Row<T> {
-    /// A row of `capacity` empty cells, from 1 to 1,048,576.
+    /// Return a row of `capacity` empty cells, from 1 to 1,048,576.
     ///
-    /// `RowError::BadCapacity` comes exactly for another capacity, and `Memory` only where the
-    /// memory for the cells was refused.
+    /// # Errors
+    ///
+    /// - `RowError::BadCapacity` exactly for another capacity.
+    /// - `Memory` only if the memory for the cells was refused.
     #[tactic(auto, using(crate::proofs::Cells::names))]
     pub fn new(alloc: Global, capacity: u32) -> Result<Row<T>, RowError>
         ensures ok { IfOk result (λ row. length row ≡ capacity) }
@@ -77,7 +81,7 @@ impl<T: Drop> Row<T> {
 }
 
 impl<T> Row<T> {
-    /// How many cells the row has: the capacity that it was made with, 1 to 1,048,576.
+    /// Return the number of cells, which the row was made with: 1 to 1,048,576.
     #[tactic(auto, using(crate::proofs::Cells::names))]
     pub fn capacity(&self) -> u32
         ensures value { result ≡ length self.now }
@@ -86,10 +90,10 @@ impl<T> Row<T> {
         self.cells.len() as u32
     }
 
-    /// A seat at this row that has seen nothing, with no win and no miss.
+    /// Return a seat at this row that has seen nothing, with no win and no miss.
     ///
-    /// The answer is always `Ok`: a seat keeps no copy of what it has seen, so neither this call nor
-    /// `next`, `offer` and `learn` asks for memory.
+    /// The answer is always `Ok`: a seat has no copy of what it has seen, so neither this call nor `next`, `offer` and
+    /// `learn` asks for memory.
     pub fn seat(&self, alloc: Global) -> Result<Seat<'_, T>, AllocError>
         ensures made { IsOk result }
         ensures fresh { IfOk result (λ seat.
@@ -99,14 +103,16 @@ impl<T> Row<T> {
         Ok(Seat::at_start(self))
     }
 
-    /// Progress at this row that has seen nothing, with no win and no miss: a seat without the borrow.
+    /// Return progress at this row that has seen nothing, with no win and no miss.
+    ///
+    /// It is a seat without the borrow.
     pub fn progress(&self) -> Progress<T>
         ensures { result ≡ record { row = self.now; seen = []; won = 0; misses = 0 } }
     {
         Progress::at_start(self)
     }
 
-    /// The cell at place `at`, counted from 0.
+    /// Return the cell at place `at`, counted from 0.
     #[tactic(auto, using(crate::proofs::Cells::names))]
     pub(crate) fn cell(&self, at: usize) -> &OnceBox<T>
         requires { at < length self.now }

@@ -9,21 +9,21 @@ use crate::row::Row;
 use std::alloc::{AllocError, Global};
 use std::marker::Model;
 
-/// What became of an offer.
+/// The result of an attempt to append.
 #[derive(Debug, Drop, PartialEq, Eq)]
 pub enum Offer<'r, T> {
-    /// The cell was empty, and the passed entry stands there from now on.
+    /// The cell was empty, and has the passed entry from now on.
     Won,
-    /// This entry stands in the cell. The passed one was dropped.
+    /// The cell has this entry. The passed one was dropped.
     Lost(&'r T),
 }
 
-/// One thread's seat at a row: it follows the row from its first cell, and has seen a prefix of its entries.
+/// One thread's seat at a row, which has seen the row's first entries.
 ///
-/// It is the thread's view of the agreed list of a universal construction (Herlihy and Shavit): a borrow
-/// of the row beside a `Progress`, which does the work. Contracts see it as its row, the list of entries
-/// that it has seen, how many of its offers won, and how many of its looks found an empty cell. A seat is `Send` where `T` is `Send` and `Sync`. No
-/// call waits, takes a lock or asks for memory.
+/// It follows the row from its first cell, and is the thread's view of the agreed list of a universal construction
+/// (Herlihy and Shavit): a borrow of the row beside a `Progress`, which does the work. Contracts see it as its row, the
+/// list of entries that it has seen, how many of its attempts to append won, and how many of its polls found an empty
+/// cell. A seat is `Send` if `T` is `Send` and `Sync`. No call waits, takes a lock or asks for memory.
 #[derive(Drop)]
 pub struct Seat<'r, T> {
     row: &'r Row<T>,
@@ -42,7 +42,7 @@ impl<'r, T> Model for Seat<'r, T> {
 }
 
 impl<'r, T> Seat<'r, T> {
-    /// A seat that has seen nothing.
+    /// Return a seat that has seen nothing.
     pub(crate) fn at_start(row: &'r Row<T>) -> Seat<'r, T>
         ensures { result ≡ record { row = row.now; seen = []; won = 0; misses = 0 } }
     {
@@ -52,7 +52,7 @@ impl<'r, T> Seat<'r, T> {
         }
     }
 
-    /// How many entries this seat has seen: at most the row's capacity.
+    /// Return how many entries this seat has seen: at most the row's capacity.
     pub fn seen_len(&self) -> u32
         ensures value { result ≡ length self.now.seen }
         ensures within { length self.now.seen ≤ length self.now.row }
@@ -60,7 +60,7 @@ impl<'r, T> Seat<'r, T> {
         self.progress.seen_len()
     }
 
-    /// Whether this seat has seen an entry in each cell of the row.
+    /// Return whether this seat has seen an entry in each cell of the row.
     pub fn is_full(&self) -> bool
         ensures { MatchBool result
             (length self.now.seen ≡ length self.now.row)
@@ -69,7 +69,7 @@ impl<'r, T> Seat<'r, T> {
         self.progress.is_full()
     }
 
-    /// The entry at place `k`, counted from 0, of those that this seat has seen.
+    /// Return the entry at place `k`, counted from 0, of those that this seat has seen.
     pub fn at(&self, k: u32) -> &'r T
         requires { k < length self.now.seen }
         ensures { slice_get self.now.seen k ≡ Some result.now }
@@ -77,7 +77,9 @@ impl<'r, T> Seat<'r, T> {
         self.progress.at(self.row, k)
     }
 
-    /// How many of this seat's offers won: at most as many as the entries that it has seen.
+    /// Return how many of this seat's attempts to append won.
+    ///
+    /// They are at most as many as the entries that it has seen.
     pub fn won(&self) -> u32
         ensures value { result ≡ self.now.won }
         ensures within { self.now.won ≤ length self.now.seen }
@@ -85,18 +87,19 @@ impl<'r, T> Seat<'r, T> {
         self.progress.won()
     }
 
-    /// How many of this seat's looks found an empty cell, counted up to 18,446,744,073,709,551,615.
+    /// Return how many of this seat's polls found an empty cell.
+    ///
+    /// The counter saturates at 18,446,744,073,709,551,615.
     pub fn misses(&self) -> u64
         ensures { result ≡ self.now.misses }
     {
         self.progress.misses()
     }
 
-    /// Looks once at the first cell that this seat has not seen.
+    /// Poll the first cell that this seat has not seen, once.
     ///
-    /// An entry found there is returned, and is the next of those that the seat has seen. `None` is
-    /// one miss, counted up to 18,446,744,073,709,551,615. A seat that is full looks at no cell: it
-    /// answers `None`, and nothing changes.
+    /// An entry found there is returned, and is the next of those that the seat has seen. `None` is one miss, counted
+    /// up to 18,446,744,073,709,551,615. A seat that is full polls no cell: it returns `None`, and nothing changes.
     pub fn next(&mut self) -> Option<&'r T>
         ensures row { self.new.row ≡ self.old.row }
         ensures found { IfSome result (λ entry.
@@ -109,7 +112,7 @@ impl<'r, T> Seat<'r, T> {
         self.progress.next(self.row)
     }
 
-    /// A mark of what this seat has seen, which another seat of the row can learn.
+    /// Return a mark of what this seat has seen, for other seats of the row to learn.
     ///
     /// The answer is always `Ok`: a mark takes no memory of its own.
     pub fn mark(&self, alloc: Global) -> Result<Mark<T>, AllocError>
@@ -120,10 +123,10 @@ impl<'r, T> Seat<'r, T> {
         self.progress.mark(alloc)
     }
 
-    /// Takes in what a mark of the same row holds, without a look at the row.
+    /// Take in what a mark of the same row holds, without polling the row.
     ///
-    /// The mark's entries and those that the seat had seen are prefixes of one list; afterwards the seat has
-    /// seen the longer of the two. Wins and misses stay as they are.
+    /// The mark's entries and those that the seat had seen are prefixes of one list; afterwards the seat has seen the
+    /// longer of the two. Wins and misses are unchanged.
     pub fn learn(&mut self, mark: &Mark<T>)
         requires { mark.now.row ≡ self.old.row }
         ensures kept { self.new ≡ record self.old { seen = self.new.seen } }
@@ -136,11 +139,11 @@ impl<'r, T> Seat<'r, T> {
 }
 
 impl<'r, T: Drop> Seat<'r, T> {
-    /// Offers `value` for the first cell that this seat has not seen: one set where the cell is empty.
+    /// Attempt to append `value`: set the first unseen cell, if that is empty.
     ///
-    /// Either way the seat has then seen one entry more, the one that stands in the cell: on `Won`
-    /// the passed one, and `won` grows by one; on `Lost` the returned one, and `value` is dropped.
-    /// Contracts speak of the seen cells alone; tests show that a lost value is put into no other cell.
+    /// Either way the seat has then seen one entry more, the one in the cell: on `Won` the passed one, and `won` grows
+    /// by one; on `Lost` the returned one, and `value` is dropped. Contracts cover the seen cells alone; tests show
+    /// that a lost value is put into no other cell.
     pub fn offer(&mut self, value: Box<T>) -> Offer<'r, T>
         requires { length self.old.seen < length self.old.row }
         ensures row { self.new.row ≡ self.old.row }

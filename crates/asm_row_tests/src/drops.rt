@@ -1,4 +1,5 @@
-//! Entries are dropped once: those that lost at once, or when they are offered no more, and those that stand with the row.
+//! Entries are dropped once: those that lost, at once or when no attempt is made any more, and those in the row, with
+//! it.
 ghost use Rattle.std.specs.Prelude.{◌≡◌};
 
 use crate::seats::offered;
@@ -32,7 +33,7 @@ fn wins_by<'c>(
     })
 }
 
-// Whether an offer for the first cell, from a seat of its own, wins.
+// Whether an attempt to set the first cell, from a seat of its own, wins.
 fn wins<'c>(
     alloc: Global,
     row: &Row<Counted<'c>>,
@@ -60,7 +61,7 @@ fn is_dropped(drops: &AtomicU32, times: u32) -> bool {
     drops.load(SeqCst) == times
 }
 
-// Whether, of three entries that are offered for one cell, those that lose are dropped at once, and once.
+// Whether, of three attempts to set one cell, the entries of those that lose are dropped at once, and once.
 fn losers_are_dropped<'c>(
     alloc: Global,
     row: &Row<Counted<'c>>,

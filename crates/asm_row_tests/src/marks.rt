@@ -10,7 +10,7 @@ fn has_learnt(seat: &Seat<'_, char>) -> bool {
     shows(seat, &['p', 'q']) && seat.won() == 0 && seat.misses() == 0
 }
 
-// Whether a mark of the seat tells that it has seen two entries.
+// Whether a mark of the seat says that it has seen two entries.
 fn marks_two(alloc: Global, seat: &Seat<'_, char>) -> Result<bool, AllocError> {
     let mark = seat.mark(alloc)?;
     Ok(mark.len() == 2 && !mark.is_empty())

@@ -1,4 +1,4 @@
-//! Which capacities a row may have, the texts of what is refused, and which refusals and offers are equal.
+//! Which capacities a row may have, the texts of errors, and which errors and results of attempts are equal.
 use asm_row::{Offer, Row, RowError};
 use std::test::Fail;
 

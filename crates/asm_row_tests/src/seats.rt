@@ -4,7 +4,7 @@ ghost use Rattle.std.specs.Prelude.{◌≡◌};
 use asm_row::{Offer, Seat};
 use std::alloc::{AllocError, Global};
 
-/// What becomes of an offer of the entry; None where the seat is full.
+/// Attempt to append the entry; return None if the seat is full.
 pub(crate) fn offered<'r, T: Drop>(seat: &mut Seat<'r, T>, entry: Box<T>) -> Option<Offer<'r, T>>
     ensures { seat.new.row ≡ seat.old.row }
 {
@@ -15,7 +15,7 @@ pub(crate) fn offered<'r, T: Drop>(seat: &mut Seat<'r, T>, entry: Box<T>) -> Opt
     }
 }
 
-/// Whether the offer wins, where no entry is said to stand in the cell, or is lost to that entry.
+/// Return whether the attempt wins, or is lost to the entry that is already there.
 pub(crate) fn offers(
     alloc: Global,
     seat: &mut Seat<'_, char>,

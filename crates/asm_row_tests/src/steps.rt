@@ -1,4 +1,4 @@
-//! What three seats at one row offer, find and show, step by step.
+//! What three seats at one row append, find and show, step by step.
 use crate::seats::{offers, shows};
 use asm_row::{Row, Seat};
 use std::alloc::{AllocError, Global};
@@ -8,15 +8,15 @@ use std::test::Fail;
 /// What a seat does, and what comes of it.
 #[derive(Clone, Copy)]
 enum Step {
-    /// It offers this entry, and wins.
+    /// It attempts to append this entry, and wins.
     Wins(char),
-    /// It offers the first entry, and the second stands there.
+    /// It attempts to append the first entry, and the second is there.
     Loses(char, char),
-    /// It looks, and finds this entry, or nothing.
+    /// It polls, and finds this entry, or nothing.
     Looks(Option<char>),
-    /// It looks so many times, and finds nothing.
+    /// It polls so many times, and finds nothing.
     Misses(u32),
-    /// It has won so many offers, found so many cells empty, and seen these entries.
+    /// It has won so many attempts, found so many cells empty, and seen these entries.
     Shows(u32, u64, &'static [char]),
     /// It has seen an entry in each cell.
     IsFull(bool),
@@ -37,7 +37,7 @@ struct Case {
     steps: &'static [(Who, Step)],
 }
 
-// How many of so many looks find nothing.
+// How many of so many polls find nothing.
 fn misses_in(seat: &mut Seat<'_, char>, looks: u32) -> u32 {
     let mut misses: u32 = 0;
     for _ in 0..looks {
@@ -224,7 +224,7 @@ static LATE: [Case; 4] = [
     },
 ];
 
-// However often a seat has missed, it looks, wins and loses as before.
+// After any number of misses, a seat polls, wins and loses as before.
 static QUIET: [Case; 1] = [Case {
     capacity: 3,
     steps: &[

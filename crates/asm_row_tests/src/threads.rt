@@ -94,7 +94,7 @@ fn learner_of_marks<'r>(
     Ok(seat)
 }
 
-// Whether each entry is the one that the first thread offered for its place, or that the second did.
+// Whether each entry is one that the first thread or the second attempted to append at its place.
 fn is_by_either(seat: &Seat<'_, u32>) -> bool {
     for k in 0..seat.seen_len() {
         let first = seat.at(k).checked_sub(k);

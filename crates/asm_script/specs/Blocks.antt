@@ -45,7 +45,7 @@ move_from old n (i ∷ b) = in_front n (instruction_in old i) (move_from old (n 
 abbrev pub move_in : Old → Block → Result Move (ℕ × NoValue)
 move_in old b = move_from old 0 b
 
--- where a block is kept as instructions, they are its move in each state
+-- where a block is stored as instructions, they are its move in each state
 abbrev pub IsReady : Form → Block → Type 0
 IsReady (Terms terms) b = Unit {0}
 IsReady (Ready M) b = (old : Old) → move_in old b ≡ Ok M

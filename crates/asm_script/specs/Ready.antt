@@ -50,12 +50,12 @@ as_written (action.Increment n) = Increment n
 abbrev pub written : Instruction → TermInstruction
 written i = record { at = i.at; action = as_written i.action }
 
--- the instructions with terms that a block is written as, in whichever form it is kept
+-- the instructions with terms that a block is written as, in whichever form it is stored
 abbrev pub written_form : Form → List TermInstruction
 written_form (Terms terms) = terms.items
 written_form (Ready M) = map written M
 
--- whether a block is kept as the instructions that it always gives
+-- whether a block is stored as the instructions that it always gives
 abbrev pub is_ready_form : Form → Bool
 is_ready_form (Terms terms) = false
 is_ready_form (Ready M) = true

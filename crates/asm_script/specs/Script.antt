@@ -69,7 +69,7 @@ agent_faults steps = flat_map step_faults steps
 abbrev pub faults : List (List Step) → List ScriptCause
 faults agents = when (nat_lt agents_limit (length agents)) Agents ++ flat_map agent_faults agents
 
--- the error is the first of these faults; an allocation failure tells nothing
+-- the error is the first of these faults; an allocation failure says nothing
 abbrev pub IsFirst : List ScriptCause → ScriptError → Type 0
 IsFirst causes (BadScript cause) = (rest : List ScriptCause) × (causes ≡ cause ∷ rest)
 IsFirst causes Memory = Unit {0}
@@ -85,7 +85,7 @@ abbrev pub IsScriptOf : List ℕ → Plan → Type 0
 IsScriptOf bytes p = (w : UncheckedScript) × HasForm bytes w × IsPlanOf w p
 
 -- Why the bytes are no script: they are not JSON; or JSON of another shape; or the first fault of what is written.
--- Want of memory tells nothing.
+-- Want of memory says nothing.
 abbrev pub IsRefusedScript : List ℕ → ScriptError → Type 0
 IsRefusedScript bytes (BadScript cause) =
     ((cause ≡ NotJson) × ((d : Data) → ¬ IsJson bytes d))
@@ -93,12 +93,12 @@ IsRefusedScript bytes (BadScript cause) =
     ⊎ ((w : UncheckedScript) × HasForm bytes w × IsFirst (faults w.agents) (BadScript cause))
 IsRefusedScript bytes Memory = Unit {0}
 
--- the bytes are not JSON; an allocation failure tells nothing
+-- the bytes are not JSON; an allocation failure says nothing
 abbrev pub IsNotJson : List ℕ → ScriptError → Type 0
 IsNotJson bytes (BadScript cause) = (cause ≡ NotJson) × ((d : Data) → ¬ IsJson bytes d)
 IsNotJson bytes Memory = Unit {0}
 
--- the error is that of a block that is too long; an allocation failure tells nothing
+-- the error is that of a block that is too long; an allocation failure says nothing
 abbrev pub IsLong : Bool → ScriptError → Type 0
 IsLong long (BadScript cause) = (cause ≡ Instructions) × (long ≡ true)
 IsLong long Memory = Unit {0}

@@ -1,4 +1,4 @@
--- Blocks in sequence: the state that they leave, and what the one move of a step owes to it.
+-- Blocks in sequence: the state that they leave, and what is required of the one move of a step.
 use Rattle.std.specs.Prelude.{◌≡◌, ◌≤◌, ◌<◌, ◌+◌, ℕ, [], ◌∷◌, length, nat_lt, if◌then◌else◌, Option, Some, None}
 use Rattle.std.specs.Prelude.{Result, Ok, Err, unwrap_or, Contains}
 use Rattle.asm_element.specs.Place.{Place}
@@ -99,9 +99,9 @@ step_move_from a A n before (b ∷ c ∷ bs) =
 abbrev pub step_move_on : Meaning → State → Option Move → Step → Result Move StepFault
 step_move_on a A before step = step_move_from a A 0 before step
 
--- What a step's move owes to a state that was read: it is the one there. Firing it leaves what the blocks leave, and
--- its clash is theirs. Where a term is faulty, the blocks stop there. Where blocks clash, or an amount or a sum is too
--- large, a clash stops them in turn.
+-- What is required of a step's move on a state that was read: it is the one there. Firing it leaves what the blocks
+-- leave, and its clash is theirs. Where a term is faulty, the blocks stop there. Where blocks clash, or an amount or
+-- a sum is too large, a clash stops them in turn.
 abbrev pub StandsFor : Meaning → State → Step → Result Move StepFault → Type 0
 StandsFor a A step (Ok M) =
     (step_move_on a A None step ≡ Ok M) × (fire_blocks a.part A step ≡ fired_or_stopped (fire a.part A M))
@@ -114,7 +114,7 @@ StandsFor a A step (Err (Large l)) =
 StandsFor a A step (Err Many) = step_move_on a A None step ≡ Err Many
 StandsFor a A step (Err Memory) = Unit {0}
 
--- the answer stands for the step on each state that was read
+-- the answer is that of the step on each state that was read
 abbrev pub IsStepMove : Meaning → Old → Step → Result Move StepFault → Type 0
 IsStepMove a old step answer = (A : State) → IsReadOf A old step → StandsFor a A step answer
 

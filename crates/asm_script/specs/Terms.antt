@@ -1,4 +1,4 @@
--- Terms: what a script writes in place of a value, and what they stand for in a state.
+-- Terms: what a script writes in place of a value, and their values in a state.
 use Rattle.std.specs.Prelude.{◌≡◌, ℤ, pos, negsuc, ◌+ℤ◌, nat_lt, Bool, if◌then◌else◌, List, [], ◌∷◌, ◌++◌}
 use Rattle.std.specs.Prelude.{Option, Some, None, Result, Ok, Err, ok_or}
 use Rattle.std.specs.Option.{option_and_then}
@@ -54,7 +54,7 @@ sum_value (Ok m) (Ok n) = if is_in_range (m +ℤ n) then Ok (m +ℤ n) else Err 
 sum_value (Ok m) (Err why) = Err why
 sum_value (Err why) second = Err why
 
--- the number that a term stands for, or why it stands for none
+-- the number that a term evaluates to, or why it has none
 abbrev pub number_value : Old → Term → Result ℤ NoValue
 number_value old (term.Value v) = as_number None v
 number_value old (Val l) = as_number (Some l) (old l)
@@ -76,7 +76,7 @@ term_value old (term.Value v) = Ok v
 term_value old (Val l) = Ok (old l)
 term_value old (Sum' p a q b) = made_of (λ n. Plain (Num n)) (number_value old (Sum' p a q b))
 
--- the element that a term stands for, or why it stands for none
+-- the element that a term evaluates to, or why it has none
 abbrev pub element_value : Old → Term → Result Element NoValue
 element_value old t = come_of (as_element (location_in t)) (term_value old t)
 
@@ -86,7 +86,7 @@ locations_in (term.Value v) = []
 locations_in (Val l) = l ∷ []
 locations_in (Sum' p a q b) = locations_in a ++ locations_in b
 
--- the answer is what there is, or why there is nothing; an allocation failure tells nothing
+-- the answer is what there is, or why there is nothing; an allocation failure says nothing
 abbrev pub IsEvaluated : {X : Type 0} → Result X NoValue → Result X TermFault → Type 0
 IsEvaluated there (Ok x) = there ≡ Ok x
 IsEvaluated there (Err (Faulty why)) = there ≡ Err why

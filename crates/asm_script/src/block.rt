@@ -21,20 +21,21 @@ use std::marker::Model;
 pub enum TermAction {
     /// Writes the term's value; undef leaves nothing there.
     Put(Term),
-    /// Adds the element that the term stands for to a set.
+    /// Adds the value of the term, an element, to a set.
     Add(Term),
-    /// Removes the element that the term stands for from a set.
+    /// Removes the value of the term, an element, from a set.
     Remove(Term),
-    /// Raises the count of the element that the term stands for in a bag by the amount.
+    /// Raises the count of the term's value, an element, in a bag by the amount.
     BagAdd(Term, Amount),
-    /// Lowers the count of the element that the term stands for in a bag by the amount.
+    /// Lowers the count of the term's value, an element, in a bag by the amount.
     BagRemove(Term, Amount),
     /// Raises the number of a counter by this one, which may be 0 or below.
     Increment(i64),
 }
 
-/// An instruction of a script: what is done at a location, with a term in place of the value or the
-/// element. Locations, amounts and the numbers of increments are written out.
+/// An instruction of a script, with a term for the value or the element.
+///
+/// Locations, amounts and the numbers of increments are literal.
 #[derive(Debug, Drop)]
 pub struct TermInstruction {
     /// The location that is written.
@@ -43,16 +44,18 @@ pub struct TermInstruction {
     pub action: TermAction,
 }
 
-/// How a block is kept.
+/// How a block is stored.
 #[derive(Debug, Drop)]
 pub(crate) enum Form {
     /// Instructions with terms.
     Terms(Vec<TermInstruction>),
-    /// The instructions that the block gives in each state, where all its terms are written out.
+    /// The instructions of the block in each state, if all its terms are literal.
     Ready(Instructions),
 }
 
-/// The instructions of one block, at most 4,096. Contracts see it as their list.
+/// The instructions of one block, at most 4,096.
+///
+/// Contracts see it as their list.
 #[derive(Debug, Drop)]
 pub struct Block {
     form: Form,
@@ -75,7 +78,7 @@ impl Model for Block {
     ghost invariant = { λ b. length (written_form b.form) ≤ instructions_limit };
 }
 
-/// The form in which these instructions are kept: ready where all their terms are written out.
+/// Return how to store these instructions: ready if all their terms are literal.
 fn form_of(alloc: Global, instructions: Vec<TermInstruction>) -> Result<Form, AllocError>
     requires { vec_len instructions ≤ instructions_limit }
     ensures written { IfOk result (λ form. written_form form ≡ instructions.items) }
@@ -94,7 +97,9 @@ fn form_of(alloc: Global, instructions: Vec<TermInstruction>) -> Result<Form, Al
 }
 
 impl Block {
-    /// The block of these instructions; None where there are more than 4,096. It takes no memory.
+    /// Return the block of these instructions; None where there are more than 4,096.
+    ///
+    /// It takes no memory.
     pub fn new(instructions: Vec<TermInstruction>) -> Option<Block>
         ensures block { IfSome result (λ b. b ≡ instructions.items) }
         ensures many { IsNone result ↔ (instructions_limit < vec_len instructions) }
@@ -106,8 +111,13 @@ impl Block {
         Some(Block { form })
     }
 
-    /// The same block, kept as its instructions where all its terms are written out, so that
-    /// evaluation shares them. `AllocError` comes only where memory was refused.
+    /// Return the same block, ready if all its terms are literal.
+    ///
+    /// Its evaluation then shares its instructions.
+    ///
+    /// # Errors
+    ///
+    /// - `AllocError` only if memory is refused.
     pub(crate) fn prepared(self, alloc: Global) -> Result<Block, AllocError>
         ensures { IfOk result (λ b. b ≡ self) }
     {
@@ -119,7 +129,7 @@ impl Block {
         Ok(Block { form })
     }
 
-    /// How the block is kept.
+    /// Return how the block is stored.
     pub(crate) fn form(&self) -> &Form
         ensures form { written_form result.now ≡ self.now }
         ensures ready { IsReady result.now self.now }
@@ -129,7 +139,7 @@ impl Block {
     }
 }
 
-/// The action with the term's value in its place.
+/// Return the action with the term's value in its place.
 fn action<L: Lookup>(alloc: Global, action: &TermAction, lookup: &L) -> Result<Action, TermFault>
     ensures { IsEvaluated (action_in (L.value_at lookup.now) action.now) result }
 {
@@ -145,7 +155,7 @@ fn action<L: Lookup>(alloc: Global, action: &TermAction, lookup: &L) -> Result<A
     })
 }
 
-/// The instruction with the term's value in its place.
+/// Return the instruction with the term's value in its place.
 fn instruction<L: Lookup>(
     alloc: Global,
     instruction: &TermInstruction,
@@ -158,7 +168,7 @@ fn instruction<L: Lookup>(
     Ok(Instruction { at, action })
 }
 
-/// The instructions, of the block with this number, with their terms evaluated, in their order.
+/// Evaluate the terms of the instructions of the block with this number, in order.
 fn evaluated<L: Lookup>(
     alloc: Global,
     block: usize,
@@ -189,11 +199,16 @@ fn evaluated<L: Lookup>(
     }
 }
 
-/// The instructions of the block, which has this number in its step, with their terms evaluated by the look-up. A prepared
-/// block without terms to evaluate shares its instructions with the answer.
+/// Evaluate a block: return its instructions, with their terms' values.
 ///
-/// `StepFault::Term` comes exactly where some term has no value, or the element of a partial update is a set or a bag: it
-/// names the first such instruction. `Memory` comes only where memory was refused, and no other fault comes.
+/// The look-up gives the values of locations, and the block has this number in its step. A block without terms to
+/// evaluate shares its instructions with the answer.
+///
+/// # Errors
+///
+/// - `StepFault::Term` exactly if some term has no value, or the element of a partial update is a set or a bag: it
+///   names the first such instruction.
+/// - `Memory` only if memory is refused, and there is no other fault.
 pub fn block_move<L: Lookup>(
     alloc: Global,
     number: usize,

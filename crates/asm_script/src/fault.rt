@@ -28,12 +28,13 @@ pub enum StepFault {
     /// The instructions of a block clash, or those of two blocks in sequence.
     #[error("the updates clash")]
     Clash(Clash),
-    /// Blocks in sequence add or remove more of an element in a bag, at this location, than an amount
-    /// can be, or the sum of their increments of a counter there is farther from 0 than
-    /// 18,446,744,073,709,551,615.
+    /// Blocks in sequence change a value at this location by too much.
+    ///
+    /// They add or remove more of an element in a bag than an amount can be, or the sum of their increments of a
+    /// counter is farther from 0 than 18,446,744,073,709,551,615.
     #[error("too large an amount or sum")]
     Large(Location),
-    /// The move that stands for the blocks would have more than 4,096 instructions.
+    /// The one move of the blocks would have more than 4,096 instructions.
     #[error("more than 4,096 instructions")]
     Many,
     /// The memory that the call asked for was refused.

@@ -19,14 +19,14 @@ use serde_json::Value as Json;
 use std::alloc::{AllocError, Global};
 use std::sync::Arc;
 
-/// A script as it is written, before its limits are checked.
+/// A script in its written form, before its limits are checked.
 #[derive(Drop)]
 struct UncheckedScript {
     init: PlainState,
     agents: Listed<Listed<Listed<Listed<TermInstruction>>>>,
 }
 
-/// The bytes as JSON.
+/// Return the bytes as JSON.
 fn json_of(alloc: Global, bytes: &[u8]) -> Result<Json, ScriptError>
     ensures ok { IfOk result (λ v. IsJson bytes.now (view v)) }
     ensures err { IfErr result (IsNotJson bytes.now) }
@@ -38,7 +38,9 @@ fn json_of(alloc: Global, bytes: &[u8]) -> Result<Json, ScriptError>
     }
 }
 
-/// The script that the JSON has the form of, with its limits unchecked; `None` where it has another form.
+/// Read the script from JSON, with its limits unchecked.
+///
+/// `None` means that the JSON has another form.
 fn unchecked_of(alloc: Global, json: &Json) -> Result<Option<UncheckedScript>, AllocError>
     ensures { IfOk result (ReadsForm IsScriptForm (view json.now)) }
 {
@@ -54,7 +56,7 @@ fn unchecked_of(alloc: Global, json: &Json) -> Result<Option<UncheckedScript>, A
     }
 }
 
-/// The block of these instructions, ready where all its terms are written out.
+/// Return the block of these instructions, ready if all its terms are literal.
 fn block_of(alloc: Global, written: Listed<TermInstruction>) -> Result<Block, ScriptError>
     ensures ok { IfOk result (λ b. (b ≡ written) × (is_long written ≡ false)) }
     ensures err { IfErr result (IsLong (is_long written)) }
@@ -65,7 +67,7 @@ fn block_of(alloc: Global, written: Listed<TermInstruction>) -> Result<Block, Sc
     }
 }
 
-/// The blocks of a step.
+/// Return the blocks of a step.
 fn blocks_of(
     alloc: Global,
     written: Vec<Listed<TermInstruction>>,
@@ -81,7 +83,7 @@ fn blocks_of(
     Ok(blocks)
 }
 
-/// The step of these blocks, where it is within the limits.
+/// Return the step of these blocks, where it is within the limits.
 fn step_of(alloc: Global, written: Listed<Listed<TermInstruction>>) -> Result<Step, ScriptError>
     ensures ok { IfOk result (λ s. (s ≡ written) × (step_faults written ≡ [])) }
     ensures err { IfErr result (IsFirst (step_faults written)) }
@@ -104,7 +106,7 @@ fn step_of(alloc: Global, written: Listed<Listed<TermInstruction>>) -> Result<St
     Ok(step)
 }
 
-/// The steps of an agent.
+/// Return the steps of an agent.
 fn steps_of(
     alloc: Global,
     written: Listed<Listed<Listed<TermInstruction>>>,
@@ -119,7 +121,7 @@ fn steps_of(
     Ok(Items::new(steps))
 }
 
-/// The opening state, for storages to share.
+/// Return the opening state, for storages to share.
 fn shared(alloc: Global, init: PlainState) -> Result<Arc<PlainState>, AllocError>
     ensures { IfOk result (λ s. arc_value s ≡ init) }
 {
@@ -129,7 +131,7 @@ fn shared(alloc: Global, init: PlainState) -> Result<Arc<PlainState>, AllocError
     }
 }
 
-/// The script that is written, where it is within the limits.
+/// Return the script that is written, where it is within the limits.
 fn script_of(alloc: Global, written: UncheckedScript) -> Result<Script, ScriptError>
     ensures ok { IfOk result (IsPlanOf written) }
     ensures err { IfErr result (IsFirst (faults written.agents)) }
@@ -150,10 +152,14 @@ fn script_of(alloc: Global, written: UncheckedScript) -> Result<Script, ScriptEr
     }
 }
 
-/// Reads a script from its JSON text.
+/// Read a script from its JSON text.
 ///
-/// `BadScript` names the first of the causes, in the order in which `ScriptCause` lists them; the last
-/// three are looked for agent by agent and step by step. `Memory` comes only where memory was refused.
+/// `BadScript` names the first of the causes, in the order in which `ScriptCause` lists them; the last three are
+/// looked for agent by agent and step by step.
+///
+/// # Errors
+///
+/// - `Memory` only if memory is refused.
 pub fn parse_script(alloc: Global, bytes: &[u8]) -> Result<Script, ScriptError>
     ensures ok { IfOk result (IsScriptOf bytes.now) }
     ensures err { IfErr result (IsRefusedScript bytes.now) }

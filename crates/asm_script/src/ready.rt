@@ -10,8 +10,9 @@ use asm_element::{Element, Value};
 use asm_update::{Action, Instruction};
 use std::alloc::{AllocError, Global};
 
-/// Whether the instruction is the same in each state: its term is written out, and is an element
-/// where the action takes one.
+/// Return whether the instruction is the same in each state.
+///
+/// Its term is then literal, and an element if the action takes one.
 fn is_ready(instruction: &TermInstruction) -> bool
     ensures { result ≡ ready.is_ready instruction.now }
 {
@@ -25,14 +26,14 @@ fn is_ready(instruction: &TermInstruction) -> bool
     }
 }
 
-/// Whether each of the instructions is ready.
+/// Return whether each of the instructions is ready.
 pub(crate) fn are_ready(instructions: &[TermInstruction]) -> bool
     ensures { result ≡ list_all ready.is_ready instructions.now }
 {
     instructions.iter().all(|instruction| is_ready(instruction))
 }
 
-/// The value that is written out, if the term is one.
+/// Return the value that is written out, if the term is one.
 fn written_value(term: Term) -> Option<Value>
     ensures { result ≡ ready.written_value term }
 {
@@ -43,7 +44,7 @@ fn written_value(term: Term) -> Option<Value>
     }
 }
 
-/// The element that is written out, if the term is one.
+/// Return the element that is written out, if the term is one.
 fn written_element(term: Term) -> Option<Element>
     ensures { result ≡ given_element (ready.written_value term) }
 {
@@ -54,7 +55,7 @@ fn written_element(term: Term) -> Option<Element>
     }
 }
 
-/// What the action is in each state, if it is ready.
+/// Return the action that it is in each state, if it is ready.
 fn ready_action(action: TermAction) -> Option<Action>
     ensures { result ≡ ready.ready_action action }
 {
@@ -68,7 +69,7 @@ fn ready_action(action: TermAction) -> Option<Action>
     })
 }
 
-/// What the instruction is in each state, if it is ready.
+/// Return the instruction that it is in each state, if it is ready.
 fn ready_instruction(instruction: TermInstruction) -> Option<Instruction>
     ensures { result ≡ ready.ready_instruction instruction }
 {
@@ -77,7 +78,11 @@ fn ready_instruction(instruction: TermInstruction) -> Option<Instruction>
     Some(Instruction { at, action })
 }
 
-/// These instructions without terms, the same in each state. `AllocError` comes only where memory was refused.
+/// These instructions without terms, the same in each state.
+///
+/// # Errors
+///
+/// - `AllocError` only if memory is refused.
 pub(crate) fn ready_instructions(
     alloc: Global,
     instructions: Vec<TermInstruction>,

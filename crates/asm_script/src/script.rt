@@ -17,8 +17,9 @@ use thiserror::Error;
 /// The most blocks of a step: all but the last are pushed.
 pub const BLOCKS_LIMIT: usize = FRAMES_LIMIT + 1;
 
-/// Why a text is not a script: the first of these causes, in this order. The last three are looked for agent by
-/// agent and step by step.
+/// Why a text is not a script: the first of these causes, in this order.
+///
+/// The last three are looked for agent by agent and step by step.
 #[derive(Clone, Copy, Debug, PartialEq, Eq)]
 pub enum ScriptCause {
     /// The text is not JSON.
@@ -62,7 +63,9 @@ impl<T: Drop> From<AllocFailed<T>> for ScriptError {
     }
 }
 
-/// An opening state, and the steps of at most 256 agents. Contracts see both.
+/// An opening state, and the steps of at most 256 agents.
+///
+/// Contracts see both.
 #[derive(Debug, Drop)]
 pub struct Script {
     // Storages that it opens share it.
@@ -88,7 +91,9 @@ impl Model for Script {
 }
 
 impl Script {
-    /// The script with this opening state and these agents' steps; `None` where there are more than 256 agents.
+    /// Return the script with this opening state and these agents' steps.
+    ///
+    /// `None` means that there are more than 256 agents.
     pub(crate) fn of(init: Arc<PlainState>, agents: Items<Items<Step>>) -> Option<Script>
         ensures script { IfSome result (λ s. s ≡ record { init = arc_value init; agents = agents }) }
         ensures many { IsNone result ↔ (agents_limit < length agents) }
@@ -99,23 +104,27 @@ impl Script {
         Some(Script { init, agents })
     }
 
-    /// The opening state.
+    /// Return the opening state.
     pub fn init(&self) -> &PlainState
         ensures { result.now ≡ self.now.init }
     {
         &self.init
     }
 
-    /// A share of the opening state, for a storage that opens with it.
+    /// Return a share of the opening state, for a storage that opens with it.
     ///
-    /// It takes no memory: `AllocError` comes only where more would share it than can be counted.
+    /// It takes no memory.
+    ///
+    /// # Errors
+    ///
+    /// - `AllocError` only if more would share it than can be counted.
     pub fn share_init(&self) -> Result<Arc<PlainState>, AllocError>
         ensures { IfOk result (λ init. arc_value init ≡ self.now.init) }
     {
         Arc::try_clone(&self.init)
     }
 
-    /// The steps of each agent, which stand at the agent's number.
+    /// Return the steps of each agent, at the agent's number.
     pub fn agents(&self) -> &[Items<Step>]
         ensures agents { result.now ≡ self.now.agents }
         ensures few { length self.now.agents ≤ agents_limit }

@@ -21,7 +21,9 @@ use asm_update::{Action, AggError, Aggregator, Instruction, Instructions, Lookup
 use std::alloc::{AllocError, Global};
 use std::marker::Model;
 
-/// The blocks of a step, 1 to 65, which are run in sequence. Contracts see it as their list.
+/// The blocks of a step, 1 to 65, which are run in sequence.
+///
+/// Contracts see it as their list.
 #[derive(Debug, Drop)]
 pub struct Step {
     earlier: Vec<Block>,
@@ -49,8 +51,11 @@ impl Model for Step {
 }
 
 impl Step {
-    /// The step of these blocks; None where there is no block, or more than 65. `AllocError` comes only
-    /// where memory was refused.
+    /// Return the step of these blocks; None where there is no block, or more than 65.
+    ///
+    /// # Errors
+    ///
+    /// - `AllocError` only if memory is refused.
     pub(crate) fn new(alloc: Global, blocks: Vec<Block>) -> Result<Option<Step>, AllocError>
         ensures step { IfOk result (λ made. IfSome made (λ s. s ≡ blocks.items)) }
         ensures none { IfOk result
@@ -71,9 +76,10 @@ impl Step {
         }))
     }
 
-    /// The locations that the step reads, each once, in ascending order: those whose values its
-    /// terms take, and those of partial updates in all blocks but the last, since the blocks that
-    /// follow are evaluated on what these updates leave.
+    /// Return the locations that the step reads, each once, in ascending order.
+    ///
+    /// They are those whose values its terms take, and those of partial updates in all blocks but the last, since the
+    /// blocks that follow are evaluated on what these updates leave.
     pub fn reads(&self) -> &[Location]
         ensures { AreReads self.now result.now }
     {
@@ -81,7 +87,7 @@ impl Step {
     }
 }
 
-/// Appends the locations whose values the term takes.
+/// Append the locations whose values the term takes.
 fn push_term(alloc: Global, term: &Term, places: &mut Vec<Location>) -> Result<(), AllocError>
     ensures { OnOk result (places.new.items ≡ places.old.items ++ locations_in term.now) }
 {
@@ -96,7 +102,7 @@ fn push_term(alloc: Global, term: &Term, places: &mut Vec<Location>) -> Result<(
     Ok(())
 }
 
-/// Appends the locations whose values the action's term takes, if it has a term.
+/// Append the locations whose values the action's term takes, if it has a term.
 fn push_places(
     alloc: Global,
     action: &TermAction,
@@ -114,7 +120,7 @@ fn push_places(
     }
 }
 
-/// Appends the locations whose values the instructions' terms take.
+/// Append the locations whose values the instructions' terms take.
 fn push_each(
     alloc: Global,
     instructions: &[TermInstruction],
@@ -128,7 +134,7 @@ fn push_each(
     Ok(())
 }
 
-/// Appends the locations whose values the block's terms take; a ready block takes none.
+/// Append the locations whose values the block's terms take: none if it is ready.
 fn push_terms(alloc: Global, block: &Block, places: &mut Vec<Location>) -> Result<(), AllocError>
     ensures { OnOk result (places.new.items ≡ places.old.items ++ taken block.now) }
 {
@@ -138,7 +144,7 @@ fn push_terms(alloc: Global, block: &Block, places: &mut Vec<Location>) -> Resul
     }
 }
 
-/// Appends the location, if the action there is a partial update.
+/// Append the location, if the action there is a partial update.
 fn push_target(
     alloc: Global,
     at: &Location,
@@ -154,7 +160,7 @@ fn push_target(
     Ok(())
 }
 
-/// Appends the locations of the partial updates that have a term or an increment.
+/// Append the locations of the partial updates that have a term or an increment.
 fn push_each_target(
     alloc: Global,
     instructions: &[TermInstruction],
@@ -168,7 +174,7 @@ fn push_each_target(
     Ok(())
 }
 
-/// Appends the location, if the action there is a partial update that is ready.
+/// Append the location, if the action there is a partial update that is ready.
 fn push_ready_target(
     alloc: Global,
     at: &Location,
@@ -185,7 +191,7 @@ fn push_ready_target(
     Ok(())
 }
 
-/// Appends the locations of the partial updates that are ready.
+/// Append the locations of the partial updates that are ready.
 fn push_ready_targets(
     alloc: Global,
     instructions: &[Instruction],
@@ -200,7 +206,7 @@ fn push_ready_targets(
     Ok(())
 }
 
-/// Appends the locations of the block's partial updates.
+/// Append the locations of the block's partial updates.
 fn push_targets(alloc: Global, block: &Block, places: &mut Vec<Location>) -> Result<(), AllocError>
     ensures { OnOk result (places.new.items ≡ places.old.items ++ changed block.now) }
 {
@@ -210,7 +216,11 @@ fn push_targets(alloc: Global, block: &Block, places: &mut Vec<Location>) -> Res
     }
 }
 
-/// The locations that the step of these blocks reads. `AllocError` comes only where memory was refused.
+/// Return the locations that the step of these blocks reads.
+///
+/// # Errors
+///
+/// - `AllocError` only if memory is refused.
 fn gathered_reads(
     alloc: Global,
     earlier: &[Block],
@@ -229,7 +239,9 @@ fn gathered_reads(
     Ok(places)
 }
 
-/// The instructions, on what is seen through the frames, of the block behind those that were pushed as frames.
+/// Evaluate the next block on what is seen through the frames.
+///
+/// The blocks before it were pushed as frames.
 fn next_move<L: Lookup>(
     alloc: Global,
     block: &Block,
@@ -242,7 +254,7 @@ fn next_move<L: Lookup>(
     block_move(alloc, overlay.depth(), block, &Over::new(overlay, reading))
 }
 
-/// The update set of the instructions on what is seen through the frames.
+/// Return the update set of the instructions on what is seen through the frames.
 fn next_frame<A: Aggregator, L: Lookup>(
     alloc: Global,
     aggregator: &A,
@@ -260,7 +272,11 @@ fn next_frame<A: Aggregator, L: Lookup>(
     }
 }
 
-/// Puts a frame on top of fewer than 64. `Memory` comes only where memory was refused.
+/// Put a frame on top of fewer than 64.
+///
+/// # Errors
+///
+/// - `Memory` only if memory is refused.
 fn push_frame(overlay: &mut Overlay, frame: UpdateSet) -> Result<(), StepFault>
     requires { length overlay.old < frames_limit }
     ensures ok { OnOk result (overlay.new ≡ overlay.old ++ frame ∷ []) }
@@ -273,7 +289,9 @@ fn push_frame(overlay: &mut Overlay, frame: UpdateSet) -> Result<(), StepFault>
     }
 }
 
-/// The instructions with the effect of the earlier ones, if there are any, followed by the next ones.
+/// Return the instructions that do what the earlier ones and then the next ones do.
+///
+/// There may be no earlier ones.
 fn extended<A: Aggregator>(
     alloc: Global,
     aggregator: &A,
@@ -294,18 +312,23 @@ fn extended<A: Aggregator>(
     }
 }
 
-/// The one move that stands for the step, in the states that have what `reading` gives at the
-/// locations that the step reads: firing it leaves what firing the blocks in turn leaves. It is what
-/// the blocks' moves compose to, each evaluated on the state that the blocks before it leave.
+/// Return the one move of a step: firing it is firing its blocks in turn.
 ///
-/// The faults are found block by block. `StepFault::Term` comes where a term of the block has no value
-/// in the state before it, and names the first instruction with such a term, and why. `Clash` comes where a block that others follow clashes, or where it and
-/// the blocks before it don't compose, and `Large` where an amount or a sum of increments is then too
-/// large: the blocks in turn then clash too. `Many` comes where more than 4,096 instructions come
-/// together, and `Memory` only where memory was refused. A step of one block has the instructions of
-/// the block, also where they clash; the last of several blocks clashes when the move is fired, unless
-/// it doesn't compose. Source: sequential composition, by Börger and Stärk; the pushed states are
-/// CoreASM's.
+/// That holds in the states that have what `reading` gives at the locations that the step reads. The move is what the
+/// blocks' moves compose to, each evaluated on the state that the blocks before it leave.
+///
+/// The faults are found block by block. A step of one block has the instructions of the block, also if they clash; the
+/// last of several blocks clashes when the move is fired, unless it doesn't compose. Source: sequential composition, by
+/// Börger and Stärk; the pushed states are CoreASM's.
+///
+/// # Errors
+///
+/// - `StepFault::Term` if a term of the block has no value in the state before it: it names the first instruction with
+///   such a term, and why.
+/// - `Clash` if a block that others follow clashes, or if it and the blocks before it don't compose.
+/// - `Large` if an amount or a sum of increments is then too large: the blocks in turn then clash too.
+/// - `Many` if more than 4,096 instructions come together.
+/// - `Memory` only if memory is refused.
 pub fn step_move<A: Aggregator, L: Lookup>(
     alloc: Global,
     aggregator: &A,

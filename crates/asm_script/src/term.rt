@@ -7,15 +7,18 @@ use asm_element::{Element, Location, Value};
 use asm_update::Lookup;
 use std::alloc::{AllocError, AllocFailed, Global};
 
-/// What a script writes in place of a value (the terms of Börger and Stärk's rules, of which a script
-/// has three kinds).
+/// A term of a script, which it has in place of a value.
+///
+/// These are terms of Börger and Stärk's rules, of which a script has three kinds.
 #[derive(Debug, Drop)]
 pub enum Term {
     /// A value that is written out.
     Value(Value),
     /// The value of a location in the state in which the term is evaluated.
     Val(Location),
-    /// The sum of two terms. It needs two numbers, and a sum in the range of `i64`.
+    /// The sum of two terms.
+    ///
+    /// It needs two numbers, and a sum in the range of `i64`.
     Sum(Box<Term>, Box<Term>),
 }
 
@@ -28,12 +31,14 @@ pub struct Found {
     pub value: Value,
 }
 
-/// Why a term has no value in the place where it stands.
+/// Why a term has no value in its place.
 #[derive(Debug, Drop, PartialEq, Eq)]
 pub enum NoValue {
     /// A term of a sum is this, which is no number.
     NoNumber(Found),
-    /// The term is this, which is no element, in the place of an element of a set or a bag.
+    /// The term is this, which is no element, in the place of an element.
+    ///
+    /// That is an element of a set or a bag.
     NoElement(Found),
     /// The sum of these two numbers is not in the range of `i64`.
     OutOfRange(i64, i64),
@@ -70,7 +75,7 @@ impl<T: Drop> From<AllocFailed<T>> for TermFault {
     }
 }
 
-/// The value's number, if it is a number.
+/// Return the value's number, if it is a number.
 fn number_in(value: &Value) -> Option<i64>
     ensures { result ≡ given_number (Some value.now) }
 {
@@ -80,14 +85,14 @@ fn number_in(value: &Value) -> Option<i64>
     }
 }
 
-/// The number that the location holds, if it holds one.
+/// Return the number that the location holds, if it holds one.
 fn number_at<L: Lookup>(at: &Location, lookup: &L) -> Option<i64>
     ensures { result ≡ given_number (Some (L.value_at lookup.now at.now)) }
 {
     number_in(lookup.get(at)?)
 }
 
-/// The location that the term takes its value from, if it takes it from one.
+/// Return the location that the term takes its value from, if it takes it from one.
 fn location_of(alloc: Global, term: &Term) -> Result<Option<Location>, AllocError>
     ensures { IfOk result (λ at. at ≡ location_in term.now) }
 {
@@ -97,7 +102,9 @@ fn location_of(alloc: Global, term: &Term) -> Result<Option<Location>, AllocErro
     }
 }
 
-/// The number that the term evaluates to. Of a sum the first term is evaluated first.
+/// Return the number that the term evaluates to.
+///
+/// Of a sum the first term is evaluated first.
 fn number<L: Lookup>(alloc: Global, term: &Term, lookup: &L) -> Result<i64, TermFault>
     ensures { IsEvaluated (number_value (L.value_at lookup.now) term.now) result }
 {
@@ -127,10 +134,14 @@ fn number<L: Lookup>(alloc: Global, term: &Term, lookup: &L) -> Result<i64, Term
     }
 }
 
-/// The value of a term, with the look-up for the values of locations; a location without a value is undef.
+/// Evaluate a term, with the look-up for the values of locations.
 ///
-/// `TermFault::Faulty` comes exactly where the term has no value: a sum needs two numbers whose sum
-/// is in the range of `i64`. `Memory` comes only where memory was refused.
+/// A location without a value is undef.
+///
+/// # Errors
+///
+/// - `TermFault::Faulty` exactly if the term has no value: a sum needs two numbers whose sum is in the range of `i64`.
+/// - `Memory` only if memory is refused.
 pub fn evaluate<L: Lookup>(alloc: Global, term: &Term, lookup: &L) -> Result<Value, TermFault>
     ensures { IsEvaluated (term_value (L.value_at lookup.now) term.now) result }
 {
@@ -141,10 +152,12 @@ pub fn evaluate<L: Lookup>(alloc: Global, term: &Term, lookup: &L) -> Result<Val
     }
 }
 
-/// The element that a term stands for.
+/// Evaluate a term to an element.
 ///
-/// `TermFault::Faulty` comes exactly where the term has no value, or one that is a set or a bag.
-/// `Memory` comes only where memory was refused.
+/// # Errors
+///
+/// - `TermFault::Faulty` exactly if the term has no value, or one that is a set or a bag.
+/// - `Memory` only if memory is refused.
 pub fn element<L: Lookup>(alloc: Global, term: &Term, lookup: &L) -> Result<Element, TermFault>
     ensures { IsEvaluated (element_value (L.value_at lookup.now) term.now) result }
 {

@@ -13,7 +13,7 @@ use asm_update::Amount;
 use serde_json::Value as Json;
 use std::alloc::{AllocError, Global};
 
-/// The two terms of a sum.
+/// Return the two terms of a sum.
 fn terms_of(json: &Json) -> Option<(&Json, &Json)>
     ensures some { IfSome result (λ p. view json.now ≡ sum_json_of (view p.0.now) (view p.1.now)) }
     ensures none { IfNone result ((a b : Data) → view json.now ≢ sum_json_of a b) }
@@ -21,8 +21,9 @@ fn terms_of(json: &Json) -> Option<(&Json, &Json)>
     two_items(one_member(json, "sum")?.as_array()?)
 }
 
-/// The term that the JSON writes, if it writes one. It recurses as deep as the value nests, at most 127 levels in
-/// what was read from a text.
+/// Return the term that the JSON writes, if it writes one.
+///
+/// It recurses as deep as the value nests, at most 127 levels in what was read from a text.
 fn read_term(alloc: Global, json: &Json) -> Result<Option<Term>, AllocError>
     ensures { IfOk result (IsParsed IsTermForm (view json.now)) }
 {
@@ -55,7 +56,7 @@ impl FromJson for Term {
     }
 }
 
-/// The two items, read as a term and an amount.
+/// Return the two items, read as a term and an amount.
 fn read_counted(alloc: Global, items: &[Json]) -> Result<Option<(Term, Amount)>, AllocError>
     ensures { IfOk result (IsParsed (λ p. IsCounted p.0 p.1) (items_view items.now)) }
 {
@@ -71,7 +72,7 @@ fn read_counted(alloc: Global, items: &[Json]) -> Result<Option<(Term, Amount)>,
     }
 }
 
-/// The action that the word names, with these operands.
+/// Return the action that the word names, with these operands.
 fn read_action(
     alloc: Global,
     word: &str,

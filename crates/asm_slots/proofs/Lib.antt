@@ -4,7 +4,6 @@ pub mod PartsAndAgents
 pub mod Ascending
 pub mod GivenAgents
 pub mod CopiedTexts
-pub mod Noted
 pub mod Crossing
 pub mod Held
 pub mod FedAudits
@@ -14,7 +13,6 @@ pub mod GoingOn
 pub mod Growing
 pub mod WholeScans
 pub mod Commits
-pub mod Unwritten
 pub mod Noting
 pub mod Meanings
 pub mod Scans

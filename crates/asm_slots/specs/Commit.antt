@@ -1,13 +1,14 @@
 -- What the commit of a step does.
 use Rattle.std.specs.Prelude.{◌≡◌, ◌≢◌, ◌↔◌, ◌⊎◌, ◌-◌, ◌+◌, ◌≤◌, ◌<◌, ℕ, ℤ, List, [], ◌∷◌, ◌++◌, All, map}
 use Rattle.std.specs.Prelude.{Option, None, Result, Ok, Err, IfOk, OnErr, IfErr, IsErrOf, unwrap_or, Contains, true, length}
-use Rattle.asm_update.specs.Fire.{fire}
+use Rattle.asm_update.specs.Aggregator.{AggregatorLaws, Meaning}
+use Rattle.asm_update.specs.Fire.{Old, fire}
 use Rattle.asm_update.specs.Move.{Move}
 use Rattle.asm_update.specs.State.{State, IsProper, val}
 use Rattle.asm_element.specs.Place.{Place}
 use Rattle.asm_state.specs.declared.named.Named.{Named}
 use Rattle.asm_state.specs.declared.scanned.Scanned.{Scanned}
-use Rattle.asm_storage.specs.Calls.{IsBusy, MadeOffers}
+use Rattle.asm_storage.specs.Calls.{IsBehind, IsBusy, IsRecall, MadeOffers, ReadingView}
 use Rattle.asm_storage.specs.Limits.{offers_limit, reads_limit}
 use Rattle.asm_storage.specs.Storage.{AgentAt, IsSameAgent}
 use Rattle.asm_storage.specs.declared.call.Reply.{Reply}
@@ -15,15 +16,17 @@ use Rattle.asm_storage.specs.declared.call.Reply.TheVariants.{Fired}
 use Rattle.asm_storage.specs.declared.error.FireError.{FireError}
 use Rattle.asm_storage.specs.declared.error.FireError.TheVariants.{Busy, ManyReads, Memory}
 use Rattle.asm_step.specs.InTurn.{DoesAll, fire_all}
-use Rattle.asm_step.specs.Layers.{all_moves, one_move, resting_of, shows_below}
+use Rattle.asm_step.specs.Layers.{IsStepOf, Layer, all_moves, one_move, resting_of, shows_below}
 use Rattle.asm_step.specs.Places.{AreEach}
+use Rattle.asm_step.specs.Resting.{AgreesAtRests, left_by}
 use Rattle.asm_slots.specs.AgentCalls.{HasLooked, IsRepliedOver, MissedFew, MissedOne, SeesOn, code_of, number_of}
 use Rattle.asm_slots.specs.Codes.{IsOneOf, ASM_DONE, ASM_STALE, ASM_CLASH, ASM_MEMORY, ASM_FULL, ASM_EMPTY, ASM_BUSY, ASM_MANY}
+use Rattle.asm_slots.specs.Codes.{ASM_MOVED}
 use Rattle.asm_slots.specs.OwnState.{state_at}
 use Rattle.asm_slots.specs.Slots.{Goes, HoldBoth, Holds, LacksOne}
-use Rattle.asm_slots.specs.Standard.{Standard, part}
+use Rattle.asm_slots.specs.Standard.{Standard, meaning, part}
 use Rattle.asm_slots.specs.StepView.{StepView, names_of}
-use Rattle.asm_slots.specs.StepCalls.{IsOfScanned, IsStepOn, below, seen}
+use Rattle.asm_slots.specs.StepCalls.{IsElsewhere, IsOfScanned, IsStepOn, below, seen}
 use Rattle.asm_slots.specs.declared.content.Content.{Content}
 use Rattle.asm_slots.specs.declared.read_and_fire.Numbers.{Numbers}
 
@@ -40,6 +43,13 @@ TellsFire (Err Memory) code fired from to = (code ≡ ASM_MEMORY) × (fired ≡ 
 pub record NamesAll (s : StepView) (reads : List Named) : Type 0 where
   pub locations : AreEach (s.got ++ resting_of s.layers) (map (λ r. r.at) reads)
   pub numbers : All (λ r. r.number ≡ s.number) reads
+
+-- the move does what the layers' moves do in turn, on each state that agrees with the one below where they depend on it
+abbrev pub StandsAs : List Layer → Move → Type 0
+StandsAs layers M =
+    (m : Meaning) (old : Old) (groups : List (List Move)) (B : State) → AggregatorLaws m → IsStepOf m.part old layers groups →
+    IsProper B → AgreesAtRests B old (all_moves groups) →
+    left_by (fire m.part B M) ≡ left_by (fire_all m.part (Ok B) (all_moves groups))
 
 -- the scans are of the functions that the step scanned, each at its number
 pub record ScansAll (s : StepView) (scans : List Scanned) : Type 0 where
@@ -113,5 +123,71 @@ pub record FiresStep (agent after step : Option Content) (numbers : Numbers) (co
 -- the same, and the step is over where it fired, and stays else
 pub record Commits (agent after step step_after : Option Content) (numbers : Numbers) (code : ℤ) : Type 0 where
   pub fires : FiresStep agent after step numbers code
+  pub over : code ≡ ASM_DONE → step_after ≡ None
+  pub stays : code ≢ ASM_DONE → step_after ≡ step
+
+-- ---- a commit that records what the step read
+
+-- the agent has one receipt more: of a read of these locations, from its own state at the step's number
+abbrev pub HasRecorded : StepView → List Named → AgentAt Standard → AgentAt Standard → Type 0
+HasRecorded s reads old new =
+    (r : ReadingView) × IsRecall meaning old new (map (λ x. x.at) reads) r × (r.number ≡ s.number)
+
+-- the locations that a commit names and the functions that were scanned are more than 256
+abbrev pub NamesMany : StepView → List Named → Type 0
+NamesMany s reads = reads_limit < length reads + length s.scanned
+
+-- the agent's own state isn't at the step's number, or is behind the agent's receipts
+abbrev pub HasMoved : AgentAt Standard → StepView → Type 0
+HasMoved a s = IsElsewhere a s ⊎ IsBehind a
+
+-- why no read is recorded: too much is named, or else the agent has moved
+abbrev pub TellsUnrecorded : AgentAt Standard → StepView → List Named → ℤ → Type 0
+TellsUnrecorded a s reads code =
+    ((code ≡ ASM_MANY) × NamesMany s reads) ⊎ ((code ≡ ASM_MOVED) × ¬ NamesMany s reads × HasMoved a s)
+
+-- nothing was done, for want of memory, or since no read is recorded
+abbrev pub HasRecordedNothing : StepView → ℤ → AgentAt Standard → Type 0
+HasRecordedNothing s code a =
+    (code ≡ ASM_MEMORY) ⊎ ((reads : List Named) × NamesAll s reads × TellsUnrecorded a s reads code)
+
+-- the read was recorded, which was possible, and then the agent that has its receipt fired the step's move: the step is of
+-- the same groups of moves on it
+pub record HasRecordedStep (s : StepView) (code : ℤ) (fired from to : ℕ) (old new : AgentAt Standard) : Type 0 where
+  pub reads : List Named
+  pub names : NamesAll s reads
+  pub few : ¬ NamesMany s reads
+  pub there : ¬ HasMoved old s
+  pub between : AgentAt Standard
+  pub recorded : HasRecorded s reads old between
+  pub step : (groups : List (List Move)) → IsStepOn old s groups → IsStepOn between s groups
+  pub codes : IsOneOf (ASM_DONE ∷ ASM_STALE ∷ ASM_CLASH ∷ ASM_MEMORY ∷ ASM_FULL ∷ ASM_BUSY ∷ []) code
+  pub committed : HasFiredStep s code fired from to between new
+
+-- the read was recorded and the step's move was fired; or nothing was done
+abbrev pub HasCommittedRecorded : StepView → ℤ → ℕ → ℕ → ℕ → AgentAt Standard → AgentAt Standard → Type 0
+HasCommittedRecorded s code fired from to old new =
+    HasRecordedStep s code fired from to old new
+    ⊎ (HasRecordedNothing s code old × (fired ≡ 0) × (from ≡ 0) × (to ≡ 0) × (new ≡ old))
+
+-- what the step read is recorded and its one move is fired, or the code tells why not
+pub record FiresRecorded (agent after step : Option Content) (numbers : Numbers) (code : ℤ) : Type 0 where
+  pub codes : IsOneOf (ASM_DONE ∷ ASM_STALE ∷ ASM_CLASH ∷ ASM_MEMORY ∷ ASM_FULL ∷ ASM_EMPTY ∷ ASM_BUSY ∷ ASM_MANY ∷ ASM_MOVED ∷ []) code
+  pub committed : code ≢ ASM_EMPTY → HoldBoth agent step
+      (λ a s. Holds after (HasCommittedRecorded s code numbers.fired numbers.from numbers.to a))
+  pub does : code ≢ ASM_EMPTY → HoldBoth agent step OneDoesAll
+  pub same : code ≢ ASM_EMPTY → Goes agent after IsSameAgent
+  pub seen : code ≢ ASM_EMPTY → Goes agent after SeesOn
+  pub few : code ≢ ASM_EMPTY → Goes agent after MissedFew
+  pub missed : code ≡ ASM_DONE → Goes agent after MissedOne
+  pub lost : code ≡ ASM_BUSY → numbers.from + offers_limit ≤ numbers.to
+  pub empty : code ≡ ASM_EMPTY → LacksOne agent step
+  pub kept : IsOneOf (ASM_EMPTY ∷ ASM_MANY ∷ ASM_MOVED ∷ []) code → after ≡ agent
+  pub no_numbers : IsOneOf (ASM_EMPTY ∷ ASM_MANY ∷ ASM_MOVED ∷ []) code →
+      (numbers.fired ≡ 0) × (numbers.from ≡ 0) × (numbers.to ≡ 0)
+
+-- the same, and the step is over where it fired, and stays else
+pub record CommitsRecorded (agent after step step_after : Option Content) (numbers : Numbers) (code : ℤ) : Type 0 where
+  pub fires : FiresRecorded agent after step numbers code
   pub over : code ≡ ASM_DONE → step_after ≡ None
   pub stays : code ≢ ASM_DONE → step_after ≡ step

@@ -1,19 +1,25 @@
-//! Firing the one move of a step.
-ghost use Rattle.std.specs.Prelude.{◌≡◌, ◌≤◌, ◌+◌, ◌∷◌, [], Some};
+//! Firing the one move of a step, with or without a receipt of what the step read.
+ghost use Rattle.std.specs.Prelude.{◌≡◌, ◌≤◌, ◌+◌, ◌⊎◌, ◌∷◌, [], Some, map, unwrap_or, IfErr, IfOk, OnErr, OnOk};
+ghost use Rattle.asm_step.specs.Layers.{one_move};
 ghost use Rattle.asm_storage.specs.Limits.{offers_limit};
 ghost use Rattle.asm_storage.specs.Storage.{IsSameAgent};
 ghost use Rattle.asm_slots.specs.AgentCalls.{MissedFew, MissedOne, SeesOn};
 ghost use Rattle.asm_slots.specs.Codes.{IsOneOf, ASM_DONE, ASM_STALE, ASM_CLASH, ASM_MEMORY, ASM_FULL};
-ghost use Rattle.asm_slots.specs.Codes.{ASM_BUSY, ASM_MANY};
-ghost use Rattle.asm_slots.specs.Commit.{FiresStep, HasCommitted, OneDoesAll, TellsFire};
+ghost use Rattle.asm_slots.specs.Codes.{ASM_BUSY, ASM_MANY, ASM_MOVED};
+ghost use Rattle.asm_slots.specs.Commit.{FiresRecorded, FiresStep, HasCommitted, HasCommittedRecorded, HasFiredStep};
+ghost use Rattle.asm_slots.specs.Commit.{HasMoved, HasRecorded, NamesAll, NamesMany, OneDoesAll, StandsAs, TellsFire};
+ghost use Rattle.asm_slots.specs.Commit.{TellsUnrecorded};
 
-use crate::codes::{BUSY, EMPTY, MANY, MEMORY};
+use crate::codes::{BUSY, EMPTY, MANY, MEMORY, MOVED};
 use crate::content::Content;
 use crate::owned_agent::OwnedAgent;
 use crate::owned_step::OwnedStep;
 use crate::read_and_fire::{Numbers, code_of_reply};
-use asm_storage::{FireError, Reply};
-use std::alloc::Global;
+use asm_element::{Items, Location};
+use asm_state::Named;
+use asm_storage::{FireError, READS_LIMIT, RecallError, Reply};
+use asm_update::Instructions;
+use std::alloc::{AllocError, Global};
 
 // The code of what a fire answers, with its numbers.
 fn told_fire(answer: Result<Reply, FireError>) -> (i32, Numbers)
@@ -38,7 +44,42 @@ fn told_fire(answer: Result<Reply, FireError>) -> (i32, Numbers)
     }
 }
 
-// Fires the step's one move with all named that it rests on, and over all that it scanned.
+// The step's one move, and all named that it depends on.
+fn prepare(alloc: Global, step: &OwnedStep) -> Result<(Instructions, Items<Named>), AllocError>
+    ensures names { IfOk result (λ p. NamesAll step.now p.1) }
+    ensures one { IfOk result (λ p. p.0 ≡ unwrap_or (one_move step.now.layers) []) }
+    ensures stands { IfOk result (λ p. StandsAs step.now.layers p.0) }
+{
+    let instrs = step.step.as_move(alloc)?;
+    let reads = step.reads(alloc)?;
+    Ok((instrs, reads))
+}
+
+// Fires the step's one move with all named that it depends on, and over all that it scanned.
+fn fire_prepared(
+    alloc: Global,
+    agent: &mut OwnedAgent,
+    step: &OwnedStep,
+    instrs: &Instructions,
+    reads: &Items<Named>,
+) -> (i32, Numbers)
+    requires names { NamesAll step.now reads.now }
+    requires one { instrs.now ≡ unwrap_or (one_move step.now.layers) [] }
+    requires stands { StandsAs step.now.layers instrs.now }
+    ensures fired { HasFiredStep step.now result.0 result.1.fired result.1.from result.1.to agent.old agent.new }
+    ensures codes { IsOneOf (ASM_DONE ∷ ASM_STALE ∷ ASM_CLASH ∷ ASM_MEMORY ∷ ASM_FULL ∷ ASM_BUSY ∷ ASM_MANY ∷ []) result.0 }
+    ensures many { result.0 ≡ ASM_MANY → NamesMany step.now reads.now }
+    ensures same { IsSameAgent agent.old agent.new }
+    ensures seen { SeesOn agent.old agent.new }
+    ensures few { MissedFew agent.old agent.new }
+    ensures missed { result.0 ≡ ASM_DONE → MissedOne agent.old agent.new }
+    ensures lost { result.0 ≡ ASM_BUSY → result.1.from + offers_limit ≤ result.1.to }
+{
+    told_fire(agent.fire_over(alloc, reads, &step.scanned, instrs))
+}
+
+// Fires the step's one move, if there is memory to prepare it.
+#[tactic(auto, using(crate::proofs::Commits::does_all))]
 fn fire_step(alloc: Global, agent: &mut OwnedAgent, step: &OwnedStep) -> (i32, Numbers)
     ensures committed { HasCommitted step.now result.0 result.1.fired result.1.from result.1.to agent.old agent.new }
     ensures codes { IsOneOf (ASM_DONE ∷ ASM_STALE ∷ ASM_CLASH ∷ ASM_MEMORY ∷ ASM_FULL ∷ ASM_BUSY ∷ ASM_MANY ∷ []) result.0 }
@@ -49,13 +90,76 @@ fn fire_step(alloc: Global, agent: &mut OwnedAgent, step: &OwnedStep) -> (i32, N
     ensures missed { result.0 ≡ ASM_DONE → MissedOne agent.old agent.new }
     ensures lost { result.0 ≡ ASM_BUSY → result.1.from + offers_limit ≤ result.1.to }
 {
-    let Ok(instrs) = step.step.as_move(alloc) else {
+    let Ok((instrs, reads)) = prepare(alloc, step) else {
         return (MEMORY, Numbers::none());
     };
-    let Ok(reads) = step.reads(alloc) else {
+    fire_prepared(alloc, agent, step, &instrs, &reads)
+}
+
+// The locations that the reads name.
+fn locations_of(alloc: Global, reads: &[Named]) -> Result<Vec<Location>, AllocError>
+    ensures { IfOk result (λ locations. locations.items ≡ map (λ x. x.at) reads.now) }
+{
+    let mut locations = Vec::with_capacity(alloc, reads.len())?;
+    for read in reads {
+        locations.push(read.at.copy(alloc)?)?;
+    }
+    Ok(locations)
+}
+
+// Adds a receipt of a read of what the reads name, from the agent's own state at the step's number. On error, which is the
+// code that says why, nothing changes.
+fn record_reads(
+    alloc: Global,
+    agent: &mut OwnedAgent,
+    step: &OwnedStep,
+    reads: &[Named],
+) -> Result<(), i32>
+    ensures recorded { OnOk result (HasRecorded step.now reads.now agent.old agent.new) }
+    ensures few { OnOk result (¬ NamesMany step.now reads.now) }
+    ensures there { OnOk result (¬ HasMoved agent.old step.now) }
+    ensures kept { OnErr result (agent.new ≡ agent.old) }
+    ensures codes { IfErr result (IsOneOf (ASM_MEMORY ∷ ASM_MANY ∷ ASM_MOVED ∷ [])) }
+    ensures why { IfErr result (λ code. (code ≡ ASM_MEMORY) ⊎ TellsUnrecorded agent.old step.now reads.now code) }
+{
+    if reads.len() > READS_LIMIT - step.scanned.len() {
+        return Err(MANY);
+    }
+    if agent.state().number() != step.number {
+        return Err(MOVED);
+    }
+    let Ok(locations) = locations_of(alloc, reads) else {
+        return Err(MEMORY);
+    };
+    match agent.recall(alloc, &locations) {
+        Ok(_) => Ok(()),
+        Err(RecallError::ManyLocations) => Err(MANY),
+        Err(RecallError::Behind) => Err(MOVED),
+        Err(RecallError::Memory) => Err(MEMORY),
+    }
+}
+
+// Adds a receipt of a read of all that the step's one move depends on, and then fires the move.
+fn fire_recorded(alloc: Global, agent: &mut OwnedAgent, step: &OwnedStep) -> (i32, Numbers)
+    ensures committed { HasCommittedRecorded step.now result.0 result.1.fired result.1.from result.1.to agent.old agent.new }
+    ensures codes { IsOneOf (ASM_DONE ∷ ASM_STALE ∷ ASM_CLASH ∷ ASM_MEMORY ∷ ASM_FULL ∷ ASM_BUSY ∷ ASM_MANY ∷ ASM_MOVED ∷ []) result.0 }
+    ensures does { OneDoesAll agent.old step.now }
+    ensures same { IsSameAgent agent.old agent.new }
+    ensures seen { SeesOn agent.old agent.new }
+    ensures few { MissedFew agent.old agent.new }
+    ensures missed { result.0 ≡ ASM_DONE → MissedOne agent.old agent.new }
+    ensures lost { result.0 ≡ ASM_BUSY → result.1.from + offers_limit ≤ result.1.to }
+    ensures kept { IsOneOf (ASM_MANY ∷ ASM_MOVED ∷ []) result.0 → agent.new ≡ agent.old }
+    ensures no_numbers { IsOneOf (ASM_MANY ∷ ASM_MOVED ∷ []) result.0 →
+        (result.1.fired ≡ 0) × (result.1.from ≡ 0) × (result.1.to ≡ 0) }
+{
+    let Ok((instrs, reads)) = prepare(alloc, step) else {
         return (MEMORY, Numbers::none());
     };
-    told_fire(agent.fire_over(alloc, &reads, &step.scanned, &instrs))
+    match record_reads(alloc, agent, step, reads.as_slice()) {
+        Ok(()) => fire_prepared(alloc, agent, step, &instrs, &reads),
+        Err(code) => (code, Numbers::none()),
+    }
 }
 
 /// Fires the one move of the step in a box with the agent in another.
@@ -69,4 +173,17 @@ pub fn commit_in(alloc: Global, agent: &mut Content, step: &Content) -> (i32, Nu
         return (EMPTY, Numbers::none());
     };
     fire_step(alloc, inner, taken)
+}
+
+/// Adds a receipt of what the step in a box read, and then fires its one move, with the agent in another box.
+pub fn commit_recorded_in(alloc: Global, agent: &mut Content, step: &Content) -> (i32, Numbers)
+    ensures { FiresRecorded (Some agent.old) (Some agent.new) (Some step.now) result.1 result.0 }
+{
+    let Content::Agent(inner) = agent else {
+        return (EMPTY, Numbers::none());
+    };
+    let Content::Step(taken) = step else {
+        return (EMPTY, Numbers::none());
+    };
+    fire_recorded(alloc, inner, taken)
 }

@@ -9,10 +9,11 @@ ghost use Rattle.asm_storage.specs.Limits.{agents_limit, offers_limit, reads_lim
 ghost use Rattle.asm_storage.specs.declared.call.Reply.TheVariants.{Fired};
 ghost use Rattle.asm_storage.specs.declared.error.FireError.TheVariants.{Busy, ManyReads};
 ghost use Rattle.asm_storage.specs.declared.error.ReadError.TheVariants.{ManyLocations};
+ghost use Rattle.asm_storage.specs.declared.error.RecallError.TheVariants as recall_error;
 ghost use Rattle.asm_storage.specs.Part.{IsFollowing};
 ghost use Rattle.asm_storage.specs.Storage.{at_start, last_look, machine_of, IsSameAgent, Missed};
 ghost use Rattle.asm_storage.specs.Calls.{HasLookedFor, IsReplied, IsBusy, IsCoherentReply, IsRead};
-ghost use Rattle.asm_storage.specs.Calls.{IsStaleRead, MadeOffers};
+ghost use Rattle.asm_storage.specs.Calls.{IsBehind, IsRecall, IsStaleRead, MadeOffers};
 ghost use Rattle.asm_storage.specs.Taken.{HasTaken};
 ghost use Rattle.asm_slots.specs.Standard.{meaning};
 ghost use Rattle.asm_slots.specs.FireOver.{is_any_over};
@@ -25,7 +26,7 @@ use asm_aggregate::Standard;
 use asm_element::{Items, Location};
 use asm_journal::answer_text;
 use asm_state::{Named, Scanned, State};
-use asm_storage::{Agent, AgentPart, FireError, Mark, ReadError, Reading, Reply};
+use asm_storage::{Agent, AgentPart, FireError, Mark, ReadError, Reading, RecallError, Reply};
 use asm_update::Instructions;
 use std::alloc::{AllocError, Global};
 use std::marker::Model;
@@ -163,6 +164,20 @@ impl OwnedAgent {
             instrs,
             &mut || {},
         )
+    }
+
+    /// Adds a receipt of a read of the locations from its own state, at the number of that state, without a poll.
+    pub(crate) fn recall(
+        &mut self,
+        alloc: Global,
+        locations: &[Location],
+    ) -> Result<Reading, RecallError>
+        ensures recalled { IfOk result (IsRecall meaning self.old self.new locations.now) }
+        ensures refused { OnErr result (self.new ≡ self.old) }
+        ensures many { IsErrOf result recall_error.ManyLocations ↔ (reads_limit < length locations.now) }
+        ensures behind { IsErrOf result recall_error.Behind ↔ ((length locations.now ≤ reads_limit) × IsBehind self.old) }
+    {
+        self.part.recall(alloc, &self.shared.storage, locations)
     }
 
     /// Its own state.

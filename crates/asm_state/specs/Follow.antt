@@ -21,7 +21,7 @@ abbrev pub over : {X : Type 0} → Option X → Option X → Option X
 over (Some w) x = Some w
 over None x = x
 
--- the entry of a location after its update in the move with this number, or as it was
+-- the entry of a location after its update in the move with this number, or unchanged
 abbrev pub entry_after : ℕ → Option Value → Option WrittenValue → Option WrittenValue
 entry_after n update old = over (option_map (written_by n) update) old
 

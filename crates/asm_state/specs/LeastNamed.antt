@@ -22,7 +22,7 @@ IsLeastNamed stale reads found =
 abbrev pub FindsLeast : Type 0
 FindsLeast = (stale : Place → ℕ → Bool) (reads : List Named) → IsLeastNamed stale reads (least_named stale reads)
 
--- the location that a verdict tells to be stale
+-- the location that is stale by a verdict
 abbrev pub told_stale : Verdict → Option Place
 told_stale (Stale l) = Some l
 told_stale (Clash c) = None

@@ -1,4 +1,4 @@
--- `==` of named reads tells whether they are the same.
+-- `==` of declared reads decides whether they are the same.
 use Rattle.std.specs.Prelude.{Bool, ◌&&◌, ◌==◌}
 use Rattle.std.proofs.Common.{◌∙◌}
 use Rattle.std.specs.Cmp.{IsEquivalence, decided, unsigned_Decides}
@@ -9,7 +9,7 @@ use Rattle.asm_element.specs.Same.{location_eq-same}
 use Rattle.asm_element.specs.Tests.{both}
 use Rattle.asm_state.specs.declared.named.Named.{Named}
 
--- whether two named reads have equal locations and equal numbers
+-- whether two declared reads have equal locations and equal numbers
 abbrev pub named_eq : Named → Named → Bool
 named_eq r s = eq_by_cmp location_cmp r.at s.at && r.number == s.number
 

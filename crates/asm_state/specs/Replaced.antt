@@ -1,4 +1,4 @@
--- Writes that can be taken back.
+-- Writes that can be undone.
 use Rattle.std.specs.Prelude.{◌≡◌, List, [], ◌∷◌, Option}
 use Rattle.std.specs.FinMap as map
 use Rattle.asm_element.specs.Place.{Place}

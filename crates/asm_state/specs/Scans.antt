@@ -19,6 +19,6 @@ is_newer name number l writer = has_name name l && nat_lt number writer
 abbrev pub is_rewritten : Part → State → List Move → List ℕ → ℕ → Place → Bool
 is_rewritten part A q name number l = has_name name l && is_stale part A q l number
 
--- the least location that passes the test; where there is none, no location passes
+-- the smallest location that passes the test; where there is none, no location passes
 abbrev pub IsLeastOf : (Place → Bool) → Option Place → Type 0
 IsLeastOf test found = MatchOption found ((l : Place) → test l ≡ false) (IsLeast test)

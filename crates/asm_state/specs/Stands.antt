@@ -1,4 +1,4 @@
--- States that stand for a list of moves: which move wrote a location last, and which reads are stale.
+-- States that have followed a list of moves: which move wrote a location last, and which reads are stale.
 use Rattle.std.specs.Prelude.{◌≡◌, ◌↔◌, ℕ, zero, suc, ◌+◌, ◌<◌, nat_lt, Bool, true, false, ◌&&◌, ◌||◌}
 use Rattle.std.specs.Prelude.{List, [], ◌∷◌, length, take, slice_get, Some, is_ok, if◌then◌else◌}
 use Rattle.asm_element.specs.Place.{Place}
@@ -51,7 +51,7 @@ pub record IsLastWriter (part : Part) (A : State) (q : List Move) (l : Place) (w
   pub tested : (number : ℕ) → is_stale part A q l number ≡ nat_lt number writer
   pub stated : (number : ℕ) → (number < writer) ↔ IsStale part A q l number
 
--- the state stands for these moves from the opening state A
+-- the state follows from the opening state A by these moves
 pub record Stands (part : Part) (A : State) (s : StateView) (q : List Move) : Type 0 where
   pub number : s.number ≡ length q
   pub values : (l : Place) → value_at s l ≡ val (state_of part A q) l

@@ -19,19 +19,20 @@ abbrev pub lesser : Option Place → Place → Option Place
 lesser None l = Some l
 lesser (Some k) l = if is_lt (location_cmp l k) then Some l else Some k
 
--- the least of the locations
+-- the smallest of the locations
 abbrev pub least : List Place → Option Place
 least ls = fold lesser None ls
 
--- the least location that is named with a number at which the test finds it stale
+-- the smallest location that is named with a number at which the test finds it stale
 abbrev pub least_named : (Place → ℕ → Bool) → List Named → Option Place
 least_named stale reads = least (map (λ r. r.at) (filter (λ r. stale r.at r.number) reads))
 
--- the least location that is stale at a number under which it is named
+-- the smallest location that is stale at a number under which it is named
 abbrev pub least_stale : Part → State → List Move → List Named → Option Place
 least_stale part A q reads = least_named (is_stale part A q) reads
 
--- the answer to a move after the moves: stale before a clash before the update set; an allocation failure tells nothing
+-- the answer to a move after the moves: stale before a clash before the update set; an allocation failure says
+-- nothing
 abbrev pub IsVerdict : Part → State → List Move → List Named → Move → Result Verdict AllocError → Type 0
 IsVerdict part A q reads M (Ok (Stale l)) = least_stale part A q reads ≡ Some l
 IsVerdict part A q reads M (Ok (Clash c)) =
@@ -40,8 +41,8 @@ IsVerdict part A q reads M (Ok (Ready U)) =
     (least_stale part A q reads ≡ None) × (aggregated part (val (state_of part A q)) M ≡ Ok U)
 IsVerdict part A q reads M (Err e) = Unit {0}
 
--- what stands against a move after the moves: stale before a clash, and nothing where the move has an update set; a refusal
--- of memory tells nothing
+-- the objection to a move after the moves: stale before a clash, and nothing where the move has an update set; a
+-- refusal of memory says nothing
 abbrev pub IsObjection : Part → State → List Move → List Named → Move → Result (Option Objection) AllocError → Type 0
 IsObjection part A q reads M (Ok (Some (objection.Stale l))) = least_stale part A q reads ≡ Some l
 IsObjection part A q reads M (Ok (Some (objection.Clash c))) =

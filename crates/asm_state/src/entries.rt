@@ -26,7 +26,7 @@ use std::collections::btree_map::{Iter, Range};
 use std::marker::Model;
 use std::mem;
 
-/// What a location holds, and its writer: the number of the move that wrote it last.
+/// What a location holds, and the number of the move that wrote it last.
 #[derive(Debug, Drop)]
 pub(crate) struct WrittenValue {
     /// None where it is undef, whatever the opening state has there.
@@ -35,7 +35,7 @@ pub(crate) struct WrittenValue {
 }
 
 impl WrittenValue {
-    /// What the move with this number leaves where it writes the value.
+    /// Return the entry that the move with this number leaves if it writes the value.
     fn by(writer: u32, value: Value) -> WrittenValue
         ensures { result ≡ written_by writer value }
     {
@@ -52,7 +52,7 @@ impl WrittenValue {
         }
     }
 
-    /// Notes its writer, and keeps no undef as a value.
+    /// Record its writer, and remove a value that is undef.
     fn settle(&mut self, writer: u32)
         ensures { self.new ≡ written_by writer (value_of (Some self.old)) }
     {
@@ -66,8 +66,9 @@ impl WrittenValue {
         }
     }
 
-    /// Changes the value in place to the group's result on it, in the move with this number. After an error
-    /// nothing is changed.
+    /// Change the value to the group's result on it, in the move with this number.
+    ///
+    /// It is changed in place. On error, nothing changes.
     fn change<A: Aggregator>(
         &mut self,
         alloc: Global,
@@ -154,7 +155,7 @@ impl Entries {
         self.tree.range(first..)
     }
 
-    /// Writes an entry, and drops the one that it replaces; only a new one takes memory.
+    /// Write an entry, and drop the one that it replaces; only a new one takes memory.
     pub(crate) fn put(&mut self, at: Location, written: WrittenValue) -> Result<(), AllocError>
         ensures ok { OnOk result (self.new ≡ map.insert self.old at written) }
         ensures absent { OnErr result (map.get self.old at ≡ None) }
@@ -170,7 +171,7 @@ impl Entries {
         self.tree.remove(at);
     }
 
-    /// The same entries, in a tree of their own.
+    /// Return the same entries, in a tree of their own.
     pub(crate) fn copy(&self, alloc: Global) -> Result<Entries, AllocError>
         ensures { IfOk result (λ copy. copy ≡ self.now) }
     {
@@ -181,7 +182,9 @@ impl Entries {
         Ok(copy)
     }
 
-    /// Makes the entry of a location that has none: the group's result on its opening value.
+    /// Make the entry of a location that has none.
+    ///
+    /// It is the group's result on the location's opening value.
     fn open_at<A: Aggregator>(
         &mut self,
         alloc: Global,
@@ -202,8 +205,11 @@ impl Entries {
         Ok(())
     }
 
-    /// Gives the location the group's result on its value. An entry is changed in place; a location that has
-    /// none has its opening value. After an error nothing is changed.
+    /// Give the location the group's result on its value.
+    ///
+    /// An entry is changed in place; a location that has none has its opening value.
+    ///
+    /// On error, nothing changes.
     pub(crate) fn change_at<A: Aggregator>(
         &mut self,
         alloc: Global,
@@ -227,8 +233,9 @@ impl Entries {
         }
     }
 
-    /// Replaces the entry of the location by this one and hands the old one back; where there is none, hands
-    /// this one back.
+    /// Replace the entry of the location, and return the old one.
+    ///
+    /// If there is none, return this one.
     fn exchange(
         &mut self,
         at: &Location,
@@ -246,7 +253,9 @@ impl Entries {
         Ok(mem::replace(now, written))
     }
 
-    /// Writes an entry, and hands back what the location held before; after an error nothing is changed.
+    /// Write an entry, and return what the location held before.
+    ///
+    /// On error, nothing changes.
     fn write_at(
         &mut self,
         alloc: Global,
@@ -266,7 +275,9 @@ impl Entries {
         }
     }
 
-    /// Writes a copy of the value at the location in the move with this number. After an error nothing is changed.
+    /// Write a copy of the value at the location in the move with this number.
+    ///
+    /// On error, nothing changes.
     pub(crate) fn put_value(
         &mut self,
         alloc: Global,
@@ -282,7 +293,7 @@ impl Entries {
         Ok(())
     }
 
-    /// Takes the last write of a location back, which takes no memory.
+    /// Take the last write of a location back, which takes no memory.
     fn take_back(&mut self, at: &Location, before: Option<WrittenValue>)
         ensures { (old : view.Entries) (w : WrittenValue) → before ≡ map.get old at.now →
             self.old ≡ map.insert old at.now w → self.new ≡ old }
@@ -295,7 +306,7 @@ impl Entries {
         }
     }
 
-    /// Takes writes back by what they replaced, the last one first.
+    /// Take writes back by what they replaced, the last one first.
     fn take_all_back(&mut self, mut replaced: Vec<(&Location, Option<WrittenValue>)>)
         ensures { (old : view.Entries) → AreReplaced (by_place replaced.entry.items) old self.old → self.new ≡ old }
     {
@@ -304,7 +315,9 @@ impl Entries {
         }
     }
 
-    /// Writes the results of the move with this number, and keeps what they replace until all are written.
+    /// Write the results of the move with this number, one by one.
+    ///
+    /// Until all are written it holds what they replace.
     fn write_each(
         &mut self,
         alloc: Global,
@@ -328,8 +341,9 @@ impl Entries {
         Ok(())
     }
 
-    /// Writes the results of the move with this number: the values move in, and a location is copied only where it
-    /// is new. After an error nothing is changed.
+    /// Write the results of the move with this number.
+    ///
+    /// The values move in, and only new locations are copied. On error, nothing changes.
     pub(crate) fn write(
         &mut self,
         alloc: Global,
@@ -343,7 +357,7 @@ impl Entries {
         if results.len() > 1 {
             return self.write_each(alloc, writer, results);
         }
-        // A write works or changes nothing, so what one result replaces needn't be kept.
+        // A write works or changes nothing, so what one result replaces needn't be held.
         match results.into_vec().into_iter().next() {
             Some((at, value)) => {
                 self.write_at(alloc, at, WrittenValue::by(writer, value))?;

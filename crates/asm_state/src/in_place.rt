@@ -23,7 +23,9 @@ fn are_changes_at(at: &Location, instructions: &[Instruction]) -> bool
         .all(|instruction| is_change_at(at, instruction))
 }
 
-/// The one location of all instructions, if they are all partial updates and there is at least one.
+/// Return the one location of all instructions, which are partial updates.
+///
+/// `None` is the answer if they aren't, and if there are none.
 fn only_location(instructions: &[Instruction]) -> Option<&Location>
     ensures some { IfSome result (λ l. instructions.now ≢ []) }
     ensures only { IfSome result (λ l. changes_only l.now instructions.now ≡ true) }
@@ -38,14 +40,14 @@ fn only_location(instructions: &[Instruction]) -> Option<&Location>
     }
 }
 
-/// The group of the instructions' partial updates.
+/// Return the group of the instructions' partial updates.
 fn group_of(alloc: Global, at: &Location, instructions: &[Instruction]) -> Result<Group, AllocError>
     requires some { instructions.now ≢ [] }
     requires only { changes_only at.now instructions.now ≡ true }
     ensures { IfOk result (λ g.
         g ≡ record { regular = None; partials = map (λ i. i.action) instructions.now }) }
 {
-    // What is required speaks of it.
+    // Proof: what is required speaks of it.
     let _ = at;
     let mut partials = Vec::with_capacity(alloc, instructions.len())?;
     for instruction in instructions {
@@ -54,12 +56,14 @@ fn group_of(alloc: Global, at: &Location, instructions: &[Instruction]) -> Resul
     Ok(Group::new(None, partials))
 }
 
-/// The one location that a move changes and the group of its partial updates there; None where an
-/// instruction is a regular update or at another location, or where there is none.
+/// Return the one location that a move changes, and the group of its updates there.
 ///
-/// A state follows such a move by changing that one value in place (`PlainState::change`), without an update set.
+/// `None` is the answer if an instruction is a regular update or at another location, or if there is no instruction. A
+/// state follows such a move by changing that one value in place (`PlainState::change`), without an update set.
 ///
-/// `AllocError` comes only where memory was refused.
+/// # Errors
+///
+/// - `AllocError` only if memory is refused.
 pub fn one_change(
     alloc: Global,
     instructions: &Instructions,

@@ -1,6 +1,6 @@
 //! The state of an abstract state machine with the number of the move that wrote each location last.
 //!
-//! Where a comment says that memory was refused, it may also be that more copies would share a location's arguments or an
+//! Where a comment says that memory is refused, this includes that more copies would share a location's arguments or an
 //! opening state than can be counted.
 #![tactic(auto)]
 

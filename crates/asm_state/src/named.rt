@@ -5,10 +5,10 @@ ghost use Rattle.asm_state.specs.Named.{named_eq, named_eq-equiv};
 use asm_element::Location;
 use std::alloc::{AllocError, Global};
 
-/// A named read: a location with the number of moves at which it was read.
+/// A declared read: a location with the number of moves at which it was read.
 ///
-/// It is stale once a move with a greater number writes the location, even with the same value.
-/// Source: this project's profile.
+/// It is stale once a move with a greater number writes the location, even with the same value. Source: this
+/// project's profile.
 #[derive(Debug, Drop)]
 pub struct Named {
     /// The location that was read.
@@ -18,9 +18,11 @@ pub struct Named {
 }
 
 impl Named {
-    /// The same named read, with a copy of its location.
+    /// Return the same declared read, with a copy of its location.
     ///
-    /// `AllocError` comes only where memory was refused.
+    /// # Errors
+    ///
+    /// - `AllocError` only if memory is refused.
     pub fn copy(&self, _alloc: Global) -> Result<Named, AllocError>
         ensures { IfOk result (λ copy. copy ≡ self.now) }
     {

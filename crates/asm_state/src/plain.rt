@@ -122,21 +122,28 @@ impl State {
         Ok(plain)
     }
 
-    /// The values at all locations, as a plain state of their own.
+    /// Return the values at all locations, as a plain state of their own.
     ///
-    /// It costs a copy of each value. `AllocError` comes only where memory was refused.
+    /// It costs a copy of each value.
+    ///
+    /// # Errors
+    ///
+    /// - `AllocError` only if memory is refused.
     pub fn to_plain(&self, alloc: Global) -> Result<PlainState, AllocError>
         ensures { IfOk result (λ plain. (l : Place) → val plain l ≡ value_at self.now l) }
     {
         self.wanted(alloc, None)
     }
 
-    /// The values at the locations with this function name, as a plain state of their own, in which every
-    /// other location is undef.
+    /// Return the values at the locations with this function name, as a plain state.
     ///
-    /// It walks the locations of that name alone, what moves wrote undef among them, and copies the values that it
-    /// answers; with a text that is no name of a function it walks the whole state. `AllocError` comes only where memory
-    /// was refused.
+    /// Every other location is undef in it. The call walks the locations of that name alone, including those that moves
+    /// wrote undef, and copies the values that it returns. With a text that is no name of a function it walks all
+    /// locations.
+    ///
+    /// # Errors
+    ///
+    /// - `AllocError` only if memory is refused.
     pub fn of_name(&self, alloc: Global, name: &str) -> Result<PlainState, AllocError>
         ensures { IfOk result (λ plain. (l : Place) → val plain l ≡ value_of_name self.now name.now l) }
     {

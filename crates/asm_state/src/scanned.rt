@@ -1,12 +1,12 @@
-/// A scan of a function: its name, with the number of moves at which all its locations were looked at, those that
-/// have a value and those that have none.
+/// A predicate read: a scan of every location of a function, at a number of moves.
 ///
-/// It is stale once a move with a greater number writes a location of this name, be it one that had no value, the
-/// same value or undef. Source: this project's profile.
+/// It covers each location of this name, present or not. It is stale once a move with a greater number writes such a
+/// location, including one that had no value, and including with the same value or undef. Source: this project's
+/// profile.
 #[derive(Debug, Drop)]
 pub struct Scanned {
     /// The function's name.
     pub name: String,
-    /// How many moves had been fired where it was scanned.
+    /// How many moves had been fired when the scan was made.
     pub number: u32,
 }

@@ -28,16 +28,17 @@ use std::alloc::{AllocError, Global};
 use std::marker::Model;
 use std::sync::Arc;
 
-/// A state that follows moves. It has a number, which counts the moves that it has followed, a value for
-/// each location, and for each location the number of the move that wrote it last.
+/// A state that follows moves.
 ///
-/// A location that was written undef keeps the number of its writer. The first move has the number 1.
-/// Source: a state after the moves of a run, by Börger and Stärk; the numbers of the writers are of
-/// this project's profile.
+/// It has a number, which counts the moves that it has followed, a value for each location, and for each location
+/// the number of the move that wrote it last.
+///
+/// A location that was written undef keeps the number of its writer. The first move has the number 1. Source: a
+/// state after the moves of a run, by Börger and Stärk; the numbers of the writers are of this project's profile.
 #[derive(Debug, Drop)]
 pub struct State {
     number: u32,
-    // The opening state, which copies share; what a move wrote stands in the entries.
+    // The opening state, which copies share; the entries have what a move wrote.
     pub(crate) base: Arc<PlainState>,
     pub(crate) entries: Entries,
 }
@@ -71,9 +72,13 @@ impl Lookup for State {
 }
 
 impl State {
-    /// The opening state, at number 0, in which no location was written; the values move in.
+    /// Return the opening state, at number 0, in which no location was written.
     ///
-    /// It takes no time that grows with the values. `AllocError` comes only where memory was refused.
+    /// The values move in, and its time doesn't grow with them.
+    ///
+    /// # Errors
+    ///
+    /// - `AllocError` only if memory is refused.
     pub fn new(alloc: Global, init: PlainState) -> Result<State, AllocError>
         ensures { IfOk result (λ s. (part : Part) → Stands part init s []) }
     {
@@ -81,9 +86,9 @@ impl State {
         Ok(State::over(alloc, base))
     }
 
-    /// The same opening state over values that other states share; it takes no memory.
+    /// Return the same opening state over values that other states share.
     ///
-    /// A move that such a state follows changes nothing for the others.
+    /// It takes no memory. A move that such a state follows changes nothing for the others.
     pub fn over(alloc: Global, base: Arc<PlainState>) -> State
         ensures { (part : Part) → Stands part (arc_value base) result [] }
     {
@@ -94,7 +99,7 @@ impl State {
         }
     }
 
-    /// How many moves it has followed, those that clashed included.
+    /// Return how many moves it has followed, those that clashed included.
     pub fn number(&self) -> u32
         ensures { result ≡ self.now.number }
     {
@@ -108,10 +113,10 @@ impl State {
         self.entries.get(at)
     }
 
-    /// The number of the move that wrote the location last, be it with the same value or with undef;
-    /// 0 if none did.
+    /// Return the number of the move that wrote the location last; 0 if none did.
     ///
-    /// A read of the location is stale exactly where its number is below this one.
+    /// A write counts also with the same value and with undef. A read of the location is stale exactly if its number is
+    /// below this one.
     pub fn written_at(&self, at: &Location) -> u32
         ensures writer { result ≡ writer_at self.now at.now }
         ensures last { (part : Part) (init : plain.State) (q : List Move) → Stands part init self.now q →
@@ -123,10 +128,14 @@ impl State {
         }
     }
 
-    /// The least location with this function name that a move above the number wrote, be it with the same value or with
-    /// undef; `None` where no move did.
+    /// Return the smallest location with this name that a move above the number wrote.
     ///
-    /// It walks what moves wrote of that name, up to that location. `AllocError` comes only where memory was refused.
+    /// A write counts also with the same value and with undef. `None` is the answer if no move did. It walks what moves
+    /// wrote of that name, up to that location.
+    ///
+    /// # Errors
+    ///
+    /// - `AllocError` only if memory is refused.
     pub fn least_written_in(
         &self,
         alloc: Global,
@@ -146,7 +155,7 @@ impl State {
         named.number < self.written_at(&named.at)
     }
 
-    // The least location that was written since it was read.
+    // The smallest location that was written since it was read.
     fn least_stale<'a>(&self, reads: &'a [Named]) -> Option<&'a Location>
         ensures { option_copied result ≡ least_named (λ l n. nat_lt n (writer_at self.now l)) reads.now }
     {
@@ -159,11 +168,14 @@ impl State {
         best
     }
 
-    /// What becomes of a move: the least named location that is stale, else the move's clash, else
-    /// its update set.
+    /// Validate a move: return whether it is stale, clashes, or is ready to fire.
     ///
-    /// The reads are walked once, and then the instructions are aggregated once. `AllocError` comes
-    /// only where memory was refused.
+    /// It is stale at the smallest declared location that is stale; else it has its clash, or else its update set. The
+    /// reads are walked once, and then the instructions are aggregated once.
+    ///
+    /// # Errors
+    ///
+    /// - `AllocError` only if memory is refused.
     pub fn judge<A: Aggregator>(
         &self,
         alloc: Global,
@@ -190,10 +202,14 @@ impl State {
         }
     }
 
-    /// What stands against a move: the least named location that is stale, else the move's clash; None where
-    /// it fires.
+    /// Return why a move doesn't fire; None if it fires.
     ///
-    /// It answers as `judge` does, and makes no update set. `AllocError` comes only where memory was refused.
+    /// It is the smallest declared location that is stale, or else the move's clash. It answers as `judge` does, and
+    /// makes no update set.
+    ///
+    /// # Errors
+    ///
+    /// - `AllocError` only if memory is refused.
     pub fn objection<A: Aggregator>(
         &self,
         alloc: Global,
@@ -215,12 +231,16 @@ impl State {
         }
     }
 
-    /// Follows a move: the number grows by one, and the move is fired if it doesn't clash; else no
-    /// location changes.
+    /// Follow a move: the number grows by one, and the move fires if it doesn't clash.
     ///
-    /// The state must have followed fewer than 4,294,967,295 moves. It costs a look-up for each
-    /// location that the move writes, whatever the size of the state. `AllocError` comes only where
-    /// memory was refused; the state is then unchanged.
+    /// If it clashes, no location changes. The state must have followed fewer than 4,294,967,295 moves. It costs a
+    /// look-up for each location that the move writes, independent of the size of the state.
+    ///
+    /// # Errors
+    ///
+    /// - `AllocError` only if memory is refused.
+    ///
+    /// On error, the state is unchanged.
     pub fn follow<A: Aggregator>(
         &mut self,
         alloc: Global,
@@ -355,9 +375,13 @@ impl State {
         Ok(())
     }
 
-    /// The same state: it stands for the same moves. Both share the opening state; what moves wrote is copied.
+    /// Return the same state, which has followed the same moves.
     ///
-    /// `AllocError` comes only where memory was refused.
+    /// Both share the opening state; what moves wrote is copied.
+    ///
+    /// # Errors
+    ///
+    /// - `AllocError` only if memory is refused.
     pub fn copy(&self, alloc: Global) -> Result<State, AllocError>
         ensures { IfOk result (λ copy. copy ≡ self.now) }
     {

@@ -5,7 +5,7 @@ use asm_update::{Cause, Clash, UpdateSet};
 use std::alloc::Global;
 use std::test::Fail;
 
-/// What a verdict or an objection says; a location stands by its name.
+/// What a verdict or an objection says; a location is given by its name.
 #[derive(Clone, Copy)]
 enum Says {
     Stale(&'static str),
@@ -45,7 +45,7 @@ fn verdict(alloc: Global, says: Says) -> Result<Verdict, Fail> {
     }
 }
 
-/// None where nothing stands against the move.
+/// The objection to the move; None if there is none.
 fn objection(alloc: Global, says: Says) -> Result<Option<Objection>, Fail> {
     match says {
         Stale(name) => Ok(Some(Objection::Stale(location(alloc, name)?))),

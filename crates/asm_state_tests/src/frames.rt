@@ -13,12 +13,12 @@ struct Put(&'static str, Option<i64>);
 /// A frame as plain data.
 type Frame = &'static [Put];
 
-/// What is done with an overlay, and what comes of it.
+/// A step on an overlay, and its result.
 #[derive(Clone, Copy)]
 enum Step {
     /// A frame is put on top of the others.
     Push(Frame),
-    /// A frame is handed back, as there are 64.
+    /// A frame is returned, as there are 64.
     Deep(Frame),
     /// The topmost frame is this one.
     Pop(Frame),
@@ -42,7 +42,7 @@ fn pushes(alloc: Global, overlay: &mut Overlay, puts: &[Put]) -> Result<bool, Fa
     Ok(true)
 }
 
-/// Whether the frame is handed back as one too many.
+/// Return whether the frame is returned as one too many.
 fn is_deep(answer: Result<(), OverlayError>, frame: UpdateSet) -> bool {
     match answer {
         Ok(()) => false,
@@ -91,7 +91,7 @@ fn play<R: Abort>(
     Ok(())
 }
 
-/// An overlay with 64 frames.
+/// Return an overlay with 64 frames.
 fn full(alloc: Global) -> Result<Overlay, Fail> {
     let mut overlay = Overlay::new(alloc);
     for n in 0..64 {
@@ -119,7 +119,9 @@ fn the_65th_frame_is_handed_back(rt: HostRuntime) -> Result<(), Fail> {
     play(&rt, rt.alloc(), &mut overlay, &AT_64_FRAMES)
 }
 
-/// Whether the answer of a push tells whether the frame is on top, and else hands it back.
+/// Return whether the answer of a push matches whether the frame is on top.
+///
+/// If it isn't on top, the answer returns it.
 fn is_told(answer: Result<(), OverlayError>, is_on_top: bool, frame: UpdateSet) -> bool {
     match answer {
         Ok(()) => is_on_top,
@@ -128,7 +130,8 @@ fn is_told(answer: Result<(), OverlayError>, is_on_top: bool, frame: UpdateSet) 
     }
 }
 
-/// Whether the frame is put on top, or, where memory was refused, is handed back, with as many frames as before.
+/// Return whether the frame is put on top, or, where memory was refused, is returned, with as many frames as
+/// before.
 fn is_handed_back(alloc: Global, overlay: &mut Overlay, puts: &[Put]) -> Result<bool, Fail> {
     let depth = overlay.depth();
     let answer = overlay.push(frame(alloc, puts)?);
@@ -146,7 +149,7 @@ fn a_frame_that_finds_no_memory_is_handed_back(rt: HostRuntime) -> Result<(), Fa
     Ok(())
 }
 
-/// Whether what shows the one value is equal to what shows the other.
+/// Return whether what shows the one value is equal to what shows the other.
 fn are_equal_held(one: Option<i64>, other: Option<i64>) -> bool {
     let (one, other) = (value(one), value(other));
     Seen::Held(&one) == Seen::Held(&other)

@@ -7,7 +7,7 @@ use asm_update::{Action, Instruction, Instructions, Lookup, PlainState};
 use std::alloc::{AllocError, Global};
 use std::test::Fail;
 
-/// A state where s is the set of 1.
+/// Return a state where s is the set of 1.
 fn opened(alloc: Global) -> Result<State, Fail> {
     let mut set = ElemSet::new(alloc);
     set.insert(Element::Num(1))?;
@@ -16,7 +16,7 @@ fn opened(alloc: Global) -> Result<State, Fail> {
     Ok(State::new(alloc, init)?)
 }
 
-/// A move that adds 2 and 3 to s.
+/// Return a move that adds 2 and 3 to s.
 fn additions(alloc: Global) -> Result<Instructions, Fail> {
     let mut list = Instructions::new(alloc);
     for n in [2, 3] {
@@ -27,7 +27,7 @@ fn additions(alloc: Global) -> Result<Instructions, Fail> {
     Ok(list)
 }
 
-/// Whether a follow changed s and counted the move, or left both where memory was refused.
+/// Return whether a follow changed s and counted the move, or left both where memory was refused.
 fn is_whole(alloc: Global, state: &State, answer: Result<(), AllocError>) -> Result<bool, Fail> {
     let at = location(alloc, "s")?;
     let members = match state.get(&at) {
@@ -40,7 +40,7 @@ fn is_whole(alloc: Global, state: &State, answer: Result<(), AllocError>) -> Res
     }
 }
 
-/// Whether a follow changes s and counts the move, or does neither.
+/// Return whether a follow changes s and counts the move, or does neither.
 fn follows_whole(
     alloc: Global,
     state: &mut State,

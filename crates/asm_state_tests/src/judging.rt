@@ -25,7 +25,7 @@ fn move_of(alloc: Global, puts: &[Put]) -> Result<Instructions, Fail> {
     Ok(list)
 }
 
-/// A state at number 0 where x is 7.
+/// Return a state at number 0 where x is 7.
 fn opened(alloc: Global) -> Result<State, Fail> {
     let at = location(alloc, "x")?;
     let mut init = PlainState::new(alloc);
@@ -40,7 +40,7 @@ fn follow<R: Abort>(rt: &R, alloc: Global, state: &mut State, puts: &[Put]) -> R
     Ok(())
 }
 
-/// A state that has followed `put x 7`, and then a move that clashes at x.
+/// Return a state that has followed `put x 7`, and then a move that clashes at x.
 fn played<R: Abort>(rt: &R, alloc: Global) -> Result<State, Fail> {
     let mut state = opened(alloc)?;
     follow(rt, alloc, &mut state, &[Put("x", Some(7))])?;
@@ -110,7 +110,7 @@ fn judges(
     Ok(is_wanted(&verdict, want))
 }
 
-/// Whether the state holds this number at the location, or nothing, since the move with that number.
+/// Return whether the state holds this number at the location, or nothing, since the move with that number.
 fn holds(state: &State, at: &Location, number: Option<i64>, writer: u32) -> bool {
     let value = value(number);
     let held = match state.get(at) {
@@ -179,7 +179,7 @@ fn place(alloc: Global, number: i64) -> Result<Location, Fail> {
     Ok(Location::new(name, args)?)
 }
 
-/// A state where n(1), n(3) and so on hold their argument, below the limit.
+/// Return a state where n(1), n(3) and so on hold their argument, below the limit.
 fn half_held(alloc: Global, limit: i64) -> Result<State, Fail> {
     let mut init = PlainState::new(alloc);
     for n in 0..limit {
@@ -191,7 +191,7 @@ fn half_held(alloc: Global, limit: i64) -> Result<State, Fail> {
     Ok(State::new(alloc, init)?)
 }
 
-/// Puts of -1 at n(0), n(1) and so on, below the limit, from the last to the first.
+/// Put of -1 at n(0), n(1) and so on, below the limit, from the last to the first.
 fn many_puts(alloc: Global, limit: i64) -> Result<Instructions, Fail> {
     let mut list = Instructions::new(alloc);
     for n in (0..limit).rev() {
@@ -202,7 +202,7 @@ fn many_puts(alloc: Global, limit: i64) -> Result<Instructions, Fail> {
     Ok(list)
 }
 
-/// Whether the puts are written at all locations below the limit, or at none.
+/// Return whether the puts are written at all locations below the limit, or at none.
 fn is_all_or_nothing(alloc: Global, state: &State, limit: i64, fired: bool) -> Result<bool, Fail> {
     for n in 0..limit {
         let at = place(alloc, n)?;
@@ -219,14 +219,15 @@ fn is_all_or_nothing(alloc: Global, state: &State, limit: i64, fired: bool) -> R
     Ok(state.number() == u32::from(fired))
 }
 
-/// Whether a copy of the state has the puts at all locations below the limit, as the state has.
+/// Return whether a copy of the state has the puts at all locations below the limit, as the state has.
 fn is_copied_whole(alloc: Global, state: &State, limit: i64) -> Result<bool, Fail> {
     let copy = state.copy(alloc)?;
     is_all_or_nothing(alloc, &copy, limit, true)
 }
 
-/// Whether a follow of puts at as many locations, half of which are held, wrote each, or, where memory was refused,
-/// left the number, the values and the writers as before, and a second follow, which has memory, writes each.
+/// Return whether a follow of puts at as many locations, half of which are held, wrote each, or, where memory was
+/// refused, left the number, the values and the writers as before, and a second follow, which has memory, writes
+/// each.
 fn is_written_whole(
     alloc: Global,
     state: &mut State,

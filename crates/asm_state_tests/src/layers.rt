@@ -25,7 +25,7 @@ impl Lookup for Counting {
     }
 }
 
-/// A state where x is 1 and y is 2.
+/// Return a state where x is 1 and y is 2.
 fn state(alloc: Global) -> Result<Counting, Fail> {
     let mut state = PlainState::new(alloc);
     state.set(location(alloc, "x")?, value(Some(1)))?;
@@ -34,7 +34,7 @@ fn state(alloc: Global) -> Result<Counting, Fail> {
     Ok(Counting { state, asked })
 }
 
-/// One frame, in which x is undef.
+/// Return one frame, in which x is undef.
 fn overlay(alloc: Global) -> Result<Overlay, Fail> {
     let mut frame = UpdateSet::new(alloc);
     frame.put(location(alloc, "x")?, value(None))?;

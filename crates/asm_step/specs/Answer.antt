@@ -13,8 +13,8 @@ use Rattle.asm_step.specs.Layers.{Layer, frames_of, one_move}
 use Rattle.asm_step.specs.declared.error.StepError.{StepError}
 use Rattle.asm_step.specs.declared.error.StepError.TheVariants.{Clash, Large, Many, Deep, Memory}
 
--- what does at a location what two moves in turn do: what they compose to where both write it, and else what the one that
--- writes it does there, as it is
+-- what does at a location what two moves in turn do: what they compose to where both write it, and else what the one
+-- that writes it does there, unchanged
 abbrev pub continued_at : Meaning → Move → Move → Place → Joined
 continued_at a M N l =
     if writes N l then (if writes M l then composed_at a M N l else Ok (actions_at N l)) else Ok (actions_at M l)
@@ -23,7 +23,7 @@ continued_at a M N l =
 abbrev pub continued : Meaning → Move → Move → Result Move (Place × NoJoin)
 continued a M N = in_turn (map (λ l. (l, continued_at a M N l)) (locations (M ++ N)))
 
--- the one move of those before, if there are any, and then the next one; a first one is as it is
+-- the one move of those before, if there are any, and then the next one; a first one is itself
 abbrev pub continued_after : Meaning → Option Move → Move → Result Move (Place × NoJoin)
 continued_after a None M = Ok M
 continued_after a (Some D) M = continued a D M
@@ -37,8 +37,8 @@ composed_after a (Some C) M = composition a C M
 abbrev pub HasUpdates : Part → Old → List Layer → Move → Type 0
 HasUpdates part old s M = (U : Updates) × IsUpdateSet part (seen_through (frames_of s) old) M U
 
--- the answer is this move, of at most 4,096 instructions, or why there is none. A first move isn't too long. A refusal of
--- memory tells nothing
+-- the answer is this move, of at most 4,096 instructions, or why there is none. A first move isn't too long. A
+-- refusal of memory says nothing
 abbrev pub IsTold : Option Move → Result Move (Place × NoJoin) → Result Move StepError → Type 0
 IsTold o r (Ok C) = (r ≡ Ok C) × (length C ≤ instructions_limit)
 IsTold o r (Err (Clash clash)) = r ≡ Err (clash.at, Refused clash.cause)
@@ -52,12 +52,12 @@ IsTold o r (Err Memory) = Unit {0}
 abbrev pub IsFollowedBy : Meaning → Option Move → Move → Result Move StepError → Type 0
 IsFollowedBy a o M r = IsTold o (composed_after a o M) r
 
--- the answer is the one move that goes on with the move, or why there is none
+-- the answer is the one move extended by the move, or why there is none
 abbrev pub IsContinuedBy : Meaning → Option Move → Move → Result Move StepError → Type 0
 IsContinuedBy a o M r = IsTold o (continued_after a o M) r
 
--- A move is taken where it has an update set on what is seen, and goes on with those before it, to what is then the one
--- move; else the first of these that fails is told. A refusal of memory tells nothing.
+-- A move is pushed if it has an update set on what is seen, and composes with those before it, to what is then the
+-- one move; else the first of these that fails is the error. A refusal of memory says nothing.
 abbrev pub IsPushAnswer : Meaning → Old → List Layer → List Layer → Move → Result (Unit {0}) StepError → Type 0
 IsPushAnswer a old s new M (Ok _) =
     HasUpdates a.part old s M × ((C : Move) × (one_move new ≡ Some C) × IsContinuedBy a (one_move s) M (Ok C))
@@ -69,8 +69,8 @@ IsPushAnswer a old s new M (Err Many) = HasUpdates a.part old s M × IsContinued
 IsPushAnswer a old s new M (Err Deep) = length s ≡ frames_limit
 IsPushAnswer a old s new M (Err Memory) = Unit {0}
 
--- the same on a state on which the step's moves fire: the move fires there in its turn, or its clash is told, and none is
--- too large
+-- the same on a state on which the step's moves fire: the move fires there in its turn, or its clash is the error,
+-- and none is too large
 abbrev pub IsPushAnswerOn : Part → State → List Layer → List Layer → Move → Result (Unit {0}) StepError → Type 0
 IsPushAnswerOn part A s new M (Ok _) = fire part (under A (frames_of s)) M ≡ Ok (under A (frames_of new))
 IsPushAnswerOn part A s new M (Err (Clash clash)) = fire part (under A (frames_of s)) M ≡ Err clash
@@ -79,8 +79,8 @@ IsPushAnswerOn part A s new M (Err Many) = Unit {0}
 IsPushAnswerOn part A s new M (Err Deep) = Unit {0}
 IsPushAnswerOn part A s new M (Err Memory) = Unit {0}
 
--- what the one move with a last one owes to such a state: it does there what the last one does after the others, and where
--- they don't compose, the last one clashes
+-- what is required of the one move with a last one on such a state: it does there what the last one does after the
+-- others, and where they don't compose, the last one clashes
 abbrev pub IsLastOn : Part → State → List Layer → Move → Result Move StepError → Type 0
 IsLastOn part A s M (Ok C) = fire part A C ≡ fire part (under A (frames_of s)) M
 IsLastOn part A s M (Err (Clash clash)) = IsErr (fire part (under A (frames_of s)) M)

@@ -1,4 +1,4 @@
--- What is done at a location, kept so that one more partial update joins it.
+-- What is done at a location, in a form that one more partial update joins.
 use Rattle.std.specs.Prelude.{◌≡◌, ◌≤◌, ◌+◌, ◌++◌, ℕ, Bool, true, false, List, [], ◌∷◌, length, map, nat_lt, if◌then◌else◌, Option, Some, None, Ok, ◌≢◌}
 use Rattle.std.specs.List.{flat_map, list_all}
 use Rattle.asm_aggregate.specs.Bundle.{bundle_of}
@@ -60,7 +60,7 @@ bag_list added removed = bag_updates true added ++ bag_updates false removed
 abbrev pub amounts_list : Amounts → List Action
 amounts_list b = bag_list b.added b.removed
 
--- the actions that a front stands for, which leave this value
+-- the actions that a front represents, which leave this value
 abbrev pub front_list : Value → Front → List Action
 front_list v Nothing = []
 front_list v Put = Regular v ∷ []
@@ -87,7 +87,7 @@ abbrev pub IsLonger : ℕ → ℕ → Option Grown → Type 0
 IsLonger old new (Some grown) = (new + grown.less ≡ old + grown.more) × (grown.more ≤ 1)
 IsLonger old new None = Unit {0}
 
--- the actions that do what these and one more partial update do: the update as it is, where there are none before it
+-- the actions that do what these and one more partial update do: the update itself, if there are none before it
 abbrev pub joined_to : Meaning → List Action → Action → Joined
 joined_to a [] x = Ok (x ∷ [])
 joined_to a (y ∷ ys) x = composed a (bundle_of (y ∷ ys)) (bundle_of (x ∷ []))
@@ -105,7 +105,7 @@ abbrev pub IsApplied : Meaning → Action → Value → List Action → Value �
 IsApplied a x v xs w ys (Some grown) = Applied a x v xs w ys grown
 IsApplied a x v xs w ys None = (w ≡ v) × (ys ≡ xs)
 
--- an outcome that goes on with a partial update of a later move
+-- an outcome after a partial update of a later move
 pub record GoneOn (a : Meaning) (x : Action) (old new : Outcome) (grown : Grown) : Type 0 where
   pub partial : is_partial x ≡ true
   pub applied : Applied a x old.value old.actions new.value new.actions grown

@@ -25,7 +25,7 @@ all_but_last [] = []
 all_but_last (x ∷ []) = []
 all_but_last (x ∷ y ∷ xs) = x ∷ all_but_last (y ∷ xs)
 
--- one move does what the moves do in turn, clashes of the last one included, on each proper state on which those
+-- one move does what the moves do in turn, clashes of the last one included, on each well-formed state on which those
 -- before the last fire in turn
 abbrev pub DoesAll : Part → List Move → Move → Type 0
 DoesAll part Ms C =
@@ -46,7 +46,8 @@ IsWrittenInTurn part old Ms U = (Us : Frames) × AreUpdateSets part old Ms Us ×
 abbrev pub Agrees : State → Old → List Move → Type 0
 Agrees A old Ms = (l : Place) → Contains (all_partial_places Ms) l → val A l ≡ old l
 
--- at each location the third move gives, on each proper value on which the first gives one, what the second gives on that
+-- at each location the third move gives, on each well-formed value on which the first gives one, what the second
+-- gives on that
 abbrev pub IsSequenceAt : Part → Move → Move → Move → Type 0
 IsSequenceAt part M N C =
     (l : Place) (v w : Value) → value.IsProper v → gives part v (actions_at M l) ≡ Ok w →
@@ -62,7 +63,8 @@ abbrev pub in_column : Part → GroupResult → List Move → Place → GroupRes
 in_column part r [] l = r
 in_column part r (M ∷ Ms) l = in_column part (then_gives part r (actions_at M l)) Ms l
 
--- at each location the one move gives what the moves give in turn, on each proper value on which all but the last give one
+-- at each location the one move gives what the moves give in turn, on each well-formed value on which all but the
+-- last give one
 abbrev pub DoesEach : Part → List Move → Move → Type 0
 DoesEach part Ms C =
     (l : Place) (v : Value) → value.IsProper v → IsOk (in_column part (Ok v) (all_but_last Ms) l) →

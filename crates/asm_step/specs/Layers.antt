@@ -39,7 +39,7 @@ first_of (M ∷ Ms) = Some M
 abbrev pub alone_in : OwnLayer → Option Move
 alone_in y = if y.is_alone then first_of y.moves else None
 
--- a layer over what is below it, of which its own outcomes are kept
+-- a layer over what is below it, which has its own outcomes
 abbrev pub laid_on : Outcomes → OwnLayer → Layer
 laid_on below y = record { outcomes = laid below y.own; moves = y.moves; alone = alone_in y; count = y.count }
 
@@ -70,7 +70,7 @@ moves_of s = option_map_or (λ y. y.moves) (top_of s) []
 abbrev pub behind : List Move → Layer → Layer
 behind Ms y = record y { moves = Ms ++ y.moves }
 
--- the one move of all moves up to a layer: one alone is as it is
+-- the one move of all moves up to a layer: one alone is itself
 abbrev pub one_move_of : Layer → Move
 one_move_of y = unwrap_or y.alone (listed y.outcomes)
 
@@ -78,7 +78,7 @@ one_move_of y = unwrap_or y.alone (listed y.outcomes)
 abbrev pub one_move : List Layer → Option Move
 one_move s = option_map one_move_of (top_of s)
 
--- where the moves of a step rest on what is below
+-- where the moves of a step depend on what is below
 abbrev pub resting_of : List Layer → List Place
 resting_of s = option_map_or (λ y. resting_in y.outcomes) (top_of s) []
 
@@ -98,8 +98,8 @@ all_moves [] = []
 all_moves (group ∷ groups) = group ++ all_moves groups
 
 -- what all moves up to a layer come to: what they write in turn; the one move, which does what they do, on states and
--- location by location, and keeps the group of a location that one of them alone writes; where they build on what is below,
--- and where they rest on it
+-- location by location, and has the same group at a location that one of them alone writes; where they build on what
+-- is below, and where they depend on it
 pub record IsLayerOf (part : Part) (old : Old) (Ms : List Move) (y : Layer) : Type 0 where
   pub written : IsWrittenInTurn part old Ms (frame y.outcomes)
   pub does : DoesAll part Ms (one_move_of y)

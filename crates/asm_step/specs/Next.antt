@@ -35,7 +35,7 @@ IsFrame part old M (Err Many) = ⊥
 IsFrame part old M (Err Deep) = ⊥
 IsFrame part old M (Err Memory) = Unit {0}
 
--- there is an earlier move, and no proper state lets it and then the next fire
+-- there is an earlier move, and no well-formed state lets it and then the next fire
 abbrev pub NeverFollows : Part → Option Move → Move → Type 0
 NeverFollows part None M = ⊥
 NeverFollows part (Some D) M = NeverFires part D M
@@ -72,7 +72,7 @@ AreMerged below above U = (l : Place) → map.get U l ≡ option_or (map.get abo
 abbrev pub builds_next : Outcomes → Move → Place → Bool
 builds_next os M l = if writes M l then (if puts M l then builds_at os l else sees_at os l) else builds_at os l
 
--- whether they rest on it: those before do, or they build on it and the next one writes there
+-- whether they depend on it: those before do, or they build on it and the next one writes there
 abbrev pub rests_next : Outcomes → Move → Place → Bool
 rests_next os M l = if writes M l then builds_at os l else rests_at os l
 
@@ -143,7 +143,7 @@ count_of s = option_map_or (λ y. y.count) (top_of s) 0
 abbrev pub followed : List Action → Outcome → Outcome
 followed xs o = record o { actions = o.actions ++ xs }
 
--- the outcome with a regular update noted, if there is one among these
+-- the outcome with a regular update recorded, if there is one among these
 abbrev pub noted : List Action → Outcome → Outcome
 noted xs o = record o { builds = if list_any is_regular xs then o.rests else o.builds }
 
@@ -151,7 +151,7 @@ noted xs o = record o { builds = if list_any is_regular xs then o.rests else o.b
 abbrev pub AreFilled : Move → Outcomes → Outcomes → Type 0
 AreFilled M old new = (l : Place) → map.get new l ≡ option_map (followed (actions_at M l)) (map.get old l)
 
--- the regular updates of the instructions are noted
+-- the regular updates of the instructions are recorded
 abbrev pub AreMarked : Move → Outcomes → Outcomes → Type 0
 AreMarked M old new = (l : Place) → map.get new l ≡ option_map (noted (actions_at M l)) (map.get old l)
 

@@ -13,9 +13,9 @@ use Rattle.asm_update.specs.declared.action.Action.TheVariants.{Regular}
 use Rattle.asm_aggregate.specs.Compose.{placed}
 use Rattle.asm_aggregate.specs.OnlyPut.{only_put}
 
--- what moves come to at a location that one of them writes: the value that they leave, the actions that do there what they
--- do in turn, whether they build on the value below (the first of them that writes there has partial updates alone), and
--- whether they rest on it (a later one writes there too)
+-- what moves come to at a location that one of them writes: the value that they leave, the actions that do there what
+-- they do in turn, whether they build on the value below (the first of them that writes there has partial updates
+-- alone), and whether they depend on it (a later one writes there too)
 pub record Outcome : Type 0 where
   pub value : Value
   pub actions : List Action
@@ -58,7 +58,7 @@ frame os = finite.from_entries (map (λ e. (e.0, e.1.value)) (finite.entries os)
 abbrev pub listed : Outcomes → Move
 listed os = flat_map (λ e. placed e.0 e.1.actions) (finite.entries os)
 
--- where the moves rest on what is below
+-- where the moves depend on what is below
 abbrev pub resting_in : Outcomes → List Place
 resting_in os = map (λ e. e.0) (filter (λ e. e.1.rests) (finite.entries os))
 
@@ -97,6 +97,6 @@ builds_at os l = option_map_or (λ o. o.builds) (finite.get os l) false
 abbrev pub sees_at : Outcomes → Place → Bool
 sees_at os l = option_map_or (λ o. o.builds) (finite.get os l) true
 
--- whether they rest on it there
+-- whether they depend on it there
 abbrev pub rests_at : Outcomes → Place → Bool
 rests_at os l = option_map_or (λ o. o.rests) (finite.get os l) false

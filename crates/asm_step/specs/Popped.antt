@@ -9,8 +9,8 @@ use Rattle.asm_aggregate.specs.declared.composition.ComposeError.{ComposeError}
 use Rattle.asm_aggregate.specs.declared.composition.ComposeError.TheVariants as compose_error
 use Rattle.asm_step.specs.InTurn.{fire_all, DoesAll}
 
--- the answer is what a move and the next ones come to, each composed with those before it; alone it is as it is. Or it tells
--- why the first that doesn't compose doesn't. A refusal of memory tells nothing
+-- the answer is what a move and the next ones come to, each composed with those before it; alone it is itself. Or it
+-- is why the first that doesn't compose doesn't. A refusal of memory says nothing
 abbrev pub IsComposedOf : Meaning → Move → List Move → Result Move ComposeError → Type 0
 IsComposedOf a M [] (Ok C) = C ≡ M
 IsComposedOf a M [] (Err compose_error.Memory) = Unit {0}
@@ -24,7 +24,7 @@ abbrev pub IsOneOf : Meaning → List Move → Result Move ComposeError → Type
 IsOneOf a [] r = ⊥
 IsOneOf a (M ∷ Ms) r = IsComposedOf a M Ms r
 
--- no proper state lets the moves fire in turn
+-- no well-formed state lets the moves fire in turn
 abbrev pub NeverFireAll : Part → List Move → Type 0
 NeverFireAll part Ms = (A : State) → IsProper A → IsErr (fire_all part (Ok A) Ms)
 

@@ -31,8 +31,8 @@ abbrev pub sees_below : List Move → Place → Bool
 sees_below [] l = true
 sees_below (M ∷ Ms) l = if writes M l then not (puts M l) else sees_below Ms l
 
--- whether the moves rest on the value below: the first that writes there has partial updates alone, and a later one writes
--- there too
+-- whether the moves depend on the value below: the first that writes there has partial updates alone, and a later one
+-- writes there too
 abbrev pub rests : List Move → Place → Bool
 rests [] l = false
 rests (M ∷ Ms) l = if writes M l then not (puts M l) && one_writes Ms l else rests Ms l

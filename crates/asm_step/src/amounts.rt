@@ -1,4 +1,4 @@
-//! What actions on a bag add and what they remove, kept by element.
+//! What actions on a bag add and what they remove, by element.
 ghost use Rattle.std.specs.Prelude.{◌≡◌, ◌≤◌, ◌+◌, ◌++◌, ◌&&◌, true, false, nat_eq, nat_lt, is_some, if◌then◌else◌, OnOk, OnErr, IfOk};
 ghost use Rattle.std.specs.FinMap as map;
 ghost use Rattle.asm_aggregate.specs.BagMeaning.{bag_joins};
@@ -23,7 +23,7 @@ pub(crate) struct Amounts {
     pub(crate) removed: ElemBag,
 }
 
-// Does nothing; its contract tells that the bag has elements and counts that a bag can hold.
+// State for proofs that the bag has elements and counts that a bag can hold; do nothing at run time.
 fn held(elements: &ElemBag)
     ensures { bag.IsProper elements.now }
 {
@@ -127,7 +127,9 @@ fn push_amounts(
 }
 
 impl Amounts {
-    /// What the actions add and what they remove; of several at one element and side the largest.
+    /// Gather what the actions add and what they remove.
+    ///
+    /// Of several at one element and side it is the largest.
     pub(crate) fn of(alloc: Global, actions: &[Action]) -> Result<Amounts, AllocError> {
         let mut added = ElemBag::new(alloc);
         let mut removed = ElemBag::new(alloc);
@@ -143,7 +145,7 @@ impl Amounts {
         Ok(Amounts { added, removed })
     }
 
-    /// The additions and then the removals.
+    /// Return the additions and then the removals.
     pub(crate) fn listed(&self, alloc: Global) -> Result<Vec<Action>, AllocError>
         ensures { IfOk result (λ list. list.items ≡ amounts_list self.now) }
     {
@@ -153,7 +155,7 @@ impl Amounts {
         Ok(actions)
     }
 
-    /// Whether there are actions.
+    /// Return whether there are actions.
     pub(crate) fn acts(&self) -> bool
         ensures { result ≡ acts (amounts_list self.now) }
     {
@@ -238,8 +240,10 @@ impl Amounts {
         )
     }
 
-    /// Joins the partial update, which the value takes, too; None where it isn't one of bags, or has no result, or too much
-    /// comes together. After an error nothing is changed.
+    /// Join the partial update, which the value takes, too.
+    ///
+    /// `None` is the answer if it isn't one of bags, has no result, or makes an amount too large. On error, nothing
+    /// changes.
     pub(crate) fn join<A: Aggregator>(
         &mut self,
         alloc: Global,

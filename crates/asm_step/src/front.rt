@@ -1,4 +1,4 @@
-//! What is done at a location, kept so that one more partial update joins it at the cost of itself.
+//! What is done at a location, in a form that one more partial update joins at its own cost.
 ghost use Rattle.std.specs.Prelude.{◌≡◌, ◌≤◌, ◌+◌, ◌++◌, ◌∷◌, [], true, false, if◌then◌else◌, OnOk, OnErr, IfOk, IfSome, length};
 ghost use Rattle.std.specs.Bool.{OnTrue};
 ghost use Rattle.asm_aggregate.specs.Compose.{placed};
@@ -47,7 +47,7 @@ pub(crate) fn one_if(test: bool) -> usize
     if test { 1 } else { 0 }
 }
 
-/// Applies the partial update to the value in place; whether it has a result.
+/// Apply the partial update to the value in place; whether it has a result.
 pub(crate) fn changed<A: Aggregator>(
     alloc: Global,
     aggregator: &A,
@@ -78,7 +78,7 @@ fn put_changed<A: Aggregator>(
         value.old (Regular value.old ∷ []) value.new (Regular value.new ∷ [])) }
     ensures err { OnErr result (value.new ≡ value.old) }
 {
-    // The sequence is promised of proper values.
+    // Proof: the sequence is promised of well-formed values.
     value.proper();
     if changed(alloc, aggregator, value, action)? {
         return Ok(Some(Grown { more: 0, less: 0 }));
@@ -140,7 +140,7 @@ fn first_family(actions: &[Action]) -> Option<Family> {
 }
 
 impl Front {
-    /// The front that stands for the actions that leave this value, if there is one.
+    /// Return the front of the actions that leave this value, if there is one.
     pub(crate) fn of(
         alloc: Global,
         value: &Value,
@@ -165,7 +165,7 @@ impl Front {
         }
     }
 
-    /// Whether there are actions.
+    /// Return whether there are actions.
     pub(crate) fn acts(&self) -> bool
         ensures { (v : values.Value) → result ≡ acts (front_list v self.now) }
     {
@@ -177,7 +177,7 @@ impl Front {
         }
     }
 
-    /// Appends a copy of each of the actions, which leave this value, at the location.
+    /// Append a copy of each of the actions, which leave this value, at the location.
     pub(crate) fn append_to(
         &self,
         alloc: Global,
@@ -196,8 +196,9 @@ impl Front {
         }
     }
 
-    /// Joins the partial update to the actions, and applies it to the value that they leave, in place; None where
-    /// that isn't done here. After an error nothing is changed.
+    /// Join the partial update to the actions, and apply it to their value in place.
+    ///
+    /// `None` is the answer if that isn't done here. On error, nothing changes.
     pub(crate) fn join<A: InPlace>(
         &mut self,
         alloc: Global,

@@ -1,4 +1,4 @@
-//! What moves come to at a location, wherever it is kept, and at all locations together.
+//! What moves come to at a location, in either form, and at all locations together.
 ghost use Rattle.std.specs.Prelude.{◌≡◌, ◌≤◌, ◌+◌, ◌++◌, OnOk, length};
 ghost use Rattle.asm_aggregate.specs.Compose.{placed};
 ghost use Rattle.asm_update.specs.Limits.{instructions_limit};
@@ -17,7 +17,7 @@ use std::collections::BTreeMap;
 use std::collections::btree_map::IntoIter;
 use std::marker::Model;
 
-/// An outcome, or a put that stands for one; contracts see it as the outcome.
+/// An outcome, or a put in its place; contracts see it as the outcome.
 #[derive(Drop)]
 pub(crate) struct Held<'a> {
     /// The value that is put, where there is no outcome.
@@ -39,7 +39,7 @@ impl<'a> Model for Held<'a> {
 }
 
 impl<'a> Held<'a> {
-    /// What a put of the value comes to, where it is the first to write.
+    /// Return the outcome of a put of the value that is the first to write.
     pub(crate) fn of_put(value: &'a Value) -> Held<'a>
         ensures { result ≡ put_outcome value.now }
     {
@@ -49,7 +49,7 @@ impl<'a> Held<'a> {
         }
     }
 
-    /// The outcome itself.
+    /// Return the outcome itself.
     pub(crate) fn of(outcome: &'a Outcome) -> Held<'a>
         ensures { result ≡ outcome.now }
     {
@@ -59,7 +59,7 @@ impl<'a> Held<'a> {
         }
     }
 
-    /// The value that is left there.
+    /// Return the value that is left there.
     pub(crate) fn value(&self) -> &'a Value
         ensures { result.now ≡ self.now.value }
     {
@@ -69,7 +69,7 @@ impl<'a> Held<'a> {
         }
     }
 
-    /// Whether there are actions.
+    /// Return whether there are actions.
     pub(crate) fn acts(&self) -> bool
         ensures { result ≡ acts self.now.actions }
     {
@@ -79,7 +79,7 @@ impl<'a> Held<'a> {
         }
     }
 
-    /// Whether it builds on the value below.
+    /// Return whether it builds on the value below.
     pub(crate) fn builds(&self) -> bool
         ensures { result ≡ self.now.builds }
     {
@@ -89,7 +89,7 @@ impl<'a> Held<'a> {
         }
     }
 
-    /// Whether it rests on that.
+    /// Return whether it depends on that.
     pub(crate) fn rests(&self) -> bool
         ensures { result ≡ self.now.rests }
     {
@@ -99,7 +99,7 @@ impl<'a> Held<'a> {
         }
     }
 
-    /// Appends a copy of each of the actions, at the location.
+    /// Append a copy of each of the actions, at the location.
     pub(crate) fn append_to(
         &self,
         alloc: Global,
@@ -116,7 +116,9 @@ impl<'a> Held<'a> {
     }
 }
 
-/// What moves come to at each location that one of them writes, which contracts see as a finite map.
+/// What moves come to at each location that one of them writes.
+///
+/// Contracts see it as a finite map.
 #[derive(Drop)]
 pub(crate) struct Gathered<'a> {
     tree: BTreeMap<&'a Location, Held<'a>>,
@@ -152,7 +154,7 @@ impl<'a> Gathered<'a> {
         }
     }
 
-    /// Gives the location what is held.
+    /// Give the location what is held.
     #[tactic(auto, using(crate::proofs::Insertions::put_in))]
     pub(crate) fn put(&mut self, at: &'a Location, held: Held<'a>) -> Result<(), AllocError>
         ensures { OnOk result (self.new ≡ map.insert self.old at.now held.entry) }
@@ -161,7 +163,7 @@ impl<'a> Gathered<'a> {
         Ok(())
     }
 
-    /// Gives each location of the outcomes above what these have there.
+    /// Give each location of the outcomes above what these have there.
     pub(crate) fn take(&mut self, above: &'a Outcomes) -> Result<(), AllocError>
         ensures { OnOk result ((q : Place) → map.get self.new q ≡ option_or (map.get above.now q) (map.get self.old q)) }
     {
@@ -171,7 +173,7 @@ impl<'a> Gathered<'a> {
         Ok(())
     }
 
-    /// The locations with what is held there, in ascending order.
+    /// Return the locations with what is held there, in ascending order.
     pub(crate) fn into_entries(self) -> IntoIter<&'a Location, Held<'a>>
         ensures { by_place result ≡ map.entries self.entry }
     {

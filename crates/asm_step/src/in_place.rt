@@ -20,17 +20,17 @@ pub enum Known {
 
 /// An aggregator by which a step is extended.
 ///
-/// Where it says `Own`, a step joins partial updates without asking it, in place, at the cost of what joins them. An
-/// aggregator of your own needs no more than `impl InPlace for Mine {}`.
+/// Where it says `Own`, a step joins partial updates without asking it, in place, at the cost of what joins them.
+/// An aggregator of your own needs no more than `impl InPlace for Mine {}`.
 pub trait InPlace: Aggregator {
-    /// What is known of partial updates of sets, whatever the aggregator holds.
+    /// Return what is known of partial updates of sets, with any aggregator.
     fn sets() -> Known
         ensures { (a : Self) → IsKnown (Self.meaning a) family.Set set_joins result }
     {
         Known::Unknown
     }
 
-    /// What is known of partial updates of bags.
+    /// Return what is known of partial updates of bags.
     fn bags() -> Known
         ensures { (a : Self) → IsKnown (Self.meaning a) family.Bag bag_joins result }
     {

@@ -31,7 +31,7 @@ pub(crate) struct OwnLayer {
 }
 
 impl OwnLayer {
-    /// The step's one move, if it is one that was pushed alone.
+    /// Return the step's one move, if it is one that was pushed alone.
     pub(crate) fn alone(&self) -> Option<&Instructions>
         ensures { option_copied result ≡ alone_in self.now }
     {
@@ -41,8 +41,9 @@ impl OwnLayer {
         None
     }
 
-    /// Takes in a move of one partial update in place, at a location that these moves have written; whether that is done
-    /// here. After an error nothing is changed.
+    /// Take in a move of one partial update in place; return whether that is done.
+    ///
+    /// Its location is one that these moves have written. On error, nothing changes.
     pub(crate) fn go_on<A: InPlace>(
         &mut self,
         alloc: Global,
@@ -59,7 +60,7 @@ impl OwnLayer {
         if self.count >= INSTRUCTIONS_LIMIT {
             return Ok(false);
         }
-        // What is done in turn is promised of proper moves.
+        // Proof: what is done in turn is promised of well-formed moves.
         instructions.proper();
         self.moves.push(instructions.copy(alloc)?)?;
         match self.own.go_on(alloc, aggregator, &one.at, &one.action) {
@@ -79,7 +80,9 @@ impl OwnLayer {
         }
     }
 
-    /// Takes in the layer of a move that extends this one. After an error nothing is changed.
+    /// Take in the layer of a move that extends this one.
+    ///
+    /// On error, nothing changes.
     pub(crate) fn extend(&mut self, alloc: Global, next: OwnLayer) -> Result<(), AllocError>
         ensures own { OnOk result ((q : Place) →
             map.get self.new.own q ≡ option_or (map.get next.own q) (map.get self.old.own q)) }
@@ -99,7 +102,7 @@ impl OwnLayer {
     }
 }
 
-/// The update set of the instructions on what is seen.
+/// Return the update set of the instructions on what is seen.
 pub(crate) fn frame_on<A: Aggregator, L: Lookup>(
     alloc: Global,
     aggregator: &A,
@@ -115,16 +118,18 @@ pub(crate) fn frame_on<A: Aggregator, L: Lookup>(
     }
 }
 
-/// The instructions alone, where no others are earlier.
+/// Return the instructions alone, where no others are earlier.
 fn first_move(alloc: Global, instructions: &Instructions) -> Result<Instructions, StepError>
     ensures { (a : Meaning) → IsComposed a None instructions.now result }
 {
-    // That there are at most 4,096 is what the goal needs.
+    // Proof: that there are at most 4,096 is what the goal needs.
     let _few = instructions.len();
     Ok(instructions.copy(alloc)?)
 }
 
-/// The instructions that do what the earlier ones, if there are any, and then the next ones do.
+/// Return the instructions that do what the earlier ones and then the next ones do.
+///
+/// There may be no earlier ones.
 pub(crate) fn move_after<A: Aggregator>(
     alloc: Global,
     aggregator: &A,

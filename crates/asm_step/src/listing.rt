@@ -10,7 +10,7 @@ use asm_element::{Location, Value};
 use asm_update::{Action, Instruction, Instructions};
 use std::alloc::{AllocError, Global};
 
-/// Appends a copy of each of the actions at the location.
+/// Append a copy of each of the actions at the location.
 pub(crate) fn append(
     alloc: Global,
     list: &mut Instructions,
@@ -30,7 +30,7 @@ pub(crate) fn append(
     Ok(())
 }
 
-/// Appends the instruction, for which there is room.
+/// Append the instruction, for which there is room.
 pub(crate) fn push_within(
     list: &mut Instructions,
     instruction: Instruction,
@@ -44,7 +44,7 @@ pub(crate) fn push_within(
     }
 }
 
-/// Appends a put of a copy of the value at the location.
+/// Append a put of a copy of the value at the location.
 pub(crate) fn push_put(
     alloc: Global,
     list: &mut Instructions,
@@ -61,7 +61,7 @@ pub(crate) fn push_put(
     push_within(list, put)
 }
 
-/// The instructions of all outcomes, by location.
+/// Return the instructions of all outcomes, by location.
 pub(crate) fn listing(alloc: Global, all: Gathered<'_>) -> Result<Instructions, AllocError>
     requires { length (listed all) ≤ instructions_limit }
     ensures { IfOk result (λ list. list ≡ listed all.entry) }
@@ -73,7 +73,7 @@ pub(crate) fn listing(alloc: Global, all: Gathered<'_>) -> Result<Instructions, 
     Ok(list)
 }
 
-/// Where they rest on what is below.
+/// Return where they depend on what is below.
 pub(crate) fn resting_places(alloc: Global, all: Gathered<'_>) -> Result<Vec<Location>, AllocError>
     ensures { IfOk result (λ places. places.items ≡ resting_in all.entry) }
 {

@@ -76,7 +76,7 @@ fn put_layer(alloc: Global, put: &Instructions) -> Result<OwnLayer, AllocError>
 }
 
 impl Step {
-    // Extends the topmost layer by a move in place; whether that is done here. After an error nothing is changed.
+    // Extends the topmost layer by a move in place; whether that is done here. On error, nothing changes.
     fn go_on<A: InPlace>(
         &mut self,
         alloc: Global,
@@ -98,7 +98,7 @@ impl Step {
         ensures listed { count_of self.now ≡ length (listed (outcomes_of self.now)) }
         ensures few { count_of self.now ≤ instructions_limit }
     {
-        // The invariant is known once a field is read.
+        // Proof: the invariant is known once a field is read.
         let _ = &self.layers;
         match self.top() {
             Some(top) => top.count,
@@ -127,7 +127,7 @@ impl Step {
         ensures { IfOk result (λ earlier. earlier
             ≡ flat_map (λ e. placed e.0 (actions_in (outcomes_of self.now) e.0)) (finite.entries frame.now)) }
     {
-        // That all moves have at most 4,096 is what an append asks.
+        // Proof: that all moves have at most 4,096 is what an append asks.
         let _few = self.count();
         let mut list = Instructions::new(alloc);
         for (at, _) in frame.iter() {
@@ -222,7 +222,7 @@ impl Step {
         ensures shared { IfOk result (λ parts. parts.0 ≡ those true (outcomes_of self.now) instructions.now) }
         ensures apart { IfOk result (λ parts. parts.1 ≡ those false (outcomes_of self.now) instructions.now) }
     {
-        // That there are at most 4,096 is what an append asks.
+        // Proof: that there are at most 4,096 is what an append asks.
         let _few = instructions.len();
         let mut shared = Instructions::new(alloc);
         let mut apart = Instructions::new(alloc);
@@ -232,8 +232,8 @@ impl Step {
         Ok((shared, apart))
     }
 
-    // The layer of the frame, once it is known what is composed at its locations and what stands apart there, and how many
-    // instructions there are at the others.
+    // The layer of the frame, from what is composed at its locations, what is separate there, and the number of
+    // instructions at the others.
     fn layer_of(
         &self,
         alloc: Global,
@@ -250,7 +250,7 @@ impl Step {
         mark_each(&mut own, instructions);
         let added = fill(&mut own, composed)?;
         let more = fill(&mut own, apart)?;
-        // That there are at most 4,096 is what the sum needs.
+        // Proof: that there are at most 4,096 is what the sum needs.
         let _few = composed.len();
         let _few_apart = apart.len();
         let count = others + added + more;
@@ -266,7 +266,7 @@ impl Step {
         })
     }
 
-    // The layer of a first move. One put stands for what it comes to, on whatever is below it.
+    // The layer of a first move. One put is its own outcome, over any look-up below it.
     fn first_layer<A: Aggregator, L: Lookup>(
         &self,
         alloc: Global,
@@ -278,9 +278,9 @@ impl Step {
         ensures { IsNext (A.meaning aggregator.now) (L.value_at below.now) self.now instructions.now
             (on_top self.now result) }
     {
-        // The invariant is known once a field is read.
+        // Proof: the invariant is known once a field is read.
         let _ = &self.layers;
-        // That there are at most 4,096 is what the layer needs.
+        // Proof: that there are at most 4,096 is what the layer needs.
         let _few = instructions.len();
         if let Some(_) = only_put(instructions) {
             return Ok(put_layer(alloc, instructions)?);
@@ -301,14 +301,14 @@ impl Step {
         ensures { IsNext (A.meaning aggregator.now) (L.value_at below.now) self.now instructions.now
             (on_top self.now result) }
     {
-        // The invariant is known once a field is read.
+        // Proof: the invariant is known once a field is read.
         let _ = &self.layers;
-        // That there are at most 4,096 is what the layer needs.
+        // Proof: that there are at most 4,096 is what the layer needs.
         let _few = instructions.len();
         let frame = frame_on(alloc, aggregator, &self.over(below), instructions)?;
         let earlier = self.earlier_at(alloc, &frame)?;
         let (shared, apart) = self.split(alloc, instructions)?;
-        // The sequence is promised of proper moves.
+        // Proof: the sequence is promised of well-formed moves.
         earlier.proper();
         shared.proper();
         let composed = move_after(alloc, aggregator, self.if_later(&earlier), &shared)?;
@@ -316,7 +316,7 @@ impl Step {
         self.layer_of(alloc, frame, others, &composed, &apart, instructions)
     }
 
-    /// The layer of a move that is next.
+    /// Return the layer of a move that is next.
     #[tactic(auto, using(crate::proofs::Prefixes::without_top))]
     pub(crate) fn next_layer<A: Aggregator, L: Lookup>(
         &self,
@@ -334,7 +334,7 @@ impl Step {
         }
     }
 
-    // Lets the topmost layer take in the layer of a move that extends it. After an error nothing is changed.
+    // Lets the topmost layer take in the layer of a move that extends it. On error, nothing changes.
     fn extend_top(&mut self, alloc: Global, next: OwnLayer) -> Result<(), AllocError>
         requires some { self.old ≢ [] }
         requires sound { IsSound (laid_on (outcomes_of self.old) next) }
@@ -349,7 +349,7 @@ impl Step {
         Ok(())
     }
 
-    /// Extends the topmost layer by a move, in place where that is done.
+    /// Extend the topmost layer by a move, in place where that is done.
     pub(crate) fn take_in<A: InPlace, L: Lookup>(
         &mut self,
         alloc: Global,

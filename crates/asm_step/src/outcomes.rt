@@ -31,9 +31,9 @@ pub(crate) struct Outcome {
     front: Front,
     /// Then these, one by one.
     rest: Vec<Action>,
-    /// Whether they build on the value below: the first that writes there has partial updates alone.
+    /// Whether they build on the value below. They do if the first that writes there has partial updates alone.
     builds: bool,
-    /// Whether they rest on it: a later one writes there too.
+    /// Whether they depend on it: a later one writes there too.
     rests: bool,
 }
 
@@ -59,7 +59,7 @@ impl Model for Outcome {
 }
 
 impl Outcome {
-    /// The value, of no actions so far.
+    /// Return the value, of no actions so far.
     pub(crate) fn new(alloc: Global, value: Value, builds: bool, rests: bool) -> Outcome
         ensures { result ≡ record { value = value; actions = []; builds = builds; rests = rests } }
     {
@@ -78,7 +78,7 @@ impl Outcome {
         &self.value
     }
 
-    /// Whether there are actions.
+    /// Return whether there are actions.
     pub(crate) fn acts(&self) -> bool
         ensures { result ≡ acts self.now.actions }
     {
@@ -110,7 +110,7 @@ impl Outcome {
         self.builds = self.rests;
     }
 
-    /// Appends a copy of each of the actions, at the location.
+    /// Append a copy of each of the actions, at the location.
     pub(crate) fn append_to(
         &self,
         alloc: Global,
@@ -124,7 +124,7 @@ impl Outcome {
         append(alloc, list, at, self.rest.as_slice())
     }
 
-    // Moves the actions to the front, if one stands for them.
+    // Moves the actions to the front, if there is one.
     fn settle(&mut self, alloc: Global) -> Result<(), AllocError>
         ensures { self.new ≡ self.old }
     {
@@ -160,7 +160,7 @@ impl Outcome {
         Ok(Some(Grown { more: 1, less: 0 }))
     }
 
-    /// Goes on with one partial update, in place; None where that isn't done here. On an error nothing changes.
+    /// Add one partial update in place; return None if that isn't done here. On error, nothing changes.
     #[tactic(auto, using(crate::proofs::Joined::none_act))]
     fn go_on<A: InPlace>(
         &mut self,
@@ -238,7 +238,7 @@ impl Outcomes {
         self.tree.iter()
     }
 
-    /// Whether one of the outcomes rests on what is below.
+    /// Return whether one of the outcomes depends on what is below.
     pub(crate) fn rests_somewhere(&self) -> bool
         ensures { OnFalse result (resting_in self.now ≡ []) }
     {
@@ -250,7 +250,7 @@ impl Outcomes {
         false
     }
 
-    /// How many locations there are.
+    /// Return how many locations there are.
     #[tactic(auto, using(crate::proofs::Insertions::so_many_in))]
     fn len(&self) -> usize
         ensures { result ≡ map.len self.now }
@@ -265,7 +265,7 @@ impl Outcomes {
         self.tree.into_iter()
     }
 
-    /// Gives the location this outcome. After an error nothing is changed.
+    /// Give the location this outcome. On error, nothing changes.
     #[tactic(auto, using(crate::proofs::Insertions::inserted_in))]
     pub(crate) fn put(&mut self, at: Location, outcome: Outcome) -> Result<(), AllocError>
         ensures ok { OnOk result (self.new ≡ map.insert self.old at outcome) }
@@ -275,7 +275,7 @@ impl Outcomes {
         Ok(())
     }
 
-    /// Appends a copy of the action to those at the location; whether that has an outcome.
+    /// Append a copy of the action to those at the location. The answer is whether the location has an outcome.
     pub(crate) fn add(&mut self, at: &Location, action: &Action) -> Result<bool, AllocError>
         ensures { IfOk result (λ is_there.
             (self.new ≡ with_action at.now action.now self.old) × (is_there ≡ map.contains_key self.old at.now)) }
@@ -288,7 +288,7 @@ impl Outcomes {
         Ok(true)
     }
 
-    /// Notes a regular update of the next move at the location, if that has an outcome: it builds nothing there.
+    /// Record at an outcome a regular update of the next move, which builds on nothing.
     pub(crate) fn mark(&mut self, at: &Location)
         ensures { self.new ≡ with_put at.now self.old }
     {
@@ -298,7 +298,7 @@ impl Outcomes {
         outcome.mark();
     }
 
-    /// Goes on at the location with one partial update, in place; None where that isn't done here.
+    /// Add one partial update at the location in place. `None` is the answer if that isn't done here.
     pub(crate) fn go_on<A: InPlace>(
         &mut self,
         alloc: Global,
@@ -315,7 +315,7 @@ impl Outcomes {
         outcome.go_on(alloc, aggregator, action)
     }
 
-    /// Replaces the outcome of the location and hands the old one back; where there is none, hands this one back.
+    /// Replace the outcome of the location, and return the old one. If there is none, return this one.
     fn exchange(&mut self, at: &Location, outcome: Outcome) -> Result<Outcome, Outcome>
         ensures there { IfOk result (λ old. map.get self.old at.now ≡ Some old) }
         ensures ok { OnOk result (self.new ≡ map.insert self.old at.now outcome) }
@@ -329,7 +329,7 @@ impl Outcomes {
         Ok(mem::replace(now, outcome))
     }
 
-    /// Gives the location this outcome, and hands back what it had before; after an error nothing is changed.
+    /// Give the location this outcome, and return what it had before. On error, nothing changes.
     fn write_at(
         &mut self,
         alloc: Global,
@@ -356,7 +356,7 @@ impl Outcomes {
         self.tree.remove(at);
     }
 
-    /// Takes the last write of a location back, which takes no memory.
+    /// Take the last write of a location back, which takes no memory.
     #[tactic(auto, using(crate::proofs::Insertions::exchanged, crate::proofs::Insertions::none_again))]
     fn take_back(&mut self, at: &Location, before: Option<Outcome>)
         ensures { (old : Outcomes) (w : Outcome) → before ≡ map.get old at.now →
@@ -370,7 +370,7 @@ impl Outcomes {
         }
     }
 
-    /// Takes writes back by what they replaced, the last one first.
+    /// Take writes back by what they replaced, the last one first.
     fn take_all_back(&mut self, mut replaced: Vec<(Location, Option<Outcome>)>)
         ensures { (old : Outcomes) → AreReplaced replaced.items old self.old → self.new ≡ old }
     {
@@ -379,7 +379,7 @@ impl Outcomes {
         }
     }
 
-    /// Gives each location of the outcomes above what these have there. After an error nothing is changed.
+    /// Give each location of the outcomes above what these have there. On error, nothing changes.
     pub(crate) fn take_in(&mut self, alloc: Global, above: Outcomes) -> Result<(), AllocError>
         ensures ok { OnOk result ((q : Place) → map.get self.new q ≡ option_or (map.get above q) (map.get self.old q)) }
         ensures err { OnErr result (self.new ≡ self.old) }

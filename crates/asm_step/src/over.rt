@@ -9,7 +9,7 @@ use asm_element::{Location, Value};
 use asm_update::Lookup;
 use std::marker::Model;
 
-/// A step, and below it what gives the values of the locations that its moves don't write.
+/// A step over a look-up for the locations that its moves don't write.
 ///
 /// Contracts see it as the step's frames and what is below them.
 #[derive(Drop)]
@@ -32,7 +32,7 @@ impl<'a, L> Model for OverStep<'a, L> {
 }
 
 impl<'a, L> OverStep<'a, L> {
-    /// The step over what is looked up below it.
+    /// Return the step over what is looked up below it.
     pub(crate) fn new(step: &'a Step, below: &'a L) -> OverStep<'a, L>
         ensures { result ≡ record { frames = frames_of step.now; below = below.now } }
     {
@@ -43,7 +43,9 @@ impl<'a, L> OverStep<'a, L> {
 impl<'a, L: Lookup> Lookup for OverStep<'a, L> {
     ghost value_at = { λ over. seen_through over.frames (L.value_at over.below) };
 
-    /// The value that the step's moves leave at the location; None exactly where that is undef.
+    /// Return the value that the step's moves leave at the location.
+    ///
+    /// `None` is the answer exactly if that is undef.
     fn get(&self, at: &Location) -> Option<&Value>
         ensures value { unwrap_or (option_copied result) undef
             ≡ seen_through self.now.frames (L.value_at self.now.below) at.now }

@@ -17,8 +17,10 @@ use asm_update::{Action, Instructions};
 use std::alloc::{AllocError, Global};
 use std::marker::Model;
 
-/// What the moves of a layer come to, which contracts see as outcomes. A first move of one put stands for its outcome,
-/// as it was pushed: its copy takes no memory, and most steps are of such a move.
+/// What the moves of a layer come to, which contracts see as outcomes.
+///
+/// If the first move is one put, it is held as it was pushed: its copy takes no memory, and most steps are of such a
+/// move.
 #[derive(Drop)]
 pub(crate) struct Own {
     /// The move, if it is one put; there are no outcomes then.
@@ -53,7 +55,7 @@ fn laid_open(alloc: Global, at: &Location, value: &Value) -> Result<Outcomes, Al
 }
 
 impl Own {
-    /// What a move of one put comes to.
+    /// Return what a move of one put comes to.
     pub(crate) fn of_put(alloc: Global, put: Instructions) -> Own
         ensures { result ≡ own_of put map.empty }
     {
@@ -82,7 +84,7 @@ impl Own {
         }
     }
 
-    /// Whether one of the outcomes rests on what is below.
+    /// Return whether one of the outcomes depends on what is below.
     #[tactic(auto, using(crate::proofs::Rested::put_rests))]
     pub(crate) fn rests_somewhere(&self) -> bool
         ensures { OnFalse result (resting_in self.now ≡ []) }
@@ -93,7 +95,7 @@ impl Own {
         }
     }
 
-    /// Gives each location what this has there.
+    /// Give each location what this has there.
     pub(crate) fn gather<'a>(&'a self, all: &mut Gathered<'a>) -> Result<(), AllocError>
         ensures { OnOk result ((q : Place) → map.get all.new q ≡ option_or (map.get self.now q) (map.get all.old q)) }
     {
@@ -103,8 +105,9 @@ impl Own {
         }
     }
 
-    /// Goes on at the location with one partial update of a later move, in place; None where that isn't done here.
-    /// After an error nothing is changed.
+    /// Add one partial update of a later move at the location, in place.
+    ///
+    /// `None` is the answer if that isn't done here. On error, nothing changes.
     #[tactic(auto, using(crate::proofs::Rested::each_gone_on_err, crate::proofs::Rested::each_gone_on_ok))]
     pub(crate) fn go_on<A: InPlace>(
         &mut self,
@@ -132,7 +135,9 @@ impl Own {
         }
     }
 
-    /// Gives each location of those above what these have there. After an error nothing is changed.
+    /// Give each location of those above what these have there.
+    ///
+    /// On error, nothing changes.
     pub(crate) fn take_in(&mut self, alloc: Global, above: Own) -> Result<(), AllocError>
         ensures ok { OnOk result ((q : Place) → map.get self.new q ≡ option_or (map.get above q) (map.get self.old q)) }
         ensures err { OnErr result (self.new ≡ self.old) }

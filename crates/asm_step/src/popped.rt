@@ -8,7 +8,7 @@ use asm_update::{Aggregator, Instructions};
 use std::alloc::{AllocError, Global};
 use std::marker::Model;
 
-/// A move that was pushed, with those that extend it, each as it was given.
+/// A move that was pushed, with those that extend it, each unchanged given.
 ///
 /// Contracts see it as these moves, in turn.
 #[derive(Drop)]
@@ -32,7 +32,7 @@ impl Model for Popped {
 }
 
 impl Popped {
-    /// One move, which nothing extends.
+    /// Return a single move, which nothing extends.
     pub(crate) fn of(alloc: Global, first: Instructions) -> Popped
         ensures { result ≡ first ∷ [] }
     {
@@ -42,14 +42,16 @@ impl Popped {
         }
     }
 
-    /// The first one, which was pushed; it is handed on.
+    /// Return the first one, which was pushed, by value.
     pub(crate) fn into_first(self) -> Instructions
         ensures { (M : Move) (Ms : List Move) → self ≡ M ∷ Ms → result ≡ M }
     {
         self.first
     }
 
-    /// Takes in one that extends them. After an error nothing is changed.
+    /// Take in one that extends them.
+    ///
+    /// On error, nothing changes.
     pub(crate) fn push(&mut self, next: Instructions) -> Result<(), AllocError>
         ensures some { self.old ≢ [] }
         ensures ok { OnOk result (self.new ≡ self.old ++ next ∷ []) }
@@ -59,30 +61,34 @@ impl Popped {
         Ok(())
     }
 
-    /// Takes the last one that extends them away.
+    /// Take the last one that extends them away.
     pub(crate) fn take_back(&mut self)
         ensures { (Ms : List Move) (M : Move) → Ms ≢ [] → self.old ≡ Ms ++ M ∷ [] → self.new ≡ Ms }
     {
         self.more.pop();
     }
 
-    /// The moves, in turn: the one that was pushed, and those that extend it.
+    /// Return the moves, in turn: the one that was pushed, and those that extend it.
     pub fn moves(&self) -> (&Instructions, &[Instructions])
         ensures { self.now ≡ result.0.now ∷ result.1.now }
     {
         (&self.first, self.more.as_slice())
     }
 
-    /// The one move that does what these do in turn: where nothing extends the first one, that one as it is, and
-    /// else what they compose to, each with those before it, by location in ascending order. A composition costs by
-    /// what comes together, so many moves at many locations cost more than each of them did.
+    /// Return the one move that does what these do in turn.
+    ///
+    /// If nothing extends the first one, it is the answer itself. Else the answer is what they compose to, each with
+    /// those before it, by location in ascending order. A composition costs by what is composed, so many moves at many
+    /// locations cost more than each of them did.
     ///
     /// On a state on which all but the last of them fire in turn, it does what they do, clashes of the last included.
     /// On others nothing is promised, as with any composition.
     ///
-    /// `Clash` and `Large` come only where no state lets them fire in turn, so never for moves that were pushed over a
-    /// state. `ManyInstructions` comes where the first ones of them come to more than 4,096 instructions, and `Memory`
-    /// only where memory was refused.
+    /// # Errors
+    ///
+    /// - `Clash` and `Large` only if no state lets them fire in turn, so never for moves that were pushed over a state.
+    /// - `ManyInstructions` if the first ones of them come to more than 4,096 instructions.
+    /// - `Memory` only if memory is refused.
     pub fn as_move<A: Aggregator>(
         &self,
         alloc: Global,

@@ -66,11 +66,14 @@ fn put_values(
 }
 
 impl Step {
-    /// What is seen through the step's moves at the locations with this function name, over the values that
-    /// `below` has there, as a plain state; at every other location it has what `below` has.
+    /// Return what is seen at the locations with this function name, as a plain state.
     ///
-    /// It walks all that the moves write, and copies their values at these locations. `AllocError` comes only
-    /// where memory was refused; `below` is dropped then.
+    /// It is seen through the step's moves, over the values that `below` has there. At every other location it has what
+    /// `below` has. It walks all that the moves write, and copies their values at these locations.
+    ///
+    /// # Errors
+    ///
+    /// - `AllocError` only if memory is refused; `below` is dropped then.
     pub fn scan(
         &self,
         alloc: Global,

@@ -1,4 +1,4 @@
-//! What actions on a set add and what they remove, kept by element.
+//! What actions on a set add and what they remove, by element.
 ghost use Rattle.std.specs.Prelude.{◌≡◌, ◌+◌, ◌++◌, true, false, not, is_some, OnOk, OnErr, IfOk};
 ghost use Rattle.asm_aggregate.specs.SetMeaning.{set_joins};
 ghost use Rattle.asm_aggregate.specs.Sets.{meets};
@@ -72,7 +72,7 @@ fn exchange<A: Aggregator>(
     }
 }
 
-/// Whether the sets have an element in common.
+/// Return whether the sets have an element in common.
 pub(crate) fn meet(one: &ElemSet, other: &ElemSet) -> bool
     ensures { result ≡ meets one.now other.now }
 {
@@ -105,7 +105,7 @@ fn push_side(
 }
 
 impl Sides {
-    /// What the actions add and what they remove.
+    /// Gather what the actions add and what they remove.
     pub(crate) fn of(alloc: Global, actions: &[Action]) -> Result<Sides, AllocError> {
         let mut added = ElemSet::new(alloc);
         let mut removed = ElemSet::new(alloc);
@@ -123,7 +123,7 @@ impl Sides {
         Ok(Sides { added, removed })
     }
 
-    /// Whether there are actions.
+    /// Return whether there are actions.
     #[tactic(auto, using(crate::proofs::SetLists::acts_removed, crate::proofs::SetLists::acts_some))]
     pub(crate) fn acts(&self) -> bool
         ensures { result ≡ acts (sides_list self.now) }
@@ -134,7 +134,7 @@ impl Sides {
         true
     }
 
-    /// The additions and then the removals.
+    /// Return the additions and then the removals.
     pub(crate) fn listed(&self, alloc: Global) -> Result<Vec<Action>, AllocError>
         ensures { IfOk result (λ list. list.items ≡ sides_list self.now) }
     {
@@ -144,7 +144,7 @@ impl Sides {
         Ok(actions)
     }
 
-    // Does nothing; its contract tells that the actions are proper.
+    // State for proofs that the actions are well-formed; do nothing at run time.
     #[tactic(auto, using(crate::proofs::SetLists::proper_list))]
     fn proper(&self)
         ensures { AllProper (sides_list self.now) }
@@ -153,8 +153,9 @@ impl Sides {
         let _removed = self.removed.iter();
     }
 
-    /// Joins the partial update, which the value takes, too; None where it isn't one of sets, or has no result. After an
-    /// error nothing is changed.
+    /// Join the partial update, which the value takes, too.
+    ///
+    /// `None` is the answer if it isn't one of sets, or has no result. On error, nothing changes.
     pub(crate) fn join<A: Aggregator>(
         &mut self,
         alloc: Global,

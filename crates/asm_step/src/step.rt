@@ -34,9 +34,9 @@ use std::marker::Model;
 
 /// At most 64 pushed moves, each with any number of moves that extend it.
 ///
-/// It borrows nothing: what is below it is passed to each call, and must be the same look-up for all.
-/// Contracts see it as its layers, one for each pushed move with those that extend it, the oldest first;
-/// `IsStepOf` tells of which moves it is a step, over what is looked up below it.
+/// It borrows nothing: what is below it is passed to each call, and must be the same look-up for all. Contracts see it
+/// as its layers, one for each pushed move with those that extend it, the oldest first. `IsStepOf` defines of which
+/// moves it is a step, over what is below it.
 #[derive(Drop)]
 pub struct Step {
     pub(crate) layers: Vec<OwnLayer>,
@@ -62,7 +62,7 @@ impl Model for Step {
 }
 
 impl Step {
-    /// No moves; it takes no memory.
+    /// Return the step without moves; it takes no memory.
     pub fn new(alloc: Global) -> Step
         ensures empty { result ≡ [] }
         ensures step { (part : Part) (old : Old) → IsStepOf part old result [] }
@@ -72,7 +72,7 @@ impl Step {
         }
     }
 
-    /// How many moves are pushed, at most 64; those that extend one don't count.
+    /// Return how many moves are pushed, at most 64; those that extend one don't count.
     pub fn depth(&self) -> usize
         ensures value { result ≡ length self.now }
         ensures within { length self.now ≤ frames_limit }
@@ -89,15 +89,18 @@ impl Step {
         self.layers.as_slice().last()
     }
 
-    /// Pushes a move: its instructions are aggregated on what is seen through the step's moves, and the one move goes
-    /// on with it. At a location that both write the two are composed; elsewhere each stays as it is. The step's first
-    /// move is its one move, as it was pushed.
+    /// Push a move, and make it part of the step's one move.
     ///
-    /// It costs by its own instructions: of what was pushed before, the layers are asked at its locations alone.
+    /// Its instructions are aggregated on what is seen through the step's moves. At a location that both write the two
+    /// are composed; elsewhere each is unchanged. The step's first move is its one move, as it was pushed. The call
+    /// costs by its own instructions: of what was pushed before, the layers are asked at its locations alone. On error,
+    /// nothing changes, so a push that is refused, or is popped, is a dry run.
     ///
-    /// `Deep` comes exactly where 64 are pushed, before anything else; `Clash` where the move clashes there,
-    /// `Many` where the one move would have more than 4,096 instructions, and `Memory` only where memory was
-    /// refused. After an error nothing is changed, so a push that is refused, or is popped, is a dry run.
+    /// # Errors
+    /// - `Deep` exactly if 64 are pushed, before anything else.
+    /// - `Clash` if the move clashes there.
+    /// - `Many` if the one move would have more than 4,096 instructions.
+    /// - `Memory` only if memory is refused.
     pub fn push<A: Aggregator, L: Lookup>(
         &mut self,
         alloc: Global,
@@ -127,12 +130,14 @@ impl Step {
         Ok(())
     }
 
-    /// Extends the move that was pushed last: what the instructions write goes into its layer, and the step is
-    /// no deeper. A step without moves has one after it, as after a push.
+    /// Extend the move that was pushed last.
     ///
-    /// It costs as a push does; but one partial update of a set or a bag that the topmost layer has changed already, or of
-    /// any value that it has put, is applied in place. The errors come where a push would answer them, but never `Deep`. After an
-    /// error nothing is changed.
+    /// What the instructions write goes into its layer, and the step is no deeper. A step without moves has one after
+    /// it, as after a push. The call costs as much as a push. But one partial update of a set or a bag that the topmost
+    /// layer has changed already, or of any value that it has put, is applied in place. On error, nothing changes.
+    ///
+    /// # Errors
+    /// - Those of `push`, under the same conditions, but never `Deep`.
     pub fn extend<A: InPlace, L: Lookup>(
         &mut self,
         alloc: Global,
@@ -160,7 +165,7 @@ impl Step {
         self.take_in(alloc, aggregator, below, instructions)
     }
 
-    /// The move that was pushed last, with those that extend it, as a pop would hand them back.
+    /// Return the last pushed move with those that extend it, as a pop does.
     #[tactic(auto, using(crate::proofs::Layered::last_group))]
     pub fn last(&self) -> Option<&Popped>
         ensures moves { option_copied result ≡ option_map (λ y. y.moves) (top_of self.now) }
@@ -173,8 +178,9 @@ impl Step {
         }
     }
 
-    /// Takes the move that was pushed last away, with those that extend it, and hands them back as they were given;
-    /// None where there is none. It takes no memory, and what was seen before that push is seen again.
+    /// Pop the move that was pushed last, with those that extend it.
+    /// It returns them as they were given, and None if there is none. It takes no memory, and what was seen before that
+    /// push is seen again.
     pub fn pop(&mut self) -> Option<Popped>
         ensures less { IfSome result (λ popped. (y : Layer) × (self.old ≡ self.new ++ y ∷ []) × (popped ≡ y.moves)) }
         ensures none { IsNone result → (self.old ≡ []) × (self.new ≡ []) }
@@ -193,7 +199,7 @@ impl Step {
         Some(layer.moves)
     }
 
-    // What the step's moves come to at the location: the topmost layer that has it tells.
+    // What the step's moves come to at the location: that of the topmost layer that has it.
     pub(crate) fn held(&self, at: &Location) -> Option<Held<'_>>
         ensures { result ≡ finite.get (outcomes_of self.now) at.now }
     {
@@ -215,7 +221,8 @@ impl Step {
         }
     }
 
-    /// The value that the step's moves leave at the location, or else the one below; None exactly where it is undef.
+    /// Return the value that the step's moves leave at the location, or the one below.
+    /// `None` is the answer exactly if that is undef.
     pub fn get<'a, L: Lookup>(&'a self, below: &'a L, at: &Location) -> Option<&'a Value>
         ensures value { unwrap_or (option_copied result) undef
             ≡ seen_through (frames_of self.now) (L.value_at below.now) at.now }
@@ -241,7 +248,7 @@ impl Step {
         }
     }
 
-    /// What the step's moves leave, as a look-up.
+    /// Return the step over `below`, as a look-up.
     pub fn over<'a, L>(&'a self, below: &'a L) -> OverStep<'a, L>
         ensures { result ≡ record { frames = frames_of self.now; below = below.now } }
     {
@@ -274,7 +281,7 @@ impl Step {
     fn one(&self, alloc: Global) -> Result<Instructions, AllocError>
         ensures { IfOk result (λ one. one ≡ unwrap_or (one_move self.now) []) }
     {
-        // That there are at most 4,096 is what a listing asks.
+        // Proof: that there are at most 4,096 is what a listing asks.
         let _few = self.count();
         match self.alone_move() {
             Some(alone) => alone.copy(alloc),
@@ -282,16 +289,19 @@ impl Step {
         }
     }
 
-    /// The one move that does what the step's moves do in turn; without moves it has no instructions.
+    /// Return the one move that does what the step's moves do in turn.
     ///
-    /// A move that was pushed alone is as it was. Else the instructions are listed by location, in ascending order: at
-    /// each location, what the first move that writes there does, and what the next ones compose it to. `AllocError`
-    /// comes only where memory was refused.
+    /// Without moves it has no instructions. A move that was pushed alone is unchanged. Else the instructions are
+    /// listed by location, in ascending order: at each location, what the first move that writes there does, and what
+    /// the next ones compose it to.
     ///
     /// On a state on which all but the last of the moves fire in turn, it does what they do, clashes of the last
-    /// included. On one that has what is below at each of the `resting_locations`, it fires exactly where all of them
-    /// fire in turn, and leaves what they leave. Elsewhere it may fire where an earlier move clashes, so name these
-    /// locations where it is fired.
+    /// included. On one that has what is below at each of the `resting_locations`, it fires exactly if all of them fire
+    /// in turn, and leaves what they leave. Elsewhere it may fire where an earlier move clashes, so name these
+    /// locations in its fire.
+    ///
+    /// # Errors
+    /// - `AllocError` only if memory is refused.
     pub fn as_move(&self, alloc: Global) -> Result<Instructions, AllocError>
         ensures all { (part : Part) (old : Old) (groups : List (List Move)) →
             IsStepOf part old self.now groups → IfOk result (DoesAll part (all_moves groups)) }
@@ -312,11 +322,13 @@ impl Step {
         self.one(alloc)
     }
 
-    /// The one move that does what the step's moves and then this one do. The step stays as it was, and the move
-    /// isn't aggregated: where it clashes after the others, the one move clashes.
+    /// Return the one move that does what the step's moves and then this one do.
+    /// The step is unchanged, and the move isn't aggregated: if it clashes after the others, the one move clashes.
     ///
-    /// `Clash` and `Large` come where it doesn't compose with the step's moves, `Many` where more than 4,096
-    /// instructions come together, `Deep` never, and `Memory` only where memory was refused.
+    /// # Errors
+    /// - `Clash` and `Large` if it doesn't compose with the step's moves; `Deep` never.
+    /// - `Many` if more than 4,096 instructions come together.
+    /// - `Memory` only if memory is refused.
     pub fn followed_by<A: Aggregator>(
         &self,
         alloc: Global,
@@ -339,7 +351,7 @@ impl Step {
         move_after(alloc, aggregator, Some(&earlier), instructions)
     }
 
-    // Whether one of the layers has an outcome that rests on what is below.
+    // Whether one of the layers has an outcome that depends on what is below.
     fn rests_somewhere(&self) -> bool
         ensures { OnFalse result (resting_of self.now ≡ []) }
     {
@@ -351,12 +363,16 @@ impl Step {
         false
     }
 
-    /// The locations on whose values below the one move rests, each once, in ascending order: where the first of the
-    /// moves that writes has partial updates alone, and a later one writes too. Moves that were popped don't count.
-    /// `AllocError` comes only where memory was refused.
+    /// Return the locations on whose values below the one move depends.
     ///
-    /// Where one move alone writes, by partial updates, nothing has to be named: the one move has these too, and fires or
-    /// clashes there as that move does.
+    /// At such a location the first of the moves that writes has partial updates alone, and a later one writes too.
+    /// Each is there once, in ascending order. Moves that were popped don't count.
+    ///
+    /// Where one move alone writes, by partial updates, nothing has to be named: the one move has these too, and fires
+    /// or clashes there as that move does.
+    ///
+    /// # Errors
+    /// - `AllocError` only if memory is refused.
     pub fn resting_locations(&self, alloc: Global) -> Result<Vec<Location>, AllocError>
         ensures those { (part : Part) (old : Old) (groups : List (List Move)) →
             IsStepOf part old self.now groups → IfOk result (λ ls. AreThose (rests (all_moves groups)) ls.items) }
@@ -368,8 +384,8 @@ impl Step {
         resting_places(alloc, self.gathered(alloc)?)
     }
 
-    /// Whether what is seen at the location is made from the value below it, which has then to be named: no move writes
-    /// there, or the first that does has partial updates alone.
+    /// Return whether what is seen at the location is made from the value below it.
+    /// That location must then be named. No move writes there, or the first that does has partial updates alone.
     pub fn sees_below(&self, at: &Location) -> bool
         ensures sees { (part : Part) (old : Old) (groups : List (List Move)) →
             IsStepOf part old self.now groups → result ≡ sees_below (all_moves groups) at.now }

@@ -13,7 +13,7 @@ use Rattle.asm_storage.specs.declared.receipt.Receipt.{Receipt}
 use Rattle.asm_storage.specs.Machine.{Machine, reply_to}
 use Rattle.asm_storage.specs.History.{fired_move, fired_moves, events_of, IsLegal, IsRun, steps_from, IsCoherent, numbers, count_up}
 
--- an agent: its number, what it has seen of the row, how many of its offers won, and its receipts
+-- an agent: its number, what it has seen of the row, how many of its attempts to append won, and its receipts
 pub record AgentView : Type 0 where
   pub id : ℕ
   pub seen : List Entry
@@ -36,21 +36,21 @@ moves_seen seen = map (λ x. x.instrs) seen
 abbrev pub is_fired : Receipt → Bool
 is_fired r = is_some (fired_move r.call r.answer)
 
--- the least number at which the next receipt may stand
+-- the smallest number that the next receipt may have
 abbrev pub next_after : Receipt → ℕ
 next_after r = if is_fired r then r.stood + 1 else r.stood
 
--- no receipt stands below the one before it, nor below the move that that one fired
+-- no receipt's number is below that of the one before it, nor below the move that that one fired
 abbrev pub StandInOrder : ℕ → List Receipt → Type 0
 StandInOrder from [] = Unit {0}
 StandInOrder from (r ∷ rs) = (from ≤ r.stood) × StandInOrder (next_after r) rs
 
--- the least number at which a receipt after these may stand
+-- the smallest number that a receipt after these may have
 abbrev pub next_stood : ℕ → List Receipt → ℕ
 next_stood from [] = from
 next_stood from (r ∷ rs) = next_stood (next_after r) rs
 
--- the entry of the move that the receipt fired stands in what the agent has seen
+-- the entry of the move that the receipt fired is in what the agent has seen
 abbrev pub StandsInRow : ℕ → List Entry → Receipt → Type 0
 StandsInRow id seen r = (M : Move) → fired_move r.call r.answer ≡ Some M →
     slice_get seen r.stood ≡ Some (record { agent = id; instrs = M })
@@ -67,11 +67,11 @@ pub record IsAgent (m : Machine) (a : AgentView) : Type 0 where
 abbrev pub event_of : ℕ → Receipt → Event
 event_of id r = record { agent = id; call = r.call; answer = r.answer }
 
--- whether a receipt stands at that number and fired nothing
+-- whether a receipt has that number and fired nothing
 abbrev pub is_quiet_at : ℕ → Receipt → Bool
 is_quiet_at n r = nat_eq r.stood n && not (is_fired r)
 
--- whether it stands there and fired the move with the next number
+-- whether it has that number and fired the move with the next number
 abbrev pub is_move_at : ℕ → Receipt → Bool
 is_move_at n r = nat_eq r.stood n && is_fired r
 
@@ -97,7 +97,7 @@ abbrev pub most : {X : Type 0} → (X → ℕ) → List X → ℕ
 most f [] = 0
 most f (x ∷ xs) = max (f x) (most f xs)
 
--- the greatest number at which a receipt stands
+-- the greatest number of a receipt
 abbrev pub last_stood : List AgentView → ℕ
 last_stood agents = most (λ a. most (λ r. r.stood) a.receipts) agents
 
@@ -113,7 +113,7 @@ most_seen agents = most (λ a. length a.seen) agents
 abbrev pub has_receipt : List AgentView → ℕ → Bool
 has_receipt agents k = list_any (λ a. list_any (is_move_at k) a.receipts) agents
 
--- agents of one storage in the order of their numbers, whose receipts tell every move that one of them has seen
+-- agents of one storage in the order of their numbers, whose receipts have every move that one of them has seen
 pub record IsGathered (m : Machine) (all : List Entry) (agents : List AgentView) : Type 0 where
   pub each : All (IsAgent m) agents
   pub ids : IsStrictlyIncreasing (map (λ a. a.id) agents)
@@ -121,8 +121,8 @@ pub record IsGathered (m : Machine) (all : List Entry) (agents : List AgentView)
   pub longest : length all ≡ most_seen agents
   pub none_missing : (k : ℕ) → k < length all → has_receipt agents k ≡ true
 
--- the history tells each answered call of the agents once, each agent's in its own order, as the storage of one
--- thread answers them in that order, and its fired moves are a run of the machine from the opening state
+-- the history has each answered call of the agents once, each agent's in its own order, as the sequential storage
+-- answers them in that order, and its fired moves are a run of the machine from the opening state
 pub record IsHistoryOf (m : Machine) (agents : List AgentView) (h : List Event) : Type 0 where
   pub own_receipts : All (λ a. events_of h a.id ≡ map (event_of a.id) a.receipts) agents
   pub no_others : (i : ℕ) → All (λ a. a.id ≢ i) agents → events_of h i ≡ []
@@ -132,7 +132,7 @@ pub record IsHistoryOf (m : Machine) (agents : List AgentView) (h : List Event) 
   pub numbered : numbers h ≡ count_up 1 (length (fired_moves h))
   pub coherent : IsCoherent m h
 
--- no receipt tells the move at k, which one of the agents has seen, and one tells each move before it
+-- no receipt has the move at k, which one of the agents has seen, and one has each move before it
 pub record IsLeastMissing (agents : List AgentView) (bound k : ℕ) : Type 0 where
   pub below : k < bound
   pub missing : has_receipt agents k ≡ false

@@ -1,4 +1,5 @@
--- The calls of an agent: a reading, an agent after an answered call, how many offers and looks the call made, and plain moves.
+-- The calls of an agent: a reading, an agent after an answered call, how many attempts and polls the call made, and
+-- plain moves.
 use Rattle.std.specs.Prelude.{Bool, false, ◌&&◌, nat_le, List, [], ◌∷◌, length, ◌≡◌, ◌↔◌, ℕ, zero, suc, ◌+◌, ◌-◌, ◌^◌, ◌≤◌, ◌<◌, min, take, Option, true, Result, Ok, Err, IfOk, IfErr, OnErr, IsErrOf, refl}
 use Rattle.asm_update.specs.Move.{Move, all_regular}
 use Rattle.asm_state.specs.declared.named.Named.{Named}
@@ -28,12 +29,12 @@ use Rattle.asm_storage.specs.Agents.{moves_seen, next_stood}
 use Rattle.asm_storage.specs.Scans.{with_found, RestsOn}
 use Rattle.asm_storage.specs.Storage.{AgentAt, FollowsOn, IsLevel, IsSameAgent, machine_of, has_looked, with_receipt, with_fired, last_look, Missed}
 
--- whether a move is judged alike on every state: it has no named read, no partial update and few instructions
+-- whether a move is judged alike on every state: it has no declared read, no partial update and few instructions
 abbrev pub is_plain : List Named → Move → Bool
 is_plain [] M = nat_le (length M) most_plain && all_regular M
 is_plain (r ∷ rs) M = false
 
--- whether it is so of one that rests on scans: on none
+-- whether it is so of one that depends on scans: on none
 abbrev pub is_plain_over : List Named → List Scanned → Move → Bool
 is_plain_over reads [] M = is_plain reads M
 is_plain_over reads (s ∷ ss) M = false
@@ -68,13 +69,13 @@ abbrev pub judged_on : Reply → List Entry → List Entry
 judged_on (reply.Fired k) seen = take (k - 1) seen
 judged_on r seen = seen
 
--- where the agent's own state stands after a reply: at all that the fire was judged on; or where it stood, as a plain move
--- is judged without it
+-- the version of the agent's own state after a reply: all that the fire was judged on, or the old version, as a plain
+-- move is judged without the state
 abbrev pub StandsAfter : {A : Type 0} → AgentAt A → AgentAt A → Bool → Reply → Type 0
 StandsAfter old new true r = new.number ≡ old.number
 StandsAfter old new false r = new.number ≡ length (judged_on r new.account.seen)
 
--- an agent after an answered fire: `Fired` has the move as its last entry and one won offer more
+-- an agent after an answered fire: `Fired` has the move as its last entry and one more won attempt
 abbrev pub after_fire : {A : Type 0} → AgentAt A → AgentAt A → List Named → Move → Reply → AgentAt A
 after_fire old new reads M (reply.Fired k) =
     with_fired (has_looked old (judged_on (reply.Fired k) new.account.seen) new.misses new.number)
@@ -101,7 +102,8 @@ pub record IsPeek {A : Type 0} (meaning : A → Meaning) (a : AgentAt A) (places
         reply_to (machine_of meaning a.storage) (take r.number (moves_seen a.account.seen)) (call.Read places)
     pub locations : r.places ≡ places
 
--- its own state hasn't followed all moves on which its receipts rest, so the next receipt can't stand where the state does
+-- its own state hasn't followed all moves on which its receipts depend, so the next receipt can't have the state's
+-- version
 abbrev pub IsBehind : {A : Type 0} → AgentAt A → Type 0
 IsBehind a = a.number < next_stood 0 a.account.receipts
 
@@ -112,7 +114,7 @@ pub record IsRecall {A : Type 0} (meaning : A → Meaning) (old new : AgentAt A)
   pub peek : IsPeek meaning old places r
   pub agent : new ≡ with_receipt old (receipt_at r.number (call.Read places) (read_answer r))
 
--- the least of the named locations that is stale after what the agent has then seen, or None
+-- the smallest of the named locations that is stale after what the agent has then seen, or None
 abbrev pub IsStaleRead : {A : Type 0} → (A → Meaning) → AgentAt A → List Named → Option Place → Type 0
 IsStaleRead meaning a reads found =
     let m = machine_of meaning a.storage in
@@ -127,21 +129,21 @@ pub record IsReplied {A : Type 0} (meaning : A → Meaning) (old new : AgentAt A
   pub begins : IsPrefix old.account.seen (judged_on r new.account.seen)
   pub agent : new ≡ after_fire old new reads M r
 
--- a move that fired finds each location that it names as it was at the number under which it names it, as far as these
--- moves stand before it
+-- a move that fired finds each location that it names unchanged since the number under which it names it, as far as
+-- these moves come before it
 abbrev pub IsCoherentReply : {A : Type 0} → (A → Meaning) → AgentAt A → List Named → Move → Reply → Type 0
 IsCoherentReply meaning new reads M (reply.Fired k) =
     IsCoherentAt (machine_of meaning new.storage) (moves_seen (judged_on (reply.Fired k) new.account.seen))
     (call.Fire reads M) (k - 1)
 IsCoherentReply meaning new reads M r = Unit {0}
 
--- so many offers were made, each of which added an entry to what is seen, and so many looks found nothing
+-- so many attempts were made, each of which added an entry to what is seen, and so many polls found nothing
 pub record HasOffered {A : Type 0} (old new : AgentAt A) (offers looks : ℕ) : Type 0 where
   pub longer : length old.account.seen + offers ≤ length new.account.seen
   pub missed : Missed old looks new
 
--- how many offers a fire made: the last one won, or 64 were lost, or fewer were lost before the last look;
--- each offer follows one look that found nothing
+-- how many attempts a fire made: the last one won, or 64 were lost, or fewer were lost before the last poll; each
+-- attempt follows one poll that found nothing
 abbrev pub MadeOffers : {A : Type 0} → AgentAt A → AgentAt A → Result Reply FireError → ℕ → Type 0
 MadeOffers old new (Ok (reply.Fired k)) n = (1 ≤ n) × (n ≤ offers_limit) × HasOffered old new n n
 MadeOffers old new (Ok r) n = (n < offers_limit) × HasOffered old new n (n + last_look new)
@@ -149,7 +151,7 @@ MadeOffers old new (Err fire_error.ManyReads) n = (n ≡ 0) × (new ≡ old)
 MadeOffers old new (Err (fire_error.Busy from to)) n = (n ≡ offers_limit) × HasOffered old new n n
 MadeOffers old new (Err fire_error.Memory) n = (n < offers_limit) × HasOffered old new n (n + last_look new)
 
--- `Busy` tells what had been seen at the call's start and at its end
+-- `Busy` has what had been seen at the call's start and at its end
 abbrev pub IsBusy : {A : Type 0} → AgentAt A → AgentAt A → FireError → Type 0
 IsBusy old new (fire_error.Busy from to) = (from ≡ length old.account.seen) × (to ≡ length new.account.seen)
 IsBusy old new e = Unit {0}
@@ -160,32 +162,33 @@ pub record IsFire {A : Type 0} (meaning : A → Meaning) (old new : AgentAt A) (
   -- the agent stays itself, and what it has seen stays seen
   pub same : IsSameAgent old new
   pub seen : IsPrefix old.account.seen new.account.seen
-  -- its own state stands where it stood or further on, and after a reply just so far
+  -- its own state has the old version or a later one, and after a reply just that one
   pub follows : FollowsOn old new
   pub stands : IfOk result (StandsAfter old new (is_plain reads M))
-  -- a reply is that of the storage of one thread, and what fired finds what it named as it was
+  -- a reply is that of the sequential storage, and what fired finds what it named unchanged
   pub answered : IfOk result (IsReplied meaning old new reads M)
   pub coherent : IfOk result (IsCoherentReply meaning new reads M)
   -- after an error it has looked on, and no more
   pub refused : OnErr result (new ≡ has_looked old new.account.seen new.misses new.number)
   pub busy : IfErr result (IsBusy old new)
   pub many : IsErrOf result fire_error.ManyReads ↔ (reads_limit < length reads)
-  -- how many offers it made; the looks that found nothing are one at least before a fired move, counted up to
-  -- 2^64 - 1, and 64 at most; and a busy fire saw as many moves as it lost offers
+  -- how many attempts it made; the polls that found nothing are one at least before a fired move, counted up to 2^64
+  -- - 1, and 64 at most; and a busy fire saw as many moves as it lost attempts
   pub offers : (n : ℕ) × MadeOffers old new result n
   pub missed : (k : ℕ) → result ≡ Ok (reply.Fired k) → min (old.misses + 1) (2 ^ 64 - 1) ≤ new.misses
   pub few : new.misses ≤ old.misses + offers_limit
   pub lost : (from to : ℕ) → result ≡ Err (fire_error.Busy from to) → from + offers_limit ≤ to
 
--- what a fire gives that rests on scans: what a fire gives that names, behind the reads, what was found of the scans
+-- what a fire gives that depends on scans: what a fire gives that names, behind the reads, what was found of the
+-- scans
 pub record IsFireOver {A : Type 0} (meaning : A → Meaning) (old new : AgentAt A) (reads : List Named)
     (scans : List Scanned) (M : Move) (result : Result Reply FireError) : Type 0 where
   pub same : IsSameAgent old new
   pub seen : IsPrefix old.account.seen new.account.seen
-  -- its own state stands where it stood or further on, and after a reply just so far
+  -- its own state has the old version or a later one, and after a reply just that one
   pub follows : FollowsOn old new
   pub stands : IfOk result (StandsAfter old new (is_plain_over reads scans M))
-  -- a reply is that of the storage of one thread to the fire that names what was found too, and rests on the scans
+  -- a reply is that of the sequential storage to the fire that names what was found too, and depends on the scans
   pub found : Option Named
   pub answered : IfOk result (IsReplied meaning old new (with_found reads found) M)
   pub coherent : IfOk result (IsCoherentReply meaning new (with_found reads found) M)

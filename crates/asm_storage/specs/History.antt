@@ -62,8 +62,8 @@ abbrev pub steps_from : Machine → State → List Event → List RunStep
 steps_from m A [] = []
 steps_from m A (e ∷ h) = step_and m A e.agent (move_of e) (λ B. steps_from m B h)
 
--- the move finds each location that it names as it was at the number under which it names it, where that number is at
--- most the number of moves before it; a location that is named at a greater number isn't tested
+-- the move finds each location that it names unchanged since the number under which it names it, where that number is
+-- at most the number of moves before it; a location that is named at a greater number isn't tested
 abbrev pub IsCoherentAt : Machine → List Move → Call → ℕ → Type 0
 IsCoherentAt m q (call.Read places) before = Unit {0}
 IsCoherentAt m q (call.Fire reads instrs) before = All (λ r. r.number ≤ before →
@@ -88,7 +88,7 @@ abbrev pub count_up : ℕ → ℕ → List ℕ
 count_up from zero = []
 count_up from (suc count) = from ∷ count_up (from + 1) count
 
--- at most 256 locations or named reads, and an answer to such a call; a read has a value for each location
+-- at most 256 locations or declared reads, and an answer to such a call; a read has a value for each location
 abbrev pub CallFits : Call → Answer → Type 0
 CallFits (call.Read places) (answer.Read number values) = (length places ≤ reads_limit) × (length values ≡ length places)
 CallFits (call.Fire reads instrs) (answer.Fire r) = length reads ≤ reads_limit

@@ -5,11 +5,11 @@ use Rattle.std.specs.Prelude.{ℕ}
 abbrev pub agents_limit : ℕ
 agents_limit = 256
 
--- the most locations of a read, and the most named reads and scans of a fire together
+-- the most locations of a read, and the most declared reads and scans of a fire together
 abbrev pub reads_limit : ℕ
 reads_limit = 256
 
--- the most offers of a fire
+-- the most attempts of a fire
 abbrev pub offers_limit : ℕ
 offers_limit = 64
 
@@ -17,7 +17,7 @@ offers_limit = 64
 abbrev pub most_plain : ℕ
 most_plain = 16
 
--- the most moves that the count of a history tells
+-- the most moves that the count of a history can have
 abbrev pub most_counted : ℕ
 most_counted = 4294967295
 

@@ -24,11 +24,11 @@ pub record Machine : Type 0 where
 abbrev pub machine_state : Machine → List Move → State
 machine_state m q = firing.state_of m.part m.init q
 
--- the reply to a move that fires: it is taken while there is room
+-- the reply to a move that fires: `Fired` while there is room
 abbrev pub taken_reply : ℕ → ℕ → Reply
 taken_reply capacity number = if nat_lt number capacity then reply.Fired (number + 1) else reply.Full
 
--- the reply to a move that isn't stale: taken where it has a state, and else its clash
+-- the reply to a move that isn't stale: that of a firing move if it has a state, and else its clash
 abbrev pub firing_reply : Machine → List Move → Result State Clash → Reply
 firing_reply m q (Ok B) = taken_reply m.capacity (length q)
 firing_reply m q (Err clash) = reply.Clash clash

@@ -1,4 +1,5 @@
--- The part of an agent that is no borrow: what is true of it beside its storage, what it offers, and what its calls do.
+-- The part of an agent that is no borrow: what is true of it beside its storage, what it attempts to append, and what
+-- its calls do.
 use Rattle.std.specs.Prelude.{◌≡◌, ℕ, List, ◌+◌, ◌-◌, ◌^◌, ◌<◌, ◌≤◌, length, take, Option, Some, None, Result, Ok, Err, Bool, false, IsOk, IsTrue}
 use Rattle.asm_update.specs.Move.{Move}
 use Rattle.asm_state.specs.declared.named.Named.{Named}
@@ -26,7 +27,7 @@ use Rattle.asm_storage.specs.Calls.{receipt_at, judged_on, IsReplied}
 use Rattle.asm_storage.specs.Scans.{with_found, RestsOn}
 use Rattle.asm_storage.specs.Storage.{AgentAt, StorageView, machine_of, has_seen, has_looked, with_fired, last_look}
 
--- the agent's entry of this move, and the call to fire it with these named reads
+-- the agent's entry of this move, and the call to fire it with these declared reads
 pub record IsOffering (agent : ℕ) (reads : List Named) (M : Move) (o : Offering) : Type 0 where
   pub mine : o.entry.value.agent ≡ agent
   pub instrs : o.entry.value.instrs ≡ M
@@ -45,7 +46,7 @@ account_of p = record { id = p.id; seen = p.progress.seen; won = p.progress.won;
 abbrev pub agent_of : {A : Type 0} → StorageView A → AgentPart → AgentAt A
 agent_of s p = record { storage = s; misses = p.progress.misses; number = p.state.number; account = account_of p }
 
--- the state stands for the first moves that were seen
+-- the state has followed the first moves that were seen
 pub record IsFollowing (m : Machine) (seen : List Entry) (s : StateView) : Type 0 where
   pub within : s.number ≤ length seen
   pub stands : Stands m.part m.init s (take s.number (moves_seen seen))
@@ -66,13 +67,13 @@ pub record LooksOn {A : Type 0} (meaning : A → Meaning) (s : StorageView A) (o
   pub onward : old.state.number ≤ new.state.number
   pub part : IsPartOf meaning s new
 
--- an offer was lost: one entry more was seen, which is another's
+-- an attempt was lost: one entry more was seen, which is another's
 pub record IsLost {A : Type 0} (s : StorageView A) (old new : AgentPart) : Type 0 where
   pub agent : agent_of s new ≡ has_seen (agent_of s old) new.progress.seen
   pub seen : IsPrefix old.progress.seen new.progress.seen
   pub longer : length new.progress.seen ≡ length old.progress.seen + 1
 
--- the offer of the move was won, and this is the reply: the move is the one after those that had been seen
+-- the attempt to append the move won, and this is the reply: the move is the one after those that had been seen
 pub record HasWon {A : Type 0} (s : StorageView A) (old new : AgentPart) (reads : List Named) (M : Move) (r : Reply)
     : Type 0 where
   pub reply : r ≡ reply.Fired (length old.progress.seen + 1)
@@ -99,13 +100,13 @@ IsJudged m seen reads M None =
     (answer.Fire (reply.Fired (length seen + 1)) ≡ reply_to m (moves_seen seen) (call.Fire reads M))
     × (length seen < m.capacity)
 
--- one turn of a fire: it was answered, or an offer was lost, and another entry was seen
+-- one turn of a fire: it was answered, or an attempt was lost, and another entry was seen
 abbrev pub IsTurn : {A : Type 0} → (A → Meaning) → StorageView A → AgentPart → AgentPart → List Named → Move →
     Option Reply → Type 0
 IsTurn meaning s old new reads M (Some r) = IsReplied meaning (agent_of s old) (agent_of s new) reads M r
 IsTurn meaning s old new reads M None = LooksOn meaning s old new
 
--- one turn of a fire that rests on scans: it was answered, and rests on what was found; or an offer was lost
+-- one turn of a fire that depends on scans: it was answered, and depends on what was found; or an attempt was lost
 abbrev pub IsTurnOver : {A : Type 0} → (A → Meaning) → StorageView A → AgentPart → AgentPart → List Named →
     List Scanned → Move → Option Reply → Type 0
 IsTurnOver meaning s old new reads scans M (Some r) = (found : Option Named)
@@ -113,14 +114,14 @@ IsTurnOver meaning s old new reads scans M (Some r) = (found : Option Named)
     × RestsOn (machine_of meaning s) (moves_seen (judged_on r new.progress.seen)) scans found r
 IsTurnOver meaning s old new reads scans M None = LooksOn meaning s old new
 
--- how many offers the turn made
+-- how many attempts the turn made
 abbrev pub offers_in : Result (Option Reply) AllocError → ℕ
 offers_in (Ok (Some (reply.Fired k))) = 1
 offers_in (Ok (Some r)) = 0
 offers_in (Ok None) = 1
 offers_in (Err e) = 0
 
--- how many of its looks found nothing: one before an offer, and else the last one, if there was one
+-- how many of its polls found nothing: one before an attempt, and else the last one, if there was one
 abbrev pub misses_in : {A : Type 0} → AgentAt A → Result (Option Reply) AllocError → ℕ
 misses_in new (Ok (Some (reply.Fired k))) = 1
 misses_in new (Ok (Some r)) = last_look new

@@ -16,35 +16,35 @@ use Rattle.asm_storage.specs.declared.call.Answer.TheVariants as answer
 use Rattle.asm_storage.specs.declared.history.Event.{Event}
 use Rattle.asm_storage.specs.declared.history.History.{History}
 
--- a proper location, and a number below 2^32
+-- a well-formed location, and a number below 2^32
 abbrev pub IsProperNamed : Named → Type 0
 IsProperNamed r = place.IsProper r.at × (r.number < 2 ^ 32)
 
--- at most 4,096 instructions, each of them proper
+-- at most 4,096 instructions, each of them well-formed
 abbrev pub IsProperMove : Move → Type 0
 IsProperMove M = All IsProperInstruction M × (length M ≤ instructions_limit)
 
--- what it asks for is proper
+-- what it asks for is well-formed
 abbrev pub IsProperCall : Call → Type 0
 IsProperCall (call.Read places) = All place.IsProper places
 IsProperCall (call.Fire reads instrs) = All IsProperNamed reads × IsProperMove instrs
 
--- a number below 2^32, or a proper location
+-- a number below 2^32, or a well-formed location
 abbrev pub IsProperReply : Reply → Type 0
 IsProperReply (reply.Fired k) = k < 2 ^ 32
 IsProperReply (reply.Stale l) = place.IsProper l
 IsProperReply (reply.Clash c) = place.IsProper c.at
 IsProperReply reply.Full = Unit {0}
 
--- a number below 2^32 and proper values, or a proper reply
+-- a number below 2^32 and well-formed values, or a well-formed reply
 abbrev pub IsProperAnswer : Answer → Type 0
 IsProperAnswer (answer.Read number values) = (number < 2 ^ 32) × All value.IsProper values
 IsProperAnswer (answer.Fire r) = IsProperReply r
 
--- its call and its answer are proper
+-- its call and its answer are well-formed
 abbrev pub IsProperEvent : Event → Type 0
 IsProperEvent e = IsProperCall e.call × IsProperAnswer e.answer
 
--- one that a program can hold: its opening state and its events are proper
+-- one that a program can hold: its opening state and its events are well-formed
 abbrev pub IsProper : History → Type 0
 IsProper h = state.IsProper h.init × All IsProperEvent h.events

@@ -6,7 +6,7 @@ use Rattle.asm_storage.specs.declared.close.merging.AgentReceipt.{AgentReceipt}
 use Rattle.asm_storage.specs.declared.history.Event.{Event}
 use Rattle.asm_storage.specs.Agents.{AgentView, event_of, is_fired}
 
--- where a receipt merges: twice the number at which it stands, and one more for a move
+-- where a receipt merges: twice its number, and one more for a move
 abbrev pub key : Receipt → ℕ
 key r = 2 * r.stood + (if is_fired r then 1 else 0)
 
@@ -24,6 +24,6 @@ receipts_with_ids agents = flat_map (λ a. map (with_id a.id) a.receipts) agents
 abbrev pub id_and_receipt : AgentReceipt → ℕ × Receipt
 id_and_receipt s = (s.agent, s.receipt.now)
 
--- the event that a receipt of its agent tells
+-- the event of an agent's receipt
 abbrev pub merged_event : AgentReceipt → Event
 merged_event s = event_of s.agent s.receipt.now

@@ -1,4 +1,4 @@
--- Fires that rest on whole functions: what such a fire names beside its reads, and what it then rests on.
+-- Fires that depend on whole functions: what such a fire names beside its reads, and what it then depends on.
 use Rattle.std.specs.Prelude.{◌≡◌, false, List, [], ◌∷◌, ◌++◌, length, take, All, IsTrue, ◌≤◌}
 use Rattle.std.specs.Prelude.{Option, Some, None, string_bytes}
 use Rattle.std.specs.List.{Contains}
@@ -23,7 +23,7 @@ with_found reads (Some r) = reads ++ r ∷ []
 abbrev pub IsUnwritten : Part → State → List Move → Scanned → Type 0
 IsUnwritten part A q s = (l : Place) → is_rewritten part A q (string_bytes s.name) s.number l ≡ false
 
--- the read names, at the scan's number, the least location of its name that one of the moves after it wrote
+-- the read names, at the scan's number, the smallest location of its name that one of the moves after it wrote
 pub record IsOvertaken (part : Part) (A : State) (q : List Move) (r : Named) (s : Scanned) : Type 0 where
   pub least : IsLeast (is_rewritten part A q (string_bytes s.name) s.number) r.at
   pub number : r.number ≡ s.number
@@ -33,23 +33,23 @@ abbrev pub IsFound : Part → State → List Move → List Scanned → Option Na
 IsFound part A q scans None = All (IsUnwritten part A q) scans
 IsFound part A q scans (Some r) = (s : Scanned) × Contains scans s × IsOvertaken part A q r s
 
--- the reads that a fire names which rests on these reads and scans: the reads, and what is found of the scans
+-- the reads that a fire names which depends on these reads and scans: the reads, and what is found of the scans
 pub record IsNamedOver (m : Machine) (q : List Move) (reads : List Named) (scans : List Scanned) (named : List Named)
     : Type 0 where
   pub found : Option Named
   pub named_is : named ≡ with_found reads found
   pub found_is : IsFound m.part m.init q scans found
 
--- after these moves the function is as it was scanned: none after the scan wrote a location of its name, so each of these,
--- whether it has a value or none, has the value that it had
+-- after these moves the function is as at its scan: none after the scan wrote a location of its name, so each of
+-- these, whether it has a value or none, has the value that it had
 pub record IsKept (m : Machine) (q : List Move) (s : Scanned) : Type 0 where
   pub unwritten : (l : Place) → IsTrue (has_name (string_bytes s.name) l) →
       is_stale m.part m.init q l s.number ≡ false
   pub value : s.number ≤ length q → (l : Place) → IsTrue (has_name (string_bytes s.name) l) →
       val (machine_state m (take s.number q)) l ≡ val (machine_state m q) l
 
--- what a reply after these moves rests on beside the reads. A stale one tells a read that is stale, or one that names what
--- was found of the scans; with any other nothing was found, and each function is as it was scanned
+-- what a reply after these moves depends on beside the reads. A stale one has a read that is stale, or one that names
+-- what was found of the scans; with any other nothing was found, and each function is as at its scan
 abbrev pub RestsOn : Machine → List Move → List Scanned → Option Named → Reply → Type 0
 RestsOn m q scans found (reply.Stale l) = IsFound m.part m.init q scans found
 RestsOn m q scans found r = (found ≡ None) × All (IsKept m q) scans

@@ -19,12 +19,12 @@ pub record StorageView (A : Type 0) : Type 0 where
   pub agg : A
   pub init : State
 
--- the storage of one thread that it stands for
+-- the sequential storage of this one
 abbrev pub machine_of : {A : Type 0} → (A → Meaning) → StorageView A → Machine
 machine_of meaning s = record { part = (meaning s.agg).part; init = s.init; capacity = length s.row }
 
--- an agent, the storage that it works on, how many of its looks found an empty cell, and the number at which its own
--- state stands: how many of the moves that it has seen that state has followed
+-- an agent, the storage that it works on, how many of its polls found an empty cell, and the version of its own
+-- state: how many of the moves that it has seen that state has followed
 pub record AgentAt (A : Type 0) : Type 0 where
   pub storage : StorageView A
   pub misses : ℕ
@@ -57,7 +57,7 @@ pub record IsSameAgent {A : Type 0} (old new : AgentAt A) : Type 0 where
   pub storage : new.storage ≡ old.storage
   pub id : new.account.id ≡ old.account.id
 
--- `Missing` has the least number of a move that one of them has seen and none has a receipt of
+-- `Missing` has the smallest number of a move that one of them has seen and none has a receipt of
 abbrev pub IsMissing : List AgentView → CloseError → Type 0
 IsMissing agents (Missing number) = (k : ℕ) × (number ≡ k + 1) × IsLeastMissing agents (most_seen agents) k
 IsMissing agents Memory = Unit {0}
@@ -71,7 +71,7 @@ at_start s id =
 abbrev pub has_seen : {A : Type 0} → AgentAt A → List Entry → AgentAt A
 has_seen a seen = record a { account = record a.account { seen = seen } }
 
--- the agent when it has seen this, after looks, and its state stands at this number
+-- the agent when it has seen this, after polls, and its state has this version
 abbrev pub has_looked : {A : Type 0} → AgentAt A → List Entry → ℕ → ℕ → AgentAt A
 has_looked a seen misses number = record a { misses = misses; number = number; account = record a.account { seen = seen } }
 
@@ -104,11 +104,11 @@ with_fired a r M =
 abbrev pub IsReplyOf : {A : Type 0} → (A → Meaning) → AgentAt A → Call → Answer → Type 0
 IsReplyOf meaning a call answer = answer ≡ reply_to (machine_of meaning a.storage) (moves_seen a.account.seen) call
 
--- how many looks an agent that looks on until it finds nothing counts as misses: one, or none where it has
--- then seen the whole row
+-- how many polls an agent that polls until no move is left counts as misses: one, or none where it has then seen the
+-- whole row
 abbrev pub last_look : {A : Type 0} → AgentAt A → ℕ
 last_look a = if nat_lt (length a.account.seen) (length a.storage.row) then 1 else 0
 
--- so many looks more found nothing; they are counted up to 2^64 - 1
+-- so many more polls found nothing; they are counted up to 2^64 - 1
 abbrev pub Missed : {A : Type 0} → AgentAt A → ℕ → AgentAt A → Type 0
 Missed before looks after = after.misses ≡ min (before.misses + looks) (2 ^ 64 - 1)

@@ -26,17 +26,17 @@ use asm_update::{Aggregator, Instructions};
 use std::alloc::{AllocError, Global};
 use std::marker::Model;
 
-/// What one agent had seen when the mark was made, for another agent of the storage to learn.
+/// What one agent had seen when the mark was made, for the storage's other agents.
 pub type Mark = asm_row::Mark<Entry>;
 
-/// An agent of a storage: it follows the row of moves with a state of its own, reads and fires, and keeps a
-/// receipt of each of its answered calls.
+/// An agent of a storage: one thread's session, which reads and fires moves.
 ///
-/// Contracts see its storage, its number, the entries of the row that it has seen, how many of its offers
-/// won, how many of its looks found an empty cell, at which number its own state stands, and its receipts. Each
-/// answer is the one that a storage of one thread gives after the moves that the agent has then seen. It may be
-/// moved into any thread. No call waits, and each returns: it follows at most as many entries as the capacity.
-/// `try_fire_with` returns if the calls of its closure do.
+/// It follows the row of moves with a state of its own, and records a receipt of each of its answered calls. Contracts
+/// see its storage, its number, the entries of the row that it has seen, how many of its attempts to append won, how
+/// many of its polls found an empty cell, the version of its own state, and its receipts. Each answer is the one that a
+/// sequential storage gives after the moves that the agent has then seen. It may be moved into any thread. No call
+/// waits, and each returns: it follows at most as many entries as the capacity. `try_fire_with` returns if the calls of
+/// its closure do.
 #[derive(Drop)]
 pub struct Agent<'s, A: Aggregator + Sync + Drop> {
     storage: &'s Storage<A>,
@@ -61,8 +61,8 @@ impl<'s, A: Aggregator + Sync + Drop> Model for Agent<'s, A> {
 }
 
 impl<'s, A: Aggregator + Sync + Drop> Agent<'s, A> {
-    /// The agent with this part, at its storage: for an owner of a share of the storage, who can't keep the
-    /// agent, as that borrows it.
+    /// Return the agent with this part, at its storage.
+    /// It is for an owner of a share of the storage, who can't hold the agent, as that borrows it.
     pub fn of(storage: &'s Storage<A>, part: AgentPart) -> Agent<'s, A>
         requires { IsPartOf A.meaning storage.now part }
         ensures { result ≡ agent_of storage.now part }
@@ -70,7 +70,8 @@ impl<'s, A: Aggregator + Sync + Drop> Agent<'s, A> {
         Agent { storage, part }
     }
 
-    /// The agent's part, which borrows nothing; `of` makes the agent of it again.
+    /// Return the agent's part, which borrows nothing.
+    /// `of` makes the agent of it again.
     pub fn into_part(self) -> AgentPart
         ensures agent { self.entry ≡ agent_of self.entry.storage result }
         ensures part { IsPartOf A.meaning self.entry.storage result }
@@ -79,7 +80,7 @@ impl<'s, A: Aggregator + Sync + Drop> Agent<'s, A> {
         part
     }
 
-    /// Its number among the agents of one call of `Storage::agents`, below 256.
+    /// Return its number among the agents of one call of `Storage::agents`, below 256.
     pub fn id(&self) -> u32
         ensures id { result ≡ self.now.account.id }
         ensures few { result < agents_limit }
@@ -87,14 +88,14 @@ impl<'s, A: Aggregator + Sync + Drop> Agent<'s, A> {
         self.part.id
     }
 
-    /// How many moves it has seen.
+    /// Return how many moves it has seen.
     pub fn seen(&self) -> u32
         ensures { result ≡ length self.now.account.seen }
     {
         self.part.progress.seen_len()
     }
 
-    /// How many of its offers won: as many as its receipts of fired moves.
+    /// Return how many of its attempts to append won: as many as its fired moves.
     pub fn won(&self) -> u32
         ensures value { result ≡ self.now.account.won }
         ensures counted { self.now.account.won ≡ length (filter is_fired self.now.account.receipts) }
@@ -102,22 +103,23 @@ impl<'s, A: Aggregator + Sync + Drop> Agent<'s, A> {
         self.part.progress.won()
     }
 
-    /// How many of its looks found an empty cell, counted up to 18,446,744,073,709,551,615.
+    /// Return how many of its polls found an empty cell.
+    /// The counter saturates at 18,446,744,073,709,551,615.
     pub fn misses(&self) -> u64
         ensures { result ≡ self.now.misses }
     {
         self.part.progress.misses()
     }
 
-    /// The receipts of its answered calls, in order.
+    /// Return the receipts of its answered calls, in order.
     pub fn receipts(&self) -> &[Receipt]
         ensures { result.now ≡ self.now.account.receipts }
     {
         self.part.receipts.as_slice()
     }
 
-    /// A mark of what it has seen, which another agent of the storage can learn. It always answers `Ok`: a mark takes no
-    /// memory of its own.
+    /// Return a mark of what it has seen, which another agent of the storage can learn.
+    /// It always returns `Ok`: a mark takes no memory of its own.
     pub fn mark(&self, alloc: Global) -> Result<Mark, AllocError>
         ensures made { IsOk result }
         ensures holds { IfOk result (λ m. m ≡ record { row = self.now.storage.row; seen = self.now.account.seen }) }
@@ -126,11 +128,10 @@ impl<'s, A: Aggregator + Sync + Drop> Agent<'s, A> {
         self.part.progress.mark(alloc)
     }
 
-    /// Takes in what a mark of the same storage holds, without a look at the row.
-    ///
-    /// Afterwards it has seen what the mark holds or what it had seen before, whichever is longer; the other
-    /// begins it. Its receipts, wins and misses stay as they are. It always answers `Ok`: the agent's state
-    /// follows what was learnt at the start of the next call.
+    /// Take in what a mark of the same storage holds, without polling the row.
+    /// Afterwards it has seen what the mark holds or what it had seen before, whichever is longer; the other is its
+    /// beginning. Its receipts, wins and misses are unchanged. It always returns `Ok`: the agent's state follows what
+    /// was learnt at the start of the next call.
     pub fn learn(&mut self, alloc: Global, mark: &Mark) -> Result<(), AllocError>
         requires { mark.now.row ≡ self.old.storage.row }
         ensures kept { self.new ≡ has_seen self.old self.new.account.seen }
@@ -145,11 +146,11 @@ impl<'s, A: Aggregator + Sync + Drop> Agent<'s, A> {
         Ok(())
     }
 
-    /// Learns what another agent of the storage has seen, and exchanges the states of the two where the other's is ahead.
-    ///
-    /// So agents that one thread plays by turns share the work of following: the one that is about to act takes the
-    /// state of the one that acted last, which keeps an older one and catches up if it is used again. Receipts,
-    /// wins and misses of both are unchanged, and so is what the other has seen. It polls nothing and takes no memory.
+    /// Learn what another agent of the storage has seen, and take its newer state.
+    /// If the other's state is ahead, the two exchange their states. So agents that one thread plays by turns share the
+    /// work of following: the one that is about to act takes the state of the one that acted last, which retains an
+    /// older one and catches up if it is used again. Receipts, wins and misses of both are unchanged, and so is what
+    /// the other has seen. It polls nothing and takes no memory.
     pub fn take_state(&mut self, other: &mut Agent<'_, A>)
         requires { other.old.storage ≡ self.old.storage }
         ensures { HasTaken self.old other.old self.new other.new }
@@ -158,11 +159,11 @@ impl<'s, A: Aggregator + Sync + Drop> Agent<'s, A> {
         self.part.take_state(storage, &mut other.part);
     }
 
-    /// Looks at the row until it finds nothing more, and has its state follow what it found, without a receipt;
-    /// answers how many moves it has then seen.
+    /// Poll the row until no move is left, and follow; return how many moves were seen.
+    /// It adds no receipt. Until the next call that polls, `state` and `peek` are at this version.
     ///
-    /// Until the next call that looks, `state` and `peek` stand at this number. `AllocError` comes only where memory was
-    /// refused; it may then have seen more, and its state may lag behind.
+    /// # Errors
+    /// - `AllocError` only if memory is refused; it may then have seen more, and its state may lag behind.
     pub fn follow(&mut self, alloc: Global) -> Result<u32, AllocError>
         ensures same { IsSameAgent self.old self.new }
         ensures number { IfOk result (λ n. n ≡ length self.new.account.seen) }
@@ -176,13 +177,13 @@ impl<'s, A: Aggregator + Sync + Drop> Agent<'s, A> {
         self.part.follow(alloc, storage)
     }
 
-    /// Its own state, which stands for the first moves that it has seen, as many as the state's number says.
-    ///
-    /// It makes no look and keeps no receipt: all that is looked up in the state stands at one number, and a
-    /// fire that rests on a value names its location with that number. It has followed all that was seen after a
-    /// `follow`, a `read` or a `stands`, and after a fire that fired nothing. It lags behind after a won offer, which
-    /// it hasn't followed yet, after a `learn` and after refused memory; and a fire that names no read and no scan and
-    /// puts at most 16 values, without partial updates, is judged without it and leaves it where it stands.
+    /// Return its own state: that after the first moves that it has seen.
+    /// They are as many as the state's number says. The call doesn't poll and adds no receipt: all that is looked up in
+    /// the state is at one version, and a fire that depends on a value declares its location with that number. The
+    /// state has followed all that was seen after a `follow`, a `read` or a `stands`, and after a fire that fired
+    /// nothing. It lags behind after a won attempt, which it hasn't followed yet, after a `learn` and after refused
+    /// memory. A fire that declares no read and no scan and puts at most 16 values, without partial updates, is judged
+    /// without the state and doesn't advance it.
     pub fn state(&self) -> &State
         ensures following { IsFollowing (machine_of A.meaning self.now.storage) self.now.account.seen result.now }
         ensures number { result.now.number ≡ self.now.number }
@@ -190,8 +191,11 @@ impl<'s, A: Aggregator + Sync + Drop> Agent<'s, A> {
         &self.part.state
     }
 
-    /// The values of the locations in its own state, with the number of moves at which it stands, without a look
-    /// and without a receipt. `AllocError` comes only where memory was refused.
+    /// Return the values of the locations in its own state, with that state's version.
+    /// It doesn't poll and adds no receipt.
+    ///
+    /// # Errors
+    /// - `AllocError` only if memory is refused.
     pub fn peek(&self, alloc: Global, places: &[Location]) -> Result<Reading, AllocError>
         ensures { IfOk result (IsPeek A.meaning self.now places.now) }
     {
@@ -199,13 +203,14 @@ impl<'s, A: Aggregator + Sync + Drop> Agent<'s, A> {
         self.part.peek(alloc, storage, places)
     }
 
-    /// Whether what was read still stands: the least of the at most 256 named locations that a move has written
-    /// since, or `None` where no move has.
+    /// Validate reads: return the smallest location that was written since its read.
+    /// `None` means that no move has written one of the at most 256 locations. It polls the row until no move is left,
+    /// has its state follow what it found, and adds no receipt. A fire that declares the same reads may still be
+    /// refused as stale, by a move that comes in between.
     ///
-    /// It looks at the row until it finds nothing more, has its state follow what it found, and keeps no receipt.
-    /// A fire that names the same reads may be refused as stale all the same, by a move that comes in between.
-    /// `ReadError::ManyLocations` comes exactly for more reads, before anything else; `Memory` only where
-    /// memory was refused, and it may then have seen more.
+    /// # Errors
+    /// - `ReadError::ManyLocations` exactly for more reads, before anything else.
+    /// - `Memory` only if memory is refused, and it may then have seen more.
     pub fn stands(&mut self, alloc: Global, named: &[Named]) -> Result<Option<Location>, ReadError>
         ensures same { IsSameAgent self.old self.new }
         ensures stale { IfOk result (IsStaleRead A.meaning self.new named.now) }
@@ -226,13 +231,14 @@ impl<'s, A: Aggregator + Sync + Drop> Agent<'s, A> {
         Ok(stale)
     }
 
-    /// Reads at most 256 locations: their values, in the order of the call, with the number of moves at which
-    /// they were read.
+    /// Read at most 256 locations: their values, in the order of the call.
+    /// The answer also has the number of moves at which they were read. The call polls the row until no move is left,
+    /// has its state follow what it found, and adds a receipt, but none on error. Contracts don't cover the cells of
+    /// the row: that a read adds no move there is tested.
     ///
-    /// It looks at the row until it finds nothing more, has its state follow what it found, and keeps a
-    /// receipt. `ReadError::ManyLocations` comes exactly for more locations, before anything else; `Memory`
-    /// only where memory was refused. After an error no receipt was added, and after `Memory` it may have
-    /// seen more. Contracts don't tell what stands in the row: that a read adds no move there is tested.
+    /// # Errors
+    /// - `ReadError::ManyLocations` exactly for more locations, before anything else.
+    /// - `Memory` only if memory is refused; it may then have seen more.
     pub fn read(&mut self, alloc: Global, places: &[Location]) -> Result<Reading, ReadError>
         ensures same { IsSameAgent self.old self.new }
         ensures answered { IfOk result (IsRead A.meaning self.old self.new places.now) }
@@ -252,11 +258,14 @@ impl<'s, A: Aggregator + Sync + Drop> Agent<'s, A> {
         Ok(reading)
     }
 
-    /// Adds a receipt of a read of at most 256 locations from its own state, at the number of that, without a look.
+    /// Read at most 256 locations from its own state, and add a receipt; don't poll.
+    /// The receipt is at the state's version. On error, nothing changes.
     ///
-    /// `RecallError::ManyLocations` comes exactly for more locations, before anything else; `Behind` exactly where the
-    /// state hasn't followed all moves on which the agent's receipts rest, such as one that it fired itself; `Memory`
-    /// only where memory was refused. On error, nothing changes.
+    /// # Errors
+    /// - `RecallError::ManyLocations` exactly for more locations, before anything else.
+    /// - `Behind` exactly if the state hasn't followed all moves on which the agent's receipts depend, such as one that
+    ///   it fired itself.
+    /// - `Memory` only if memory is refused.
     pub fn recall(&mut self, alloc: Global, places: &[Location]) -> Result<Reading, RecallError>
         ensures recalled { IfOk result (IsRecall A.meaning self.old self.new places.now) }
         ensures refused { OnErr result (self.new ≡ self.old) }
@@ -267,27 +276,18 @@ impl<'s, A: Aggregator + Sync + Drop> Agent<'s, A> {
         self.part.recall(alloc, storage, places)
     }
 
-    /// Fires a move, if none of the named locations was written since it was read, and no location of a scanned name
-    /// since that was scanned: at most 256 reads and scans together.
+    /// Fire a move, unless a declared read or a scan was overtaken since it was made.
+    /// A declared read is overtaken once a move writes its location, a scan once a move writes a location of its name.
+    /// There are at most 256 reads and scans together. A scan depends on a whole function: on each location of its
+    /// name, whether it has a value or none, so a move that gives a value to a further one overtakes it. It names no
+    /// location; a turn walks what moves wrote of that name, up to the first location that overtakes the scan. The call
+    /// has turns as `try_fire_with` has. If a turn finds an overtaken scan, the call is from then on the one that
+    /// declares, after the reads, the smallest location that was written, at the number of the scan: its reply is
+    /// `Stale`.
     ///
-    /// A scan rests on a whole function: on each location of its name, whether it has a value or none, so a move that
-    /// gives a value to a further one overtakes it. It names no location; a turn walks
-    /// what moves wrote of that name, up to the first location that overtakes the scan.
-    ///
-    /// It goes in turns. A turn looks at the row until it finds nothing more and has the agent's state follow
-    /// what it found. Where a scan was overtaken, the call is from then on the one that names, behind the reads, the
-    /// least location that was written, at the number of the scan: its reply is `Stale`. Else it answers `Stale` with
-    /// the least stale location, else the move's `Clash`, else `Full` where it has seen as many moves as the
-    /// capacity, and else it calls `between` and offers the move for the next place of the row. A won offer answers
-    /// `Fired`; a lost one begins a new turn. A receipt is kept of each answer.
-    ///
-    /// `FireError::ManyReads` comes exactly for more reads and scans, before anything else; `Busy` where 64
-    /// offers of this call were lost, with what had been seen at its start and at its end; `Memory` only
-    /// where memory was refused, and never after an offer that was won. After an error the agent has won no
-    /// offer more and no receipt was added, and after `Busy` and `Memory` it may have seen more.
-    ///
-    /// Contracts don't tell what stands in the row: that the call adds the move that it fires, and no other,
-    /// and that `between` is called before each offer is tested.
+    /// # Errors
+    /// - `FireError::ManyReads` exactly for more reads and scans, before anything else.
+    /// - `Busy` and `Memory` as from `try_fire_with`, and with the same effects.
     pub fn try_fire_over_with<F: FnMut()>(
         &mut self,
         alloc: Global,
@@ -298,7 +298,7 @@ impl<'s, A: Aggregator + Sync + Drop> Agent<'s, A> {
     ) -> Result<Reply, FireError>
         requires { F.IsAlwaysCallable between.old }
         ensures fire { IsFireOver A.meaning self.old self.new reads.now scans.now instrs.now result }
-        // The closure was called as often as offers were made.
+        // The closure was called as often as there were attempts.
         ensures callable { F.IsAlwaysCallable between.new }
         ensures offers { (n : ℕ) × MadeOffers self.old self.new result n ×
             Ran (λ f g. F.step f tt g) between.old n between.new }
@@ -318,8 +318,8 @@ impl<'s, A: Aggregator + Sync + Drop> Agent<'s, A> {
         }
     }
 
-    /// Fires a move as `try_fire_with` does, with the same answers and errors. Its receipt shares the list of the reads,
-    /// which isn't copied.
+    /// Fire a move as `try_fire_with` does, with the same answers and errors.
+    /// Its receipt shares the list of the reads, which isn't copied.
     pub fn try_fire_shared_with<F: FnMut()>(
         &mut self,
         alloc: Global,
@@ -338,8 +338,8 @@ impl<'s, A: Aggregator + Sync + Drop> Agent<'s, A> {
             .try_fire_over(alloc, storage, reads, &[], instrs, between)
     }
 
-    /// Fires a move, if none of the named locations was written since it was read, and no location of a scanned name
-    /// since that was scanned: the same as `try_fire_over_with` with a closure that does nothing.
+    /// Fire a move with declared reads and scans.
+    /// It is `try_fire_over_with` with a closure that does nothing: the same answers and errors.
     pub fn try_fire_over(
         &mut self,
         alloc: Global,
@@ -352,21 +352,21 @@ impl<'s, A: Aggregator + Sync + Drop> Agent<'s, A> {
         self.try_fire_over_with(alloc, reads, scans, instrs, &mut || {})
     }
 
-    /// Fires a move, if none of the at most 256 named locations was written since it was read.
+    /// Fire a move, unless a declared location was written since it was read.
+    /// There are at most 256 declared reads. The call has turns. A turn polls the row until no move is left and has the
+    /// agent's state follow what it found. Then it answers `Stale` with the smallest stale location, else the move's
+    /// `Clash`, else `Full` if it has seen as many moves as the capacity. Else it calls `between` and attempts to
+    /// append the move to the row. A won attempt answers `Fired`; a lost one begins a new turn. A receipt is recorded
+    /// of each answer. Contracts don't cover the cells of the row. It is tested that the call adds the move that it
+    /// fires, and no other, and that `between` is called before each attempt.
     ///
-    /// It goes in turns. A turn looks at the row until it finds nothing more and has the agent's state follow
-    /// what it found; then it answers `Stale` with the least stale location, else the move's `Clash`, else
-    /// `Full` where it has seen as many moves as the capacity, and else it calls `between` and offers the
-    /// move for the next place of the row. A won offer answers `Fired`; a lost one begins a new turn.
-    /// A receipt is kept of each answer.
+    /// # Errors
+    /// - `FireError::ManyReads` exactly for more declared reads, before anything else.
+    /// - `Busy` if 64 attempts of this call were lost, with what had been seen at its start and at its end.
+    /// - `Memory` only if memory is refused, and never after an attempt that won.
     ///
-    /// `FireError::ManyReads` comes exactly for more named locations, before anything else; `Busy` where 64
-    /// offers of this call were lost, with what had been seen at its start and at its end; `Memory` only
-    /// where memory was refused, and never after an offer that was won. After an error the agent has won no
-    /// offer more and no receipt was added, and after `Busy` and `Memory` it may have seen more.
-    ///
-    /// Contracts don't tell what stands in the row: that the call adds the move that it fires, and no other,
-    /// and that `between` is called before each offer is tested.
+    /// On error, the agent has won no further attempt and no receipt was added, and after `Busy` and `Memory` it may
+    /// have seen more.
     pub fn try_fire_with<F: FnMut()>(
         &mut self,
         alloc: Global,
@@ -376,7 +376,7 @@ impl<'s, A: Aggregator + Sync + Drop> Agent<'s, A> {
     ) -> Result<Reply, FireError>
         requires { F.IsAlwaysCallable between.old }
         ensures fire { IsFire A.meaning self.old self.new reads.now instrs.now result }
-        // The closure was called as often as offers were made.
+        // The closure was called as often as there were attempts.
         ensures callable { F.IsAlwaysCallable between.new }
         ensures offers { (n : ℕ) × MadeOffers self.old self.new result n ×
             Ran (λ f g. F.step f tt g) between.old n between.new }
@@ -384,8 +384,8 @@ impl<'s, A: Aggregator + Sync + Drop> Agent<'s, A> {
         self.try_fire_over_with(alloc, reads, &[], instrs, between)
     }
 
-    /// Fires a move, if none of the at most 256 named locations was written since it was read: the same as
-    /// `try_fire_with` with a closure that does nothing.
+    /// Fire a move, unless one of at most 256 declared locations was written since.
+    /// It is `try_fire_with` with a closure that does nothing: the same answers and errors.
     pub fn try_fire(
         &mut self,
         alloc: Global,

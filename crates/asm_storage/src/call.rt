@@ -15,25 +15,25 @@ use std::alloc::{AllocError, Global};
 pub enum Call {
     /// To read these locations.
     Read(Items<Location>),
-    /// To fire the instructions, if none of the named locations was written since it was read.
+    /// To fire the instructions, unless a declared location was written since its read.
     Fire {
-        /// The locations on which the instructions rest, each with the number at which it was read.
+        /// The locations that the instructions depend on, each with the number of its read.
         reads: Items<Named>,
-        /// The move that is to be fired.
+        /// The move to fire.
         instrs: Instructions,
     },
 }
 
-/// The reply to a fire: the first that holds, in the order `Stale`, `Clash`, `Full`, `Fired`.
+/// The reply to a fire: the first of `Stale`, `Clash`, `Full`, `Fired` that holds.
 ///
 /// Source: this project's profile; a clash is an inconsistent update set as in Börger and Stärk.
 #[derive(Debug, Drop, PartialEq, Eq)]
 pub enum Reply {
-    /// The move was fired, and is the one with this number; the first move has the number 1.
+    /// The move was fired, and has this number; the first move has the number 1.
     Fired(u32),
-    /// The least named location that was written since it was read.
+    /// The smallest named location that was written since it was read.
     Stale(Location),
-    /// The least location whose updates have no result, with the cause.
+    /// The smallest location whose updates have no result, with the cause.
     Clash(Clash),
     /// As many moves were fired as the capacity.
     Full,
@@ -53,7 +53,7 @@ pub enum Answer {
     Fire(Reply),
 }
 
-/// A call to fire, which shares its lists.
+/// Return a call to fire, which shares its lists.
 pub(crate) fn fire_call(
     alloc: Global,
     reads: &Items<Named>,
@@ -68,7 +68,7 @@ pub(crate) fn fire_call(
 }
 
 impl Call {
-    /// The instructions of the move that the call fired, or `None` where this answer fired none.
+    /// Return the instructions of the move that the call fired, if it fired one.
     pub(crate) fn fired_move(&self, answer: &Answer) -> Option<&Instructions>
         ensures { option_copied result ≡ fired_move self.now answer.now }
     {
@@ -78,7 +78,7 @@ impl Call {
         }
     }
 
-    /// Whether the call is within its limit, and the answer is one to such a call.
+    /// Return whether the call is within its limit, and the answer fits the call.
     pub(crate) fn fits(&self, answer: &Answer) -> bool
         ensures { IsTrue result ↔ CallFits self.now answer.now }
     {

@@ -52,10 +52,14 @@ impl<A: Aggregator + Sync + Drop> Storage<A> {
         Ok(seat)
     }
 
-    /// The receipts of agents as one history, as `close` tells it, of which each event is made when it is asked for: the
-    /// agents' receipts and their order are all that is held.
+    /// Return the history of agents, as `close` does, with its events made on request.
     ///
-    /// It asks of its agents what `close` does, and has its errors.
+    /// It holds only references to the agents' receipts and their order. Its requirements on the agents are those of
+    /// `close`.
+    ///
+    /// # Errors
+    ///
+    /// - Those of `close`.
     pub fn closing<'a>(
         &'a self,
         alloc: Global,
@@ -82,19 +86,21 @@ impl<A: Aggregator + Sync + Drop> Storage<A> {
         ))
     }
 
-    /// The receipts of agents as one history: that of a storage of one thread.
+    /// Close the receipts of agents into one history: that of a sequential storage.
     ///
-    /// The agents must be of this storage and stand in strictly ascending order of their numbers; there may
-    /// be none. They are only lent, so no call of theirs is under way. The history has the opening state and
-    /// the capacity of the storage and one more than the greatest number of an agent, or 0. Its events stand
-    /// by the number of moves at which they were answered: for each number those that fired nothing, agent by
-    /// agent, and then the move with the next number. It is legal, has each agent's calls once and in their
-    /// order, and its fired moves are a run of the machine. The agents stay as they are, and the call may be
-    /// made again; that it adds no move to the row is tested, as contracts don't tell what stands there.
+    /// The agents must be of this storage, in strictly ascending order of their numbers; there may be none. They are
+    /// only lent, so no call of theirs is under way. The history has the opening state and the capacity of the storage
+    /// and one more than the greatest number of an agent, or 0. Its events are ordered by the number of moves at which
+    /// they were answered: for each number those that fired nothing, agent by agent, and then the move with the next
+    /// number. It is legal, has each agent's calls once and in their order, and its fired moves are a run of the
+    /// machine. The agents are unchanged, and the call may be made again. That it adds no move to the row is tested, as
+    /// contracts don't cover its cells.
     ///
-    /// `CloseError::Missing` has the least number of a move that one of the agents has seen and none has a
-    /// receipt of, and comes exactly where there is one, apart from `Memory`, which comes only where memory
-    /// was refused.
+    /// # Errors
+    ///
+    /// - `CloseError::Missing` exactly if one of the agents has seen a move of which none has a receipt, apart from
+    ///   `Memory`; with the smallest number of such a move.
+    /// - `Memory` only if memory is refused.
     pub fn close(&self, alloc: Global, agents: &[Agent<'_, A>]) -> Result<History, CloseError>
         requires of_this { All (IsOf self.now) agents.now }
         requires ascending { IsStrictlyIncreasing (ids (accounts agents.now)) }

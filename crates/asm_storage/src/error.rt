@@ -11,7 +11,9 @@ use thiserror::Error;
 /// Why locations weren't read.
 #[derive(Debug, Drop, PartialEq, Eq, Error)]
 pub enum ReadError {
-    /// More than 256 locations, or named reads to be tested. This is found before anything else.
+    /// More than 256 locations, or declared reads to be tested.
+    ///
+    /// This is found before anything else.
     #[error("more than 256 locations")]
     ManyLocations,
     /// The memory that the call asked for was refused.
@@ -22,11 +24,15 @@ pub enum ReadError {
 /// Why an agent recalled nothing.
 #[derive(Debug, Drop, PartialEq, Eq, Error)]
 pub enum RecallError {
-    /// More than 256 locations. This is found before anything else.
+    /// More than 256 locations.
+    ///
+    /// This is found before anything else.
     #[error("more than 256 locations")]
     ManyLocations,
-    /// The agent's own state is behind its receipts: it hasn't followed a move that the agent fired, or a later one on
-    /// which an answer was judged. This is found before any memory is asked for.
+    /// The agent's own state is behind its receipts.
+    ///
+    /// It hasn't followed a move that the agent fired, or a later one on which an answer was judged. This is found
+    /// before any memory is asked for.
     #[error("the agent's own state is behind its receipts")]
     Behind,
     /// The memory that the call asked for was refused.
@@ -37,10 +43,12 @@ pub enum RecallError {
 /// Why a fire wasn't answered.
 #[derive(Debug, Drop, PartialEq, Eq, Error)]
 pub enum FireError {
-    /// More than 256 named reads and scans together. This is found before anything else.
+    /// More than 256 declared reads and scans together.
+    ///
+    /// This is found before anything else.
     #[error("more than 256 named reads")]
     ManyReads,
-    /// 64 offers of the call were lost.
+    /// 64 attempts of the call to append its move were lost.
     #[error("64 offers were lost")]
     Busy {
         /// How many moves the agent had seen at the start of the call.
@@ -80,7 +88,9 @@ impl From<AllocError> for FireError {
 /// Why a storage wasn't made.
 #[derive(Debug, Drop, PartialEq, Eq, Error)]
 pub enum StorageError {
-    /// The capacity is 0 or above 1,048,576. This is found before any memory is asked for.
+    /// The capacity is 0 or above 1,048,576.
+    ///
+    /// This is found before any memory is asked for.
     #[error("the capacity is not in 1 to 1,048,576")]
     BadCapacity,
     /// The memory that the call asked for was refused.
@@ -91,7 +101,9 @@ pub enum StorageError {
 /// Why agents weren't made.
 #[derive(Debug, Drop, PartialEq, Eq, Error)]
 pub enum AgentsError {
-    /// None, or more than 256. This is found before any memory is asked for.
+    /// None, or more than 256.
+    ///
+    /// This is found before any memory is asked for.
     #[error("not 1 to 256 agents")]
     BadAgents,
     /// The memory that the call asked for was refused.
@@ -118,7 +130,7 @@ impl<T: Drop> From<AllocFailed<T>> for AgentsError {
 /// Why receipts didn't close.
 #[derive(Debug, Drop, PartialEq, Eq, Error)]
 pub enum CloseError {
-    /// The least number of a move that one of the agents has seen and none has a receipt of.
+    /// A move that an agent has seen and none has a receipt of: the smallest number.
     #[error("move {0} has no receipt")]
     Missing(u32),
     /// The memory that the call asked for was refused.

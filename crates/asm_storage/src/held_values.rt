@@ -4,7 +4,9 @@ ghost use Rattle.std.specs.Prelude.{◌≡◌, ◌↔◌, map, IsTrue};
 use asm_element::{Location, Value};
 use asm_update::Lookup;
 
-/// Whether the location has the value. No memory is asked for.
+/// Return whether the location has the value.
+///
+/// No memory is asked for.
 pub fn has_value<L: Lookup>(lookup: &L, at: &Location, value: &Value) -> bool
     ensures { IsTrue result ↔ (L.value_at lookup.now at.now ≡ value.now) }
 {
@@ -14,8 +16,9 @@ pub fn has_value<L: Lookup>(lookup: &L, at: &Location, value: &Value) -> bool
     }
 }
 
-/// Whether the locations have the values, in their order: as many of them, each that of its location. No memory is
-/// asked for.
+/// Return whether the locations have the values, in their order.
+///
+/// There are as many values as locations, each that of its location. No memory is asked for.
 pub fn have_values<L: Lookup>(lookup: &L, locations: &[Location], values: &[Value]) -> bool
     ensures { IsTrue result ↔ (map (L.value_at lookup.now) locations.now ≡ values.now) }
 {

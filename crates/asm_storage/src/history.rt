@@ -21,15 +21,17 @@ pub struct Event {
 }
 
 impl Event {
-    /// The instructions of the move that the call fired, or `None` where it fired none.
+    /// Return the instructions of the move that the call fired, if it fired one.
     pub fn fired_move(&self) -> Option<&Instructions>
         ensures { option_copied result ≡ move_of self.now }
     {
         self.call.fired_move(&self.answer)
     }
 
-    /// Whether a journal of so many agents can hold the event: its agent's number is below `agents`, its call has at
-    /// most 256 locations or named reads, and its answer is one to such a call, with a value for each location read.
+    /// Return whether a journal of so many agents can hold the event.
+    ///
+    /// It can if the number of the event's agent is below `agents`, its call has at most 256 locations or declared
+    /// reads, and its answer fits the call, with a value for each location read.
     pub fn fits(&self, agents: u32) -> bool
         ensures { IsTrue result ↔ EventFits agents self.now }
     {
@@ -37,7 +39,7 @@ impl Event {
     }
 }
 
-/// The answered calls of the agents of a storage in one order, with what the storage was opened with.
+/// The answered calls of a storage's agents in one order, with its opening.
 #[derive(Debug, Drop, PartialEq, Eq)]
 pub struct History {
     /// The opening state.
@@ -51,7 +53,7 @@ pub struct History {
 }
 
 impl History {
-    /// How many moves were fired; 4,294,967,295 where there are more.
+    /// Return how many moves were fired; 4,294,967,295 where there are more.
     pub fn moves(&self) -> u32
         ensures { result ≡ min (length (fired_moves self.now.events)) most_counted }
     {
@@ -64,10 +66,13 @@ impl History {
         count
     }
 
-    /// Whether the history is within the limits of a journal: at most 256 agents, a capacity of 1 to
-    /// 1,048,576, at most 4,294,967,295 events, each of an agent with a number below `agents`, with at
-    /// most 256 locations or named reads, and with an answer to such a call. That lists hold at most 4,096 items and
-    /// nest at most 8 deep is a limit too, which every list in a program keeps.
+    /// Return whether the history is within the limits of a journal.
+    ///
+    /// These are at most 256 agents, a capacity of 1 to 1,048,576, and at most 4,294,967,295 events. Each event is of
+    /// an agent with a number below `agents`, with at most 256 locations or declared reads, and with an answer that
+    /// fits the call.
+    ///
+    /// Lists also hold at most 4,096 items and nest at most 8 deep, which is true of every list in a program.
     pub fn fits(&self) -> bool
         ensures { IsTrue result ↔ Fits self.now }
     {

@@ -1,11 +1,11 @@
 //! Agents that share the state of an abstract state machine without locks, with a receipt of each answered call.
 //!
-//! A `Storage` has an opening state and a row for the moves that are fired. Each `Agent` of it follows that row
-//! with a state of its own: it looks for new moves, judges its call on what it has then seen, and offers its move
-//! for the next place of the row. `Storage::close` merges the receipts of agents into one history, in which each
-//! answer is the one that a storage of one thread gives. No call waits or takes a lock.
+//! A `Storage` has an opening state and a row for the moves that are fired. Each `Agent` of it follows that row with a
+//! state of its own: it polls for new moves, validates its call on what it has then seen, and attempts to append its
+//! move to the row. `Storage::close` merges the receipts of agents into one history, in which each answer is the one
+//! that a sequential storage gives. No call waits or takes a lock.
 //!
-//! Where a comment says that memory was refused, it may also be that more copies would share a list, a location's
+//! Where a comment says that memory is refused, this includes that more copies would share a list, a location's
 //! arguments or an opening state than can be counted.
 #![tactic(auto)]
 

@@ -1,10 +1,12 @@
 /// The most agents of a storage: their numbers are below it.
 pub const AGENTS_LIMIT: u32 = 256;
 
-/// The most locations of a read, and the most named reads and scans of a fire together.
+/// The most locations of a read, and the most declared reads and scans of a fire.
+///
+/// Reads and scans count together.
 pub const READS_LIMIT: usize = 256;
 
-/// The most offers of a fire, which answers `Busy` where all of them are lost.
+/// The most attempts of a fire to append its move: it is `Busy` if all are lost.
 pub const OFFERS_LIMIT: u32 = 64;
 
 /// The most events of a history that a journal can hold.

@@ -21,11 +21,11 @@ use asm_update::Aggregator;
 use std::alloc::{AllocError, Global};
 use std::mem;
 
-/// What an agent has beside its borrow of the storage: its number, how far it has come at the row, its own
-/// state, which may lag behind what was seen, and its receipts.
+/// An agent without its borrow of the storage.
 ///
-/// It borrows nothing, so one value may hold it beside an owner of the storage. To call the agent, its owner
-/// hands the part to `Agent::of` with the storage that it came from, and takes it out again by
+/// It has the agent's number, how far it has followed the row, its own state, which may lag behind what was seen, and
+/// its receipts. It borrows nothing, so one value may hold it beside an owner of the storage. To call the agent, its
+/// owner passes the part to `Agent::of` with the storage that it came from, and takes it out again by
 /// `Agent::into_part`.
 #[derive(Drop)]
 pub struct AgentPart {
@@ -36,42 +36,44 @@ pub struct AgentPart {
 }
 
 impl AgentPart {
-    /// The agent's number, below 256.
+    /// Return the agent's number, below 256.
     pub fn id(&self) -> u32
         ensures { result ≡ self.now.id }
     {
         self.id
     }
 
-    /// How many moves the agent has seen.
+    /// Return how many moves the agent has seen.
     pub fn seen(&self) -> u32
         ensures { result ≡ length self.now.progress.seen }
     {
         self.progress.seen_len()
     }
 
-    /// How many of its offers were won.
+    /// Return how many of its attempts to append won.
     pub fn won(&self) -> u32
         ensures { result ≡ self.now.progress.won }
     {
         self.progress.won()
     }
 
-    /// How many of its looks found an empty cell.
+    /// Return how many of its polls found an empty cell.
     pub fn misses(&self) -> u64
         ensures { result ≡ self.now.progress.misses }
     {
         self.progress.misses()
     }
 
-    /// The agent's state: it has followed the first of the moves that the agent has seen, and may lag behind.
+    /// Return the agent's state: that after the first of the moves that it has seen.
+    ///
+    /// It may lag behind.
     pub fn state(&self) -> &State
         ensures { result.now ≡ self.now.state }
     {
         &self.state
     }
 
-    /// The part of an agent of the storage that has made no call.
+    /// Return the part of an agent of the storage that has made no call.
     pub(crate) fn at_start<A: Aggregator + Sync + Drop>(
         alloc: Global,
         storage: &Storage<A>,
@@ -91,7 +93,7 @@ impl AgentPart {
         })
     }
 
-    // Looks until nothing is found, or the whole row is seen.
+    // Polls until no move is left, or the whole row is seen.
     pub(crate) fn look<A: Aggregator + Sync + Drop>(&mut self, storage: &Storage<A>)
         requires { IsPartOf A.meaning storage.now self.old }
         ensures looks { LooksOn A.meaning storage.now self.old self.new }
@@ -122,7 +124,7 @@ impl AgentPart {
         Ok(())
     }
 
-    /// Looks on, and has the state follow all that was seen.
+    /// Poll on, and have the state follow all that was seen.
     pub(crate) fn follow_row<A: Aggregator + Sync + Drop>(
         &mut self,
         alloc: Global,
@@ -138,9 +140,13 @@ impl AgentPart {
         self.catch_up(alloc, storage)
     }
 
-    /// Looks at the row of the storage that the part came from until it finds nothing more, has the state follow, and
-    /// tells at which number the state then stands, as `Agent::follow` does. `AllocError` comes only where memory was
-    /// refused; it may then have seen more, and the state may lag behind.
+    /// Poll the row until no move is left, and follow, as `Agent::follow` does.
+    ///
+    /// The part came from this storage. The answer is the number of moves that the state has then followed.
+    ///
+    /// # Errors
+    ///
+    /// - `AllocError` only if memory is refused; it may then have seen more, and the state may lag behind.
     pub fn follow<A: Aggregator + Sync + Drop>(
         &mut self,
         alloc: Global,
@@ -157,7 +163,7 @@ impl AgentPart {
         Ok(self.progress.seen_len())
     }
 
-    /// Takes in what the mark holds, as far as it was not seen.
+    /// Take in what the mark holds, as far unchanged not seen.
     pub(crate) fn learn<A: Aggregator + Sync + Drop>(&mut self, storage: &Storage<A>, mark: &Mark)
         requires part { IsPartOf A.meaning storage.now self.old }
         requires mark { mark.now.row ≡ storage.now.row }
@@ -171,8 +177,9 @@ impl AgentPart {
         self.progress.learn(mark);
     }
 
-    /// Learns what another agent of the storage has seen, and exchanges the states where the other's is ahead, as
-    /// `Agent::take_state` does. Both parts came from this storage.
+    /// Learn what another agent has seen, and take its newer state.
+    ///
+    /// It does what `Agent::take_state` does. Both parts came from this storage.
     pub fn take_state<A: Aggregator + Sync + Drop>(
         &mut self,
         storage: &Storage<A>,

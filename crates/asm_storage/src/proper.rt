@@ -1,7 +1,6 @@
-//! What a history holds is proper. A list tells that of no item before the item is read, so these walk every list: the
-//! goal `proper` of `History::fits` needs it, and the round trip of a journal.
-//! That a number is below 2^32, and a move within its limit, is known once the number or the length is read, hence
-//! `_number` and `_count`.
+//! What a history holds is well-formed. A list states that of no item before the item is read, so these walk every
+//! list: the goal `proper` of `History::fits` needs it, and the round trip of a journal. That a number is below 2^32,
+//! and a move within its limit, is known once the number or the length is read, hence `_number` and `_count`.
 ghost use Rattle.std.specs.Prelude.{All};
 ghost use Rattle.asm_element.specs.Place as place;
 ghost use Rattle.asm_element.specs.Value as value;
@@ -12,7 +11,7 @@ use crate::history::{Event, History};
 use asm_element::{Location, Value};
 use asm_state::Named;
 
-// Does nothing; its contract tells that the locations are proper.
+// State for proofs that the locations are well-formed; do nothing at run time.
 fn proper_locations(places: &[Location])
     ensures { All place.IsProper places.now }
 {
@@ -21,7 +20,7 @@ fn proper_locations(places: &[Location])
     }
 }
 
-// Does nothing; its contract tells that the values are proper.
+// State for proofs that the values are well-formed; do nothing at run time.
 fn proper_values(values: &[Value])
     ensures { All value.IsProper values.now }
 {
@@ -30,7 +29,7 @@ fn proper_values(values: &[Value])
     }
 }
 
-// Does nothing; its contract tells that a named read is proper.
+// State for proofs that a declared read is well-formed; do nothing at run time.
 fn proper_read(read: &Named)
     ensures { IsProperNamed read.now }
 {
@@ -38,7 +37,7 @@ fn proper_read(read: &Named)
     let _number = read.number;
 }
 
-// Does nothing; its contract tells that the named reads are proper.
+// State for proofs that the declared reads are well-formed; do nothing at run time.
 fn proper_reads(reads: &[Named])
     ensures { All IsProperNamed reads.now }
 {
@@ -47,7 +46,7 @@ fn proper_reads(reads: &[Named])
     }
 }
 
-// Does nothing; its contract tells that a call is proper.
+// State for proofs that a call is well-formed; do nothing at run time.
 fn proper_call(call: &Call)
     ensures { IsProperCall call.now }
 {
@@ -61,7 +60,7 @@ fn proper_call(call: &Call)
     }
 }
 
-// Does nothing; its contract tells that an answer is proper.
+// State for proofs that an answer is well-formed; do nothing at run time.
 fn proper_answer(answer: &Answer)
     ensures { IsProperAnswer answer.now }
 {
@@ -79,7 +78,9 @@ fn proper_answer(answer: &Answer)
     }
 }
 
-/// Does nothing. Its contract tells that a call and its answer are proper.
+/// State for proofs that a call and its answer are well-formed.
+///
+/// Do nothing at run time.
 pub(crate) fn proper_call_and_answer(call: &Call, answer: &Answer)
     ensures call { IsProperCall call.now }
     ensures answer { IsProperAnswer answer.now }
@@ -88,7 +89,7 @@ pub(crate) fn proper_call_and_answer(call: &Call, answer: &Answer)
     proper_answer(answer);
 }
 
-// Does nothing; its contract tells that the events are proper.
+// State for proofs that the events are well-formed; do nothing at run time.
 fn proper_events(events: &[Event])
     ensures { All IsProperEvent events.now }
 {
@@ -98,8 +99,10 @@ fn proper_events(events: &[Event])
 }
 
 impl History {
-    /// Does nothing. Its contract tells what is true of every history in a program: its opening state and its
-    /// events are proper, so each list in it has at most 4,096 items and nests at most 8 deep.
+    /// State for proofs that the history is well-formed; do nothing at run time.
+    ///
+    /// The opening state and the events of every history in a program are well-formed, so each list in it has at most
+    /// 4,096 items and nests at most 8 deep.
     pub fn proper(&self)
         ensures { IsProper self.now }
     {

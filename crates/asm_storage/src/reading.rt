@@ -5,8 +5,9 @@ use asm_state::Named;
 use std::alloc::{AllocError, Global};
 use std::marker::Model;
 
-/// What a read was answered: the locations of the call and their values, with the number of moves at which they
-/// were read. The agent's receipt holds the same.
+/// The answer to a read: the locations of the call and their values.
+///
+/// It also has the number of moves at which they were read. The agent's receipt holds the same.
 #[derive(Drop)]
 pub struct Reading {
     pub(crate) number: u32,
@@ -30,28 +31,30 @@ impl Model for Reading {
 }
 
 impl Reading {
-    /// The number of moves at which it was read.
+    /// Return the number of moves at which it was read.
     pub fn number(&self) -> u32
         ensures { result ≡ self.now.number }
     {
         self.number
     }
 
-    /// How many locations were read.
+    /// Return how many locations were read.
     pub fn len(&self) -> usize
         ensures { result ≡ length self.now.places }
     {
         self.places.as_slice().len()
     }
 
-    /// Whether no location was read.
+    /// Return whether no location was read.
     pub fn is_empty(&self) -> bool
         ensures { IsTrue result ↔ (length self.now.places ≡ 0) }
     {
         0 == self.len()
     }
 
-    /// The value of the location at place `i` of the call, counted from 0; `i` must be below `len`.
+    /// Return the value of the location at place `i` of the call, counted from 0.
+    ///
+    /// `i` must be below `len`.
     pub fn value(&self, i: usize) -> &Value
         requires { i < length self.now.places }
         ensures { slice_get self.now.values i ≡ Some result.now }
@@ -59,7 +62,9 @@ impl Reading {
         &self.values.as_slice()[i]
     }
 
-    /// The location at place `i` of the call, counted from 0; `i` must be below `len`.
+    /// Return the location at place `i` of the call, counted from 0.
+    ///
+    /// `i` must be below `len`.
     pub fn at(&self, i: usize) -> &Location
         requires { i < length self.now.places }
         ensures { slice_get self.now.places i ≡ Some result.now }
@@ -67,10 +72,13 @@ impl Reading {
         &self.places.as_slice()[i]
     }
 
-    /// The location at place `i` of the call with the number of the reading. A fire that rests on the value passes
-    /// it as a named read.
+    /// Return the location at place `i` of the call with the number of the reading.
     ///
-    /// `AllocError` comes only where memory was refused.
+    /// A fire that depends on the value passes it as a declared read.
+    ///
+    /// # Errors
+    ///
+    /// - `AllocError` only if memory is refused.
     pub fn named(&self, alloc: Global, i: usize) -> Result<Named, AllocError>
         requires { i < length self.now.places }
         ensures at { IfOk result (λ n. slice_get self.now.places i ≡ Some n.at) }

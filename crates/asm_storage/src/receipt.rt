@@ -13,12 +13,14 @@ pub struct Receipt {
     pub call: Call,
     /// What was answered.
     pub answer: Answer,
-    /// The number of fired moves on which the answer was judged; for `Fired(k)` it is k − 1.
+    /// The number of fired moves on which the answer was judged.
+    ///
+    /// For `Fired(k)` it is k − 1.
     pub stood: u32,
 }
 
 impl Receipt {
-    /// Whether the call fired a move.
+    /// Return whether the call fired a move.
     pub(crate) fn is_fired(&self) -> bool
         ensures { result ≡ is_fired self.now }
     {
@@ -28,7 +30,7 @@ impl Receipt {
         }
     }
 
-    /// Whether no receipt after this one may stand at the number.
+    /// Return whether this receipt allows none after it at the number.
     pub(crate) fn is_beyond(&self, number: u32) -> bool
         ensures { IsTrue result ↔ number < next_after self.now }
     {
@@ -38,7 +40,7 @@ impl Receipt {
         number < self.stood
     }
 
-    /// The locations and the values of a read, so that a later one may share them.
+    /// Return the locations and the values of a read, for a later one to share.
     pub(crate) fn lists_of_read(&self) -> Option<(&Items<Location>, &Items<Value>)> {
         match (&self.call, &self.answer) {
             (Call::Read(places), Answer::Read { values, .. }) => Some((places, values)),
@@ -46,7 +48,7 @@ impl Receipt {
         }
     }
 
-    /// The call and the answer as an event of that agent.
+    /// Return the call and the answer as an event of that agent.
     pub(crate) fn event(&self, alloc: Global, agent: u32) -> Result<Event, AllocError>
         ensures { IfOk result (λ e. e ≡ event_of agent self.now) }
     {

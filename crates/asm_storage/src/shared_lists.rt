@@ -6,7 +6,7 @@ use asm_element::{Items, Location};
 use asm_state::Named;
 use std::alloc::{AllocError, Global};
 
-/// The same list; a shared one takes no memory.
+/// Return the same list; a shared one takes no memory.
 pub(crate) fn same_list<T: Clone>(items: &Items<T>) -> Result<Items<T>, AllocError>
     ensures { ((x y : T) → T.is_clone x y → y ≡ x) → IfOk result (λ copy. copy ≡ items.now) }
 {
@@ -25,7 +25,7 @@ fn copied_places(alloc: Global, places: &[Location]) -> Result<Items<Location>, 
     Items::shared(alloc, items)
 }
 
-/// The same locations: the earlier list, where it has them, or else a copy.
+/// Return the same locations: the earlier list, where it has them, or else a copy.
 pub(crate) fn places_again(
     alloc: Global,
     places: &[Location],
@@ -39,7 +39,7 @@ pub(crate) fn places_again(
     }
 }
 
-// Copies of the named reads.
+// Copies of the declared reads.
 fn named_copies(alloc: Global, reads: &[Named]) -> Result<Vec<Named>, AllocError>
     ensures { IfOk result (λ copies. copies.items ≡ reads.now) }
 {
@@ -51,7 +51,7 @@ fn named_copies(alloc: Global, reads: &[Named]) -> Result<Vec<Named>, AllocError
     Ok(items)
 }
 
-/// The same named reads, in a list of their own.
+/// Return the same declared reads, in a list of their own.
 pub(crate) fn copied_named(alloc: Global, reads: &[Named]) -> Result<Items<Named>, AllocError>
     ensures { IfOk result (λ copy. copy ≡ reads.now) }
 {
@@ -59,7 +59,7 @@ pub(crate) fn copied_named(alloc: Global, reads: &[Named]) -> Result<Items<Named
     Items::shared(alloc, items)
 }
 
-/// The same named reads, and one more behind them if one was found.
+/// Return the same declared reads, and one more behind them if one was found.
 pub(crate) fn named_with(
     alloc: Global,
     reads: &Items<Named>,

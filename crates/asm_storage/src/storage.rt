@@ -24,12 +24,12 @@ use std::alloc::{AllocError, Global};
 use std::marker::Model;
 use std::sync::Arc;
 
-/// A state that agents share: an aggregator, an opening state, and a row for the moves that are fired.
+/// A state that agents share: an aggregator, an opening state and a row for moves.
 ///
-/// It is the shared object of a universal construction (Herlihy and Shavit, "The Art of Multiprocessor
-/// Programming"): threads agree on the list of moves, and each agent follows that list with a state of its
-/// own, beside the opening state, which all share. Contracts see the cells of the row, the aggregator and the
-/// opening state. It is `Sync` where the aggregator is, and no call of it or of its agents waits.
+/// It is the shared object of a universal construction (Herlihy and Shavit, "The Art of Multiprocessor Programming"):
+/// threads agree on the list of moves, and each agent follows that list with a state of its own, beside the opening
+/// state, which all share. Contracts see the cells of the row, the aggregator and the opening state. It is `Sync` if
+/// the aggregator is, and no call of it or of its agents waits.
 #[derive(Drop)]
 pub struct Storage<A: Aggregator + Sync + Drop> {
     row: Row<Entry>,
@@ -63,12 +63,14 @@ fn new_row(alloc: Global, capacity: u32) -> Result<Row<Entry>, StorageError>
 }
 
 impl<A: Aggregator + Sync + Drop> Storage<A> {
-    /// A storage for at most `capacity` moves, from 1 to 1,048,576.
+    /// Return a storage for at most `capacity` moves, from 1 to 1,048,576.
     ///
-    /// Its row is empty, which is tested, as contracts don't tell what stands there.
+    /// Its row is empty, which is tested, as contracts don't cover its cells.
     ///
-    /// `StorageError::BadCapacity` comes exactly for another capacity, before any memory is asked for;
-    /// `Memory` only where memory was refused.
+    /// # Errors
+    ///
+    /// - `StorageError::BadCapacity` exactly for another capacity, before any memory is asked for.
+    /// - `Memory` only if memory is refused.
     pub fn new(
         alloc: Global,
         aggregator: A,
@@ -92,8 +94,13 @@ impl<A: Aggregator + Sync + Drop> Storage<A> {
         })
     }
 
-    /// As `new`, over an opening state that the caller keeps a share of: no value is copied, so a state that
-    /// was read once may open several storages.
+    /// Return a storage as `new` does, over an opening state that the caller shares.
+    ///
+    /// No value is copied, so a state that was read once may open several storages.
+    ///
+    /// # Errors
+    ///
+    /// - Those of `new`.
     pub fn over(
         alloc: Global,
         aggregator: A,
@@ -113,11 +120,15 @@ impl<A: Aggregator + Sync + Drop> Storage<A> {
         })
     }
 
-    /// `n` agents, from 1 to 256, with the numbers 0 to n − 1. They have seen nothing and have no receipts. A
-    /// second call numbers from 0 again. That the call adds no move to the row is tested.
+    /// `n` agents, from 1 to 256, with the numbers 0 to n − 1.
     ///
-    /// `AgentsError::BadAgents` comes exactly for another number, before any memory is asked for;
-    /// `Memory` only where memory was refused.
+    /// They have seen nothing and have no receipts. A second call numbers from 0 again. That the call adds no move
+    /// to the row is tested.
+    ///
+    /// # Errors
+    ///
+    /// - `AgentsError::BadAgents` exactly for another number, before any memory is asked for.
+    /// - `Memory` only if memory is refused.
     pub fn agents(&self, alloc: Global, n: u32) -> Result<Vec<Agent<'_, A>>, AgentsError>
         ensures made { IfOk result (λ agents. agents.items ≡ map (at_start self.now) (range_with_len 0 n)) }
         ensures bad { IsErrOf result agents_error.BadAgents ↔ ((n ≡ 0) ⊎ (agents_limit < n)) }
@@ -133,10 +144,14 @@ impl<A: Aggregator + Sync + Drop> Storage<A> {
         Ok(agents)
     }
 
-    /// A new agent with the number `id`, below 256.
+    /// Return a new agent with the number `id`, below 256.
     ///
-    /// Agents that are closed together must have different numbers. That the call adds no move to the row
-    /// is tested. `AllocError` comes only where memory was refused.
+    /// Agents that are closed together must have different numbers. That the call adds no move to the row is
+    /// tested.
+    ///
+    /// # Errors
+    ///
+    /// - `AllocError` only if memory is refused.
     pub fn agent_at(&self, alloc: Global, id: u32) -> Result<Agent<'_, A>, AllocError>
         requires { id < agents_limit }
         ensures { IfOk result (λ a. a ≡ at_start self.now id) }
@@ -145,7 +160,7 @@ impl<A: Aggregator + Sync + Drop> Storage<A> {
         Ok(Agent::of(self, part))
     }
 
-    /// Looks once at the row; true where an entry was found.
+    /// Look once at the row; true where an entry was found.
     pub(crate) fn finds_next(&self, progress: &mut Progress<Entry>) -> bool
         requires { progress.old.row ≡ self.now.row }
         ensures row { progress.new.row ≡ progress.old.row }
@@ -162,11 +177,11 @@ impl<A: Aggregator + Sync + Drop> Storage<A> {
         progress.next(&self.row).is_some()
     }
 
-    /// How many moves stand in its row: it looks from the first one on until it finds nothing more.
+    /// Count the moves in its row: poll from the first one on until no move is left.
     ///
-    /// It takes no memory, and no agent notices it: who holds agents alone can't tell a move that no agent of
-    /// theirs has seen. Agents may fire more meanwhile. Contracts don't tell what stands in the row: that it
-    /// counts all moves that were fired before the call, so at least as many as any agent has seen, is tested.
+    /// It takes no memory, and no agent notices it. A caller who holds only agents can't know of a move that none of
+    /// them has seen. Agents may fire more meanwhile. Contracts don't cover the cells of the row. It is tested that the
+    /// call counts all moves that were fired before it, so at least as many as any agent has seen.
     pub fn moves(&self) -> u32
         ensures { result ≤ length self.now.row }
     {
@@ -181,7 +196,9 @@ impl<A: Aggregator + Sync + Drop> Storage<A> {
         &self.row
     }
 
-    /// The aggregator by which it answers, so that who plays on it prepares moves by the same one.
+    /// Return the aggregator by which it answers.
+    ///
+    /// A caller who prepares moves uses the same one.
     pub fn aggregator(&self) -> &A
         ensures { result.now ≡ self.now.agg }
     {
@@ -194,7 +211,7 @@ impl<A: Aggregator + Sync + Drop> Storage<A> {
         &self.init
     }
 
-    /// A state before the first move, which shares the opening values.
+    /// Return a state before the first move, which shares the opening values.
     pub(crate) fn opening(&self, alloc: Global) -> Result<State, AllocError>
         ensures { IfOk result (λ s. (part : Part) → Stands part self.now.init s []) }
     {

@@ -1,6 +1,6 @@
-//! What agents ask and are answered, as plain data, and the calls and answers that it stands for.
+//! Calls of agents and their answers, as plain data, and the calls and answers that it describes.
 //!
-//! `AllocError` comes where memory was refused, and for a name that isn't one, which no table has.
+//! `AllocError` means that memory was refused, or that a name isn't one, which no table has.
 
 use asm_element::{Element, Items, Location, Value};
 use asm_state::Named;
@@ -24,7 +24,9 @@ pub(crate) enum Act {
     Fire(&'static [Put], &'static [At]),
 }
 
-/// What it is answered. The number of a reply that fires nothing is that of the moves that it was judged on.
+/// What it is answered.
+///
+/// The number of a reply that fires nothing is that of the moves that it was judged on.
 #[derive(Clone, Copy)]
 pub(crate) enum Want {
     Read(u32, &'static [Option<i64>]),
@@ -40,7 +42,7 @@ pub(crate) fn is_number(value: &Value, n: i64) -> bool {
     }
 }
 
-/// The move that does this at the location of this name.
+/// Return the move that does this at the location of this name.
 pub(crate) fn move_at(
     alloc: Global,
     name: &str,
@@ -54,7 +56,7 @@ pub(crate) fn move_at(
     }
 }
 
-/// The move of these puts, of which there is one or none.
+/// Return the move of these puts, of which there is one or none.
 pub(crate) fn move_of(alloc: Global, puts: &[Put]) -> Result<Instructions, AllocError> {
     match puts.first() {
         Some(put) => move_at(alloc, put.0, Action::Regular(number(put.1))),
@@ -121,7 +123,7 @@ fn stood_of(want: Want) -> u32 {
     }
 }
 
-/// The receipt of an agent that asks this and is answered so.
+/// Return the receipt of an agent that asks this and is answered so.
 pub(crate) fn receipt_of(alloc: Global, act: Act, want: Want) -> Result<Receipt, AllocError> {
     let call = call_of(alloc, act)?;
     let answer = answer_of(alloc, want)?;

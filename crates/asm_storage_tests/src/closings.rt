@@ -39,7 +39,7 @@ fn is_closed(closed: &Result<History, CloseError>, want: Closing) -> bool {
     }
 }
 
-/// What closing gives, which is asked once more where memory was refused.
+/// Return what closing gives, which is asked once more where memory was refused.
 fn close(
     alloc: Global,
     storage: &Storage<Standard>,
@@ -54,7 +54,7 @@ fn close(
     }
 }
 
-/// Whether closing gives this, and again the same.
+/// Return whether closing gives this, and again the same.
 pub(crate) fn closes(
     alloc: Global,
     storage: &Storage<Standard>,

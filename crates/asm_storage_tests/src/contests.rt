@@ -14,12 +14,13 @@ use std::alloc::{AllocError, Global};
 pub(crate) enum Outcome {
     /// This answer, and its receipt.
     Answered(Want),
-    /// 64 offers were lost, with these moves seen at its start and at its end, and there is no receipt.
+    /// 64 attempts were lost, with these moves seen at start and end, and no receipt.
     Busy(u32, u32),
 }
 
-/// The one agent puts 1 at y, with these named reads. Just before each of its offers, but at most so many times, the other
-/// fires a move with this put, or two.
+/// A contest: one agent puts 1 at y, with these declared reads.
+///
+/// Just before each of its attempts, but at most so many times, the other fires a move with this put, or two.
 #[derive(Clone, Copy)]
 pub(crate) struct Contest {
     pub(crate) reads: &'static [At],
@@ -37,14 +38,14 @@ struct Rival {
     is_refused: bool,
 }
 
-/// The agent fires once.
+/// Fire once.
 fn fire(alloc: Global, agent: &mut Agent<'_, Standard>, instrs: &Instructions) -> bool
     ensures { IsSameAgent agent.old agent.new }
 {
     agent.try_fire(alloc, &[], instrs).is_ok()
 }
 
-/// The other agent fires as the rival has it; what is left of that.
+/// Fire as the rival has it; return what is left of that.
 fn meddle(
     alloc: Global,
     other: &mut Agent<'_, Standard>,
@@ -65,7 +66,7 @@ fn meddle(
     }
 }
 
-/// What the agent's fire gives, where the other meddles; an allocation failure of either is that of both.
+/// Return what the agent's fire gives, where the other meddles; an allocation failure of either is that of both.
 fn fire_against(
     alloc: Global,
     agent: &mut Agent<'_, Standard>,
@@ -91,7 +92,7 @@ fn fire_against(
     given
 }
 
-/// Whether the fire gave this: the answer of the receipt, where there is one.
+/// Return whether the fire gave this: the answer of the receipt, where there is one.
 fn is_given(
     given: Result<Reply, FireError>,
     wanted: &Answer,
@@ -107,7 +108,7 @@ fn is_given(
     }
 }
 
-/// Whether the agent's fire gives the outcome, and it keeps the receipt of an answer alone.
+/// Return whether the agent's fire gives the outcome, and it keeps the receipt of an answer alone.
 fn contends_for(
     alloc: Global,
     agent: &mut Agent<'_, Standard>,
@@ -141,7 +142,7 @@ fn contends_for(
     Ok(is_right && is_last(agent, wanted) == is_answered)
 }
 
-/// Whether the contest of the two agents comes out right.
+/// Return whether the contest of the two agents comes out right.
 pub(crate) fn contends(
     alloc: Global,
     agent: &mut Agent<'_, Standard>,

@@ -1,4 +1,4 @@
-//! Values that differ in one part alone are told apart.
+//! Values that differ in one part alone aren't equal.
 use crate::asked::{Act, At, Put, Want, move_of, receipt_of};
 use Act::{Fire, Read};
 use asm_element::Items;
@@ -36,7 +36,7 @@ fn receipts(alloc: Global) -> Result<Vec<Receipt>, AllocError> {
     Ok(receipts)
 }
 
-/// The answers to reads at two numbers, and to fires.
+/// Return the answers to reads at two numbers, and to fires.
 fn answers(alloc: Global) -> Result<Vec<Answer>, AllocError> {
     let mut answers = Vec::new(alloc);
     for number in [0, 1] {
@@ -85,7 +85,7 @@ fn entries(alloc: Global) -> Result<Vec<Entry>, AllocError> {
     Ok(entries)
 }
 
-/// A history with this number at x at first, and with the events or none.
+/// Return a history with this number at x at first, and with the events or none.
 fn history(
     alloc: Global,
     (n, capacity, agents): (i64, u32, u32),

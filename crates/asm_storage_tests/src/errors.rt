@@ -1,11 +1,11 @@
-//! What errors say, and how they are told apart.
+//! What errors say, and which are equal.
 use asm_storage::{AgentsError, CloseError, FireError, ReadError, RecallError, StorageError};
 use asm_test_support::are_told_apart;
 use std::alloc::{AllocError, Global};
 use std::fmt::Display;
 use std::test::Fail;
 
-/// Whether the error has this text.
+/// Return whether the error has this text.
 fn says<E: Display + Drop>(alloc: Global, error: E, want: &str) -> Result<bool, AllocError> {
     let text = error.to_string(alloc)?;
     Ok(text.as_str() == want)

@@ -34,19 +34,19 @@ fn both_fire<'s, R: Threads>(
     Ok(two_with(storage, a?, b?))
 }
 
-/// How many offers each of the agents has won.
+/// Return how many attempts each of the agents has won.
 fn wins(two: &Two<'_>) -> (u32, u32) {
     (two.a.won(), two.b.won())
 }
 
-/// A storage for 200 moves where b is an empty bag.
+/// Return a storage for 200 moves where b is an empty bag.
 fn storage_of_bag(alloc: Global) -> Result<Storage<Standard>, AllocError> {
     let mut init = PlainState::new(alloc);
     init.set(location(alloc, "b")?, Value::Bag(ElemBag::new(alloc)))?;
     Storage::new(alloc, standard(), init, 200).map_err(|_| AllocError)
 }
 
-/// A move that adds one 5 to the bag b.
+/// Return a move that adds one 5 to the bag b.
 fn addition(alloc: Global) -> Result<Instructions, AllocError> {
     match Amount::new(1) {
         Some(one) => move_at(alloc, "b", Action::BagAdd(Element::Num(5), one)),
@@ -63,7 +63,7 @@ fn additions(alloc: Global) -> Result<Vec<Instructions>, AllocError> {
     Ok(moves)
 }
 
-/// Whether two agents on threads of their own fire 100 additions each.
+/// Return whether two agents on threads of their own fire 100 additions each.
 fn adds_by_two<R: Threads>(
     rt: &R,
     alloc: Global,
@@ -82,7 +82,7 @@ fn additions_of_two_threads_are_all_fired(rt: HostRuntime) -> Result<(), Fail> {
     Ok(())
 }
 
-/// Whether one of two agents on threads of their own fires, and the other finds the storage full.
+/// Return whether one of two agents on threads of their own fires, and the other finds the storage full.
 fn fires_last<R: Threads>(
     rt: &R,
     alloc: Global,

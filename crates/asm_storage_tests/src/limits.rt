@@ -16,7 +16,11 @@ use std::alloc::{AllocError, Global};
 use std::slice;
 use std::test::Fail;
 
-/// Whether a storage of this capacity is made. `AllocError` comes only where memory was refused.
+/// Return whether a storage of this capacity is made.
+///
+/// # Errors
+///
+/// - `AllocError` only if memory is refused.
 fn is_made(alloc: Global, capacity: u32) -> Result<bool, AllocError> {
     match Storage::new(alloc, standard(), PlainState::new(alloc), capacity) {
         Ok(_) => Ok(true),
@@ -33,8 +37,11 @@ fn capacities_out_of_range_are_refused(rt: HostRuntime) -> Result<(), Fail> {
     Ok(())
 }
 
-/// Whether so many agents are made, the last of which has the last of the numbers from 0 up, and no move. `AllocError` comes
-/// only where memory was refused.
+/// Return whether so many agents are made, the last of which has the last of the numbers from 0 up, and no move.
+///
+/// # Errors
+///
+/// - `AllocError` only if memory is refused.
 fn are_made(alloc: Global, storage: &Storage<Standard>, n: u32) -> Result<bool, AllocError> {
     match storage.agents(alloc, n) {
         Ok(agents) => {
@@ -65,7 +72,7 @@ fn places_many(alloc: Global, n: usize) -> Result<Vec<Location>, AllocError> {
     Ok(places)
 }
 
-/// Whether so many locations are read, or refused for their number where that isn't good.
+/// Return whether so many locations are read, or refused for their number where that isn't good.
 pub(crate) fn reads_many(
     alloc: Global,
     agent: &mut Agent<'_, Standard>,
@@ -82,7 +89,7 @@ pub(crate) fn reads_many(
     }
 }
 
-/// Whether so many locations are recalled, or refused for their number where that isn't good.
+/// Return whether so many locations are recalled, or refused for their number where that isn't good.
 pub(crate) fn recalls_many(
     alloc: Global,
     agent: &mut Agent<'_, Standard>,
@@ -109,7 +116,7 @@ fn named_many(alloc: Global, n: usize) -> Result<Vec<Named>, AllocError> {
     Ok(reads)
 }
 
-/// Whether a move with so many named reads fires, or is refused for their number where that isn't good.
+/// Return whether a move with so many declared reads fires, or is refused for their number where that isn't good.
 pub(crate) fn names_many(
     alloc: Global,
     agent: &mut Agent<'_, Standard>,
@@ -127,7 +134,7 @@ pub(crate) fn names_many(
     }
 }
 
-/// What the agent reads at x.
+/// Return what the agent reads at x.
 fn read_x(alloc: Global, agent: &mut Agent<'_, Standard>) -> Result<Reading, AllocError>
     ensures { IsSameAgent agent.old agent.new }
 {
@@ -135,7 +142,7 @@ fn read_x(alloc: Global, agent: &mut Agent<'_, Standard>) -> Result<Reading, All
     agent.read(alloc, &places).map_err(|_| AllocError)
 }
 
-/// Whether a put of 1 at y is stale at x where it names x by the reading, in which x is 7 at no move.
+/// Return whether a put of 1 at y is stale at x where it names x by the reading, in which x is 7 at no move.
 fn is_stale_by(
     alloc: Global,
     agent: &mut Agent<'_, Standard>,
@@ -152,7 +159,7 @@ fn is_stale_by(
     fires(alloc, agent, slice::from_ref(&named), &instrs, &wanted)
 }
 
-/// Whether a fire by a reading is stale after the other has put the same value.
+/// Return whether a fire by a reading is stale after the other has put the same value.
 pub(crate) fn rests(
     alloc: Global,
     agent: &mut Agent<'_, Standard>,
@@ -166,7 +173,7 @@ pub(crate) fn rests(
     Ok(is_put && is_stale_by(alloc, agent, &reading)?)
 }
 
-/// Whether the agent peeks at x, where it finds 7, and fires twice over a scan of x.
+/// Return whether the agent peeks at x, where it finds 7, and fires twice over a scan of x.
 pub(crate) fn looks(alloc: Global, agent: &mut Agent<'_, Standard>) -> Result<bool, AllocError>
     ensures { IsSameAgent agent.old agent.new }
 {

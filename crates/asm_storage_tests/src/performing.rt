@@ -1,4 +1,4 @@
-//! What one agent does, each time with the answer that it has to get. `AllocError` comes only where memory was refused.
+//! What one agent does, each time with the answer that it has to get. `AllocError` only if memory is refused.
 ghost use Rattle.std.specs.Prelude.{◌≡◌};
 ghost use Rattle.asm_storage.specs.Storage.{IsSameAgent};
 
@@ -12,7 +12,7 @@ use asm_storage::{
 use asm_update::Instructions;
 use std::alloc::{AllocError, Global};
 
-/// Whether these values were read, in this order.
+/// Return whether these values were read, in this order.
 fn are_read(reading: &Reading, values: &[Value]) -> bool {
     if reading.len() != values.len() {
         return false;
@@ -25,7 +25,7 @@ fn are_read(reading: &Reading, values: &[Value]) -> bool {
     true
 }
 
-/// Whether a read is answered so.
+/// Return whether a read is answered so.
 fn reads(
     alloc: Global,
     agent: &mut Agent<'_, Standard>,
@@ -42,7 +42,7 @@ fn reads(
     }
 }
 
-/// Whether a fire is answered so.
+/// Return whether a fire is answered so.
 pub(crate) fn fires(
     alloc: Global,
     agent: &mut Agent<'_, Standard>,
@@ -59,12 +59,12 @@ pub(crate) fn fires(
     }
 }
 
-/// Whether this is the agent's last receipt.
+/// Return whether this is the agent's last receipt.
 pub(crate) fn is_last(agent: &Agent<'_, Standard>, wanted: &Receipt) -> bool {
     agent.receipts().last() == Some(wanted)
 }
 
-/// The agent asks what the receipt tells; whether it is answered so, and keeps that receipt.
+/// Perform the receipt's call; return whether its answer and receipt are these.
 fn performs(
     alloc: Global,
     agent: &mut Agent<'_, Standard>,
@@ -84,7 +84,7 @@ fn performs(
     Ok(is_answered? && is_last(agent, wanted))
 }
 
-/// The agent asks this; whether it is answered so, and keeps the receipt.
+/// Perform this call; return whether it is answered so, and its receipt recorded.
 pub(crate) fn asks(
     alloc: Global,
     agent: &mut Agent<'_, Standard>,
@@ -97,8 +97,9 @@ pub(crate) fn asks(
     performs(alloc, agent, &wanted)
 }
 
-/// The agent asks this, and once more where memory was refused: it has then as many receipts as before, and has seen at
-/// most so many moves. Whether it is answered so.
+/// Perform this call, and once more if memory was refused.
+///
+/// It has then as many receipts as before, and has seen at most so many moves. Return whether it is answered so.
 pub(crate) fn retries(
     alloc: Global,
     agent: &mut Agent<'_, Standard>,
@@ -128,7 +129,7 @@ pub(crate) enum Recalled {
     Behind,
 }
 
-/// Whether the recall gave the values of the receipt, which is then the agent's last one.
+/// Return whether the recall gave the values of the receipt, which is then the agent's last one.
 fn is_recalled(agent: &Agent<'_, Standard>, reading: &Reading, wanted: &Receipt) -> bool {
     match &wanted.answer {
         Answer::Read { number, values } => {
@@ -140,7 +141,9 @@ fn is_recalled(agent: &Agent<'_, Standard>, reading: &Reading, wanted: &Receipt)
     }
 }
 
-/// The agent recalls the locations; whether that gives the receipt, or, where there is none, its state is behind.
+/// Recall the locations; return whether that gives the receipt.
+///
+/// If there is none, the agent's state must be behind.
 fn recalls_once(
     alloc: Global,
     agent: &mut Agent<'_, Standard>,
@@ -157,8 +160,10 @@ fn recalls_once(
     }
 }
 
-/// The agent recalls the locations, and once more where memory was refused. Whether that gives what is wanted, and nothing
-/// of the agent has changed, neither then nor where it was refused, but that it has the receipt.
+/// Recall the locations, and once more if memory was refused.
+///
+/// Whether that gives what is wanted, and nothing of the agent has changed, neither then nor where it was refused, but
+/// that it has the receipt.
 pub(crate) fn recalls(
     alloc: Global,
     agent: &mut Agent<'_, Standard>,
@@ -186,7 +191,7 @@ pub(crate) fn recalls(
     Ok(is_right && is_same)
 }
 
-/// Learns the other's mark; whether it has then seen so many moves.
+/// Learn the other's mark; whether it has then seen so many moves.
 pub(crate) fn learns(
     alloc: Global,
     agent: &mut Agent<'_, Standard>,
@@ -201,8 +206,10 @@ pub(crate) fn learns(
     Ok(agent.seen() == seen)
 }
 
-/// Whether the agent, which asks nothing, has seen so many moves, won so many offers, found so many cells empty, and has
-/// so many receipts.
+/// Return whether the agent, which makes no call, has these counts.
+///
+/// They are how many moves it has seen, how many attempts it has won, how many cells it has found empty, and how many
+/// receipts it has.
 pub(crate) fn counts(agent: &Agent<'_, Standard>, wanted: (u32, u32, u64, usize)) -> bool {
     let (seen, won, misses, receipts) = wanted;
     agent.seen() == seen

@@ -41,7 +41,7 @@ fn mark_and_read<'s, R: Threads>(
     Ok((two_with(storage, a, b?), marks))
 }
 
-/// Whether the receipts are of reads whose numbers never fall, each of what the put of its number left.
+/// Return whether the receipts are of reads whose numbers never fall, each of what the put of its number left.
 fn never_fall(receipts: &[Receipt]) -> bool {
     let mut last = 0;
     for receipt in receipts {
@@ -56,7 +56,7 @@ fn never_fall(receipts: &[Receipt]) -> bool {
     true
 }
 
-/// Whether a read tells at least so many moves.
+/// Return whether a read reports at least so many moves.
 fn reads_at_least(
     alloc: Global,
     agent: &mut Agent<'_, Standard>,
@@ -71,7 +71,7 @@ fn reads_at_least(
     }
 }
 
-/// Whether a read that has learnt the mark tells at least as many moves as the mark holds.
+/// Return whether a read after learning the mark reports at least its moves.
 fn reads_mark(
     alloc: Global,
     agent: &mut Agent<'_, Standard>,
@@ -85,7 +85,7 @@ fn reads_mark(
     reads_at_least(alloc, agent, places, mark.len())
 }
 
-/// Whether that is so of each of the marks in turn, of which each holds one move more than the one before.
+/// Return whether that is so of each of the marks in turn, of which each holds one move more than the one before.
 fn reads_each_mark(
     alloc: Global,
     agent: &mut Agent<'_, Standard>,
@@ -105,7 +105,7 @@ fn reads_each_mark(
     Ok(true)
 }
 
-/// Whether the second agent's reads beside the first one's 100 moves, and then of each mark, never fall.
+/// Return whether the second agent's reads beside the first one's 100 moves, and then of each mark, never fall.
 fn is_never_falling(
     alloc: Global,
     mut two: Two<'_>,
@@ -120,7 +120,7 @@ fn is_never_falling(
     Ok(is_read && never_falls && two.closes(alloc, Closing::Counted(100, 300)))
 }
 
-/// Whether the reads of one agent never fall beside the other one, which fires the moves.
+/// Return whether the reads of one agent never fall beside the other one, which fires the moves.
 fn reads_beside<R: Threads>(
     rt: &R,
     alloc: Global,

@@ -60,7 +60,7 @@ static TURNS: [Case; 9] = [
         ],
         both: Closing::Events(2, &[1, 0]),
     },
-    // A mark tells what a look finds.
+    // A mark says what a poll finds.
     Case {
         x: None,
         capacity: 8,
@@ -135,7 +135,7 @@ fn calls_are_answered_as_by_a_storage_of_one_thread(rt: HostRuntime) -> Result<(
     check_all(&rt, rt.alloc(), &TURNS)
 }
 
-/// The second agent fires a move without instructions before each offer.
+/// The second agent fires a move without instructions before each attempt.
 const ALWAYS: Contest = Contest {
     reads: &[],
     others: &[],

@@ -10,7 +10,9 @@ use asm_storage::Agent;
 use std::alloc::{AllocError, Global};
 use std::test::Fail;
 
-/// The agent takes the other's state; whether its own then stands at the first number, and the other's at the second.
+/// Take the other's state; return whether the two are then at these versions.
+///
+/// The first version is its own, the second the other's.
 fn takes(
     agent: &mut Agent<'_, Standard>,
     other: &mut Agent<'_, Standard>,
@@ -25,7 +27,8 @@ fn takes(
     agent.state().number() == own && other.state().number() == left
 }
 
-/// Whether the first is answered, and the second takes over from it: it has seen what the first has, and fires by that.
+/// Return whether the first is answered, and the second takes over from it: it has seen what the first has, and
+/// fires by that.
 fn takes_over(
     alloc: Global,
     a: &mut Agent<'_, Standard>,
@@ -51,7 +54,7 @@ fn takes_over(
     )
 }
 
-/// Whether the first catches up from the older state, and keeps it where the other's is no further.
+/// Return whether the first catches up from the older state, and keeps it where the other's is no further.
 fn catches_up(
     alloc: Global,
     a: &mut Agent<'_, Standard>,

@@ -29,7 +29,9 @@ pub(crate) enum Step {
     Ask(Who, Act, Want),
     /// It learns the other's mark, and has then seen so many moves.
     Learn(Who, u32),
-    /// The first one has seen so many moves, won so many offers, found so many cells empty, and has so many receipts.
+    /// The counts of the first agent.
+    ///
+    /// It has seen so many moves, won so many attempts, found so many cells empty, and has so many receipts.
     Count(u32, u32, u64, usize),
     /// The row holds so many moves.
     Row(u32),
@@ -45,7 +47,7 @@ pub(crate) enum Step {
     Look,
     /// The first reads so many locations; whether that isn't refused for their number.
     ReadMany(usize, bool),
-    /// The first fires by so many named reads; whether that isn't refused for their number.
+    /// The first fires by so many declared reads; whether that isn't refused for their number.
     NameMany(usize, bool),
     /// The first recalls these locations, which gives that.
     Recall(&'static [&'static str], Recalled),
@@ -67,7 +69,7 @@ pub(crate) struct Two<'s> {
     ghost ascending: { a.account.id < b.account.id },
 }
 
-/// The agent fires moves without instructions: those after this number, up to that one.
+/// Fire moves without instructions: those after this number, up to that one.
 fn fills(
     alloc: Global,
     agent: &mut Agent<'_, Standard>,
@@ -86,7 +88,7 @@ fn fills(
 }
 
 impl Two<'_> {
-    /// Whether a step that asks nothing comes out right.
+    /// Return whether a step that asks nothing comes out right.
     fn tells(&self, alloc: Global, step: Step) -> bool {
         match step {
             Step::Count(seen, won, misses, receipts) => {
@@ -98,7 +100,11 @@ impl Two<'_> {
         }
     }
 
-    /// Whether the step comes out right. `AllocError` comes only where memory was refused.
+    /// Return whether the step comes out right.
+    ///
+    /// # Errors
+    ///
+    /// - `AllocError` only if memory is refused.
     fn step(&mut self, alloc: Global, step: Step) -> Result<bool, AllocError> {
         match step {
             Step::Ask(Who::A, act, want) => asks(alloc, &mut self.a, act, want),
@@ -118,7 +124,7 @@ impl Two<'_> {
         }
     }
 
-    /// How many of the steps come out right, up to the first that doesn't.
+    /// Return how many of the steps come out right, up to the first that doesn't.
     fn right_steps(&mut self, alloc: Global, steps: &[Step]) -> Result<usize, AllocError> {
         for (k, step) in steps.iter().enumerate() {
             if !self.step(alloc, *step)? {
@@ -128,7 +134,7 @@ impl Two<'_> {
         Ok(steps.len())
     }
 
-    /// Whether closing with both gives this.
+    /// Return whether closing with both gives this.
     pub(crate) fn closes(self, alloc: Global, both: Closing) -> bool {
         let Two { storage, a, b } = self;
         let agents = [a, b];
@@ -136,7 +142,11 @@ impl Two<'_> {
     }
 }
 
-/// A storage where x has this value. `AllocError` comes where memory was refused, and for a capacity out of range.
+/// Return a storage where x has this value.
+///
+/// # Errors
+///
+/// - `AllocError` if memory was refused, and for a capacity out of range.
 pub(crate) fn storage_of(
     alloc: Global,
     x: Option<i64>,
@@ -169,7 +179,7 @@ pub(crate) struct Case {
     pub(crate) both: Closing,
 }
 
-/// How many steps come out right, and one more where closing does.
+/// Return how many steps come out right, and one more where closing does.
 fn right_parts(alloc: Global, mut two: Two<'_>, case: Case) -> Result<usize, AllocError> {
     let right = two.right_steps(alloc, case.steps)?;
     let is_closed = right == case.steps.len() && two.closes(alloc, case.both);

@@ -10,7 +10,7 @@ use asm_storage::{Agent, FireError, Mark, ReadError, Storage};
 use asm_update::Instructions;
 use std::alloc::{AllocError, Global};
 
-/// Whether the fire was answered.
+/// Return whether the fire was answered.
 fn is_answered(
     alloc: Global,
     agent: &mut Agent<'_, Standard>,
@@ -52,7 +52,7 @@ fn fires_each(
     Ok(())
 }
 
-/// Adds a mark of what the agent has seen.
+/// Add a mark of what the agent has seen.
 fn push_mark(
     alloc: Global,
     agent: &Agent<'_, Standard>,
@@ -66,7 +66,7 @@ fn push_mark(
     Ok(())
 }
 
-/// Fires each of the moves, and takes a mark after each.
+/// Fire each of the moves, and takes a mark after each.
 fn marks_each(
     alloc: Global,
     agent: &mut Agent<'_, Standard>,
@@ -110,7 +110,7 @@ fn reads_often(
     Ok(())
 }
 
-/// The agent with this number, when it has fired each of the moves.
+/// Return the agent with this number, when it has fired each of the moves.
 pub(crate) fn fires_as<'s>(
     alloc: Global,
     storage: &'s Storage<Standard>,
@@ -125,7 +125,7 @@ pub(crate) fn fires_as<'s>(
     Ok(agent)
 }
 
-/// The agent with the number 0, when it has fired each of the moves, and its marks.
+/// Return the agent with the number 0, when it has fired each of the moves, and its marks.
 pub(crate) fn first_marks<'s>(
     alloc: Global,
     storage: &'s Storage<Standard>,
@@ -139,7 +139,7 @@ pub(crate) fn first_marks<'s>(
     Ok((agent, marks))
 }
 
-/// The agent with the number 1, when it has read the locations 100 times.
+/// Return the agent with the number 1, when it has read the locations 100 times.
 pub(crate) fn second_reads<'s>(
     alloc: Global,
     storage: &'s Storage<Standard>,
@@ -164,7 +164,7 @@ pub(crate) fn two_with<'s>(
     Two { storage, a, b }
 }
 
-/// The moves that put 1, 2 and so on at x.
+/// Return the moves that put 1, 2 and so on at x.
 pub(crate) fn puts(alloc: Global, times: i64) -> Result<Vec<Instructions>, AllocError> {
     let mut moves = Vec::new(alloc);
     for k in 0..times {
@@ -174,7 +174,7 @@ pub(crate) fn puts(alloc: Global, times: i64) -> Result<Vec<Instructions>, Alloc
     Ok(moves)
 }
 
-/// Whether x has this number, or nothing at 0.
+/// Return whether x has this number, or nothing at 0.
 pub(crate) fn is_put(value: Option<&Value>, number: i64) -> bool {
     match value {
         Some(value) => is_number(value, number) || (number == 0 && value.is_undef()),

@@ -1,6 +1,6 @@
 //! Equality over a list.
 
-/// Whether each is equal to itself alone.
+/// Return whether each is equal to itself alone.
 pub fn are_told_apart<T: PartialEq>(items: &[T]) -> bool {
     for (i, left) in items.iter().enumerate() {
         for (j, right) in items.iter().enumerate() {

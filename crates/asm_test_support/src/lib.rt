@@ -1,4 +1,4 @@
-//! What the tests of several crates share; no library or program stands on it.
+//! What the tests of several crates share; no library or program uses it.
 #![tactic(auto)]
 
 mod apart;

@@ -8,9 +8,11 @@ use std::alloc::{AllocError, Global};
 #[derive(Debug, Drop)]
 pub struct Zero;
 
-/// The location of this name, without arguments.
+/// Return the location of this name, without arguments.
 ///
-/// `AllocError` comes where memory was refused, and for a name that isn't one, which no table has.
+/// # Errors
+///
+/// - `AllocError` if memory was refused, and for a name that isn't one, which no table has.
 pub fn location(alloc: Global, name: &str) -> Result<Location, AllocError>
     ensures { IfOk result (λ l. l ≡ record { name = name.now; args = [] }) }
 {
@@ -21,9 +23,11 @@ pub fn location(alloc: Global, name: &str) -> Result<Location, AllocError>
     }
 }
 
-/// The location of this name with these numbers as arguments.
+/// Return the location of this name with these numbers as arguments.
 ///
-/// `AllocError` comes where memory was refused, and for a name or numbers that have no location, which no table has.
+/// # Errors
+///
+/// - `AllocError` if memory was refused, and for a name or numbers that have no location, which no table has.
 pub fn location_at(alloc: Global, name: &str, numbers: &[i64]) -> Result<Location, AllocError>
     ensures { IfOk result (λ l. l.name ≡ name.now) }
 {
@@ -38,14 +42,14 @@ pub fn location_at(alloc: Global, name: &str, numbers: &[i64]) -> Result<Locatio
     }
 }
 
-/// The value that is this number.
+/// Return the value that is this number.
 pub fn number(n: i64) -> Value
     ensures { result ≡ Value.Plain (Element.Num n) }
 {
     Value::Plain(Element::Num(n))
 }
 
-/// The value that is this number, or undef where there is none.
+/// Return the value that is this number, or undef where there is none.
 pub fn value(content: Option<i64>) -> Value {
     match content {
         Some(n) => number(n),

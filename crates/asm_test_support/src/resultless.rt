@@ -10,7 +10,7 @@ pub struct Resultless<A> {
 }
 
 impl<A: Aggregator> Resultless<A> {
-    /// The one over this aggregator.
+    /// Return the one over this aggregator.
     pub fn over(inner: A) -> Resultless<A> {
         Resultless { inner }
     }

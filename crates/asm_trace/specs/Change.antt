@@ -1,5 +1,5 @@
--- What a move makes of a location, told by what differs from before; what it means to make a change; and groups of partial
--- updates that change what they name alone.
+-- What a move makes of a location, as a list of what differs from before; what it means to make a change; and groups
+-- of partial updates that change what they name alone.
 use Rattle.std.specs.Prelude.{ℕ, Bool, not, nat_eq, List, [], ◌∷◌, ◌++◌, map, filter, Result, Ok, Err, ◌≡◌, true, Option, None, Some}
 use Rattle.std.specs.FinMap as finite
 use Rattle.asm_element.specs.Bag as bag

@@ -84,8 +84,8 @@ is_other_at given right i = is_other (slice_get given i) (slice_get right i)
 abbrev pub differing_positions : List Value → List Value → List ℕ
 differing_positions given right = filter (is_other_at given right) (range_with_len 0 (length right))
 
--- the right answer beside the given one: of two reads {"differs":[N, ..],"number":N}, the positions of the values that
--- differ and the right number; else the whole right answer
+-- the right answer beside the given one: of two reads {"differs":[N, ..],"number":N}, the positions of the values
+-- that differ and the right number; else the complete right answer
 abbrev pub right_json_of : Answer → Answer → Data
 right_json_of (answer.Read n given) (answer.Read number right) =
     two_of (codes "differs") (list_of (map number_json_of (differing_positions given right))) (codes "number") (number_json_of number)
@@ -112,7 +112,7 @@ IsTrace part h text =
     (notes : List Note) × AreNotesOf (machine_of part h) [] 0 h.events notes
     × (text ≡ line (header_of h) ++ notes_text notes)
 
--- once an event is noted on a state: the line of its note is appended, and the new state stands for its move too
+-- once an event is written on a state: the line of its note is appended, and the new state has followed its move too
 abbrev pub IsNoted : Part → ℕ → ℕ → Event → StateView → StateView → List ℕ → List ℕ → Type 0
 IsNoted part capacity n e old new before after = (init : State) (q : List Move) → Stands part init old q →
     ((x : Note) × IsNoteOf (machine part init capacity) q n e x × (after ≡ before ++ line (note_json_of x)))
@@ -126,16 +126,16 @@ OneTrace = (part : Part) (h : History) (s t : List ℕ) → IsTrace part h s →
 abbrev pub AreNotes : Part → History → List Note → Type 0
 AreNotes part h notes = AreNotesOf (machine_of part h) [] 0 h.events notes
 
--- the note tells of no other answer
+-- the note has no other answer
 abbrev pub TellsNone : Note → Type 0
 TellsNone x = x.right ≡ None
 
--- The trace of a legal history tells of no wrong answer.
+-- The trace of a legal history reports no wrong answer.
 abbrev pub LegalTrace : Type 0
 LegalTrace = (part : Part) (h : History) (notes : List Note) → AreNotes part h notes →
     IsLegal (machine_of part h) h.events → All TellsNone notes
 
--- Where the answer of an event is the first wrong one, its note is the first that tells the right one.
+-- Where the answer of an event is the first wrong one, its note is the first that has the right one.
 abbrev pub FirstWrongTold : Type 0
 FirstWrongTold = (part : Part) (h : History) (notes : List Note) (k : ℕ) → AreNotes part h notes →
     IsFirstWrong (machine_of part h) h.events k →
@@ -146,11 +146,11 @@ abbrev pub ChangesLeave : Type 0
 ChangesLeave = (a : Meaning) → AggregatorLaws a → (h : History) (notes : List Note) → IsProper h →
     AreNotes a.part h notes → changed h.init (all_changes notes) ≡ state_of a.part h.init (fired_moves h.events)
 
--- What a change of a set tells to come wasn't there and is there, and what it tells to go was there and isn't.
+-- An added element of a set change wasn't there and is there, and a removed one was there and isn't.
 abbrev pub WithoutTells : Type 0
 WithoutTells = (s t : ElementSet) → All (λ e. (contains s e ≡ true) × (contains t e ≡ false)) (without s t)
 
--- What a change of a bag tells are the counts of both bags, which differ.
+-- A bag change has the counts of both bags, which differ.
 abbrev pub RecountsTell : Type 0
 RecountsTell = (a b : ElementBag) →
     All (λ r. (r.before ≡ count a r.element) × (r.after ≡ count b r.element) × (r.before ≢ r.after)) (recounts a b)

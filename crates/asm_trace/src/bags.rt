@@ -1,4 +1,4 @@
-//! What a change of a bag tells.
+//! What a trace lists of a bag's change.
 ghost use Rattle.std.specs.Prelude.{◌≡◌, ◌&&◌, ◌||◌, IfOk, OnOk, map};
 ghost use Rattle.std.specs.Ordering.{eq_by_cmp};
 ghost use Rattle.std.specs.List.{list_any};
@@ -17,7 +17,7 @@ use asm_journal::ToJson;
 use serde_json::Value as Json;
 use std::alloc::{AllocError, Global};
 
-/// Adds the element to the set, where the bags hold it a different number of times.
+/// Add the element to the set, where the bags hold it a different number of times.
 fn note(
     alloc: Global,
     set: &mut ElemSet,
@@ -34,7 +34,7 @@ fn note(
     Ok(())
 }
 
-/// Adds the elements of a bag to the set that the two bags hold a different number of times.
+/// Record the elements of a bag that the two bags have a different number of times.
 fn note_all(
     alloc: Global,
     set: &mut ElemSet,
@@ -52,7 +52,7 @@ fn note_all(
     Ok(())
 }
 
-/// The elements that the bags hold a different number of times.
+/// Return the elements that the bags hold a different number of times.
 fn differing_elements(alloc: Global, old: &ElemBag, new: &ElemBag) -> Result<ElemSet, AllocError>
     ensures { IfOk result (λ set. set ≡ differing old.now new.now) }
 {
@@ -62,7 +62,7 @@ fn differing_elements(alloc: Global, old: &ElemBag, new: &ElemBag) -> Result<Ele
     Ok(set)
 }
 
-/// The JSON of an element with its counts in both bags.
+/// Return the JSON of an element with its counts in both bags.
 fn recount_json(
     alloc: Global,
     old: &ElemBag,
@@ -79,7 +79,7 @@ fn recount_json(
     )
 }
 
-/// The JSON of the elements that the bags hold a different number of times, each with both counts.
+/// Write as JSON the elements whose counts in the bags differ, with both counts.
 fn recounts_json(alloc: Global, old: &ElemBag, new: &ElemBag) -> Result<Json, AllocError>
     ensures { IfOk result (λ json. view json ≡ list_of (map recount_json_of (recounts old.now new.now))) }
 {
@@ -91,7 +91,7 @@ fn recounts_json(alloc: Global, old: &ElemBag, new: &ElemBag) -> Result<Json, Al
     Ok(array_of(list))
 }
 
-/// The JSON of a location at which one bag takes the place of another.
+/// Return the JSON of a location at which one bag takes the place of another.
 pub(crate) fn bag_change_json(
     alloc: Global,
     at: &Location,

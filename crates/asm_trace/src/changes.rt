@@ -19,7 +19,7 @@ use asm_update::{AggError, Aggregator, Group, Instructions, Lookup, ResultError,
 use serde_json::Value as Json;
 use std::alloc::{AllocError, Global};
 
-/// The JSON of a location at which one value takes the place of another.
+/// Return the JSON of a location at which one value takes the place of another.
 fn value_change_json(
     alloc: Global,
     at: &Location,
@@ -40,7 +40,7 @@ fn value_change_json(
     }
 }
 
-/// The JSON of a location that gets this value.
+/// Return the JSON of a location that gets this value.
 fn change_json(alloc: Global, state: &State, at: &Location, new: &Value) -> Result<Json, AllocError>
     ensures { IfOk result (λ json. view json
         ≡ change_json_of at.now (change_of (value_at state.now at.now) new.now)) }
@@ -51,7 +51,7 @@ fn change_json(alloc: Global, state: &State, at: &Location, new: &Value) -> Resu
     }
 }
 
-/// The JSON of what the updates change in the state.
+/// Return the JSON of what the updates change in the state.
 fn updates_json(alloc: Global, state: &State, updates: &UpdateSet) -> Result<Json, AllocError>
     ensures { IfOk result (λ json. view json ≡ changes_json_of (changes_by (value_at state.now) updates.now)) }
 {
@@ -62,8 +62,9 @@ fn updates_json(alloc: Global, state: &State, updates: &UpdateSet) -> Result<Jso
     Ok(array_of(list))
 }
 
-/// The JSON of what a group of partial updates changes at a location: nothing where it clashes. It is made of what the
-/// group names, whatever else the value has.
+/// Write as JSON what a group of partial updates changes at a location.
+///
+/// It is nothing if the group clashes. It is made of what the group names, whatever else the value has.
 fn group_json<A: Aggregator>(
     alloc: Global,
     aggregator: &A,
@@ -85,7 +86,9 @@ fn group_json<A: Aggregator>(
     }
 }
 
-/// The JSON of what a move changes in the state: nothing where it clashes. Its update set is made for it.
+/// Return the JSON of what a move changes in the state: nothing where it clashes.
+///
+/// Its update set is made for it.
 fn updated_json<A: Aggregator>(
     alloc: Global,
     aggregator: &A,
@@ -102,8 +105,9 @@ fn updated_json<A: Aggregator>(
     }
 }
 
-/// The JSON of what a move changes in the state: nothing where it clashes. Partial updates of one location are told by
-/// what they name.
+/// Write as JSON what a move changes in the state: nothing if it clashes.
+///
+/// Partial updates of one location are listed by what they name.
 fn named_json<A: Aggregator>(
     alloc: Global,
     aggregator: &A,
@@ -120,7 +124,7 @@ fn named_json<A: Aggregator>(
     }
 }
 
-/// The JSON of what a move changes in the state: nothing where it clashes.
+/// Return the JSON of what a move changes in the state: nothing where it clashes.
 fn move_json<A: Aggregator>(
     alloc: Global,
     aggregator: &A,
@@ -139,7 +143,7 @@ fn move_json<A: Aggregator>(
     }
 }
 
-/// The JSON of what the event's move changes in the state, if it fired one.
+/// Return the JSON of what the event's move changes in the state, if it fired one.
 pub(crate) fn event_changes<A: Aggregator>(
     alloc: Global,
     aggregator: &A,

@@ -7,28 +7,28 @@ ghost use Rattle.asm_trace.specs.Text.{with_some};
 use serde_json::{Map, Value as Json};
 use std::alloc::{AllocError, Global};
 
-/// An array of these values.
+/// Return an array of these values.
 pub(crate) fn array_of(list: Vec<Json>) -> Json
     ensures { view result ≡ list_of (map view list.items) }
 {
     Json::Array(list)
 }
 
-/// An array of one value.
+/// Return an array of one value.
 pub(crate) fn array_of_one(alloc: Global, json: Json) -> Result<Json, AllocError>
     ensures { IfOk result (λ array. view array ≡ list_of (view json ∷ [])) }
 {
     Ok(Json::Array(vec![in alloc; json]?))
 }
 
-/// An array of two values.
+/// Return an array of two values.
 pub(crate) fn array_of_two(alloc: Global, first: Json, second: Json) -> Result<Json, AllocError>
     ensures { IfOk result (λ json. view json ≡ pair_of (view first) (view second)) }
 {
     Ok(Json::Array(vec![in alloc; first, second]?))
 }
 
-/// An array of three values.
+/// Return an array of three values.
 pub(crate) fn array_of_three(
     alloc: Global,
     first: Json,
@@ -40,7 +40,7 @@ pub(crate) fn array_of_three(
     Ok(Json::Array(vec![in alloc; first, second, third]?))
 }
 
-/// An object with the member `counts` alone.
+/// Return an object with the member `counts` alone.
 pub(crate) fn counts_object(alloc: Global, counts: Json) -> Result<Json, AllocError>
     ensures { IfOk result (λ json. view json ≡ one_of (codes "counts") (view counts)) }
 {
@@ -49,7 +49,7 @@ pub(crate) fn counts_object(alloc: Global, counts: Json) -> Result<Json, AllocEr
     Ok(Json::Object(members))
 }
 
-/// An object with the members `added` and `removed` alone.
+/// Return an object with the members `added` and `removed` alone.
 pub(crate) fn added_and_removed(
     alloc: Global,
     added: Json,
@@ -64,7 +64,7 @@ pub(crate) fn added_and_removed(
     Ok(Json::Object(members))
 }
 
-/// An object with the members `differs` and `number` alone.
+/// Return an object with the members `differs` and `number` alone.
 pub(crate) fn differs_and_number(
     alloc: Global,
     differs: Json,
@@ -79,7 +79,7 @@ pub(crate) fn differs_and_number(
     Ok(Json::Object(members))
 }
 
-/// Puts a member into an object, if there is a value for it.
+/// Put a member into an object, if there is a value for it.
 pub(crate) fn put_some(
     alloc: Global,
     members: &mut Map<String, Json>,

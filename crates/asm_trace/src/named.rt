@@ -1,4 +1,4 @@
-//! What partial updates name of a value: a set or a bag of these elements alone changes as the whole one does.
+//! What partial updates name of a value: a set or a bag of these elements alone changes as the complete one does.
 ghost use Rattle.std.specs.Prelude.{◌≡◌, ◌&&◌, ◌||◌, IfOk, OnOk, if◌then◌else◌, unwrap_or};
 ghost use Rattle.std.specs.Option.{option_copied};
 ghost use Rattle.asm_element.specs.Bag as bag;
@@ -13,7 +13,7 @@ use asm_element::{ElemBag, ElemSet, Element, Value};
 use asm_update::Action;
 use std::alloc::{AllocError, Global};
 
-/// The element that a partial update adds or removes.
+/// Return the element that a partial update adds or removes.
 fn named(action: &Action) -> Option<&Element>
     ensures { option_copied result ≡ element_named action.now }
 {
@@ -24,7 +24,9 @@ fn named(action: &Action) -> Option<&Element>
     }
 }
 
-/// Puts the element that the action names into the set of those that are named, if the whole set has it.
+/// Add the element that the action names to the named ones, if the set has it.
+///
+/// The set is the complete one.
 fn keep(
     alloc: Global,
     part: &mut ElemSet,
@@ -42,7 +44,7 @@ fn keep(
     Ok(())
 }
 
-/// The elements of the set that the actions name.
+/// Return the elements of the set that the actions name.
 fn named_of_set(alloc: Global, whole: &ElemSet, actions: &[Action]) -> Result<ElemSet, AllocError>
     ensures { IfOk result (λ part. AreSameTo actions.now (values.Set whole.now) (values.Set part)) }
 {
@@ -53,7 +55,7 @@ fn named_of_set(alloc: Global, whole: &ElemSet, actions: &[Action]) -> Result<El
     Ok(part)
 }
 
-/// Raises the count of the element that the action names to that of the whole bag.
+/// Raise the count of the action's element to that of the complete bag.
 fn raise(
     alloc: Global,
     part: &mut ElemBag,
@@ -74,7 +76,7 @@ fn raise(
     Ok(())
 }
 
-/// The elements of the bag that the actions name, as often as it has them.
+/// Return the elements of the bag that the actions name, as often as it has them.
 fn named_of_bag(alloc: Global, whole: &ElemBag, actions: &[Action]) -> Result<ElemBag, AllocError>
     ensures { IfOk result (λ part. AreSameTo actions.now (values.Bag whole.now) (values.Bag part)) }
 {
@@ -85,8 +87,9 @@ fn named_of_bag(alloc: Global, whole: &ElemBag, actions: &[Action]) -> Result<El
     Ok(part)
 }
 
-/// What the actions name of the value, where None stands for undef: of a set or a bag the elements that they name, and
-/// any other value whole.
+/// Return the part of the value that the actions name, where None means undef.
+///
+/// Of a set or a bag it has the elements that they name, and any other value completely.
 pub(crate) fn named_of(
     alloc: Global,
     value: Option<&Value>,

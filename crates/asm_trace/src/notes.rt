@@ -1,4 +1,4 @@
-//! Events, judged and noted one by one.
+//! Events, judged and written one by one.
 ghost use Rattle.std.specs.Prelude.{◌≡◌, ◌<◌, ◌++◌, ◌∷◌, [], true, List, IfOk, OnOk, filter, map, option_map, string_bytes};
 ghost use Rattle.serde_json.specs.View.{view};
 ghost use Rattle.asm_update.specs.State as plain;
@@ -23,14 +23,14 @@ use asm_update::{Aggregator, Lookup};
 use serde_json::{Map, Value as Json};
 use std::alloc::{AllocError, Global};
 
-/// The value of a location, in memory of its own.
+/// Return the value of a location, in its own memory.
 fn held(alloc: Global, state: &State, at: &Location) -> Result<Value, AllocError>
     ensures { IfOk result (λ v. v ≡ value_at state.now at.now) }
 {
     Value::copy_or_undef(alloc, state.get(at))
 }
 
-/// The values of the locations, in their order.
+/// Return the values of the locations, in their order.
 fn all_held(alloc: Global, state: &State, places: &[Location]) -> Result<Vec<Value>, AllocError>
     ensures { IfOk result (λ values. values.items ≡ map (value_at state.now) places.now) }
 {
@@ -41,7 +41,9 @@ fn all_held(alloc: Global, state: &State, places: &[Location]) -> Result<Vec<Val
     Ok(values)
 }
 
-/// The reply, after so many moves, to a move with this objection or with none.
+/// Return the reply to a move with this objection or with none.
+///
+/// The move comes after so many others.
 fn reply_of(objection: Option<Objection>, capacity: u32, number: u32) -> Reply
     ensures { result ≡ judged_reply capacity number objection }
 {
@@ -58,7 +60,9 @@ fn reply_of(objection: Option<Objection>, capacity: u32, number: u32) -> Reply
     }
 }
 
-/// What the storage of one thread answers to the call after the moves that the state has followed.
+/// Return the sequential storage's answer to the call.
+///
+/// It is the answer after the moves that the state has followed.
 fn right_answer<A: Aggregator>(
     alloc: Global,
     aggregator: &A,
@@ -82,7 +86,7 @@ fn right_answer<A: Aggregator>(
     }
 }
 
-/// Follows the event's move, if it fired one, whatever the right answer is.
+/// Follow the event's move, if it fired one, whatever the right answer is.
 fn follow_event<A: Aggregator>(
     alloc: Global,
     aggregator: &A,
@@ -100,8 +104,9 @@ fn follow_event<A: Aggregator>(
     }
 }
 
-/// The right answer to the event's call after the moves that the state has followed, where the event has another. The
-/// state follows the event's move.
+/// Return the right answer to the event's call, if the event has another.
+///
+/// It is the answer after the moves that the state has followed. The state follows the event's move.
 fn other_answer<A: Aggregator>(
     alloc: Global,
     aggregator: &A,
@@ -120,7 +125,7 @@ fn other_answer<A: Aggregator>(
     Ok(Some(right))
 }
 
-/// Whether the right value at this position was not answered.
+/// Return whether the right value at this position was not answered.
 fn differs_at(given: &[Value], right: &[Value], i: usize) -> bool
     ensures { result ≡ is_other_at given.now right.now i }
 {
@@ -131,7 +136,7 @@ fn differs_at(given: &[Value], right: &[Value], i: usize) -> bool
     }
 }
 
-/// Adds the position, where the right value was not answered.
+/// Add the position, where the right value was not answered.
 fn push_other(
     alloc: Global,
     list: &mut Vec<Json>,
@@ -148,7 +153,7 @@ fn push_other(
     Ok(())
 }
 
-/// The JSON of the positions of the right values that were not answered.
+/// Return the JSON of the positions of the right values that were not answered.
 fn positions_json(alloc: Global, given: &[Value], right: &[Value]) -> Result<Json, AllocError>
     ensures { IfOk result (λ json. view json
         ≡ list_of (map number_json_of (differing_positions given.now right.now))) }
@@ -160,7 +165,7 @@ fn positions_json(alloc: Global, given: &[Value], right: &[Value]) -> Result<Jso
     Ok(array_of(list))
 }
 
-/// The JSON of the right answer beside the given one.
+/// Return the JSON of the right answer beside the given one.
 fn right_json(alloc: Global, given: &Answer, right: &Answer) -> Result<Json, AllocError>
     ensures { IfOk result (λ json. view json ≡ right_json_of given.now right.now) }
 {
@@ -173,7 +178,7 @@ fn right_json(alloc: Global, given: &Answer, right: &Answer) -> Result<Json, All
     }
 }
 
-/// The JSON of the right answer beside the given one, if there is one.
+/// Return the JSON of the right answer beside the given one, if there is one.
 fn some_right_json(
     alloc: Global,
     given: &Answer,
@@ -187,8 +192,9 @@ fn some_right_json(
     }
 }
 
-/// The JSON of the event with this number, with the right answer where there is another, and with what its move
-/// changes where it fired one.
+/// Write as JSON the event with this number.
+///
+/// It has the right answer if there is another, and what its move changes if it fired one.
 fn note_json(
     alloc: Global,
     number: u64,
@@ -210,8 +216,9 @@ fn note_json(
     Ok(Json::Object(members))
 }
 
-/// Appends the line of the event with this number, which comes after the moves that the state has followed. The state
-/// follows the event's move.
+/// Append the line of the event with this number.
+///
+/// The event comes after the moves that the state has followed. The state follows the event's move.
 pub(crate) fn push_note<A: Aggregator>(
     alloc: Global,
     aggregator: &A,

@@ -1,4 +1,4 @@
-//! What a change of a set tells.
+//! What a trace lists of a set's change.
 ghost use Rattle.std.specs.Prelude.{◌≡◌, ◌++◌, [], ◌∷◌, IfOk, OnOk, map, filter};
 ghost use Rattle.serde_json.specs.View.{view};
 ghost use Rattle.asm_element.specs.Set.{contains};
@@ -12,7 +12,7 @@ use asm_journal::ToJson;
 use serde_json::Value as Json;
 use std::alloc::{AllocError, Global};
 
-/// Appends the JSON of the element, unless the set has it.
+/// Append the JSON of the element, unless the set has it.
 fn push_missing(
     alloc: Global,
     list: &mut Vec<Json>,
@@ -28,7 +28,7 @@ fn push_missing(
     Ok(())
 }
 
-/// The JSON of the elements of the first set that the second hasn't.
+/// Return the JSON of the elements of the first set that the second hasn't.
 fn without_json(alloc: Global, first: &ElemSet, second: &ElemSet) -> Result<Json, AllocError>
     ensures { IfOk result (λ json. view json ≡ elements_json_of (without first.now second.now)) }
 {
@@ -39,7 +39,7 @@ fn without_json(alloc: Global, first: &ElemSet, second: &ElemSet) -> Result<Json
     Ok(array_of(list))
 }
 
-/// The JSON of a location at which one set takes the place of another.
+/// Return the JSON of a location at which one set takes the place of another.
 pub(crate) fn set_change_json(
     alloc: Global,
     at: &Location,

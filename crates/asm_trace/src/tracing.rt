@@ -16,7 +16,7 @@ use asm_update::Aggregator;
 use serde_json::Value as Json;
 use std::alloc::{AllocError, Global};
 
-/// The JSON of a trace's header.
+/// Return the JSON of a trace's header.
 fn header_json(alloc: Global, history: &History) -> Result<Json, AllocError>
     requires { length history.now.events ≤ events_limit }
     ensures { IfOk result (λ json. view json ≡ header_of history.now) }
@@ -26,8 +26,9 @@ fn header_json(alloc: Global, history: &History) -> Result<Json, AllocError>
     Ok(Json::Object(header))
 }
 
-/// Writes what each event of a history did. Where partial updates are known to change what they name alone, those of one
-/// location are told by what they name.
+/// Write what each event of a history did.
+///
+/// If partial updates are known to change what they name alone, those of one location are listed by what they name.
 fn traced<A: Aggregator>(
     alloc: Global,
     aggregator: &A,
@@ -56,16 +57,22 @@ fn traced<A: Aggregator>(
     Ok(text)
 }
 
-/// Writes what each event of a history did, as a trace of version 1: a header line, and for each event a line with its
-/// call and its reply. A fired move has each location that it writes, in ascending order, with what differs there: of a
-/// set the elements that come and those that go, of a bag the counts that differ, else the value before and the new one,
-/// which may be the same. Where a reply isn't the one that a sequential storage gives there, the line has that reply too,
-/// as `right`; of a read it has the right number and the positions of the values that differ, so that a location that is
-/// read again and again doesn't have its value written as often.
+/// Write what each event of a history did, as a trace of version 1.
 ///
-/// The history may be illegal: each move that it tells fired is fired, and one that clashes changes nothing. It must be
-/// within the limits of a journal, which `History::fits` tests. A move costs as much as the sets and bags have elements
-/// that it changes, but the text has what differs alone. `AllocError` comes only where memory was refused.
+/// The trace has a header line, and for each event a line with its call and its reply. A fired move has each location
+/// that it writes, in ascending order, with what differs there: of a set the added and removed elements, of a bag the
+/// counts that differ, else the value before and the new one, which may be the same. If a reply isn't the one that a
+/// sequential storage gives there, the line has that reply too, as `right`. Of a read it has the right number and the
+/// positions of the values that differ, so that a location that is read again and again doesn't have its value written
+/// as often.
+///
+/// The history may be illegal: each move that it reports as fired is fired, and one that clashes changes nothing. It
+/// must be within the limits of a journal, which `History::fits` tests. A move costs as much as the sets and bags have
+/// elements that it changes, but the text has what differs alone.
+///
+/// # Errors
+///
+/// - `AllocError` only if memory is refused.
 pub fn trace_text<A: Aggregator>(
     alloc: Global,
     aggregator: &A,
@@ -77,11 +84,14 @@ pub fn trace_text<A: Aggregator>(
     traced(alloc, aggregator, false, history)
 }
 
-/// Writes the trace of a history as `trace_text` does with the aggregator of sets, bags and counters, `standard` of
-/// `asm_aggregate`.
+/// Write the trace of a history with the aggregator of sets, bags and counters.
 ///
-/// A move of partial updates of one location costs as much as they name of a set or a bag, whatever else it has; any
-/// other move costs what it costs there.
+/// It is that of `trace_text` with `standard` of `asm_aggregate`. A move of partial updates of one location costs as
+/// much as they name of a set or a bag, whatever else it has; any other move costs what it costs there.
+///
+/// # Errors
+///
+/// - `AllocError` only if memory is refused.
 pub fn standard_trace_text(alloc: Global, history: &History) -> Result<String, AllocError>
     requires { Fits history.now }
     ensures { IfOk result (λ s. IsTrace standard_part history.now (string_bytes s)) }
@@ -89,11 +99,16 @@ pub fn standard_trace_text(alloc: Global, history: &History) -> Result<String, A
     traced(alloc, &standard(), true, history)
 }
 
-/// Appends the line that `standard_trace_text` has for the event with this number, which comes after the moves that the
-/// state has followed, in a history of this capacity. The state follows the event's move.
+/// Append the line that `standard_trace_text` has for the event with this number.
 ///
-/// The state must have followed fewer than 4,294,967,295 moves. `AllocError` comes only where memory was refused; the
-/// text and the state are then of no further use.
+/// The event comes after the moves that the state has followed, in a history of this capacity. The state follows the
+/// event's move. It must have followed fewer than 4,294,967,295 moves.
+///
+/// # Errors
+///
+/// - `AllocError` only if memory is refused.
+///
+/// On error, the text and the state are of no further use.
 pub fn push_standard_note(
     alloc: Global,
     text: &mut String,

@@ -57,7 +57,8 @@ abbrev pub regular_value : Action → Option Value
 regular_value (Regular v) = Some v
 regular_value _ = None
 
--- one that a program can hold: what it has is proper, an amount is 1 to 4,294,967,295, an increment in the range of i64
+-- one that a program can hold: what it has is well-formed, an amount is 1 to 4,294,967,295, an increment in the range
+-- of i64
 abbrev pub IsProper : Action → Type 0
 IsProper (Regular v) = value.IsProper v
 IsProper (SetAdd e) = element.IsProper e
@@ -66,11 +67,11 @@ IsProper (BagAdd e n) = element.IsProper e × (1 ≤ n) × (n < 2 ^ 32)
 IsProper (BagRemove e n) = element.IsProper e × (1 ≤ n) × (n < 2 ^ 32)
 IsProper (Increment n) = FitsSigned w64 n
 
--- each action of the list is proper
+-- each action of the list is well-formed
 abbrev pub AllProper : List Action → Type 0
 AllProper = All IsProper
 
--- its location and its action are proper
+-- its location and its action are well-formed
 abbrev pub IsProperInstruction : Instruction → Type 0
 IsProperInstruction i = place.IsProper i.at × IsProper i.action
 

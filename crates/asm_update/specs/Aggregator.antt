@@ -23,7 +23,7 @@ pub data NoJoin : Type 0 where
   Refused : Cause → NoJoin
   TooLarge : NoJoin
 
--- the list that stands for two in a row, or the refusal
+-- the list that does what two lists in turn do, or the refusal
 abbrev pub Joined : Type 0
 Joined = Result (List Action) NoJoin
 
@@ -33,7 +33,7 @@ pub record Meaning : Type 0 where
   pub part : Part
   pub joins : List Action → List Action → Joined
 
--- what a list of partials gives on a value: an empty list leaves it as it is
+-- what a list of partials gives on a value: an empty list leaves it unchanged
 abbrev pub after : Meaning → Value → List Action → GroupResult
 after a v [] = Ok v
 after a v (p ∷ ps) = a.part v None (p ∷ ps)
@@ -64,36 +64,36 @@ pub record AggregatorLaws (a : Meaning) : Type 0 where
   pub kind_kept : (f : Family) (old w : Value) (regular : Option Value) (partials : List Action) →
       partials ≢ [] → list_all (is_of f) partials ≡ true → a.part old regular partials ≡ Ok w →
       (kind_of (unwrap_or regular old) ≡ Some f) × (kind_of w ≡ Some f)
-  -- what is proper stays proper
+  -- what is well-formed stays well-formed
   pub proper_kept : (old w : Value) (partials : List Action) →
       value.IsProper old → AllProper partials → a.part old None partials ≡ Ok w → value.IsProper w
   -- a join has partials alone
   pub join_is_partial : (first second joined : List Action) →
       a.joins first second ≡ Ok joined → list_all is_partial joined ≡ true
-  -- each of them of a family that stands on one of the two sides
+  -- each of them of a family that one of the two sides has
   pub join_family : (f : Family) (first second joined : List Action) →
       a.joins first second ≡ Ok joined → list_any (is_of f) joined ≡ true →
       list_any (is_of f) (first ++ second) ≡ true
 
--- a call answers this outcome: its value, or its cause; an allocation failure tells nothing
+-- a call answers this outcome: its value, or its cause; an allocation failure says nothing
 abbrev pub IsOutcome : Result Value ResultError → GroupResult → Type 0
 IsOutcome (Ok value) outcome = outcome ≡ Ok value
 IsOutcome (Err (result_error.Cause cause)) outcome = outcome ≡ Err cause
 IsOutcome (Err result_error.Memory) outcome = Unit {0}
 
--- a call answers whether this outcome is a value, or else its cause; an allocation failure tells nothing
+-- a call returns whether this outcome is a value, or else its cause; an allocation failure says nothing
 abbrev pub IsAdmitted : Result (Unit {0}) ResultError → GroupResult → Type 0
 IsAdmitted (Ok _) outcome = IsOk outcome
 IsAdmitted (Err (result_error.Cause cause)) outcome = outcome ≡ Err cause
 IsAdmitted (Err result_error.Memory) outcome = Unit {0}
 
--- a call leaves this outcome's value, or answers its cause; an allocation failure tells nothing
+-- a call leaves this outcome's value, or answers its cause; an allocation failure says nothing
 abbrev pub IsLeft : Result (Unit {0}) ResultError → Value → GroupResult → Type 0
 IsLeft (Ok _) left outcome = outcome ≡ Ok left
 IsLeft (Err (result_error.Cause cause)) left outcome = outcome ≡ Err cause
 IsLeft (Err result_error.Memory) left outcome = Unit {0}
 
--- a call answers this join: its list, or its refusal; an allocation failure tells nothing
+-- a call answers this join: its list, or its refusal; an allocation failure says nothing
 abbrev pub IsJoined : Result (Vec Action Global) JoinError → Joined → Type 0
 IsJoined (Ok actions) joined = joined ≡ Ok actions.items
 IsJoined (Err (join_error.Cause cause)) joined = joined ≡ Err (Refused cause)

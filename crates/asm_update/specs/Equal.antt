@@ -1,4 +1,4 @@
--- `==` of actions, instructions, lists of them and states tells whether they are the same.
+-- `==` of actions, instructions, lists of them and states decides whether they are the same.
 use Rattle.std.specs.Prelude.{◌≡◌, ◌&&◌, ◌==◌, ℕ, zero, suc, pos, Bool, true, List, unwrap_or, refl}
 use Rattle.std.proofs.Common.{sym, ap, ◌∙◌}
 use Rattle.std.specs.Cmp.{IsEquivalence, decided, unsigned_Decides}

@@ -64,7 +64,7 @@ gathered U [] = Ok U
 gathered U ((l, Ok v) ∷ rest) = gathered (finite.insert U l v) rest
 gathered U ((l, Err cause) ∷ rest) = Err (record { at = l; cause = cause })
 
--- the update set of a move, or its clash at the least location that has no result
+-- the update set of a move, or its clash at the smallest location that has no result
 abbrev pub aggregated : Part → Old → Move → Result Updates Clash
 aggregated part old M = gathered finite.empty (map (λ l. (l, result_at part old M l)) (locations M))
 
@@ -101,13 +101,13 @@ pub record IsUpdateSet (part : Part) (old : Old) (M : Move) (U : Updates) : Type
   pub written : (l : Place) → writes M l ≡ true → IsSomeAnd (finite.get U l) (λ v. result_at part old M l ≡ Ok v)
   pub others : (l : Place) → writes M l ≡ false → finite.get U l ≡ None
 
--- the clash stands at the least location that the move writes and where there is no result
+-- the clash is at the smallest location that the move writes and where there is no result
 pub record IsLeastClash (part : Part) (old : Old) (M : Move) (clash : Clash) : Type 0 where
   pub written : writes M clash.at ≡ true
   pub cause : result_at part old M clash.at ≡ Err clash.cause
   pub least : (l : Place) → location_cmp l clash.at ≡ Less → writes M l ≡ true → IsOk (result_at part old M l)
 
--- a clash that is answered is the one of firing, whatever partial updates mean; an allocation failure tells nothing
+-- a clash that is answered is the one of firing, whatever partial updates mean; an allocation failure says nothing
 abbrev pub TellsClash : State → Move → AggError → Type 0
 TellsClash A M (Clashes c) = (part : Part) → fire part A M ≡ Err c
 TellsClash A M Memory = Unit {0}

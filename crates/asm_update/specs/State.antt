@@ -38,13 +38,13 @@ write_all A (e ∷ es) = write (write_all A es) e.0 e.1
 abbrev pub overwrite : State → Updates → State
 overwrite A U = write_all A (map.entries U)
 
--- one that a program can hold: it holds no undef, and its locations and values are proper
+-- one that a program can hold: it holds no undef, and its locations and values are well-formed
 pub record IsProper (A : State) : Type 0 where
   pub locations : All place.IsProper (map.keys A)
   pub values : All value.IsProper (map.values A)
   pub no_undef : All (λ v. value.is_undef v ≡ false) (map.values A)
 
--- the entries of a state as they are kept: in ascending order of locations, proper, and with no undef
+-- the entries of a state in their stored form: in ascending order of locations, well-formed, and with no undef
 pub record AreStateEntries (es : List (Place × Value)) : Type 0 where
   pub ordered : IsStrictlySortedBy location_cmp (keys_of es)
   pub no_undef : All (λ v. value.is_undef v ≡ false) (values_of es)

@@ -7,9 +7,9 @@ use asm_element::{Element, Location, Value};
 use std::alloc::AllocError;
 use std::marker::Model;
 
-/// How many of an element a partial update of a bag adds or removes: 1 to 4,294,967,295.
+/// How many of an element a partial update of a bag adds or removes.
 ///
-/// Contracts see it as its number. Source: this project's profile.
+/// It is 1 to 4,294,967,295, and contracts see it as this number. Source: this project's profile.
 #[derive(Clone, Copy, Debug, PartialEq, Eq)]
 pub struct Amount {
     n: u32,
@@ -28,7 +28,7 @@ impl Model for Amount {
 }
 
 impl Amount {
-    /// The amount n, or None where n is 0.
+    /// Return the amount n, or None where n is 0.
     pub fn new(n: u32) -> Option<Amount>
         ensures zero { IsNone result ↔ (n ≡ 0) }
         ensures value { IfSome result (λ amount. amount ≡ n) }
@@ -36,7 +36,7 @@ impl Amount {
         if n == 0 { None } else { Some(Amount { n }) }
     }
 
-    /// The number, which is at least 1.
+    /// Return the number, which is at least 1.
     pub fn get(self) -> u32
         ensures value { result ≡ self }
         ensures positive { 1 ≤ self }
@@ -60,8 +60,8 @@ pub enum Family {
 
 /// What an update instruction does at its location.
 ///
-/// Source: regular updates as in Börger and Stärk; partial updates of sets as in CoreASM; those of
-/// bags and of counters are of this project's profile.
+/// Source: regular updates as in Börger and Stärk; partial updates of sets as in CoreASM; those of bags and of
+/// counters are of this project's profile.
 #[derive(Debug, Drop)]
 pub enum Action {
     /// Writes the value; undef leaves nothing there.
@@ -81,7 +81,7 @@ pub enum Action {
 impl Action {
     ghost use Rattle.asm_update.specs.Action.{family_of};
 
-    /// The family of a partial update; None for a regular one.
+    /// Return the family of a partial update; None for a regular one.
     pub fn family(&self) -> Option<Family>
         ensures { result ≡ family_of self.now }
     {
@@ -93,11 +93,11 @@ impl Action {
         }
     }
 
-    /// Does nothing; its contract tells that the action is proper.
+    /// State for proofs that the action is well-formed; do nothing at run time.
     pub fn proper(&self)
         ensures { action.IsProper self.now }
     {
-        // A number and an amount are read for what that tells of them, which the goal needs.
+        // Proof: a number and an amount are read for what that shows of them, which the goal needs.
         match self {
             Action::Regular(value) => value.proper(),
             Action::SetAdd(element) | Action::SetRemove(element) => element.proper(),

@@ -12,36 +12,39 @@ use crate::group::Group;
 use asm_element::Value;
 use std::alloc::Global;
 
-/// What partial updates mean: the result of a group, and the list that stands for two in a row (CoreASM's aggregation).
+/// The meaning of partial updates: results of groups, and joins of two lists.
 ///
-/// An implementation says in `meaning` what its calls compute, and proves in `laws` that this keeps ten laws:
+/// This is CoreASM's aggregation. An implementation says in `meaning` what its calls compute, and proves in `laws` that
+/// this obeys ten laws:
 ///
-/// 1. The order of the partial updates of a group is no matter (`any_order`).
+/// 1. The order of the partial updates of a group doesn't matter (`any_order`).
 /// 2. Partial updates that aren't all of one family that is owned are `Mixed` (`mixed`).
-/// 3. Where the first list has a result on a value, the joined list gives on that value what the second gives on
-///    the result, causes included. An empty list leaves each value as it is (`join_is_sequence`).
+/// 3. Where the first list has a result on a value, the joined list gives on that value what the second gives on the
+/// result, causes included. An empty list leaves each value unchanged (`join_is_sequence`).
 /// 4. Where a join is refused, no value lets the first and then the second list have results (`refused_join`).
 /// 5. The regular value of a group is its result, or the group has a cause (`regular_result`).
 /// 6. Which of the two it is doesn't depend on the old value (`regular_decides`).
-/// 7. Partial updates of a family have a result only on a base of the family's kind, and the result is of that
-///    kind (`kind_kept`).
-/// 8. What is proper stays proper (`proper_kept`).
+/// 7. Partial updates of a family have a result only on a base of the family's kind, and the result is of that kind
+/// (`kind_kept`).
+/// 8. What is well-formed stays well-formed (`proper_kept`).
 /// 9. A joined list has partial updates alone (`join_is_partial`).
-/// 10. Each of them is of a family that stands in one of the two lists (`join_family`).
+/// 10. Each of them is of a family that one of the two lists has (`join_family`).
 ///
-/// Laws 3 and 4 speak of what a program can hold, and of two lists that aren't both empty.
+/// Laws 3 and 4 apply to what a program can hold, and to two lists that aren't both empty.
 pub trait Aggregator {
     /// The families that it owns, what a group gives, and what two lists join to.
     ghost meaning: { Self → Meaning };
 
-    /// Whether partial updates of the family are this aggregator's.
+    /// Return whether partial updates of the family are this aggregator's.
     fn owns(&self, family: Family) -> bool
         ensures { result ≡ (meaning self.now).owns family };
 
-    /// The result of a group on the old value, where None stands for undef.
+    /// Return the result of a group on the old value, where None means undef.
     ///
-    /// `ResultError::Cause` comes exactly where the group has no result, and `Memory` only where
-    /// memory was refused.
+    /// # Errors
+    ///
+    /// - `ResultError::Cause` exactly if the group has no result.
+    /// - `Memory` only if memory is refused.
     fn result(
         &self,
         alloc: Global,
@@ -52,10 +55,14 @@ pub trait Aggregator {
             ((meaning self.now).part (unwrap_or (option_copied old.entry) undef)
             group.now.regular group.now.partials) };
 
-    /// Whether a group has a result on the old value, where None stands for undef.
+    /// Test whether a group has a result on the old value, where None means undef.
     ///
-    /// `ResultError::Cause` comes exactly where `result` would answer it, and `Memory` only where memory was
-    /// refused. An aggregator that can tell this without making the value writes its own.
+    /// An aggregator that can test this without making the value has its own implementation.
+    ///
+    /// # Errors
+    ///
+    /// - `ResultError::Cause` exactly if `result` would return it.
+    /// - `Memory` only if memory is refused.
     fn admit(&self, alloc: Global, old: Option<&Value>, group: &Group) -> Result<(), ResultError>
         ensures { IsAdmitted result
             ((meaning self.now).part (unwrap_or (option_copied old.entry) undef)
@@ -67,10 +74,16 @@ pub trait Aggregator {
         }
     }
 
-    /// Puts the result of a group on a value in its place.
+    /// Put the result of a group on a value in its place.
     ///
-    /// `ResultError::Cause` comes exactly where the group has no result, and `Memory` only where memory was
-    /// refused; the value is then unchanged. An aggregator that can change a value in place writes its own.
+    /// An aggregator that can change a value in place writes its own.
+    ///
+    /// # Errors
+    ///
+    /// - `ResultError::Cause` exactly if the group has no result.
+    /// - `Memory` only if memory is refused.
+    ///
+    /// On error, the value is unchanged.
     fn change(&self, alloc: Global, value: &mut Value, group: &Group) -> Result<(), ResultError>
         ensures left { IsLeft result value.new
             ((meaning self.now).part value.old group.now.regular group.now.partials) }
@@ -80,10 +93,14 @@ pub trait Aggregator {
         Ok(())
     }
 
-    /// The list of partial updates that stands for the first list and then the second.
+    /// Return the list of partial updates that does what both lists do, one by one.
     ///
-    /// An empty list leaves each value as it is. `JoinError::Cause` and `Large` come exactly where
-    /// the two have no join, and `Memory` only where memory was refused.
+    /// An empty list leaves each value unchanged.
+    ///
+    /// # Errors
+    ///
+    /// - `JoinError::Cause` and `Large` exactly if the two have no join.
+    /// - `Memory` only if memory is refused.
     fn join(
         &self,
         alloc: Global,

@@ -6,26 +6,31 @@ use std::alloc::{AllocError, AllocFailed};
 use std::fmt;
 use thiserror::Error;
 
-/// Why the updates of a location have no result; the first that holds, in this order.
+/// Why the updates of a location have no result: the first of these that holds.
 ///
-/// The base is the regular value if there is one, else the old value. Source: this project's
-/// profile; `Two` is inconsistency as in Börger and Stärk.
+/// The base is the regular value if there is one, else the old value. Source: this project's profile; `Two` is
+/// inconsistency as in Börger and Stärk.
 #[derive(Clone, Copy, Debug, PartialEq, Eq)]
 pub enum Cause {
     /// Two different regular values.
     Two,
     /// Partial updates of two families, or of one that the aggregator doesn't own.
     Mixed,
-    /// Partial updates whose base is no value of their kind: a set, a bag or, for increments, a number.
+    /// Partial updates whose base is no value of their kind.
+    ///
+    /// The kinds are a set, a bag or, for increments, a number.
     Kind,
     /// One element both added to a set and removed from it.
     Both,
-    /// A regular value beside partial updates: a set that lacks an added element or has a removed
-    /// one, or any bag, or any number.
+    /// A regular value that disagrees with partial updates beside it.
+    ///
+    /// It is a set that lacks an added element or has a removed one, or any bag, or any number.
     Against,
     /// More of an element removed than the old bag has of it.
     Short,
-    /// A new count of a bag above 4,294,967,295, or a new number of a counter outside the range of i64.
+    /// A new count or number that is too large.
+    ///
+    /// The count of a bag is above 4,294,967,295, or the number of a counter is outside the range of i64.
     Large,
 }
 
@@ -65,7 +70,9 @@ impl fmt::Display for Clash {
 /// Why instructions don't become a state or an update set.
 #[derive(Debug, Drop, PartialEq, Eq, Error)]
 pub enum AggError {
-    /// The instructions clash: the least location whose updates have no result, with its first cause.
+    /// The instructions clash at this location, the smallest that has no result.
+    ///
+    /// It comes with the location's first cause.
     #[error("the updates clash at {0}")]
     Clash(Clash),
     /// The memory that the call asked for was refused.

@@ -6,7 +6,7 @@ use crate::action::{Action, Instruction};
 use crate::instructions::Instructions;
 use asm_element::{Location, Value};
 
-/// Whether two regular updates of the location have different values.
+/// Return whether two regular updates of the location have different values.
 fn has_two_values(instructions: &[Instruction], at: &Location) -> bool
     ensures { result ≡ has_two instructions.now at.now }
 {
@@ -29,9 +29,10 @@ fn has_two_values(instructions: &[Instruction], at: &Location) -> bool
     false
 }
 
-/// The least location with two different regular values; None where the instructions are consistent.
+/// Return the smallest location with two different regular values, if there is one.
 ///
-/// Partial updates don't count. Source: Börger and Stärk, for regular updates.
+/// `None` means that the instructions are consistent. Partial updates don't count. Source: Börger and Stärk, for
+/// regular updates.
 pub fn consistent(instructions: &Instructions) -> Option<&Location>
     ensures { MatchOption result
         ((l : Place) → has_two instructions.now l ≡ false)

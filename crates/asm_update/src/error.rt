@@ -20,11 +20,15 @@ pub enum ResultError {
 /// Why a call of `Aggregator::join` gives no list.
 #[derive(Clone, Copy, Debug, PartialEq, Eq, Error)]
 pub enum JoinError {
-    /// One of the lists, or the two together, have no result on any value, for this cause.
+    /// The lists have no result on any value, for this cause.
+    ///
+    /// It is one of the lists, or the two together.
     #[error("the updates of a location have no result: {0}")]
     Cause(Cause),
-    /// A joined amount of a bag would be above 4,294,967,295, or the sum of the increments of both lists is
-    /// farther from 0 than 18,446,744,073,709,551,615.
+    /// The joined updates are too large.
+    ///
+    /// A joined amount of a bag would be above 4,294,967,295, or the sum of the increments of both lists is farther
+    /// from 0 than 18,446,744,073,709,551,615.
     #[error("a joined amount or sum is too large")]
     Large,
     /// The memory that the call asked for was refused.

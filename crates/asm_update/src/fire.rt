@@ -9,12 +9,18 @@ use crate::instructions::Instructions;
 use crate::plain_state::PlainState;
 use std::alloc::Global;
 
-/// Fires instructions of which none is partial: the state has each of their values, where undef
-/// takes its location out.
+/// Fire instructions of which none is partial.
 ///
-/// Where two of the values at one location differ, the answer is `AggError::Clash` at the least
-/// such location, with `Cause::Two`; `Memory` comes only where memory was refused. After an error
-/// the state is unchanged. Source: firing of a consistent update set, by Börger and Stärk.
+/// The state then has each of their values, and undef removes its location. Source: firing of a consistent update set,
+/// by Börger and Stärk.
+///
+/// # Errors
+///
+/// - `AggError::Clash` exactly if two of the values at one location differ: at the smallest such location, with
+///   `Cause::Two`.
+/// - `Memory` only if memory is refused.
+///
+/// On error, the state is unchanged.
 pub fn fire_plain(
     alloc: Global,
     state: &mut PlainState,

@@ -6,11 +6,12 @@ use crate::action::Action;
 use asm_element::Value;
 use std::marker::Model;
 
-/// The actions of one move at one location, where there are partial updates among them: at most one
-/// regular value, and at least one partial update.
+/// The actions of one move at one location that has partial updates.
 ///
-/// Contracts see it as the record of the two. Source: CoreASM, where a location's instructions are
-/// aggregated together; that equal regular values count as one is of this project's profile.
+/// A group has at most one regular value, and at least one partial update.
+///
+/// Contracts see it as the record of the two. Source: CoreASM, where a location's instructions are aggregated together;
+/// that equal regular values count as one is of this project's profile.
 #[derive(Debug, Drop)]
 pub struct Group {
     regular: Option<Value>,
@@ -32,7 +33,9 @@ impl Model for Group {
 }
 
 impl Group {
-    /// The group of a regular value, if there is one, and a list of partial updates that isn't empty.
+    /// Return the group of a regular value and a list of partial updates.
+    ///
+    /// The regular value may be absent; the list must have an item.
     pub fn new(regular: Option<Value>, partials: Vec<Action>) -> Group
         requires { ArePartials partials.items }
         ensures { result ≡ record { regular = regular; partials = partials.items } }
@@ -40,14 +43,14 @@ impl Group {
         Group { regular, partials }
     }
 
-    /// The regular value, if there is one.
+    /// Return the regular value, if there is one.
     pub fn regular(&self) -> Option<&Value>
         ensures { option_copied result ≡ self.now.regular }
     {
         self.regular.as_ref()
     }
 
-    /// The partial updates, at least one.
+    /// Return the partial updates, at least one.
     pub fn partials(&self) -> &[Action]
         ensures partials { result.now ≡ self.now.partials }
         ensures valid { ArePartials self.now.partials }

@@ -23,7 +23,9 @@ pub const INSTRUCTIONS_LIMIT: usize = 4096;
 /// Why instructions aren't appended.
 #[derive(Clone, Copy, Debug, PartialEq, Eq, Error)]
 pub enum InstructionsError {
-    /// There would be more than 4,096 instructions; this is found before memory is asked for.
+    /// There would be more than 4,096 instructions.
+    ///
+    /// This is found before memory is asked for.
     #[error("more than 4,096 instructions")]
     ManyInstructions,
     /// The memory that the call asked for was refused.
@@ -47,10 +49,10 @@ impl<T: Drop> From<AllocFailed<T>> for InstructionsError {
     }
 }
 
-/// The update instructions of one move, at most 4,096, in the order in which they were appended.
+/// The update instructions of one move, at most 4,096, in the order of appending.
 ///
-/// Contracts see them as their list. Source: the multiset of update instructions that a rule
-/// yields, in CoreASM; the limit is of this project's profile.
+/// Contracts see them as their list. Source: the multiset of update instructions that a rule yields, in CoreASM; the
+/// limit is of this project's profile.
 #[derive(Debug, Drop)]
 pub struct Instructions {
     // None where there is none, which takes no memory. Copies share one list until one of them grows.
@@ -97,17 +99,19 @@ fn append_to(list: &mut Arc<Vec<Instruction>>, more: &[Instruction]) -> Result<(
 }
 
 impl Instructions {
-    /// No instructions.
+    /// Return the empty list of instructions.
     pub fn new(alloc: Global) -> Self
         ensures { result ≡ [] }
     {
         Instructions { items: None, alloc }
     }
 
-    /// The instructions of a list, in its order.
+    /// Return the instructions of a list, in its order.
     ///
-    /// `ManyInstructions` comes exactly where there are more than 4,096, before memory is asked for, and `Memory`
-    /// only where memory was refused.
+    /// # Errors
+    ///
+    /// - `ManyInstructions` exactly if there are more than 4,096, before memory is asked for.
+    /// - `Memory` only if memory is refused.
     pub fn from_vec(
         alloc: Global,
         items: Vec<Instruction>,
@@ -123,27 +127,31 @@ impl Instructions {
         Ok(Instructions { items, alloc })
     }
 
-    /// How many instructions there are, at most 4,096.
+    /// Return how many instructions there are, at most 4,096.
     pub fn len(&self) -> usize
         ensures len { result ≡ length self.now }
         ensures few { length self.now ≤ instructions_limit }
     {
-        // The invariant is known once a field is read.
+        // Proof: the invariant is known once a field is read.
         let _ = &self.items;
         self.as_slice().len()
     }
 
-    /// Whether there is no instruction.
+    /// Return whether there is no instruction.
     pub fn is_empty(&self) -> bool
         ensures { IsTrue result ↔ (length self.now ≡ 0) }
     {
         self.len() == 0
     }
 
-    /// Appends an instruction.
+    /// Append an instruction.
     ///
-    /// `ManyInstructions` comes exactly where there are 4,096 already, before memory is asked for,
-    /// and `Memory` only where memory was refused. After an error the list is unchanged.
+    /// # Errors
+    ///
+    /// - `ManyInstructions` exactly if there are 4,096 already, before memory is asked for.
+    /// - `Memory` only if memory is refused.
+    ///
+    /// On error, the list is unchanged.
     pub fn push(&mut self, instruction: Instruction) -> Result<(), InstructionsError>
         ensures ok { OnOk result (self.new ≡ self.old ++ instruction ∷ []) }
         ensures many { (result ≡ Err InstructionsError.ManyInstructions) ↔ (length self.old ≡ instructions_limit) }
@@ -164,14 +172,15 @@ impl Instructions {
         Ok(())
     }
 
-    /// Appends the instructions of another move: the two together are the union of the two multisets.
+    /// Append the instructions of another move.
     ///
-    /// No instructions share the list of `other` from then on, which takes no memory.
+    /// The result is the union of the two multisets. If this list is empty, it shares that of `other` from then on,
+    /// which takes no memory.
     ///
     /// # Errors
     ///
-    /// - `ManyInstructions` exactly where there would be more than 4,096, before memory is asked for.
-    /// - `Memory` only where memory was refused.
+    /// - `ManyInstructions` exactly if there would be more than 4,096, before memory is asked for.
+    /// - `Memory` only if memory is refused.
     ///
     /// On error, the list is unchanged.
     pub fn append(&mut self, other: &Instructions) -> Result<(), InstructionsError>
@@ -191,7 +200,7 @@ impl Instructions {
         Ok(())
     }
 
-    /// The instruction at a place, counted from 0.
+    /// Return the instruction at a place, counted from 0.
     pub fn get(&self, i: usize) -> &Instruction
         requires { i < length self.now }
         ensures { slice_get self.now i ≡ Some result.now }
@@ -199,37 +208,41 @@ impl Instructions {
         &self.as_slice()[i]
     }
 
-    /// The instructions, from the first to the last.
+    /// Return the instructions, from the first to the last.
     pub fn iter(&self) -> slice::Iter<'_, Instruction>
         ensures { iter_rest result ≡ self.now }
     {
         self.as_slice().iter()
     }
 
-    /// Whether no instruction is partial; true of the empty list.
+    /// Return whether no instruction is partial; true of the empty list.
     pub fn all_regular(&self) -> bool
         ensures { result ≡ move_spec.all_regular self.now }
     {
         self.iter().all(|instruction| matches!(&instruction.action, Action::Regular(_)))
     }
 
-    /// Does nothing; its contract tells that each instruction is proper.
+    /// State for proofs that each instruction is well-formed; do nothing at run time.
     pub fn proper(&self)
         ensures { All IsProperInstruction self.now }
     {
         let _ = &self.items;
     }
 
-    /// The same instructions, which both share until one of them grows.
+    /// Return the same instructions, which both share until one of them grows.
     ///
-    /// It takes no memory: `AllocError` comes only where more lists would share them than can be counted.
+    /// It takes no memory.
+    ///
+    /// # Errors
+    ///
+    /// - `AllocError` only if more lists would share them than can be counted.
     pub fn copy(&self, _alloc: Global) -> Result<Instructions, AllocError>
         ensures { IfOk result (λ copy. copy ≡ self.now) }
     {
         self.clone()
     }
 
-    /// The instructions, from the first to the last.
+    /// Return the instructions, from the first to the last.
     pub fn as_slice(&self) -> &[Instruction]
         ensures { result.now ≡ self.now }
     {

@@ -12,7 +12,7 @@ pub trait Lookup {
     /// The value at each location.
     ghost value_at: { Self → Old };
 
-    /// The value at a location; None exactly where it is undef.
+    /// Return the value at a location; None exactly where it is undef.
     fn get(&self, at: &Location) -> Option<&Value>
         ensures value { unwrap_or (option_copied result) undef ≡ value_at self.now at.now }
         ensures none { IsNone result ↔ (value_at self.now at.now ≡ undef) };

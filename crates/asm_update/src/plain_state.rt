@@ -25,8 +25,8 @@ use std::marker::Model;
 
 /// A state, as one map from its locations to their values, of which none is undef.
 ///
-/// Contracts see it as that finite map. Source: Börger and Stärk, where a state gives each location
-/// a value and `undef` is the value of a location that holds nothing else.
+/// Contracts see it as that finite map. Source: Börger and Stärk, where a state gives each location a value and
+/// `undef` is the value of a location that holds nothing else.
 #[derive(Debug, Drop)]
 pub struct PlainState {
     values: BTreeMap<Location, Value>,
@@ -62,7 +62,7 @@ fn change_value<A: Aggregator>(
     ensures held { held.is_undef value.new ≡ false }
     ensures proper { held.IsProper value.new }
 {
-    // That they are partial updates is what the goal `proper` needs.
+    // Proof: the goal `proper` needs that they are partial updates.
     let _partials = group.partials();
     let changed = aggregator.change(alloc, value, group);
     value.proper();
@@ -70,7 +70,7 @@ fn change_value<A: Aggregator>(
 }
 
 impl PlainState {
-    /// The state in which each location is undef.
+    /// Return the state in which each location is undef.
     pub fn new(alloc: Global) -> Self
         ensures { result ≡ state.empty }
     {
@@ -79,21 +79,21 @@ impl PlainState {
         }
     }
 
-    /// How many locations aren't undef.
+    /// Return how many locations aren't undef.
     pub fn len(&self) -> usize
         ensures { result ≡ map.len self.now }
     {
         self.values.len()
     }
 
-    /// Whether each location is undef.
+    /// Return whether each location is undef.
     pub fn is_empty(&self) -> bool
         ensures { IsTrue result ↔ (map.len self.now ≡ 0) }
     {
         self.len() == 0
     }
 
-    /// The value at a location; None exactly where it is undef.
+    /// Return the value at a location; None exactly where it is undef.
     pub fn get(&self, at: &Location) -> Option<&Value>
         ensures value { option_copied result ≡ map.get self.now at.now }
         ensures none { IsNone result ↔ (state.val self.now at.now ≡ held.undef) }
@@ -101,10 +101,13 @@ impl PlainState {
         self.values.get(at)
     }
 
-    /// Gives a location this value; undef takes the location out.
+    /// Give a location this value; undef takes the location out.
     ///
-    /// `AllocError` comes only where memory was refused for a value other than undef at a location
-    /// that is undef; the state is then unchanged.
+    /// # Errors
+    ///
+    /// - `AllocError` only if memory is refused for a value other than undef at a location that is undef.
+    ///
+    /// On error, the state is unchanged.
     pub fn set(&mut self, at: Location, value: Value) -> Result<(), AllocError>
         ensures ok { OnOk result (self.new ≡ state.write self.old at value) }
         ensures err { OnErr result (self.new ≡ self.old) }
@@ -118,11 +121,17 @@ impl PlainState {
         self.put_in(at, value)
     }
 
-    /// Puts the result of a group at a location in the place of its value.
+    /// Put the result of a group at a location in the place of its value.
     ///
     /// A value that is there is changed in place, as `Aggregator::change` does it: so an addition to a large set
-    /// costs no copy of the set, as `get` and `set` would. `ResultError::Cause` comes exactly where the group has no
-    /// result on the value, and `Memory` only where memory was refused; the state is then unchanged.
+    /// costs no copy of the set, as `get` and `set` would.
+    ///
+    /// # Errors
+    ///
+    /// - `ResultError::Cause` exactly if the group has no result on the value.
+    /// - `Memory` only if memory is refused.
+    ///
+    /// On error, the state is unchanged.
     pub fn change<A: Aggregator>(
         &mut self,
         alloc: Global,
@@ -179,7 +188,7 @@ impl PlainState {
         Ok(())
     }
 
-    /// The locations that aren't undef with their values, in ascending order of locations.
+    /// Return the locations that aren't undef with their values, in ascending order.
     pub fn iter(&self) -> Iter<'_, Location, Value>
         ensures entries { result ≡ map.entries self.now }
         ensures ascending { IsStrictlySortedBy location_cmp (map.keys self.now) }
@@ -187,25 +196,30 @@ impl PlainState {
         self.values.iter()
     }
 
-    /// The locations from this one on that aren't undef with their values, in ascending order of locations.
+    /// Return the locations from this one on that aren't undef, in ascending order.
     ///
-    /// It walks no location below the first, so who wants those of one function name, which stand side by side, walks
-    /// these alone.
+    /// Each comes with its value. The walk visits no location below the first, so a caller who wants those of one
+    /// function name, which are adjacent, walks these alone.
     pub fn onward(&self, first: &Location) -> Range<'_, Location, Value>
         ensures { result ≡ entries_between location_cmp (Included first.now) Unbounded (map.entries self.now) }
     {
         self.values.range(first..)
     }
 
-    /// The same state, which shares no more with this one than their locations' arguments. `AllocError` comes only where
-    /// memory was refused, or where more copies would share a location than can be counted.
+    /// Return the same state.
+    ///
+    /// The two share at most the arguments of their locations.
+    ///
+    /// # Errors
+    ///
+    /// - `AllocError` only if memory is refused, or if more copies would share a location than can be counted.
     pub fn copy(&self, _alloc: Global) -> Result<PlainState, AllocError>
         ensures { IfOk result (λ copy. copy ≡ self.now) }
     {
         self.clone()
     }
 
-    /// Does nothing; its contract tells that the state is proper.
+    /// State for proofs that the state is well-formed; do nothing at run time.
     pub fn proper(&self)
         ensures { state.IsProper self.now }
     {
@@ -229,8 +243,9 @@ impl IntoIterator for PlainState {
 
     ghost into_iter_gives = { λ state walk. GivesAscending state walk };
 
-    /// The locations that aren't undef with their values, in ascending order of locations; they are moved, so who
-    /// takes a state apart copies nothing.
+    /// Return the locations that aren't undef with their values, in ascending order.
+    ///
+    /// They are moved, so a caller who takes a state to pieces copies nothing.
     fn into_iter(self) -> IntoIter<Location, Value> {
         self.values.into_iter()
     }

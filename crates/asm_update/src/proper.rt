@@ -1,11 +1,11 @@
-//! What instructions hold is proper. The invariant of `Instructions` needs it where one is taken in: each part tells
-//! it by a call of its own.
+//! What instructions hold is well-formed. The invariant of `Instructions` needs it when one is added: the contract of a
+//! call for each part states it.
 ghost use Rattle.std.specs.Prelude.{All};
 ghost use Rattle.asm_update.specs.Action.{IsProperInstruction};
 
 use crate::action::Instruction;
 
-// Does nothing; its contract tells that the instruction is proper.
+// State for proofs that the instruction is well-formed; do nothing at run time.
 pub(crate) fn proper_instruction(instruction: &Instruction)
     ensures { IsProperInstruction instruction.now }
 {
@@ -13,7 +13,7 @@ pub(crate) fn proper_instruction(instruction: &Instruction)
     instruction.action.proper();
 }
 
-// Does nothing; its contract tells that the instructions are proper.
+// State for proofs that the instructions are well-formed; do nothing at run time.
 pub(crate) fn proper_instructions(instructions: &[Instruction])
     ensures { All IsProperInstruction instructions.now }
 {

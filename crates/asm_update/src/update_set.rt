@@ -41,7 +41,7 @@ impl Model for UpdateSet {
 }
 
 impl UpdateSet {
-    /// No updates.
+    /// Return the empty update set.
     pub fn new(alloc: Global) -> Self
         ensures { result ≡ map.empty }
     {
@@ -50,31 +50,34 @@ impl UpdateSet {
         }
     }
 
-    /// How many locations are written.
+    /// Return how many locations are written.
     pub fn len(&self) -> usize
         ensures { result ≡ map.len self.now }
     {
         self.values.len()
     }
 
-    /// Whether no location is written.
+    /// Return whether no location is written.
     pub fn is_empty(&self) -> bool
         ensures { IsTrue result ↔ (map.len self.now ≡ 0) }
     {
         self.len() == 0
     }
 
-    /// The value that is written at a location; None where none is.
+    /// Return the value that is written at a location; None where none is.
     pub fn get(&self, at: &Location) -> Option<&Value>
         ensures { option_copied result ≡ map.get self.now at.now }
     {
         self.values.get(at)
     }
 
-    /// Writes the value of a location, in place of the one that it had.
+    /// Write the value of a location, in place of the one that it had.
     ///
-    /// `AllocError` comes only where memory was refused for a location that has no value yet; the
-    /// updates are then unchanged.
+    /// # Errors
+    ///
+    /// - `AllocError` only if memory is refused for a location that has no value yet.
+    ///
+    /// On error, the updates are unchanged.
     pub fn put(&mut self, at: Location, value: Value) -> Result<(), AllocError>
         ensures ok { OnOk result (self.new ≡ map.insert self.old at value) }
         ensures err { OnErr result (self.new ≡ self.old) }
@@ -84,7 +87,7 @@ impl UpdateSet {
         Ok(())
     }
 
-    /// The locations with their values, in ascending order of locations.
+    /// Return the locations with their values, in ascending order of locations.
     pub fn iter(&self) -> Iter<'_, Location, Value>
         ensures entries { result ≡ map.entries self.now }
         ensures ascending { IsStrictlySortedBy location_cmp (map.keys self.now) }
@@ -100,8 +103,9 @@ impl IntoIterator for UpdateSet {
 
     ghost into_iter_gives = { λ updates walk. GivesAscending updates walk };
 
-    /// The locations with their values, in ascending order of locations; they are moved, so who writes them copies
-    /// nothing.
+    /// Return the locations with their values, in ascending order of locations.
+    ///
+    /// They are moved, so a caller who writes them copies nothing.
     fn into_iter(self) -> IntoIter<Location, Value> {
         self.values.into_iter()
     }

@@ -44,7 +44,9 @@ pub(crate) fn number_elements(alloc: Global, numbers: &[i64]) -> Result<Vec<Elem
     Ok(elements)
 }
 
-/// Whether each comes before those that stand after it, is equal to itself alone, and comes after those before it.
+/// Return whether the items ascend strictly.
+///
+/// Each comes before those after it, is equal to itself alone, and comes after those before it.
 pub(crate) fn ascend<T: Ord>(items: &[T]) -> bool {
     for (i, left) in items.iter().enumerate() {
         for (j, right) in items.iter().enumerate() {
@@ -75,7 +77,7 @@ fn elements_ascend_by_kind_then_by_value(rt: HostRuntime) -> Result<(), Fail> {
     Ok(())
 }
 
-/// The set of 0, 1 and so on, below the limit.
+/// Return the set of 0, 1 and so on, below the limit.
 fn set_below(alloc: Global, limit: i64) -> Result<ElemSet, AllocError> {
     let mut set = ElemSet::new(alloc);
     for n in 0..limit {
@@ -92,7 +94,7 @@ fn put(bag: &mut ElemBag, n: i64, count: u32) -> Result<(), AllocError> {
     Ok(())
 }
 
-/// The bag of 0, 1 and so on, below the limit, each once more than the one before.
+/// Return the bag of 0, 1 and so on, below the limit, each once more than the one before.
 fn bag_below(alloc: Global, limit: u32) -> Result<ElemBag, AllocError> {
     let mut bag = ElemBag::new(alloc);
     for n in 0..limit {
@@ -109,7 +111,7 @@ fn is_copied(alloc: Global, value: Value) -> Result<bool, AllocError> {
     Ok(value.copy(alloc)? == value)
 }
 
-/// Whether copies of the location are equal, also of one that its copies share: such a copy takes no memory.
+/// Return whether copies of the location are equal, also of one that its copies share: such a copy takes no memory.
 fn is_location_copied(alloc: Global, at: Location) -> Result<bool, AllocError> {
     let copy = at.copy(alloc)?;
     let shared = at.share(alloc)?;
@@ -130,7 +132,7 @@ fn copies_are_equal(rt: HostRuntime) -> Result<(), Fail> {
     Ok(())
 }
 
-/// Whether the set, which is empty, has 1 once when it was inserted twice, and no more once it was removed.
+/// Return whether the set, which is empty, has 1 once when it was inserted twice, and no more once it was removed.
 fn has_1_once(mut set: ElemSet) -> Result<bool, AllocError> {
     let was_empty = set.is_empty();
     let is_new = set.insert(Element::Num(1))?;
@@ -148,7 +150,9 @@ fn a_set_has_an_element_once(rt: HostRuntime) -> Result<(), Fail> {
     Ok(())
 }
 
-/// Whether the bag, which is empty, has two of an element that were put in, and nothing once they were taken.
+/// Return whether the bag, which is empty, has two of an element that were put in.
+///
+/// It has nothing once they were removed.
 fn has_2_until_taken(mut bag: ElemBag, element: &Element) -> Result<bool, AllocError> {
     if bag.count(element) != 0 {
         return Ok(false);

@@ -71,7 +71,7 @@ fn plain_data_are_equal_by_kind_and_content(rt: HostRuntime) {
     assert!(rt; are_told_apart(&refusals));
 }
 
-/// A clash at a location without arguments.
+/// Return a clash at a location without arguments.
 fn clash_at(alloc: Global, name: &str, cause: Cause) -> Result<Clash, Fail> {
     let at = location(alloc, name)?;
     Ok(Clash { at, cause })
@@ -93,7 +93,7 @@ fn clashes(alloc: Global) -> Result<Vec<Clash>, Fail> {
     Ok(clashes)
 }
 
-/// An error for each clash, and refused memory.
+/// Return an error for each clash, and refused memory.
 fn errors_of_moves(alloc: Global) -> Result<Vec<AggError>, Fail> {
     let mut errors = vec![in alloc; AggError::Memory]?;
     for clash in clashes(alloc)? {

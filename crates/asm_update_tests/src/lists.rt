@@ -9,7 +9,7 @@ fn list(items: Vec<Element>) -> Result<Element, ListError> {
     Ok(Element::List(ElemList::new(items)?))
 }
 
-/// The list of these numbers.
+/// Return the list of these numbers.
 fn numbers(alloc: Global, items: &[i64]) -> Result<Element, Fail> {
     Ok(list(number_elements(alloc, items)?)?)
 }
@@ -23,7 +23,7 @@ fn undefs(alloc: Global, count: usize) -> Result<Vec<Element>, AllocError> {
     Ok(items)
 }
 
-/// The list in which a list nests, and so on, this deep; the innermost is empty.
+/// Return the list in which a list nests, and so on, this deep; the innermost is empty.
 fn nested(alloc: Global, depth: u32) -> Result<Element, Fail> {
     let mut inner = list(Vec::new(alloc))?;
     for _ in 1..depth {
@@ -32,13 +32,13 @@ fn nested(alloc: Global, depth: u32) -> Result<Element, Fail> {
     Ok(inner)
 }
 
-/// The list of undef, of a list this deep, and of undef again, or why there is none.
+/// Return the list of undef, of a list this deep, and of undef again, or why there is none.
 fn around(alloc: Global, depth: u32) -> Result<Result<ElemList, ListError>, Fail> {
     let inner = nested(alloc, depth)?;
     Ok(ElemList::new(vec![in alloc; Element::Undef, inner, Element::Undef]?))
 }
 
-/// Why so many undefs and after them a list this deep are no list.
+/// Return why so many undefs and after them a list this deep are no list.
 fn refusal(alloc: Global, undef_count: usize, depth: u32) -> Result<Option<ListError>, Fail> {
     let mut items = undefs(alloc, undef_count)?;
     items.push(nested(alloc, depth)?)?;
@@ -76,7 +76,7 @@ static ASCENDING: [&[i64]; 8] = [
     &[0, 0, 0],
 ];
 
-/// A text, and then lists that ascend.
+/// Return a text, and then lists that ascend.
 fn ascending(alloc: Global) -> Result<Vec<Element>, Fail> {
     let mut elements = vec![in alloc; text(alloc, "z")?]?;
     for items in ASCENDING {

@@ -5,7 +5,7 @@ use asm_test_support::{are_told_apart, location_at};
 use std::alloc::{AllocError, Global};
 use std::test::Fail;
 
-/// Why the name and the arguments are no location.
+/// Return why the name and the arguments are no location.
 fn refusal(alloc: Global, name: &str, args: &[i64]) -> Result<Option<LocationError>, AllocError> {
     let name = String::from_str(alloc, name)?;
     let args = number_elements(alloc, args)?;
@@ -30,12 +30,12 @@ fn locations_ascend_by_name_then_by_number_of_arguments(rt: HostRuntime) -> Resu
     Ok(())
 }
 
-/// Whether a location of this name, without arguments, is refused for the name.
+/// Return whether a location of this name, without arguments, is refused for the name.
 fn is_bad_name(alloc: Global, name: &str) -> Result<bool, AllocError> {
     Ok(refusal(alloc, name, &[])? == Some(LocationError::BadName))
 }
 
-/// Whether there is a location of this name, and it has the name.
+/// Return whether there is a location of this name, and it has the name.
 fn is_named(alloc: Global, name: &str) -> Result<bool, Fail> {
     Ok(location_at(alloc, name, &[])?.name() == name)
 }

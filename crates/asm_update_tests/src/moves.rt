@@ -11,7 +11,9 @@ use asm_update::{
 use std::alloc::{AllocError, Global};
 use std::test::Fail;
 
-/// An update as plain data. An amount of 0 is none.
+/// An update as plain data.
+///
+/// An amount of 0 is none.
 #[derive(Clone, Copy)]
 enum Update {
     Put(Option<i64>),
@@ -76,7 +78,11 @@ fn is_two_at(clash: &Clash, name: &str) -> bool {
     clash.at.name() == name && clash.at.args().is_empty() && clash.cause == Cause::Two
 }
 
-/// Whether firing clashes there. `AllocError` comes only where memory was refused.
+/// Return whether firing clashes there.
+///
+/// # Errors
+///
+/// - `AllocError` only if memory is refused.
 fn clashes_at(
     alloc: Global,
     state: &mut PlainState,
@@ -92,7 +98,7 @@ fn clashes_at(
     }
 }
 
-/// Whether firing on x = 7 clashes there and changes nothing.
+/// Return whether firing on x = 7 clashes there and changes nothing.
 fn only_clashes_at(alloc: Global, list: &Instructions, name: &str) -> Result<bool, Fail>
     requires { IsTrue (all_regular list.now) }
 {
@@ -123,7 +129,7 @@ fn two_clashes_answer_the_least_location(rt: HostRuntime) -> Result<(), Fail> {
     Ok(())
 }
 
-/// Whether firing on x = 1 leaves this number at that name alone.
+/// Return whether firing on x = 1 leaves this number at that name alone.
 fn fires_to(alloc: Global, list: &Instructions, name: &str, number: i64) -> Result<bool, Fail>
     requires { IsTrue (all_regular list.now) }
 {
@@ -157,7 +163,7 @@ fn one_instruction_more_than_4096_is_refused(rt: HostRuntime) -> Result<(), Fail
     Ok(())
 }
 
-/// Whether the list puts 0, 1 and so on.
+/// Return whether the list puts 0, 1 and so on.
 fn counts_up(list: &Instructions) -> bool {
     for i in 0..list.len() {
         let want = Action::Regular(value(i64::try_from(i).ok()));
@@ -186,7 +192,7 @@ fn copies_are_equal(rt: HostRuntime) -> Result<(), Fail> {
     Ok(())
 }
 
-/// Copies of the list before each of so many puts of 0, 1 and so on.
+/// Copy of the list before each of so many puts of 0, 1 and so on.
 fn copies_before_each(
     alloc: Global,
     list: &mut Instructions,
@@ -201,7 +207,7 @@ fn copies_before_each(
     Ok(copies)
 }
 
-/// Whether the first is empty, the second has one put more, and so on.
+/// Return whether the first is empty, the second has one put more, and so on.
 fn each_is_longer(copies: &[Instructions]) -> bool {
     for (n, copy) in copies.iter().enumerate() {
         if copy.len() != n || !counts_up(copy) {

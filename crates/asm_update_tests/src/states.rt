@@ -5,7 +5,7 @@ use asm_update::{PlainState, UpdateSet};
 use std::alloc::{AllocError, Global};
 use std::test::Fail;
 
-/// A state where x(0), x(1) and so on, below the limit, hold their argument.
+/// Return a state where x(0), x(1) and so on, below the limit, hold their argument.
 fn numbered(alloc: Global, limit: i64) -> Result<PlainState, Fail> {
     let mut state = PlainState::new(alloc);
     for n in 0..limit {

@@ -9,14 +9,22 @@ import java.util.HashMap;
 import java.util.List;
 import java.util.Map;
 
-/** The table of calls and answers that every package gives: bindings/conformance says what its lines are. */
+/**
+ * The table of calls and answers that every package gives: bindings/conformance says what its lines
+ * are. The calls are done twice, the second time by agents that record.
+ */
 final class ConformanceTests {
+    private final boolean isRecording;
+    /** How many reads the commits of each agent recorded. */
+    private final Map<String, Integer> recorded = new HashMap<>();
     private Storage storage;
     private final Map<String, Agent> agents = new HashMap<>();
     private final Map<String, Step> steps = new HashMap<>();
     private String journal;
 
-    private ConformanceTests() {}
+    private ConformanceTests(boolean isRecording) {
+        this.isRecording = isRecording;
+    }
 
     /** The items of an array: its text is split at the commas outside of brackets and strings. */
     private static List<String> items(String array) {
@@ -54,6 +62,7 @@ final class ConformanceTests {
         agents.values().forEach(Agent::close);
         steps.clear();
         agents.clear();
+        recorded.clear();
         if (storage != null)
             storage.close();
         storage = null;
@@ -94,11 +103,12 @@ final class ConformanceTests {
         String own = words.isEmpty() ? "" : words.get(0);
         return switch (name) {
             case "open" -> {
-                storage = new Storage(own, Integer.parseInt(words.get(1)));
+                storage = new Storage(own, Integer.parseInt(words.get(1))).record(isRecording);
                 yield "null";
             }
             case "next" -> {
                 storage = storage.next(Integer.parseInt(own));
+                recorded.clear();
                 yield "null";
             }
             case "agent", "take" -> {
@@ -111,8 +121,8 @@ final class ConformanceTests {
                 journal = storage.closeJournal();
                 yield "null";
             }
-            case "journal" -> checked(journal);
-            case "check" -> checked(string(own));
+            case "journal" -> checked(journal, recorded());
+            case "check" -> checked(string(own), 0);
             case "replay" -> Storage.replay(string(own));
             case "aggregate" -> Moves.aggregate(own, words.get(1));
             case "compose" -> Moves.compose(own, words.get(1));
@@ -124,9 +134,35 @@ final class ConformanceTests {
         };
     }
 
-    private static String checked(String journal) {
+    private static String checked(String journal, int recorded) {
         Storage.Checked told = Storage.check(journal);
-        return "[" + told.calls() + "," + told.moves() + "]";
+        return "[" + (told.calls() - recorded) + "," + told.moves() + "]";
+    }
+
+    /** How many reads were recorded by the agents that were given back. */
+    private int recorded() {
+        return agents.entrySet()
+                .stream()
+                .filter(it -> !it.getValue().isHeld())
+                .mapToInt(it -> recorded.getOrDefault(it.getKey(), 0))
+                .sum();
+    }
+
+    /** Commits; where the agent has moved on, without recording, as nothing was done then. */
+    private long committed(String own, Step step) {
+        Agent agent = agents.get(own);
+        boolean hasMoved = isRecording && agent.peek(List.of()).number() != step.number();
+        Agent.Reply reply = step.tryCommit();
+        if (isRecording)
+            Test.Checks.equal(reply.code() == Code.MOVED, hasMoved);
+        if (reply.code() == Code.MOVED) {
+            agent.record(false);
+            reply = step.tryCommit();
+            agent.record(true);
+        } else if (isRecording) {
+            recorded.merge(own, 1, Integer::sum);
+        }
+        return reply.orThrow();
     }
 
     private static String audited(String text) {
@@ -153,7 +189,7 @@ final class ConformanceTests {
             case "pop" -> nothing(step::pop);
             case "depth" -> "" + step.depth();
             case "offer" -> step.offerText();
-            case "commit" -> "{\"fired\":" + step.commit() + "}";
+            case "commit" -> "{\"fired\":" + committed(own, step) + "}";
             default -> nothing(step::close);
         };
     }
@@ -212,8 +248,8 @@ final class ConformanceTests {
         return true;
     }
 
-    private static int replayed(Path table) throws IOException {
-        ConformanceTests replayer = new ConformanceTests();
+    private static int replayed(Path table, boolean isRecording) throws IOException {
+        ConformanceTests replayer = new ConformanceTests(isRecording);
         int number = 0;
         int count = 0;
         for (String line : Files.readAllLines(table)) {
@@ -244,7 +280,10 @@ final class ConformanceTests {
         }
         for (String name : List.of("moves", "calls", "steps", "journals"))
             try {
-                Test.Checks.equal(replayed(Path.of(root, "bindings/conformance", name + ".jsonl")) > 20, true);
+                for (boolean isRecording : new boolean[] {false, true}) {
+                    Path table = Path.of(root, "bindings/conformance", name + ".jsonl");
+                    Test.Checks.equal(replayed(table, isRecording) > 20, true);
+                }
             } catch (IOException fault) {
                 throw new IllegalStateException(fault);
             }

@@ -5,6 +5,8 @@ import static folugben.Test.Checks.refused;
 import static folugben.Test.Checks.refusedAt;
 import static folugben.Test.Checks.thrown;
 
+import folugben.Test.CopiedLibrary;
+
 import com.sun.jna.Native;
 
 import java.io.IOException;

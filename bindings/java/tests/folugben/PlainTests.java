@@ -9,6 +9,7 @@ import static folugben.Test.Checks.thrown;
 import java.util.List;
 import java.util.Map;
 import java.util.function.Consumer;
+import java.util.function.Supplier;
 
 /** Tests of the calls without text: prepared locations, and moves that are gathered. */
 final class PlainTests {
@@ -48,26 +49,23 @@ final class PlainTests {
             Value value = step.get(location);
             equal(step.get(at), value);
             equal(agent.peek(at), new Agent.Peeked(0, value));
-            if (value instanceof Element.Num num) {
-                equal(step.getNumber(at), num.value());
-                equal(agent.peekNumber(at), num.value());
-            } else {
-                isNo("number", value, () -> step.getNumber(at));
-                isNo("number", value, () -> agent.peekNumber(at));
-            }
-            if (value instanceof Element.Bool bool)
-                equal(step.getBoolean(at), bool.value());
-            else
-                isNo("boolean", value, () -> step.getBoolean(at));
-            if (value instanceof Element.Text text)
-                equal(step.getText(at), text.value());
-            else
-                isNo("text", value, () -> step.getText(at));
+            plain("number", value, value instanceof Element.Num num ? num.value() : null,
+                    () -> step.getNumber(at), () -> agent.peekNumber(at),
+                    () -> step.getNumber(location));
+            plain("boolean", value, value instanceof Element.Bool bool ? bool.value() : null,
+                    () -> step.getBoolean(at), () -> step.getBoolean(location));
+            plain("text", value, value instanceof Element.Text text ? text.value() : null,
+                    () -> step.getText(at), () -> step.getText(location));
         }
     }
 
-    private static void isNo(String kind, Value value, Runnable call) {
-        thrown(IllegalStateException.class, "no " + kind + ": " + value, call);
+    /** Each call returns the plain value; where that is null, the value is of no such kind. */
+    private static void plain(String kind, Value value, Object wanted, Supplier<?>... calls) {
+        for (Supplier<?> call : calls)
+            if (wanted != null)
+                equal(call.get(), wanted);
+            else
+                thrown(IllegalStateException.class, "no " + kind + ": " + value, call::get);
     }
 
     /** Gathers the instruction, its operand as an element or as what that holds. */

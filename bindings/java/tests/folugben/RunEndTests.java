@@ -3,11 +3,14 @@ package folugben;
 import static folugben.Test.Checks.equal;
 import static folugben.Test.Checks.refused;
 
+import folugben.Test.CopiedLibrary;
+
 import java.io.IOException;
 import java.io.UncheckedIOException;
 import java.nio.file.Files;
 import java.nio.file.Path;
 import java.util.Arrays;
+import java.util.BitSet;
 import java.util.List;
 import java.util.Map;
 
@@ -212,6 +215,33 @@ final class RunEndTests {
             equal(Auditor.audit(path).moves(), 0L);
         }
         equal(Auditor.audit(path).moves(), 3L);
+    }
+
+    /** Has 4 agents in threads raise one number for so long, in parts of 200 moves. */
+    private static void stress(Path path, int seconds) throws Exception {
+        long end = System.nanoTime() + seconds * 1_000_000_000L;
+        BitSet fired = new BitSet();
+        try (Run run = RunTests.open(path, 200)) {
+            RunTests.inThreads(run, 4, agent -> {
+                BitSet own = new BitSet();
+                while (System.nanoTime() < end) own.set((int) RunTests.count(agent).move());
+                synchronized (fired) {
+                    equal(fired.intersects(own), false);
+                    fired.or(own);
+                }
+            });
+        }
+        equal(fired.nextClearBit(1), fired.length());
+        Auditor.Counts told = RunTests.counted(path, fired.cardinality());
+        equal(told.moves(), fired.cardinality());
+        System.out.println("stress " + seconds + " s: " + told);
+    }
+
+    /** Stresses so many runs, each for so many seconds: 20 and 30, where nothing else is said. */
+    public static void main(String[] arguments) throws Exception {
+        int runs = arguments.length > 0 ? Integer.parseInt(arguments[0]) : 20;
+        int seconds = arguments.length > 1 ? Integer.parseInt(arguments[1]) : 30;
+        for (int i = 0; i < runs; i++) RunTests.withFile(path -> stress(path, seconds));
     }
 
     static void all() {

@@ -27,6 +27,19 @@ impl RunAgent {
         self.seat.number()
     }
 
+    /// Has each commit of a step record what the step read, or not, as [`Agent::set_recording`] does.
+    ///
+    /// A commit then has two receipts, which count for the end of a part ([`RunOptions::receipts`](crate::RunOptions::receipts)).
+    pub fn set_recording(&mut self, is_recording: bool) {
+        self.seat.set_recording(is_recording);
+    }
+
+    /// Whether commits record what their steps read.
+    #[must_use]
+    pub fn is_recording(&self) -> bool {
+        self.seat.is_recording()
+    }
+
     /// Looks on, and begins a step on the state that it then sees, in the newest part.
     ///
     /// It waits while two parts that have ended wait for the disk, and for 0.1 s at most while a part comes to rest.

@@ -41,14 +41,24 @@ pub(crate) fn events(journal: &[u8]) -> Result<u64, Error> {
     Ok(lines - 1)
 }
 
-/// Expects that the line of what the agent's step would fire is short enough, whatever its reply is.
+/// Expects that the lines of what the agent's step would fire and record are short enough, whatever the replies are.
 pub(crate) fn expect_call(agent: &Agent) -> Result<(), Error> {
     let offer = offer_text(agent)?;
+    if agent.is_recording() {
+        let (_, reads) = answer(&offer, Json::offer)?;
+        let places: Vec<_> = reads.into_iter().map(|(at, _)| at).collect();
+        expect(places.as_slice().json().len() + agent.peek_text(&places)?.len())?;
+    }
     if 2 * offer.len() + ROOM <= *MOST {
         return Ok(());
     }
     let (instructions, reads) = answer(&offer, Json::offer)?;
     let places = instructions.instructions().iter().map(Instruction::at).chain(reads.iter().map(|(at, _)| at));
     let longest = places.map(|it| it.json().len()).max().unwrap_or(0);
-    if offer.len() + longest + ROOM <= *MOST { Ok(()) } else { Err(Error::TooLong) }
+    expect(offer.len() + longest)
+}
+
+/// Expects that a line of so many bytes, and what each line has, is short enough.
+fn expect(size: usize) -> Result<(), Error> {
+    if size + ROOM <= *MOST { Ok(()) } else { Err(Error::TooLong) }
 }

@@ -10,6 +10,8 @@ pub(crate) struct Limits {
     pub(crate) moves: u32,
     pub(crate) receipts: u64,
     pub(crate) every: Option<Duration>,
+    /// Whether agents record, unless they are told otherwise.
+    pub(crate) is_recording: bool,
 }
 
 /// A storage of the run.
@@ -53,7 +55,7 @@ impl Part {
         self.first_move.get().map(Instant::elapsed)
     }
 
-    pub(crate) fn count_receipt(&self) {
-        self.receipts.fetch_add(1, Ordering::Relaxed);
+    pub(crate) fn count_receipts(&self, receipts: u64) {
+        self.receipts.fetch_add(receipts, Ordering::Relaxed);
     }
 }

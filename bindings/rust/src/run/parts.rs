@@ -125,7 +125,10 @@ impl Core {
         state.goes_on()?;
         match state.seats.entry(number) {
             Entry::Occupied(_) => Err(Error::NumberTaken(number)),
-            Entry::Vacant(free) => Ok(Arc::clone(free.insert(Arc::new(Seat::new(number))))),
+            Entry::Vacant(free) => {
+                let seat = Seat::new(number, self.limits.is_recording);
+                Ok(Arc::clone(free.insert(Arc::new(seat))))
+            }
         }
     }
 
@@ -136,7 +139,8 @@ impl Core {
         if let Some((taken, _)) = state.seats.iter().find(|(number, _)| usize::from(**number) < count) {
             return Err(Error::NumberTaken(*taken));
         }
-        let seats: Vec<_> = (0..=u8::MAX).take(count).map(|number| Arc::new(Seat::new(number.into()))).collect();
+        let seat = |number: u8| Arc::new(Seat::new(number.into(), self.limits.is_recording));
+        let seats: Vec<_> = (0..=u8::MAX).take(count).map(seat).collect();
         state.seats.extend(seats.iter().map(|it| (it.number(), Arc::clone(it))));
         Ok(seats)
     }

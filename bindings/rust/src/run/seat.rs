@@ -2,7 +2,7 @@
 use crate::agent::Agent;
 use crate::cause::Conflict;
 use crate::error::Error;
-use crate::holder::commit;
+use crate::holder::{Change, commit};
 use crate::number::AgentNumber;
 use crate::run::lines::{expect_call, short};
 use crate::run::part::Part;
@@ -28,6 +28,7 @@ struct Place {
     /// How many steps were begun, which is the number of the last one.
     steps: u64,
     is_in_step: bool,
+    is_recording: bool,
 }
 
 /// A step that was begun.
@@ -38,12 +39,26 @@ pub(crate) struct Begun {
 }
 
 impl Seat {
-    pub(crate) fn new(number: AgentNumber) -> Seat {
-        Seat { number, place: Mutex::new(Place { player: None, steps: 0, is_in_step: false }) }
+    pub(crate) fn new(number: AgentNumber, is_recording: bool) -> Seat {
+        let place = Place { player: None, steps: 0, is_in_step: false, is_recording };
+        Seat { number, place: Mutex::new(place) }
     }
 
     pub(crate) fn number(&self) -> AgentNumber {
         self.number
+    }
+
+    /// Has its commits record what their steps read, or not.
+    pub(crate) fn set_recording(&self, is_recording: bool) {
+        let mut place = self.lock();
+        place.is_recording = is_recording;
+        if let Some(player) = &mut place.player {
+            player.agent.set_recording(is_recording);
+        }
+    }
+
+    pub(crate) fn is_recording(&self) -> bool {
+        self.lock().is_recording
     }
 
     fn lock(&self) -> MutexGuard<'_, Place> {
@@ -106,6 +121,9 @@ impl Seat {
         }
         if place.player.is_none() {
             place.player = core.enter(self.number)?.map(|(agent, part)| Player { agent, part });
+            if let Some(player) = &mut place.player {
+                player.agent.set_recording(place.is_recording);
+            }
         }
         Ok(place.player.as_mut())
     }
@@ -163,11 +181,16 @@ pub(crate) struct Lent<'a> {
     begun: Begun,
     /// How many bytes of text it has pushed and got, about.
     size: Cell<usize>,
+    /// Whether a pushed move may have partial updates.
+    is_partial: Cell<bool>,
+    /// Whether a commit may name locations of whose values nothing was returned.
+    names_more: Cell<bool>,
 }
 
 impl<'a> Lent<'a> {
     pub(crate) fn new(core: &'a Core, seat: &'a Seat, begun: Begun) -> Lent<'a> {
-        Lent { core, seat, begun, size: Cell::new(0) }
+        let (is_partial, names_more) = (Cell::new(false), Cell::new(false));
+        Lent { core, seat, begun, size: Cell::new(0), is_partial, names_more }
     }
 
     pub(crate) fn number(&self) -> AgentNumber {
@@ -191,14 +214,26 @@ impl<'a> Lent<'a> {
         self.size.set(self.size.get() + size);
     }
 
+    /// Notes a change of the pushed moves. A commit names what has partial updates in one of them, if another one writes there
+    /// too; and what has some in a move that was refused or popped.
+    pub(crate) fn note(&self, change: &Change) {
+        match change {
+            Change::Pushed { is_partial } => {
+                self.names_more.set(self.names_more.get() || self.is_partial.get());
+                self.is_partial.set(self.is_partial.get() || *is_partial);
+            }
+            Change::Other => self.names_more.set(true),
+        }
+    }
+
     /// Commits in its part.
     pub(crate) fn commit(&self) -> Result<u32, Error> {
         let part = self.part();
         let told = self.with(|agent| {
-            if self.size.get() >= short() {
+            if self.size.get() >= short() || (self.names_more.get() && agent.is_recording()) {
                 expect_call(agent)?;
             }
-            part.count_receipt();
+            part.count_receipts(1 + u64::from(agent.is_recording()));
             commit(agent)
         });
         match told {

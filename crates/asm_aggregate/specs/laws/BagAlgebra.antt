@@ -197,7 +197,7 @@ bag_small b h =
     all_counts IsCount (finite.entries b) (finite.entries_sorted b)
     (λ q. subst (λ (o : Option ℕ). IfSome o IsCount) (finite.get-entries b q) (h q))
 
--- the amounts at each place where an element stands
+-- the amounts at each place of an element
 abbrev total : (Element → ℕ) → List Element → Element → ℕ
 total f [] q = 0
 total f (k ∷ ks) q = cond (eq_by_cmp element_cmp q k) (f k) 0 + total f ks q
@@ -266,7 +266,7 @@ total_named f actions q h =
       at true i = refl
       at false i = sym (h i)
 
--- the actions that stand for amounts have them
+-- the actions that represent amounts have them
 pub amount-bag_actions : (side : Side) (f : Side → Element → ℕ) (actions : List Action) (q : Element) →
     (has q (named actions) ≡ false → f side q ≡ 0) → amount_in side (bag_actions f (named actions)) q ≡ f side q
 amount-bag_actions Added f actions q h =
@@ -295,7 +295,7 @@ all-bag_actions f es =
 pub named-IsPermutation : (xs ys : List Action) → IsPermutation xs ys → named ys ≡ named xs
 named-IsPermutation xs ys p = ap set.elements (elements_by-IsPermutation element_of xs ys p)
 
--- the elements of an updated bag are proper
+-- the elements of an updated bag are well-formed
 element_proper : (x : Action) → IsProper x → IfSome (element_of x) element.IsProper
 element_proper (BagAdd e n) h = h.0
 element_proper (BagRemove e n) h = h.0

@@ -113,7 +113,7 @@ after_on_bag b [] p h =
     sym (λ i. cond (s i) (Err Short) (cond (l i) (Err Large) (Ok (values.Bag (r i)))))
 after_on_bag b (x ∷ xs) p h = rw h refl
 
--- what a group gives, from what its list tells
+-- what a group gives, by the contents of its list
 abbrev by_parts : Value → Option Value → Bool → (Element → ℕ) → (Element → ℕ) → List Element → GroupResult
 by_parts old regular bags a r es =
     let base = unwrap_or regular old in
@@ -135,7 +135,7 @@ mixed : (old : Value) (regular : Option Value) (partials : List Action) →
     bag_result old regular partials ≡ Err Mixed
 mixed old regular partials h = let none = h Bag refl in rw none refl
 
--- what a group that has a result tells
+-- what follows for a group that has a result
 record HadResult (old : Value) (regular : Option Value) (partials : List Action) (w : Value) : Type 0 where
   bags : list_all (is_of Bag) partials ≡ true
   on_bag : is_kind Bag (unwrap_or regular old) ≡ true
@@ -319,7 +319,7 @@ in_sequence : (v w : Value) (first second : List Action) → value.IsProper v �
 in_sequence (values.Bag b) w first second pv proper bags ne h = on_bag b w first second (small_bag b pv.1) bags h
 in_sequence v w first second pv proper bags ne h = off_bag v w first second refl proper bags ne h
 
--- what two lists that have a join tell
+-- what follows for two lists that have a join
 record HadJoin (first second list : List Action) : Type 0 where
   bags_first : list_all (is_of Bag) first ≡ true
   bags_second : list_all (is_of Bag) second ≡ true

@@ -63,7 +63,7 @@ inside n h = grind (arith, ints)
 pub fits : (n : ℤ) → is_outside n ≡ false → FitsSigned w64 n
 fits n h = grind (arith, ints)
 
--- what lies between two counters isn't beyond what an increment list can have
+-- the distance of two counters isn't beyond what an increment list can have
 pub not_beyond : (n a b : ℤ) → FitsSigned w64 n → FitsSigned w64 ((n +ℤ a) +ℤ b) → is_beyond (a +ℤ b) ≡ false
 not_beyond n a b h k = grind (arith, ints)
 

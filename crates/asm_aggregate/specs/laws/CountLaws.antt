@@ -38,7 +38,7 @@ mixed : (old : Value) (regular : Option Value) (partials : List Action) →
     count_result old regular partials ≡ Err Mixed
 mixed old regular partials h = let none = h Count refl in rw none refl
 
--- what a group that has a result tells of its list and base
+-- what follows for the list and the base of a group that has a result
 record HadResult (old : Value) (regular : Option Value) (partials : List Action) (w : Value) : Type 0 where
   counts : list_all (is_of Count) partials ≡ true
   on_number : is_kind Count (unwrap_or regular old) ≡ true
@@ -152,7 +152,7 @@ in_sequence v w first second pv are ne h = by_kind (is_kind Count v) refl where
       ∙ on_number (number v) w first second (subst value.IsProper is pv) are
       (ap (λ u. after count_meaning u first) (sym is) ∙ h)
 
--- what two lists that have a join tell
+-- what follows for two lists that have a join
 record HadJoin (first second list : List Action) : Type 0 where
   are : AreCounts first second
   gave : count_joined first second ≡ list

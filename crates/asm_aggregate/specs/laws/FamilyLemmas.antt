@@ -125,7 +125,7 @@ all_of_rest f (x ∷ xs) h only =
           let at_head : is_of g x ≡ true = is_family g (family_of x) e in
           is_family f (family_of x) (e ∙ ap Some (sym (only g (ap (λ b. b || list_any (is_of g) xs) at_head))))
 
--- the common family of a list, and what it tells
+-- the common family of a list, and what follows from it
 pub common_is : (f : Family) (xs : List Action) → xs ≢ [] → list_all (is_of f) xs ≡ true → common_family xs ≡ Some f
 common_is f [] ne h = absurd (ne refl)
 common_is f (x ∷ xs) ne h =

@@ -149,7 +149,7 @@ module _ (element_of : Action → Option Element) where
       contains-elements_by ys e ∙ sym (list_any-IsPermutation (λ x. is_the e (element_of x)) xs ys p)
       ∙ sym (contains-elements_by xs e))
 
-  -- those of proper actions are proper
+  -- those of well-formed actions are well-formed
   pub elements_by_proper : ((x : Action) → IsProper x → IfSome (element_of x) element.IsProper) →
       (xs : List Action) (q : Element) → AllProper xs → contains (elements_by element_of xs) q ≡ true →
       element.IsProper q
@@ -268,7 +268,7 @@ some_remain first second sets ne is =
     ∙ ap (λ b. contains rest has.element || b) has.there ∙ or_true _ in
     false≢true (sym (contains-empty has.element) ∙ ap (λ s. contains s has.element) (sym none) ∙ there)
 
--- the members of an updated set are proper
+-- the members of an updated set are well-formed
 element_proper : (side : Side) (x : Action) → IsProper x → IfSome (element_on side x) element.IsProper
 element_proper Added (SetAdd e) h = h
 element_proper Removed (SetRemove e) h = h

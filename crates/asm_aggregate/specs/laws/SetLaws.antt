@@ -45,7 +45,7 @@ record Fair (actions : List Action) : Type 0 where
   sets : list_all (is_of Set) actions ≡ true
   parted : adds_and_removes actions ≡ false
 
--- what a group that has a result tells of its list and base
+-- what follows for the list and the base of a group that has a result
 record HadResult (old : Value) (regular : Option Value) (partials : List Action) (w : Value) : Type 0 where
   fair : Fair partials
   on_set : is_kind Set (unwrap_or regular old) ≡ true
@@ -154,7 +154,7 @@ in_sequence : (v w : Value) (first second : List Action) → AreFair first secon
 in_sequence (values.Set s) w first second fair ne h = on_set s w first second fair h
 in_sequence v w first second fair ne h = off_set v w first second refl fair ne h
 
--- what two lists that have a join tell
+-- what follows for two lists that have a join
 record HadJoin (first second list : List Action) : Type 0 where
   fair : AreFair first second
   gave : set_joined first second ≡ list

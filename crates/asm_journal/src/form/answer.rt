@@ -15,7 +15,7 @@ use asm_update::{Cause, Clash};
 use serde_json::{Map, Value as Json};
 use std::alloc::{AllocError, Global};
 
-/// The word by which journals and reports name the cause of a clash.
+/// Return the word by which journals and reports name the cause of a clash.
 pub fn word_of_cause(cause: Cause) -> &'static str
     ensures { result.now ≡ word_of_cause cause }
 {
@@ -30,7 +30,7 @@ pub fn word_of_cause(cause: Cause) -> &'static str
     }
 }
 
-/// Reads a cause from its word.
+/// Read a cause from its word.
 fn read_cause(json: &Json) -> Option<Cause>
     ensures { IsParsed IsCauseForm (view json.now) result }
 {
@@ -109,7 +109,7 @@ impl FromJson for Reply {
     }
 }
 
-/// The JSON of the answer to a read: its number and its values.
+/// Return the JSON of the answer to a read: its number and its values.
 fn values_json(alloc: Global, number: u32, values: &[Value]) -> Result<Json, AllocError>
     ensures { IfOk result (λ json. view json ≡ two_of (codes "number") (number_json_of number)
         (codes "values") (list_of (map value_json_of values.now))) }
@@ -131,7 +131,7 @@ impl ToJson for Answer {
     }
 }
 
-/// Reads the answer to a read from the JSON of its number and of its values.
+/// Read the answer to a read from the JSON of its number and of its values.
 fn read_values(alloc: Global, number: &Json, values: &Json) -> Result<Option<Answer>, AllocError>
     ensures { IfOk result (IsParsed IsAnswerForm
         (two_of (codes "number") (view number.now) (codes "values") (view values.now))) }

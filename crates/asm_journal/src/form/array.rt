@@ -9,8 +9,9 @@ use serde_json::Value as Json;
 use std::alloc::{AllocError, Global};
 use std::marker::Model;
 
-/// The items that a JSON array was read as, whose reader may take them out; `Items` is a list that is kept and shared.
-/// Contracts see it as the list of them.
+/// The items that a JSON array was read as, which its reader may take out.
+///
+/// `Items` is a list that is retained and shared. Contracts see it as the list of them.
 #[derive(Drop)]
 pub struct Listed<T> {
     items: Vec<T>,
@@ -25,14 +26,14 @@ impl<T> Model for Listed<T> {
 }
 
 impl<T> Listed<T> {
-    /// The list of these items.
+    /// Return the list of these items.
     pub fn new(items: Vec<T>) -> Self
         ensures { result ≡ items.items }
     {
         Listed { items }
     }
 
-    /// The items, moved out.
+    /// Return the items, moved out.
     pub fn into_vec(self) -> Vec<T>
         ensures { result.items ≡ self }
     {
@@ -40,7 +41,7 @@ impl<T> Listed<T> {
     }
 }
 
-/// Reads each of the items, in their order.
+/// Read each of the items, in their order.
 pub(crate) fn read_items<T: FromJson>(
     alloc: Global,
     items: &[Json],
@@ -72,10 +73,13 @@ impl<T: FromJson> FromJson for Listed<T> {
     }
 }
 
-/// Reads the item of a list of one.
+/// Read the item of a list of one.
 ///
-/// `None` where there are fewer or more items, or the item has another form. `AllocError` comes only where
-/// memory was refused.
+/// `None` where there are fewer or more items, or the item has another form.
+///
+/// # Errors
+///
+/// - `AllocError` only if memory is refused.
 pub fn read_one<T: FromJson>(alloc: Global, items: &[Json]) -> Result<Option<T>, AllocError>
     ensures { IfOk result (IsParsed (IsOnly T.is_form) (items_view items.now)) }
 {
@@ -86,7 +90,7 @@ pub fn read_one<T: FromJson>(alloc: Global, items: &[Json]) -> Result<Option<T>,
     }
 }
 
-/// The items of a list of two, or `None` where there are fewer or more.
+/// Return the items of a list of two, or `None` where there are fewer or more.
 pub fn two_items(items: &[Json]) -> Option<(&Json, &Json)>
     ensures some { IfSome result
         (λ p. items_view items.now ≡ items_of (view p.0.now ∷ view p.1.now ∷ [])) }
@@ -101,7 +105,7 @@ pub fn two_items(items: &[Json]) -> Option<(&Json, &Json)>
     }
 }
 
-/// The items of an array of two.
+/// Return the items of an array of two.
 pub(crate) fn pair_items(json: &Json) -> Option<(&Json, &Json)>
     ensures some { IfSome result (λ p. view json.now ≡ list_of (view p.0.now ∷ view p.1.now ∷ [])) }
     ensures none { IfNone result ((a b : Data) → view json.now ≢ list_of (a ∷ b ∷ [])) }
@@ -109,7 +113,7 @@ pub(crate) fn pair_items(json: &Json) -> Option<(&Json, &Json)>
     two_items(json.as_array()?)
 }
 
-/// Appends the JSON of each item to a list.
+/// Append the JSON of each item to a list.
 pub(crate) fn push_items<T: ToJson>(
     alloc: Global,
     list: &mut Vec<Json>,
@@ -124,14 +128,14 @@ pub(crate) fn push_items<T: ToJson>(
     Ok(())
 }
 
-/// An array of these values.
+/// Return an array of these values.
 pub(crate) fn array_of(list: Vec<Json>) -> Json
     ensures { view result ≡ list_of (map view list.items) }
 {
     Json::Array(list)
 }
 
-/// An array of the JSON of these items.
+/// Return an array of the JSON of these items.
 pub(crate) fn list_json<T: ToJson>(alloc: Global, items: &[T]) -> Result<Json, AllocError>
     ensures { IfOk result (λ json. view json ≡ list_of (map T.json_of items.now)) }
 {
@@ -140,7 +144,7 @@ pub(crate) fn list_json<T: ToJson>(alloc: Global, items: &[T]) -> Result<Json, A
     Ok(array_of(list))
 }
 
-/// An array of two values.
+/// Return an array of two values.
 pub(crate) fn pair_of(alloc: Global, first: Json, second: Json) -> Result<Json, AllocError>
     ensures { IfOk result (λ json. view json ≡ list_of (view first ∷ view second ∷ [])) }
 {

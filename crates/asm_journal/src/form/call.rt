@@ -1,4 +1,4 @@
-//! The JSON of calls: reads, and fires with their named reads; and of events: an agent, its call, and the answer.
+//! The JSON of calls: reads, and fires with their declared reads; and of events: an agent, its call, and the answer.
 ghost use Rattle.std.specs.Prelude.{◌≡◌, IfOk, codes, map};
 ghost use Rattle.serde_json.specs.View.{view};
 ghost use Rattle.asm_journal.specs.Shape.{IsParsed, list_of, one_of, two_of};
@@ -48,7 +48,7 @@ impl ToJson for Instructions {
     }
 }
 
-/// Makes a move of the instructions, unless there are more than 4,096.
+/// Make a move of the instructions, unless there are more than 4,096.
 pub(crate) fn instructions_of(
     alloc: Global,
     list: Vec<Instruction>,
@@ -73,7 +73,7 @@ impl FromJson for Instructions {
     }
 }
 
-/// The JSON of a fire: its instructions and its named reads.
+/// Return the JSON of a fire: its instructions and its declared reads.
 fn fire_json(alloc: Global, instrs: &Instructions, reads: &[Named]) -> Result<Json, AllocError>
     ensures { IfOk result (λ json. view json ≡ two_of (codes "fire") (move_json_of instrs.now)
         (codes "reads") (list_of (map named_json_of reads.now))) }
@@ -99,7 +99,7 @@ impl ToJson for Call {
     }
 }
 
-/// Reads a fire from the JSON of its instructions and of its named reads.
+/// Read a fire from the JSON of its instructions and of its declared reads.
 fn read_fire(alloc: Global, instrs: &Json, reads: &Json) -> Result<Option<Call>, AllocError>
     ensures { IfOk result (IsParsed IsCallForm
         (two_of (codes "fire") (view instrs.now) (codes "reads") (view reads.now))) }
@@ -116,7 +116,7 @@ fn read_fire(alloc: Global, instrs: &Json, reads: &Json) -> Result<Option<Call>,
     }
 }
 
-/// Reads a read from the JSON of its locations.
+/// Read a read from the JSON of its locations.
 fn read_read(alloc: Global, locations: &Json) -> Result<Option<Call>, AllocError>
     ensures { IfOk result (IsParsed IsCallForm (one_of (codes "read") (view locations.now))) }
 {

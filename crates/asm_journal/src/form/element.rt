@@ -28,7 +28,9 @@ impl FromJson for i64 {
     }
 }
 
-/// Writes an element as JSON. It recurses as deep as lists nest, at most 8 levels.
+/// Write an element as JSON.
+///
+/// It recurses as deep as lists nest, at most 8 levels.
 fn write_element(alloc: Global, element: &Element) -> Result<Json, AllocError>
     ensures { IfOk result (λ json. view json ≡ element_json_of element.now) }
 {
@@ -55,7 +57,7 @@ impl ToJson for Element {
     }
 }
 
-/// The array in an object whose only member is `list`.
+/// Return the array in an object whose only member is `list`.
 fn list_items(json: &Json) -> Option<&Vec<Json>>
     ensures some { IfSome result
         (λ v. view json.now ≡ one_of (codes "list") (array (items_view v.now.items))) }
@@ -64,7 +66,9 @@ fn list_items(json: &Json) -> Option<&Vec<Json>>
     one_member(json, "list")?.as_array()
 }
 
-/// Reads an element. It recurses as deep as the value nests, at most 127 levels in what was read from a text.
+/// Read an element.
+///
+/// It recurses as deep as the value nests, at most 127 levels in what was read from a text.
 #[cycle(read_element)]
 fn read_element(alloc: Global, json: &Json) -> Result<Option<Element>, AllocError>
     ensures { IfOk result (IsParsed IsElementForm (view json.now)) }
@@ -81,7 +85,7 @@ fn read_element(alloc: Global, json: &Json) -> Result<Option<Element>, AllocErro
     }
 }
 
-/// Reads a list from the JSON of its items.
+/// Read a list from the JSON of its items.
 #[cycle(read_element)]
 fn read_list(alloc: Global, items: &[Json]) -> Result<Option<Element>, AllocError>
     ensures { IfOk result (IsParsed IsElementForm (one_of (codes "list") (array (items_view items.now)))) }
@@ -138,21 +142,25 @@ impl FromJson for Location {
     }
 }
 
-/// Writes a location as JSON: an array of its name and its arguments.
+/// Write a location as JSON: an array of its name and its arguments.
 ///
-/// `AllocError` comes only where memory was refused.
+/// # Errors
+///
+/// - `AllocError` only if memory is refused.
 pub fn location_json(alloc: Global, location: &Location) -> Result<Json, AllocError>
     ensures { IfOk result (λ json. view json ≡ location_json_of location.now) }
 {
     location.to_json(alloc)
 }
 
-/// Reads a location from JSON.
+/// Read a location from JSON.
 ///
 /// `None` where the value isn't an array of a name and at most 8 elements, or where the name breaks the rule of
 /// names.
 ///
-/// `AllocError` comes only where memory was refused.
+/// # Errors
+///
+/// - `AllocError` only if memory is refused.
 pub fn read_location(alloc: Global, json: &Json) -> Result<Option<Location>, AllocError>
     ensures { IfOk result (IsParsed IsLocationForm (view json.now)) }
 {

@@ -14,7 +14,7 @@ use asm_update::{Action, Amount, Instruction};
 use serde_json::Value as Json;
 use std::alloc::{AllocError, Global};
 
-/// The items of an instruction with one operand.
+/// Return the items of an instruction with one operand.
 fn instruction_with(
     alloc: Global,
     word: &str,
@@ -29,7 +29,7 @@ fn instruction_with(
     Ok(vec![in alloc; word, at, operand]?)
 }
 
-/// The items of an instruction with an operand and its amount.
+/// Return the items of an instruction with an operand and its amount.
 fn counted_with(
     alloc: Global,
     word: &str,
@@ -70,9 +70,9 @@ impl ToJson for Instruction {
     }
 }
 
-/// The parts of an instruction's array: the word, the location's JSON, and the operands behind them.
+/// Return the word, the location's JSON and the operands of an instruction's array.
 ///
-/// `None` where the value isn't an array of at least two items that begins with a text.
+/// `None` means that the value isn't an array of at least two items that begins with a text.
 pub fn instruction_parts(json: &Json) -> Option<(&str, &Json, &[Json])>
     ensures some { IfSome result
         (λ p. view json.now ≡ instruction_of p.0.now (view p.1.now) (items_view p.2.now)) }
@@ -84,7 +84,7 @@ pub fn instruction_parts(json: &Json) -> Option<(&str, &Json, &[Json])>
     Some((word.as_str()?, at, operands))
 }
 
-/// Reads the action that the word names from its operands.
+/// Read the action that the word names from its operands.
 fn read_action(alloc: Global, word: &str, operands: &[Json]) -> Result<Option<Action>, AllocError>
     ensures { IfOk result (IsParsed (IsActionForm word.now) (items_view operands.now)) }
 {
@@ -122,22 +122,27 @@ impl FromJson for Instruction {
     }
 }
 
-/// Writes an instruction as JSON: an array of the action's word, the location, and the action's operands (a value,
-/// an element, an element and its amount, or the number that is added).
+/// Write an instruction as JSON: the action's word, the location and the operands.
 ///
-/// `AllocError` comes only where memory was refused.
+/// They are an array. The operands are a value, an element, an element and its amount, or the number that is added.
+///
+/// # Errors
+///
+/// - `AllocError` only if memory is refused.
 pub fn instruction_json(alloc: Global, instruction: &Instruction) -> Result<Json, AllocError>
     ensures { IfOk result (λ json. view json ≡ instruction_json_of instruction.now) }
 {
     instruction.to_json(alloc)
 }
 
-/// Reads an instruction from JSON.
+/// Read an instruction from JSON.
 ///
 /// `None` where the value has another shape, where the word is none of the six, or where the location or an operand
 /// isn't one that is read.
 ///
-/// `AllocError` comes only where memory was refused.
+/// # Errors
+///
+/// - `AllocError` only if memory is refused.
 pub fn read_instruction(alloc: Global, json: &Json) -> Result<Option<Instruction>, AllocError>
     ensures { IfOk result (IsParsed IsInstructionForm (view json.now)) }
 {

@@ -8,7 +8,7 @@ use serde_json::{Map, Value as Json};
 use std::alloc::{AllocError, Global};
 use std::collections::btree_map::Iter;
 
-/// The members of an object, in the order of their keys.
+/// Return the members of an object, in the order of their keys.
 fn members_in<'v>(json: &'v Json) -> Option<Iter<'v, String, Json>>
     ensures some { IfSome result (λ members. view json.now ≡ object (members_view members)) }
     ensures none { IfNone result ((ms : Members) → view json.now ≢ object ms) }
@@ -16,7 +16,7 @@ fn members_in<'v>(json: &'v Json) -> Option<Iter<'v, String, Json>>
     Some(json.as_object()?.iter())
 }
 
-/// Takes the next member, in the order of the keys, and gives its value where its key is this one.
+/// Take the next member, in the order of keys; return its value if it has this key.
 pub(crate) fn next_member<'v>(members: &mut Iter<'v, String, Json>, key: &str) -> Option<&'v Json>
     ensures some { IfSome result
         (λ v. members_view members.old ≡ member key.now (view v.now) (members_view members.new)) }
@@ -31,14 +31,14 @@ pub(crate) fn next_member<'v>(members: &mut Iter<'v, String, Json>, key: &str) -
     }
 }
 
-/// Whether there is no further member.
+/// Return whether there is no further member.
 fn is_end(members: &mut Iter<'_, String, Json>) -> bool
     ensures { IsTrue result ↔ (members_view members.old ≡ no_members) }
 {
     members.next().is_none()
 }
 
-/// The value in an object whose only key is this one.
+/// Return the value in an object whose only key is this one.
 ///
 /// `None` where the value is no object or has other keys.
 pub fn one_member<'v>(json: &'v Json, key: &str) -> Option<&'v Json>
@@ -54,9 +54,10 @@ pub fn one_member<'v>(json: &'v Json, key: &str) -> Option<&'v Json>
     }
 }
 
-/// The values in an object whose only keys are these two, which are passed in the order of their bytes.
+/// Return the values of an object that has only these two keys.
 ///
-/// `None` where the value is no object or has other keys. The order in the text is free.
+/// The keys are passed in the order of their bytes. `None` means that the value is no object or has other keys. The
+/// order in the text is free.
 pub fn two_members<'v>(json: &'v Json, first: &str, second: &str) -> Option<(&'v Json, &'v Json)>
     ensures some { IfSome result
         (λ m. view json.now ≡ two_of first.now (view m.0.now) second.now (view m.1.now)) }
@@ -72,7 +73,7 @@ pub fn two_members<'v>(json: &'v Json, first: &str, second: &str) -> Option<(&'v
     }
 }
 
-/// Makes an object of one member.
+/// Make an object of one member.
 pub(crate) fn object_of(alloc: Global, key: &str, json: Json) -> Result<Json, AllocError>
     ensures { IfOk result (λ object. view object ≡ one_of key.now (view json)) }
 {
@@ -81,7 +82,9 @@ pub(crate) fn object_of(alloc: Global, key: &str, json: Json) -> Result<Json, Al
     Ok(Json::Object(members))
 }
 
-/// The values in an object whose only keys are these three, which are passed in the order of their bytes.
+/// Return the values of an object that has only these three keys.
+///
+/// The keys are passed in the order of their bytes.
 pub(crate) fn three_members<'v>(
     json: &'v Json,
     first: &str,
@@ -104,7 +107,9 @@ pub(crate) fn three_members<'v>(
     }
 }
 
-/// The values in an object whose only keys are these five, which are passed in the order of their bytes.
+/// Return the values of an object that has only these five keys.
+///
+/// The keys are passed in the order of their bytes.
 pub(crate) fn five_members<'v>(
     json: &'v Json,
     first: &str,

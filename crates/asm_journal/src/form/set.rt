@@ -25,7 +25,7 @@ impl ToJson for ElemSet {
     }
 }
 
-/// Makes a set of the elements, unless one stands twice.
+/// Make a set of the elements, unless one is there twice.
 pub(crate) fn set_of(
     alloc: Global,
     mut elements: Vec<Element>,
@@ -52,7 +52,7 @@ impl FromJson for ElemSet {
     }
 }
 
-/// The JSON of an element with its count.
+/// Return the JSON of an element with its count.
 fn count_json(alloc: Global, element: &Element, count: u32) -> Result<Json, AllocError>
     ensures { IfOk result (λ json. view json ≡ count_json_of (element.now, count)) }
 {
@@ -71,7 +71,7 @@ impl ToJson for ElemBag {
     }
 }
 
-/// Reads an amount, or a count of a bag: a whole number from 1 to 4,294,967,295.
+/// Read an amount, or a count of a bag: a whole number from 1 to 4,294,967,295.
 pub fn read_amount(json: &Json) -> Option<Amount>
     ensures { IsParsed IsAmountForm (view json.now) result }
 {
@@ -82,7 +82,7 @@ pub fn read_amount(json: &Json) -> Option<Amount>
 #[derive(Drop)]
 pub(crate) struct Counted(pub(crate) Element, pub(crate) Amount);
 
-/// Reads an element and its count, or its amount, from a list of two items.
+/// Read an element and its count, or its amount, from a list of two items.
 pub(crate) fn read_counted(alloc: Global, items: &[Json]) -> Result<Option<Counted>, AllocError>
     ensures { IfOk result (λ o. IsParsed IsCounted (items_view items.now)
         (option_map (λ c. (c.0, c.1)) o)) }
@@ -110,7 +110,7 @@ impl FromJson for Counted {
     }
 }
 
-/// Makes a bag of the counts, unless an element stands twice.
+/// Make a bag of the counts, unless an element is there twice.
 pub(crate) fn bag_of(alloc: Global, mut counts: Vec<Counted>) -> Result<Option<ElemBag>, AllocError>
     ensures { IfOk result (IsParsed IsBagOf (map (λ c. (c.0, c.1)) counts.items)) }
 {

@@ -37,7 +37,7 @@ impl FromJson for StatePair {
     }
 }
 
-// Whether a pair of the location was read. A state keeps no undef, so the locations of undef stand beside it.
+// Whether a pair of the location was read. A state holds no undef, so the locations of undef are separate.
 fn is_read(state: &PlainState, undefined: &UpdateSet, at: &Location) -> bool
     ensures { result ≡ (is_some (map.get state.now at.now) || is_some (map.get undefined.now at.now)) }
 {
@@ -60,7 +60,7 @@ fn note_undef(
     Ok(())
 }
 
-/// Makes a state of the pairs, unless a location stands twice.
+/// Make a state of the pairs, unless a location is there twice.
 pub(crate) fn state_from(
     alloc: Global,
     mut pairs: Vec<StatePair>,
@@ -90,16 +90,18 @@ impl FromJson for PlainState {
     }
 }
 
-/// Writes a location and its value as JSON: an array of both.
+/// Write a location and its value as JSON: an array of both.
 ///
-/// `AllocError` comes only where memory was refused.
+/// # Errors
+///
+/// - `AllocError` only if memory is refused.
 pub fn pair_json(alloc: Global, location: &Location, value: &Value) -> Result<Json, AllocError>
     ensures { IfOk result (λ json. view json ≡ pair_json_of (location.now, value.now)) }
 {
     pair_of(alloc, location.to_json(alloc)?, value.to_json(alloc)?)
 }
 
-/// An array of the JSON of locations with their values.
+/// Return an array of the JSON of locations with their values.
 fn pairs_json(alloc: Global, pairs: Iter<'_, Location, Value>) -> Result<Json, AllocError>
     ensures { IfOk result (λ json. view json ≡ list_of (list.map pair_json_of pairs.entry)) }
 {

@@ -36,22 +36,27 @@ impl FromJson for Value {
     }
 }
 
-/// Writes a value as JSON: an element, or an object whose member `set` or `bag` has the elements in ascending
-/// order.
+/// Write a value as JSON: an element, or an object with a set or a bag.
 ///
-/// `AllocError` comes only where memory was refused.
+/// The member `set` or `bag` has the elements in ascending order.
+///
+/// # Errors
+///
+/// - `AllocError` only if memory is refused.
 pub fn value_json(alloc: Global, value: &Value) -> Result<Json, AllocError>
     ensures { IfOk result (λ json. view json ≡ value_json_of value.now) }
 {
     value.to_json(alloc)
 }
 
-/// Reads a value from JSON. The elements of sets and bags may come in any order.
+/// Read a value from JSON.
 ///
-/// `None` where the JSON has another shape, where an element stands twice in a set or a bag, where a number is
-/// outside the range of i64, or where a count isn't 1 to 4,294,967,295.
+/// The elements of sets and bags may come in any order. `None` means that the JSON has another shape, that an element
+/// is in a set or a bag twice, that a number is outside the range of i64, or that a count isn't 1 to 4,294,967,295.
 ///
-/// `AllocError` comes only where memory was refused.
+/// # Errors
+///
+/// - `AllocError` only if memory is refused.
 pub fn read_value(alloc: Global, json: &Json) -> Result<Option<Value>, AllocError>
     ensures { IfOk result (IsParsed IsValueForm (view json.now)) }
 {

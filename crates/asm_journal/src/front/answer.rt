@@ -12,7 +12,7 @@ use asm_storage::{Answer, Reply};
 use asm_update::{Cause, Clash};
 use std::alloc::Global;
 
-/// The cause that the word in quotes names.
+/// Return the cause that the word in quotes names.
 fn front_cause(text: &[u8]) -> Option<(Cause, &[u8])>
     ensures { IfSome result (λ p. BeginsAs IsCauseForm text.now p.0 p.1.now) }
 {
@@ -44,7 +44,7 @@ impl FromFront for Clash {
     }
 }
 
-/// The number of the move that was fired.
+/// Return the number of the move that was fired.
 fn front_fired(text: &[u8]) -> Option<(Reply, &[u8])>
     ensures { IfSome result (λ p. BeginsAs IsReplyForm text.now p.0 p.1.now) }
 {
@@ -54,7 +54,7 @@ fn front_fired(text: &[u8]) -> Option<(Reply, &[u8])>
     Some((Reply::Fired(fired), rest))
 }
 
-/// The location that was stale.
+/// Return the location that was stale.
 fn front_stale(alloc: Global, text: &[u8]) -> Option<(Reply, &[u8])>
     ensures { IfSome result (λ p. BeginsAs IsReplyForm text.now p.0 p.1.now) }
 {
@@ -64,7 +64,7 @@ fn front_stale(alloc: Global, text: &[u8]) -> Option<(Reply, &[u8])>
     Some((Reply::Stale(at), rest))
 }
 
-/// The clash.
+/// Return the clash.
 fn front_clash(alloc: Global, text: &[u8]) -> Option<(Reply, &[u8])>
     ensures { IfSome result (λ p. BeginsAs IsReplyForm text.now p.0 p.1.now) }
 {
@@ -74,7 +74,7 @@ fn front_clash(alloc: Global, text: &[u8]) -> Option<(Reply, &[u8])>
     Some((Reply::Clash(clash), rest))
 }
 
-/// The word of a full storage.
+/// Return the word of a full storage.
 fn front_full(text: &[u8]) -> Option<(Reply, &[u8])>
     ensures { IfSome result (λ p. BeginsAs IsReplyForm text.now p.0 p.1.now) }
 {
@@ -97,7 +97,7 @@ impl FromFront for Reply {
     }
 }
 
-/// The number and the values of a read.
+/// Return the number and the values of a read.
 fn front_values(alloc: Global, text: &[u8]) -> Option<(Answer, &[u8])>
     ensures { IfSome result (λ p. BeginsAs IsAnswerForm text.now p.0 p.1.now) }
 {
@@ -110,7 +110,7 @@ fn front_values(alloc: Global, text: &[u8]) -> Option<(Answer, &[u8])>
     Some((Answer::Read { number, values }, rest))
 }
 
-/// The reply to a fire as an answer.
+/// Return the reply to a fire as an answer.
 fn front_reply(alloc: Global, text: &[u8]) -> Option<(Answer, &[u8])>
     ensures { IfSome result (λ p. BeginsAs IsAnswerForm text.now p.0 p.1.now) }
 {

@@ -1,4 +1,4 @@
-//! Calls: reads, and fires with their named reads; and events: an agent, its call, and the answer.
+//! Calls: reads, and fires with their declared reads; and events: an agent, its call, and the answer.
 ghost use Rattle.std.specs.Prelude.{IfSome};
 ghost use Rattle.asm_journal.specs.Event.{IsCallForm};
 ghost use Rattle.asm_journal.specs.readback.{named_form_clean, move_form_clean, call_form_clean, event_form_clean};
@@ -42,7 +42,7 @@ impl FromFront for Instructions {
     }
 }
 
-/// The read.
+/// Return the read.
 fn front_read(alloc: Global, text: &[u8]) -> Option<(Call, &[u8])>
     ensures { IfSome result (λ p. BeginsAs IsCallForm text.now p.0 p.1.now) }
 {
@@ -52,7 +52,7 @@ fn front_read(alloc: Global, text: &[u8]) -> Option<(Call, &[u8])>
     Some((Call::Read(Items::new(locations.into_vec())), rest))
 }
 
-/// The fire.
+/// Return the fire.
 fn front_fire(alloc: Global, text: &[u8]) -> Option<(Call, &[u8])>
     ensures { IfSome result (λ p. BeginsAs IsCallForm text.now p.0 p.1.now) }
 {

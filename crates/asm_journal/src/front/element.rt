@@ -25,7 +25,7 @@ impl FromFront for i64 {
     }
 }
 
-/// The text in quotes as an element.
+/// Return the text in quotes as an element.
 fn front_text(alloc: Global, text: &[u8]) -> Option<(Element, &[u8])>
     ensures { IfSome result (λ p. BeginsAs IsElementForm text.now p.0 p.1.now) }
 {
@@ -36,7 +36,7 @@ fn front_text(alloc: Global, text: &[u8]) -> Option<(Element, &[u8])>
     }
 }
 
-/// The element that is no list.
+/// Return the element that is no list.
 fn front_plain(alloc: Global, text: &[u8]) -> Option<(Element, &[u8])>
     ensures { IfSome result (λ p. BeginsAs IsElementForm text.now p.0 p.1.now) }
 {
@@ -61,7 +61,7 @@ fn front_plain(alloc: Global, text: &[u8]) -> Option<(Element, &[u8])>
     }
 }
 
-/// The element, in which lists nest at most to these levels.
+/// Return the element, in which lists nest at most to these levels.
 #[cycle(front_element)]
 fn front_element(alloc: Global, text: &[u8], levels: u32) -> Option<(Element, &[u8])>
     ensures { IfSome result (λ p. BeginsAs IsElementForm text.now p.0 p.1.now) }
@@ -75,7 +75,7 @@ fn front_element(alloc: Global, text: &[u8], levels: u32) -> Option<(Element, &[
     front_plain(alloc, text)
 }
 
-/// The list behind its opening bracket.
+/// Return the list behind its opening bracket.
 #[cycle(front_element)]
 fn front_list(alloc: Global, inside: &[u8], levels: u32) -> Option<(Element, &[u8])>
     ensures { IfSome result (λ p. (ds : Items) × (inside.now ≡ items_text false ds ++ 125 ∷ p.1.now)
@@ -89,7 +89,7 @@ fn front_list(alloc: Global, inside: &[u8], levels: u32) -> Option<(Element, &[u
     }
 }
 
-/// The elements behind the opening bracket, and the rest behind the closing one.
+/// Return the elements after the opening bracket, and the rest after the closing.
 #[cycle(front_element)]
 fn first_elements(alloc: Global, inside: &[u8], levels: u32) -> Option<(Vec<Element>, &[u8])>
     ensures { IfSome result (λ p. BeginsItems false (AreForms IsElementForm) inside.now p.0.items p.1.now) }
@@ -100,7 +100,7 @@ fn first_elements(alloc: Global, inside: &[u8], levels: u32) -> Option<(Vec<Elem
     some_elements(alloc, inside, levels)
 }
 
-/// The elements behind a comma, one at least, and the rest behind their closing bracket.
+/// Return the elements after a comma, at least one, and the rest after the bracket.
 #[cycle(front_element)]
 fn some_elements(alloc: Global, text: &[u8], levels: u32) -> Option<(Vec<Element>, &[u8])>
     ensures { IfSome result (λ p. BeginsItems true (AreForms IsElementForm) (44 ∷ text.now) p.0.items p.1.now) }
@@ -129,7 +129,7 @@ impl FromFront for Element {
     }
 }
 
-/// A text of its own, unless memory was refused.
+/// Return a text of its own, unless memory was refused.
 pub(crate) fn owned_text(alloc: Global, text: &str) -> Option<String>
     ensures { IfSome result (λ s. string_bytes s ≡ text.now) }
 {
@@ -139,7 +139,7 @@ pub(crate) fn owned_text(alloc: Global, text: &str) -> Option<String>
     }
 }
 
-/// The arguments behind a name, up to the closing bracket.
+/// Return the arguments behind a name, up to the closing bracket.
 fn front_args(alloc: Global, text: &[u8]) -> Option<(Vec<Element>, &[u8])>
     ensures { IfSome result (λ p. BeginsItems true (AreForms IsElementForm) text.now p.0.items p.1.now) }
 {

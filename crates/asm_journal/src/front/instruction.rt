@@ -12,8 +12,9 @@ use asm_element::{Element, Location, Value};
 use asm_update::{Action, Amount, Instruction};
 use std::alloc::Global;
 
-/// An element and an amount of it, the last items of an array behind a comma, and the rest behind the closing
-/// bracket.
+/// Return an element and an amount of it, the last items of an array, and the rest.
+///
+/// They are after a comma; the rest is after the closing bracket.
 pub(crate) fn counted(alloc: Global, text: &[u8]) -> Option<(Element, Amount, &[u8])>
     ensures { IfSome result (λ p. BeginsItems true IsCounted (44 ∷ text.now) (p.0, p.1) p.2.now) }
 {
@@ -25,7 +26,9 @@ pub(crate) fn counted(alloc: Global, text: &[u8]) -> Option<(Element, Amount, &[
     Some((element, amount, rest))
 }
 
-/// The action that the word names, from its operands, and the rest behind the closing bracket.
+/// Return the action that the word names, from its operands, and the rest.
+///
+/// The rest is after the closing bracket.
 fn front_action<'t>(alloc: Global, word: &str, text: &'t [u8]) -> Option<(Action, &'t [u8])>
     ensures { IfSome result (λ p. BeginsItems true (IsActionForm word.now) (44 ∷ text.now) p.0 p.1.now) }
 {

@@ -8,14 +8,14 @@ use crate::front::FromFront;
 use crate::front::scalars::behind;
 use std::alloc::Global;
 
-/// Puts one more item behind the others, unless memory was refused.
+/// Put one more item behind the others, unless memory was refused.
 pub(crate) fn put_behind<T: Drop>(found: &mut Vec<T>, item: T) -> Option<()>
     ensures { OnSome result (found.new.items ≡ found.old.items ++ item ∷ []) }
 {
     found.push(item).ok()
 }
 
-/// The items behind a comma, one at least, and the rest behind their closing bracket.
+/// Return the items after a comma, at least one, and the rest after the bracket.
 pub(crate) fn some_items<T: FromFront>(alloc: Global, text: &[u8]) -> Option<(Vec<T>, &[u8])>
     ensures { IfSome result (λ p. BeginsItems true (AreForms T.is_form) (44 ∷ text.now) p.0.items p.1.now) }
 {
@@ -33,7 +33,7 @@ pub(crate) fn some_items<T: FromFront>(alloc: Global, text: &[u8]) -> Option<(Ve
     }
 }
 
-/// The items behind the opening bracket, and the rest behind the closing one.
+/// Return the items after the opening bracket, and the rest after the closing one.
 pub(crate) fn first_items<T: FromFront>(alloc: Global, text: &[u8]) -> Option<(Vec<T>, &[u8])>
     ensures { IfSome result (λ p. BeginsItems false (AreForms T.is_form) text.now p.0.items p.1.now) }
 {
@@ -55,7 +55,7 @@ impl<T: FromFront> FromFront for Listed<T> {
     }
 }
 
-/// The last item of an array behind a comma, and the rest behind the closing bracket.
+/// Return the last item of an array, after a comma, and the rest after the bracket.
 pub(crate) fn only_item<T: FromFront>(alloc: Global, text: &[u8]) -> Option<(T, &[u8])>
     ensures { IfSome result (λ p. BeginsItems true (IsOnly T.is_form) (44 ∷ text.now) p.0 p.1.now) }
 {

@@ -5,7 +5,7 @@ ghost use Rattle.json.specs.Run.{is_plain};
 ghost use Rattle.json.specs.Print.{quoted};
 ghost use Rattle.asm_journal.specs.Shape.{IsNumberForm, BeginsAs};
 
-/// The rest of the text behind the word, if it begins with the word.
+/// Return the rest of the text behind the word, if it begins with the word.
 #[tactic(auto, using(crate::proofs::Compact::stripped))]
 pub(crate) fn behind<'t>(text: &'t [u8], word: &[u8]) -> Option<&'t [u8]>
     ensures { IfSome result (λ rest. text.now ≡ word.now ++ rest.now) }
@@ -13,7 +13,9 @@ pub(crate) fn behind<'t>(text: &'t [u8], word: &[u8]) -> Option<&'t [u8]>
     text.strip_prefix(word)
 }
 
-/// The whole number whose decimal digits the text begins with, below 2 to the power of 63, and the rest of the text.
+/// Return the whole number whose digits the text begins with, and the rest.
+///
+/// The digits are decimal, and the number is below 2 to the power of 63.
 pub(crate) fn digits(text: &[u8]) -> Option<(u64, &[u8])>
     ensures text { IfSome result (λ p. text.now ≡ decimal p.0 ++ p.1.now) }
     ensures small { IfSome result (λ p. p.0 < 2 ^ 63) }
@@ -41,7 +43,7 @@ pub(crate) fn digits(text: &[u8]) -> Option<(u64, &[u8])>
     }
 }
 
-/// The whole number that the text begins with, and the rest of the text.
+/// Return the whole number that the text begins with, and the rest of the text.
 pub(crate) fn integer(text: &[u8]) -> Option<(i64, &[u8])>
     ensures { IfSome result (λ p. text.now ≡ signed_decimal p.0 ++ p.1.now) }
 {
@@ -56,14 +58,16 @@ pub(crate) fn integer(text: &[u8]) -> Option<(i64, &[u8])>
     Some((value as i64, rest))
 }
 
-/// Whether the byte stands for itself in quotes, and ends nothing there.
+/// Return whether the byte in quotes means itself, and doesn't end the text.
 fn is_own(byte: u8) -> bool
     ensures { result ≡ is_plain byte }
 {
     byte >= 32 && byte != b'"' && byte != b'\\'
 }
 
-/// What stands before the first quote and behind it, where each byte before it stands for itself.
+/// Return the bytes before the first quote and those after it.
+///
+/// Each byte before it must mean itself.
 fn before_quote(text: &[u8]) -> Option<(&[u8], &[u8])>
     ensures text { IfSome result (λ p. text.now ≡ p.0.now ++ 34 ∷ p.1.now) }
     ensures plain { IfSome result (λ p. All (λ b. is_plain b ≡ true) p.0.now) }
@@ -76,7 +80,7 @@ fn before_quote(text: &[u8]) -> Option<(&[u8], &[u8])>
     }
 }
 
-/// The text in quotes that the text begins with, and the rest of the text.
+/// Return the text in quotes that the text begins with, and the rest of the text.
 pub(crate) fn quoted_text(text: &[u8]) -> Option<(&str, &[u8])>
     ensures { IfSome result (λ p. text.now ≡ quoted p.0.now ++ p.1.now) }
 {
@@ -88,7 +92,9 @@ pub(crate) fn quoted_text(text: &[u8]) -> Option<(&str, &[u8])>
     }
 }
 
-/// The whole number from 0 to 4,294,967,295 that the text begins with, and the rest of the text.
+/// Return the whole number that the text begins with, and the rest of the text.
+///
+/// It is from 0 to 4,294,967,295.
 pub(crate) fn number(text: &[u8]) -> Option<(u32, &[u8])>
     ensures { IfSome result (λ p. BeginsAs IsNumberForm text.now p.0 p.1.now) }
 {

@@ -51,7 +51,7 @@ impl FromFront for ElemBag {
     }
 }
 
-/// The set behind its key.
+/// Return the set behind its key.
 fn front_set(alloc: Global, text: &[u8]) -> Option<(Value, &[u8])>
     ensures { IfSome result (λ p. BeginsAs IsValueForm text.now p.0 p.1.now) }
 {
@@ -61,7 +61,7 @@ fn front_set(alloc: Global, text: &[u8]) -> Option<(Value, &[u8])>
     Some((Value::Set(set), rest))
 }
 
-/// The bag behind its key.
+/// Return the bag behind its key.
 fn front_bag(alloc: Global, text: &[u8]) -> Option<(Value, &[u8])>
     ensures { IfSome result (λ p. BeginsAs IsValueForm text.now p.0 p.1.now) }
 {
@@ -71,7 +71,7 @@ fn front_bag(alloc: Global, text: &[u8]) -> Option<(Value, &[u8])>
     Some((Value::Bag(bag), rest))
 }
 
-/// The element as a value.
+/// Return the element as a value.
 fn front_plain(alloc: Global, text: &[u8]) -> Option<(Value, &[u8])>
     ensures { IfSome result (λ p. BeginsAs IsValueForm text.now p.0 p.1.now) }
 {

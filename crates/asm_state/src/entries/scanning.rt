@@ -9,14 +9,14 @@ use crate::entries::{Entries, WrittenValue};
 use asm_element::Location;
 use std::alloc::{AllocError, Global};
 
-/// Whether the location has the function name.
+/// Return whether the location has the function name.
 pub(crate) fn has_name(name: &str, at: &Location) -> bool
     ensures { result ≡ has_name name.now at.now }
 {
     at.name() == name
 }
 
-/// Whether the location has the function name, and a move above the number wrote the entry.
+/// Return whether the location has the name, and a move above the number wrote it.
 fn is_newer(name: &str, number: u32, at: &Location, written: &WrittenValue) -> bool
     ensures { result ≡ is_newer name.now number at.now written.now.writer }
 {
@@ -24,8 +24,8 @@ fn is_newer(name: &str, number: u32, at: &Location, written: &WrittenValue) -> b
 }
 
 impl Entries {
-    // The least location with the name of the first one, which has no arguments, whose entry a move above the number
-    // wrote. It walks the entries of that name, up to that one.
+    // The smallest location with the name of the first one, which has no arguments, whose entry a move above the
+    // number wrote. It walks the entries of that name, up to that one.
     fn least_from(&self, first: &Location, number: u32) -> Option<&Location>
         requires { first.now.args ≡ [] }
         ensures { IsLeastOf (λ l. is_newer first.now.name number l (writer_of (map.get self.now l)))
@@ -54,8 +54,9 @@ impl Entries {
         None
     }
 
-    /// The least location with this function name whose entry a move above the number wrote. It walks the entries of
-    /// that name, up to that one.
+    /// Return the smallest location with this name that a move above the number wrote.
+    ///
+    /// It walks the entries of that name, up to that one.
     pub(crate) fn least_written(
         &self,
         alloc: Global,

@@ -15,8 +15,9 @@ use asm_update::{Instructions, PlainState};
 use std::alloc::{AllocError, Global};
 use std::marker::Model;
 
-/// The history of agents, of which each event is made when it is asked for: beside the agents' receipts it holds their
-/// order alone. Contracts see it as that history.
+/// The history of agents, of which each event is made on request.
+///
+/// It holds references to the agents' receipts, and their order. Contracts see it as that history.
 #[derive(Drop)]
 pub struct Closing<'a> {
     init: &'a PlainState,
@@ -55,7 +56,7 @@ fn all_fit(receipts: &[AgentReceipt<'_>], agents: u32) -> bool
     true
 }
 
-// Does nothing; its contract tells that the events are proper.
+// State for proofs that the events are well-formed; do nothing at run time.
 fn proper_events(receipts: &[AgentReceipt<'_>])
     ensures { All (λ kept. IsProperEvent (merged_event kept)) receipts.now }
 {
@@ -65,7 +66,7 @@ fn proper_events(receipts: &[AgentReceipt<'_>])
 }
 
 impl<'a> Closing<'a> {
-    /// The history of these receipts, in their order.
+    /// Return the history of these receipts, in their order.
     pub(crate) fn of(
         init: &'a PlainState,
         capacity: u32,
@@ -85,37 +86,43 @@ impl<'a> Closing<'a> {
         }
     }
 
-    /// The opening state.
+    /// Return the opening state.
     pub fn init(&self) -> &PlainState
         ensures { result.now ≡ self.now.init }
     {
         self.init
     }
 
-    /// The most moves that the storage takes.
+    /// Return the most moves that the storage takes.
     pub fn capacity(&self) -> u32
         ensures { result ≡ self.now.capacity }
     {
         self.capacity
     }
 
-    /// One more than the greatest number of an agent, or 0.
+    /// Return one more than the greatest number of an agent, or 0 without agents.
     pub fn agents(&self) -> u32
         ensures { result ≡ self.now.agents }
     {
         self.agents
     }
 
-    /// How many events there are.
+    /// Return how many events there are.
     pub fn len(&self) -> usize
         ensures { result ≡ length self.now.events }
     {
         self.receipts.len()
     }
 
-    /// The event with this number, from 0. It shares the lists of the receipt.
+    /// Return the event with this number, from 0.
     ///
-    /// There must be one. `AllocError` comes only where memory was refused.
+    /// It shares the lists of the receipt.
+    ///
+    /// There must be one.
+    ///
+    /// # Errors
+    ///
+    /// - `AllocError` only if memory is refused.
     pub fn event(&self, alloc: Global, number: usize) -> Result<Event, AllocError>
         requires { number < length self.now.events }
         ensures { IfOk result (λ e. slice_get self.now.events number ≡ Some e) }
@@ -123,7 +130,9 @@ impl<'a> Closing<'a> {
         self.receipts[number].event(alloc)
     }
 
-    /// The move of the event with this number, from 0, or `None` where that fired none. There must be such an event.
+    /// Return the move of the event with this number, from 0, if that fired one.
+    ///
+    /// There must be such an event.
     pub fn fired_move(&self, number: usize) -> Option<&Instructions>
         requires { number < length self.now.events }
         ensures { (e : Entry) × (slice_get self.now.events number ≡ Some e) × (option_copied result ≡ move_of e) }
@@ -131,7 +140,7 @@ impl<'a> Closing<'a> {
         self.receipts[number].fired_move()
     }
 
-    // Does nothing; its contract tells that it is a history that a program can hold.
+    // State for proofs that it is a history that a program can hold; do nothing at run time.
     fn proper(&self)
         ensures { IsProper self.now }
     {
@@ -139,7 +148,7 @@ impl<'a> Closing<'a> {
         proper_events(self.receipts.as_slice());
     }
 
-    /// Whether it is within the limits of a journal, as `History::fits` tells it.
+    /// Return whether it is within the limits of a journal, as `History::fits` does.
     pub fn fits(&self) -> bool
         ensures { IsTrue result ↔ Fits self.now }
     {
@@ -163,7 +172,11 @@ impl<'a> Closing<'a> {
         Ok(events)
     }
 
-    /// The history with all its events made, which outlives the agents. `AllocError` comes only where memory was refused.
+    /// Return the history with all its events made, which outlives the agents.
+    ///
+    /// # Errors
+    ///
+    /// - `AllocError` only if memory is refused.
     pub fn history(&self, alloc: Global) -> Result<History, AllocError>
         ensures { IfOk result (λ history. history ≡ self.now) }
     {

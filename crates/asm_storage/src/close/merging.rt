@@ -28,28 +28,28 @@ impl<'a> AgentReceipt<'a> {
         2 * u64::from(self.receipt.stood) + u64::from(self.receipt.is_fired())
     }
 
-    /// The event that it tells.
+    /// Return the event that this entry describes.
     pub(crate) fn event(&self, alloc: Global) -> Result<Event, AllocError>
         ensures { IfOk result (λ e. e ≡ merged_event self.now) }
     {
         self.receipt.event(alloc, self.agent)
     }
 
-    /// The move that it fired, or `None` where it fired none.
+    /// Return the move that it fired, or `None` where it fired none.
     pub(crate) fn fired_move(&self) -> Option<&'a Instructions>
         ensures { option_copied result ≡ move_of (merged_event self.now) }
     {
         self.receipt.call.fired_move(&self.receipt.answer)
     }
 
-    /// Does nothing. Its contract tells that the event is proper.
+    /// State for proofs that the event is well-formed; do nothing at run time.
     pub(crate) fn proper(&self)
         ensures { IsProperEvent (merged_event self.now) }
     {
         proper_call_and_answer(&self.receipt.call, &self.receipt.answer);
     }
 
-    /// Whether a journal of so many agents can hold the event that it tells.
+    /// Return whether a journal of so many agents can hold the event of this entry.
     pub(crate) fn fits(&self, agents: u32) -> bool
         ensures { IsTrue result ↔ EventFits agents (merged_event self.now) }
     {
@@ -87,7 +87,7 @@ fn all_receipts<'a, A: Aggregator + Sync + Drop>(
     Ok(all)
 }
 
-/// The receipts of the agents, in the order in which their calls stand in the history.
+/// Return the receipts of the agents, in the order of their calls in the history.
 pub(crate) fn merge<'a, A: Aggregator + Sync + Drop>(
     alloc: Global,
     agents: &'a [Agent<'_, A>],

@@ -21,7 +21,9 @@ fn tell_moves(told: &mut [bool], receipts: &[Receipt])
     }
 }
 
-/// The least of the first `moves` moves of which no agent has a receipt, counted from 0.
+/// Return the smallest of the first `moves` moves of which no agent has a receipt.
+///
+/// Moves are counted from 0.
 pub(crate) fn first_missing<A: Aggregator + Sync + Drop>(
     alloc: Global,
     agents: &[Agent<'_, A>],

@@ -29,7 +29,7 @@ use asm_update::{Aggregator, Instructions};
 use std::alloc::{AllocError, Global};
 
 impl AgentPart {
-    // Looks on, and has the state follow where the move needs it.
+    // Polls on, and has the state follow if the move needs it.
     fn make_ready<A: Aggregator + Sync + Drop>(
         &mut self,
         alloc: Global,
@@ -75,7 +75,9 @@ impl AgentPart {
         judged(alloc, aggregator, &self.state, is_full, reads, instrs)
     }
 
-    /// Keeps the receipt of a call that fired nothing, and was judged on the first `stood` of the moves that were seen.
+    /// Record the receipt of a call that fired nothing.
+    ///
+    /// It was judged on the first `stood` of the moves that were seen.
     pub(crate) fn keep<A: Aggregator + Sync + Drop>(
         &mut self,
         storage: &Storage<A>,
@@ -129,8 +131,8 @@ impl AgentPart {
         self.keep(storage, call, answer, stood)
     }
 
-    // Offers a move that was judged to fire, and keeps the receipt where it won: the room for that is made
-    // before. Where the offer lost, another entry was seen, and the offering comes back.
+    // Attempts to append a move that was judged to fire, and records the receipt if it won: the room for that is made
+    // before. If it lost, another entry was seen, and the attempt's parts are returned.
     fn offer<A: Aggregator + Sync + Drop, F: FnMut()>(
         &mut self,
         storage: &Storage<A>,
@@ -145,12 +147,12 @@ impl AgentPart {
         requires mine { offering.entry.value.agent ≡ self.old.id }
         requires callable { F.IsAlwaysCallable between.old }
 
-        // The agent stays itself, and as it was where memory was refused.
+        // The agent stays itself, and unchanged where memory was refused.
         ensures part { IsPartOf A.meaning storage.now self.new }
         ensures id { self.new.id ≡ self.old.id }
         ensures err { OnErr result (agent_of storage.now self.new ≡ agent_of storage.now self.old) }
 
-        // A won offer has its receipt; a lost one comes back.
+        // A won attempt has its receipt; a lost one is returned.
         ensures won { IfOk result (λ o. IfNone o (
             agent_of storage.now self.new ≡ with_fired (agent_of storage.now self.old)
             (receipt_at (length self.old.progress.seen) offering.call answer) offering.entry.value.instrs)) }
@@ -180,8 +182,8 @@ impl AgentPart {
         }
     }
 
-    // Offers the move, which was judged to fire; None where the offer lost. What is offered is what an
-    // earlier turn left, or is made here.
+    // Attempts to append the move, which was judged to fire; None if the attempt lost. Its parts are those that an
+    // earlier turn left, or are made here.
     fn attempt<A: Aggregator + Sync + Drop, F: FnMut()>(
         &mut self,
         alloc: Global,
@@ -198,12 +200,12 @@ impl AgentPart {
         requires pending { IfSome pending.old (IsOffering self.old.id reads.now instrs.now) }
         requires callable { F.IsAlwaysCallable between.old }
 
-        // The agent stays itself, and as it was where memory was refused.
+        // The agent stays itself, and unchanged where memory was refused.
         ensures part { IsPartOf A.meaning storage.now self.new }
         ensures id { self.new.id ≡ self.old.id }
         ensures err { OnErr result (agent_of storage.now self.new ≡ agent_of storage.now self.old) }
 
-        // The offer won or lost, and what a lost one offered is kept.
+        // The attempt won or lost, and the parts of a lost one are retained.
         ensures won { IfOk result (λ o. IfSome o (HasWon storage.now self.old self.new reads.now instrs.now)) }
         ensures lost { IfOk result (λ o. IfNone o (IsLost storage.now self.old self.new)) }
         ensures pending { IfSome pending.new (IsOffering self.old.id reads.now instrs.now) }
@@ -214,7 +216,7 @@ impl AgentPart {
         ensures called { IfOk result (λ o. F.step between.old tt between.new) }
         ensures uncalled { OnErr result (between.new ≡ between.old) }
     {
-        // The capacity is a `u32`: the sum below needs it.
+        // Proof: the capacity is a `u32`: the sum below needs it.
         let _capacity = storage.row().capacity();
         let number = self.progress.seen_len() + 1;
         let offering = Offering::take(pending, alloc, self.id, reads, instrs)?;
@@ -228,8 +230,8 @@ impl AgentPart {
         }
     }
 
-    // One turn of a fire: the reply, or None where an offer was lost. Where a scan was overtaken, the call that is
-    // judged and kept is the one that names what was written, so it is stale.
+    // One turn of a fire: the reply, or None if an attempt was lost. If a scan was overtaken, the call that is judged
+    // and recorded is the one that declares what was written, so it is stale.
     fn turn<A: Aggregator + Sync + Drop, F: FnMut()>(
         &mut self,
         alloc: Global,
@@ -250,7 +252,7 @@ impl AgentPart {
         ensures seen { IsPrefix self.old.progress.seen self.new.progress.seen }
         ensures err { OnErr result (LooksOn A.meaning storage.now self.old self.new) }
 
-        // It was answered, or an offer was lost, and what that offered is kept.
+        // It was answered, or an attempt was lost, and its parts are retained.
         ensures turn { IfOk result (
             IsTurnOver A.meaning storage.now self.old self.new reads.now scans.now instrs.now) }
         ensures stands { IfOk result (λ o. IfSome o (StandsAfter (agent_of storage.now self.old)
@@ -260,7 +262,7 @@ impl AgentPart {
         ensures onward { self.old.state.number ≤ self.new.state.number }
         ensures pending { IfSome pending.new (IsOffering self.old.id reads.now instrs.now) }
 
-        // Offers and misses are counted, and the closure was called as often as offers were made.
+        // Attempts and misses are counted, and the closure was called as often as there were attempts.
         ensures counted { HasOffered (agent_of storage.now self.old) (agent_of storage.now self.new)
             (offers_in result) (misses_in (agent_of storage.now self.new) result) }
         ensures callable { F.IsAlwaysCallable between.new }
@@ -277,8 +279,9 @@ impl AgentPart {
         }
     }
 
-    /// Turns until one is answered, at most 64. The closure is called as often as offers are made. What is offered is
-    /// made once.
+    /// Take turns until one answers, at most 64.
+    ///
+    /// The closure is called as often as there are attempts. The entry to append is made once.
     pub(crate) fn fire<A: Aggregator + Sync + Drop, F: FnMut()>(
         &mut self,
         alloc: Global,
@@ -313,8 +316,13 @@ impl AgentPart {
         })
     }
 
-    /// Fires a move of the agent whose part this is, on the storage that it came from, as `Agent::try_fire_over_with`
-    /// does, with the same answers and errors. Its receipt shares the list of the reads, which isn't copied.
+    /// Fire a move of the part's agent, as `Agent::try_fire_over_with` does.
+    ///
+    /// The part came from this storage. Its receipt shares the list of the reads, which isn't copied.
+    ///
+    /// # Errors
+    ///
+    /// - Those of `Agent::try_fire_over_with`.
     pub fn try_fire_over<A: Aggregator + Sync + Drop, F: FnMut()>(
         &mut self,
         alloc: Global,

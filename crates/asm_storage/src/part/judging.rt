@@ -15,7 +15,7 @@ use std::alloc::{AllocError, Global};
 // The most instructions of a move that is judged without a state.
 const MOST_PLAIN: usize = 16;
 
-// What is answered to a move against which nothing stands.
+// The answer to a move that is neither stale nor a clash.
 fn full_or_none(is_full: bool) -> Option<Reply>
     ensures { result ≡ if is_full then Some reply.Full else None }
 {
@@ -41,7 +41,7 @@ pub(crate) fn judged<A: Aggregator>(
     }
 }
 
-// Whether a move rests on no read and no old value, so that it is judged alike on every state. A wide one is
+// Whether a move depends on no read and no old value, so that it is judged alike on every state. A wide one is
 // judged on a state all the same, which costs less than `consistent` does.
 pub(crate) fn is_plain(reads: &[Named], instrs: &Instructions) -> bool
     ensures { result ≡ is_plain reads.now instrs.now }

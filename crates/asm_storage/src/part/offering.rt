@@ -8,7 +8,9 @@ use asm_state::Named;
 use asm_update::Instructions;
 use std::alloc::{AllocError, Global};
 
-/// What a fire offers, and the call of its receipt. A turn that lost its offer leaves both to the next one.
+/// The entry that a fire attempts to append, and the call of its receipt.
+///
+/// A turn that lost its attempt leaves both to the next one.
 #[derive(Drop)]
 pub(crate) struct Offering {
     pub(crate) entry: Box<Entry>,
@@ -34,7 +36,7 @@ impl Offering {
         Ok(Offering { entry, call })
     }
 
-    /// The one that a lost turn left, or else a new one.
+    /// Return the one that a lost turn left, or else a new one.
     pub(crate) fn take(
         pending: &mut Option<Offering>,
         alloc: Global,

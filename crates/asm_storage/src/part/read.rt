@@ -39,7 +39,7 @@ fn copied_values<L: Lookup>(
     Items::shared(alloc, values)
 }
 
-// The values of the locations, in their order: the earlier list, where they are as they were, or else copies.
+// The values of the locations, in their order: the earlier list, where they are unchanged, or else copies.
 fn values_again<L: Lookup>(
     alloc: Global,
     lookup: &L,
@@ -82,7 +82,9 @@ impl AgentPart {
         values_again(alloc, &self.state, places, earlier)
     }
 
-    /// The locations with their values after the moves that the state has followed, without a look or a receipt.
+    /// Return the locations with their values after the moves that the state followed.
+    ///
+    /// It neither polls nor adds a receipt.
     pub(crate) fn peek<A: Aggregator + Sync + Drop>(
         &self,
         alloc: Global,
@@ -128,7 +130,9 @@ impl AgentPart {
         self.keep(storage, Call::Read(places), answer, reading.number)
     }
 
-    /// Reads the locations from the agent's own state, which isn't behind its receipts, and keeps a receipt of that.
+    /// Read the locations from the agent's own state, and add a receipt of that.
+    ///
+    /// The state isn't behind its receipts.
     pub(crate) fn read_own<A: Aggregator + Sync + Drop>(
         &mut self,
         alloc: Global,
@@ -147,7 +151,7 @@ impl AgentPart {
         Ok(reading)
     }
 
-    // Whether no further receipt may stand where the state does.
+    // Whether the state is behind the receipts, so that no further one may be at its version.
     fn is_behind(&self) -> bool
         ensures { IsTrue result ↔ self.now.state.number < next_stood 0 self.now.receipts.items }
     {
@@ -157,8 +161,13 @@ impl AgentPart {
         }
     }
 
-    /// Adds a receipt of a read of at most 256 locations from the agent's own state, as `Agent::recall` does. The part
-    /// came from this storage.
+    /// Read at most 256 locations from its own state, as `Agent::recall` does.
+    ///
+    /// The part came from this storage. The call adds a receipt.
+    ///
+    /// # Errors
+    ///
+    /// - Those of `Agent::recall`.
     pub fn recall<A: Aggregator + Sync + Drop>(
         &mut self,
         alloc: Global,
@@ -184,7 +193,7 @@ impl AgentPart {
         Ok(reading)
     }
 
-    /// The least of the named locations that is stale after all moves that were seen.
+    /// Return the smallest of the declared locations that is stale after all seen moves.
     pub(crate) fn stale_read<A: Aggregator + Sync + Drop>(
         &self,
         alloc: Global,

@@ -18,7 +18,7 @@ use asm_state::{Named, Scanned, State};
 use asm_update::{Aggregator, Instructions};
 use std::alloc::{AllocError, Global};
 
-// Whether a move rests on no read, no scan and no old value.
+// Whether a move depends on no read, no scan and no old value.
 pub(crate) fn is_plain_over(reads: &[Named], scans: &[Scanned], instrs: &Instructions) -> bool
     ensures { result ≡ is_plain_over reads.now scans.now instrs.now }
 {
@@ -28,8 +28,8 @@ pub(crate) fn is_plain_over(reads: &[Named], scans: &[Scanned], instrs: &Instruc
     }
 }
 
-// The first of the scans that a move has overtaken: the least location of its name that was written since, at the
-// scan's number.
+// The first of the scans that a move has overtaken: the smallest location of its name that was written since, at
+// the scan's number.
 fn first_overtaken(
     alloc: Global,
     state: &State,
@@ -54,8 +54,10 @@ fn first_overtaken(
 }
 
 impl AgentPart {
-    /// The reads that a fire names: those that it was handed, and behind them a location that was written since one
-    /// of the scans, if there is one.
+    /// Return the reads that a fire declares.
+    ///
+    /// They are those that it was passed, and after them a location that was written since one of the scans, if there
+    /// is one.
     pub(crate) fn named_over<A: Aggregator + Sync + Drop>(
         &self,
         alloc: Global,
