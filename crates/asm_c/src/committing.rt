@@ -1,4 +1,4 @@
-//! Firing the one move of a step.
+//! Firing the one move of a step, with or without a receipt of what the step read.
 ghost use Rattle.std.specs.Prelude.{◌≡◌, ◌≢◌, ◌∷◌, [], None, Some};
 ghost use Rattle.asm_slots.specs.Codes.{IsOneOf, ASM_DONE, ASM_EMPTY, ASM_MEMORY, ASM_SMALL};
 ghost use Rattle.asm_slots.specs.Commit.{Commits, CommitsRecorded};
@@ -25,16 +25,22 @@ fn end_step(alloc: Global, step: &mut Slot, held: Box<Content>, code: i32)
     }
 }
 
-/// Fires the one move that does what the pushed moves do in turn, with each location named that was got, and each
-/// that a pushed move with partial updates alone writes first and another one later, at the step's number: the codes,
-/// numbers and receipt of `asm_try_fire`. It rests on each function that was scanned too: `ASM_STALE` comes also where a
-/// later move wrote a location of one, be it one that had no value. The receipt of that names the least of these, behind
-/// the others, at the step's number.
+/// Fires the one move that does what the pushed moves do in turn.
 ///
-/// With `ASM_DONE` the step is over, and its slot is empty. After any other code it stayed as it was. `ASM_MANY`:
-/// the locations that would be named and the functions that were scanned are more than 256 together. `ASM_EMPTY`: the
-/// first slot has no agent, the second no step, or the two are one. Where it fires, all that was got, scanned and seen
-/// through the pushed moves stands as if it were read at that moment. The step has to be one of the agent's storage.
+/// It names, at the step's number, each tracked location, and each that one pushed move writes with partial updates alone
+/// and a later one writes too. It covers each scanned function. Codes, numbers and receipt are those of `asm_try_fire`.
+/// Where it fires, all that was got, scanned and seen through the pushed moves is as if it were read at that moment. The
+/// step has to be one of the agent's storage.
+///
+/// With `ASM_DONE` the step is over, and its slot is empty. After any other code it is unchanged.
+///
+/// # Errors
+///
+/// - `ASM_STALE`: also where a later move wrote a location of a scanned function, including one that had no value. The
+///   receipt names the smallest of these, behind the others, at the step's number.
+/// - `ASM_MANY`: the locations that it would name and the scanned functions are more than 256 together.
+/// - `ASM_EMPTY`: the first slot has no agent, the second no step, or the two are one.
+/// - `ASM_CLASH`, `ASM_FULL`, `ASM_BUSY`, `ASM_MEMORY`: as of `asm_try_fire`.
 #[unsafe(no_mangle)]
 pub extern "C" fn asm_commit(
     alloc: Global,
@@ -60,13 +66,20 @@ pub extern "C" fn asm_commit(
     code
 }
 
-/// Adds a receipt of a read of all that `asm_commit` names, at the step's number, with the values in the agent's own
-/// state, and then fires as `asm_commit` does. So the journal has what the step read, in front of its fire.
+/// Adds a receipt of a read of what the step depends on, and then fires as `asm_commit` does.
 ///
-/// `ASM_MOVED`: the agent's own state isn't at the step's number, or is behind the agent's receipts, so begin the step
-/// again. `ASM_MANY` comes before the read's receipt. After these two codes nothing has changed. The other codes and the
-/// numbers are those of `asm_commit`. With `ASM_STALE`, `ASM_CLASH`, `ASM_BUSY` and `ASM_FULL` the read's receipt is there,
-/// and with `ASM_MEMORY` it may be: it is a legal read.
+/// The read has the locations that the fire names, in its order, with their values in the agent's own state at the step's
+/// number. So the journal has what the step read in front of its fire. It has none of the scanned functions. The
+/// numbers, and what becomes of the step, are as of `asm_commit`.
+///
+/// # Errors
+///
+/// - `ASM_MANY`: as of `asm_commit`, and nothing changes.
+/// - `ASM_MOVED`: the agent's own state isn't at the step's number, or is behind the agent's receipts; nothing changes.
+///   Begin the step again.
+/// - `ASM_EMPTY`: as of `asm_commit`.
+/// - `ASM_STALE`, `ASM_CLASH`, `ASM_FULL`, `ASM_BUSY`: as of `asm_commit`. The receipt of the read stays: it is a legal read.
+/// - `ASM_MEMORY`: nothing was fired. The agent may have the receipt of the read.
 #[unsafe(no_mangle)]
 pub extern "C" fn asm_commit_recorded(
     alloc: Global,
@@ -92,12 +105,19 @@ pub extern "C" fn asm_commit_recorded(
     code
 }
 
-/// Writes `{"fire":[INSTR, ..],"reads":[NAMED, ..]}`: the one move that does what the pushed moves do in turn, and each location
-/// that a commit of the step would name, with the step's number. `asm_try_fire` takes it, where these are at most 256.
+/// Writes `{"fire":[INSTR, ..],"reads":[NAMED, ..]}`, which is what a commit would fire.
 ///
-/// It tells what the step rests on by now, but for the functions that were scanned, on which its commit rests too. It makes
-/// no look and no receipt, and the slot stays as it was. `ASM_SMALL`: `written` is the room that it needs. `ASM_EMPTY`:
-/// the slot has no step. `ASM_MEMORY`.
+/// It has the one move that does what the pushed moves do in turn, and each location that a commit of the step would name,
+/// with the step's number. `asm_try_fire` takes it, if these are at most 256.
+///
+/// These are what the step depends on by now, except the scanned functions, on which its commit depends too. The call
+/// makes no poll and no receipt, and the slot is unchanged.
+///
+/// # Errors
+///
+/// - `ASM_SMALL`: `written` is the room that it needs.
+/// - `ASM_EMPTY`: the slot has no step.
+/// - `ASM_MEMORY`
 #[unsafe(no_mangle)]
 pub extern "C" fn asm_offer(
     alloc: Global,

@@ -1,5 +1,5 @@
 -- Where the one move of a step fires, the pushed moves fire in turn there.
-use Rattle.std.proofs.Common.{IsTrue, string_bytes, Option, Some, None, Result, IfOk, OnErr, IfErr, IsErrOf, unwrap_or, ℤ, ◌≡◌, ◌≤◌, ◌<◌, ◌↔◌, ◌+◌, ◌-◌, ◌⊎◌, ⊎_elim, inl, inr, ℕ, zero, suc, List, [], ◌∷◌, All, Ok, Err, Contains, length, map, take, get_or, arith, ap, refl, subst, sym, ◌∙◌, absurd}
+use Rattle.std.proofs.Common.{IsTrue, string_bytes, Option, Some, None, Result, IfOk, OnErr, IfErr, IsErrOf, unwrap_or, ℤ, ◌≡◌, ◌≤◌, ◌<◌, ◌↔◌, ◌+◌, ◌-◌, ◌⊎◌, ⊎_elim, inl, inr, ℕ, zero, suc, List, [], ◌∷◌, All, Ok, Err, Contains, length, map, take, get_or, arith, ap, refl, subst, sym, ◌∙◌}
 use Rattle.std.proofs.lemmas.List.{length-map, length-take}
 use Rattle.std.proofs.lemmas.List.Elements.{All-contains, All-map, Contains-append_left, Contains-append_right}
 use Rattle.asm_update.specs.Fire.{Old, fire, state_of}
@@ -25,24 +25,23 @@ use Rattle.asm_aggregate.specs.laws.SetLaws.{set_laws}
 use Rattle.asm_storage.proofs.AgentKept.{take-moves_seen}
 use Rattle.asm_storage.proofs.Lists.{length-prefix}
 use Rattle.asm_storage.specs.Agents.{moves_seen}
-use Rattle.asm_storage.specs.Calls.{IsReplied, IsBusy, IsCoherentReply, IsRecall, MadeOffers, ReadingView, read_answer, receipt_at}
+use Rattle.asm_storage.specs.Calls.{IsReplied, IsBusy, IsCoherentReply, MadeOffers}
 use Rattle.asm_storage.specs.Machine.{fire_reply, firing_reply, machine_state, reply_to, Machine}
 use Rattle.asm_state.specs.Verdict.{least_stale}
-use Rattle.asm_storage.specs.Storage.{AgentAt, IsSameAgent, StorageView, machine_of, with_receipt}
+use Rattle.asm_storage.specs.Storage.{AgentAt, StorageView, machine_of}
 use Rattle.asm_storage.specs.declared.call.Answer.TheVariants as answer
 use Rattle.asm_storage.specs.declared.call.Call.TheVariants as call
 use Rattle.asm_storage.specs.declared.call.Reply.{Reply}
 use Rattle.asm_storage.specs.declared.call.Reply.TheVariants.{Clash, Fired, Full, Stale}
 use Rattle.asm_storage.specs.declared.error.FireError.{FireError}
 use Rattle.asm_storage.specs.declared.error.FireError.TheVariants.{Busy, ManyReads, Memory}
-use Rattle.asm_storage.specs.declared.receipt.Receipt.{Receipt}
 use Rattle.asm_storage.specs.Limits.{reads_limit}
 use Rattle.asm_storage.specs.declared.entry.Entry.{Entry}
 use Rattle.asm_storage.specs.Scans.{with_found, IsKept}
-use Rattle.asm_slots.specs.AgentCalls.{HasLooked, IsRepliedOver, MissedFew, MissedOne, SeesOn, code_of}
-use Rattle.asm_slots.specs.Codes.{IsOneOf, ASM_DONE, ASM_STALE, ASM_CLASH, ASM_MEMORY, ASM_FULL, ASM_BUSY, ASM_MANY, ASM_MOVED}
-use Rattle.asm_slots.specs.Commit.{AreWhole, FiresAll, GotStands, HasFiredStep, HasMoved, HasRecorded, HasRecordedNothing, HasRecordedStep}
-use Rattle.asm_slots.specs.Commit.{NamesAll, NamesMany, OneDoesAll, ScansAll, StandsAs, TellsFire, TellsUnrecorded}
+use Rattle.asm_slots.specs.AgentCalls.{HasLooked, IsRepliedOver, code_of}
+use Rattle.asm_slots.specs.Codes.{IsOneOf, ASM_DONE, ASM_STALE, ASM_CLASH, ASM_MEMORY, ASM_FULL, ASM_BUSY, ASM_MANY}
+use Rattle.asm_slots.specs.Commit.{AreWhole, FiresAll, GotStands, HasFiredStep, HasMoved, HasRecorded, HasRecordedStep}
+use Rattle.asm_slots.specs.Commit.{NamesAll, NamesMany, OneDoesAll, ScansAll, StandsAs, TellsFire}
 use Rattle.asm_slots.specs.OwnState.{state_at}
 use Rattle.asm_slots.specs.Standard.{Standard, meaning, part, standard}
 use Rattle.asm_slots.specs.StepView.{StepView, names_of}
@@ -253,84 +252,49 @@ pub many_named : (s : StepView) (answer : Result Reply FireError) (code : ℤ) (
     (IsErrOf answer ManyReads ↔ (reads_limit < length reads + length scans)) → code ≡ ASM_MANY → NamesMany s reads
 many_named s answer code fired from to reads scans scanned told many is =
     let more = many.0 (many_told answer code fired from to told is) in
-    let count = sym (ap length scanned.names) ∙ length-map (λ (x : Scanned). string_bytes x.name) scans in
+    let count = sym (ap length scanned.names) ∙ length-map scans (λ (x : Scanned). string_bytes x.name) in
     omega (arith, more, count)
 
 -- the step's one move does what its moves do in turn
 pub does_all : (a : AgentAt Standard) (s : StepView) → OneDoesAll a s
 does_all a s groups is = one_does part (below a s) s.layers groups (unwrap_or (one_move s.layers) []) is.1 refl
 
--- the codes of a fire, and those of a commit that records
-abbrev fire_codes : List ℤ
-fire_codes = ASM_DONE ∷ ASM_STALE ∷ ASM_CLASH ∷ ASM_MEMORY ∷ ASM_FULL ∷ ASM_BUSY ∷ []
-
-abbrev all_codes : List ℤ
-all_codes = ASM_DONE ∷ ASM_STALE ∷ ASM_CLASH ∷ ASM_MEMORY ∷ ASM_FULL ∷ ASM_BUSY ∷ ASM_MANY ∷ ASM_MOVED ∷ []
-
 -- a fire that doesn't name too much has another code
 without_many : (code : ℤ) → (code ≡ ASM_MANY → ⊥) →
-    IsOneOf (ASM_DONE ∷ ASM_STALE ∷ ASM_CLASH ∷ ASM_MEMORY ∷ ASM_FULL ∷ ASM_BUSY ∷ ASM_MANY ∷ []) code → IsOneOf fire_codes code
-without_many code other codes = search (rules, other, codes)
+    IsOneOf (ASM_DONE ∷ ASM_STALE ∷ ASM_CLASH ∷ ASM_MEMORY ∷ ASM_FULL ∷ ASM_BUSY ∷ ASM_MANY ∷ []) code →
+    IsOneOf (ASM_DONE ∷ ASM_STALE ∷ ASM_CLASH ∷ ASM_MEMORY ∷ ASM_FULL ∷ ASM_BUSY ∷ []) code
+without_many code other (inl is) = inl is
+without_many code other (inr (inl is)) = inr (inl is)
+without_many code other (inr (inr (inl is))) = inr (inr (inl is))
+without_many code other (inr (inr (inr (inl is)))) = inr (inr (inr (inl is)))
+without_many code other (inr (inr (inr (inr (inl is))))) = inr (inr (inr (inr (inl is))))
+without_many code other (inr (inr (inr (inr (inr (inl is)))))) = inr (inr (inr (inr (inr (inl is)))))
+without_many code other (inr (inr (inr (inr (inr (inr (inl is))))))) = absurd (other is)
+without_many code other (inr (inr (inr (inr (inr (inr (inr none))))))) = absurd none
 
-with_all : (code : ℤ) → IsOneOf fire_codes code → IsOneOf all_codes code
-with_all code codes = search (rules, codes)
+-- the agent that has the receipt of the read has the step on the same groups of moves
+step_between : (s : StepView) (reads : List Named) (old between : AgentAt Standard) → HasRecorded s reads old between →
+    (groups : List (List Move)) → IsStepOn old s groups → IsStepOn between s groups
+step_between s reads old between recorded groups on =
+    subst (λ (a : AgentAt Standard). IsStepOn a s groups) (sym recorded.1.agent) on
 
-not_refused : (code : ℤ) → IsOneOf fire_codes code → ¬ IsOneOf (ASM_MANY ∷ ASM_MOVED ∷ []) code
-not_refused code codes is = search (rules, codes, is)
-
--- the agent that has the receipt of the read is the same agent, which has seen as much
-module _ (s : StepView) (reads : List Named) (old between new : AgentAt Standard) (recorded : HasRecorded s reads old between) where
-  abbrev the_receipt : Receipt
-  the_receipt = receipt_at recorded.0.number (call.Read (map (λ x. x.at) reads)) (read_answer recorded.0)
-
-  is : between ≡ with_receipt old the_receipt
-  is = recorded.1.agent
-
-  pub same_before : IsSameAgent between new → IsSameAgent old new
-  same_before same =
-      let it : IsSameAgent (with_receipt old the_receipt) new = subst (λ (a : AgentAt Standard). IsSameAgent a new) is same in
-      record { storage = it.storage; id = it.id }
-
-  pub seen_before : SeesOn between new → SeesOn old new
-  seen_before seen = subst (λ (a : AgentAt Standard). SeesOn a new) is seen
-
-  pub few_before : MissedFew between new → MissedFew old new
-  few_before few = subst (λ (a : AgentAt Standard). MissedFew a new) is few
-
-  pub missed_before : MissedOne between new → MissedOne old new
-  missed_before missed = subst (λ (a : AgentAt Standard). MissedOne a new) is missed
-
-  pub step_between : (groups : List (List Move)) → IsStepOn old s groups → IsStepOn between s groups
-  step_between groups on = subst (λ (a : AgentAt Standard). IsStepOn a s groups) (sym is) on
-
--- the fire of an agent that has the receipt of the read
-module _ (s : StepView) (code : ℤ) (fired from to : ℕ) (old between new : AgentAt Standard) (reads : List Named)
-    (few : ¬ NamesMany s reads) (many : code ≡ ASM_MANY → NamesMany s reads)
-    (codes : IsOneOf (ASM_DONE ∷ ASM_STALE ∷ ASM_CLASH ∷ ASM_MEMORY ∷ ASM_FULL ∷ ASM_BUSY ∷ ASM_MANY ∷ []) code) where
-  of_fire : IsOneOf fire_codes code
-  of_fire = without_many code (λ is. few (many is)) codes
-
-  pub recorded_step : NamesAll s reads → ¬ HasMoved old s → HasRecorded s reads old between →
-      HasFiredStep s code fired from to between new → HasRecordedStep s code fired from to old new
-  recorded_step names there recorded committed = record {
-    reads = reads;
-    names = names;
-    few = few;
-    there = there;
-    between = between;
-    recorded = recorded;
-    step = step_between s reads old between new recorded;
-    codes = of_fire;
-    committed = committed;
-  }
-
-  pub recorded_code : IsOneOf all_codes code
-  recorded_code = with_all code of_fire
-
-  pub recorded_not_refused : ¬ IsOneOf (ASM_MANY ∷ ASM_MOVED ∷ []) code
-  recorded_not_refused = not_refused code of_fire
-
--- where nothing was recorded
-pub unrecorded : (s : StepView) (reads : List Named) (code : ℤ) (a : AgentAt Standard) → NamesAll s reads →
-    (code ≡ ASM_MEMORY) ⊎ TellsUnrecorded a s reads code → HasRecordedNothing s code a
-unrecorded s reads code a names why = ⊎_elim (λ none. inl none) (λ told. inr (reads, names, told)) why
+-- a fire of the agent that has the receipt of the read, of the same reads
+pub recorded_step : (s : StepView) (code : ℤ) (fired from to : ℕ) (old between new : AgentAt Standard) (lent reads : List Named) →
+    lent ≡ reads → NamesAll s reads → ¬ NamesMany s lent → ¬ HasMoved old s → HasRecorded s lent old between →
+    (code ≡ ASM_MANY → NamesMany s reads) →
+    IsOneOf (ASM_DONE ∷ ASM_STALE ∷ ASM_CLASH ∷ ASM_MEMORY ∷ ASM_FULL ∷ ASM_BUSY ∷ ASM_MANY ∷ []) code →
+    HasFiredStep s code fired from to between new → HasRecordedStep s code fired from to old new
+recorded_step s code fired from to old between new lent reads same names few there recorded many codes committed =
+    let few : ¬ NamesMany s reads = subst (λ (r : List Named). ¬ NamesMany s r) same few in
+    let recorded : HasRecorded s reads old between = subst (λ (r : List Named). HasRecorded s r old between) same recorded in
+    record {
+      reads = reads;
+      names = names;
+      few = few;
+      there = there;
+      between = between;
+      recorded = recorded;
+      step = step_between s reads old between recorded;
+      codes = without_many code (λ is. few (many is)) codes;
+      committed = committed;
+    }

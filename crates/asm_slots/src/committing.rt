@@ -140,6 +140,7 @@ fn record_reads(
 }
 
 // Adds a receipt of a read of all that the step's one move depends on, and then fires the move.
+#[tactic(auto, using(crate::proofs::Commits::does_all))]
 fn fire_recorded(alloc: Global, agent: &mut OwnedAgent, step: &OwnedStep) -> (i32, Numbers)
     ensures committed { HasCommittedRecorded step.now result.0 result.1.fired result.1.from result.1.to agent.old agent.new }
     ensures codes { IsOneOf (ASM_DONE ∷ ASM_STALE ∷ ASM_CLASH ∷ ASM_MEMORY ∷ ASM_FULL ∷ ASM_BUSY ∷ ASM_MANY ∷ ASM_MOVED ∷ []) result.0 }
