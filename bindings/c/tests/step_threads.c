@@ -10,8 +10,12 @@
 enum { AGENTS = 8, ACCOUNTS = 4, STORAGES = 2 };
 enum { KIB = 1024, STACK = 256 * KIB, PLAIN = 16 * KIB, FORMED = 40 * KIB, DEEP = 112 * KIB };
 
-#ifndef TIMES
+/* With fewer TIMES it runs under valgrind, where nobody may read what a stack held. */
+#ifdef TIMES
+enum { MEASURES = false };
+#else
 #define TIMES 200
+enum { MEASURES = true };
 #endif
 
 typedef struct worker {
@@ -260,7 +264,8 @@ int main(void) {
     }
     for (int round = 0; round < STORAGES; round++)
         asm_free_storage(&storages[round]);
-    small_stacks();
+    if (MEASURES)
+        small_stacks();
     puts("passed");
     return 0;
 }
