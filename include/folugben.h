@@ -31,9 +31,9 @@
  *    storage, what is got and committed has no meaning, and no code reports it. ASM_OTHER reports a
  *    mistake, except possibly while other threads are in asm_learn, asm_take_state or asm_give on
  *    both storages. The behaviour is undefined where a mistake isn't reported.
- *  - Stack. A call without text took less than 16 KiB of its thread's stack, and one with texts up to
- *    84 KiB, that of a text which is nested as deep as any is read; both were measured. So a thread
- *    that makes calls with texts has 128 KiB or more.
+ *  - Stack. A call without text took less than 16 KiB of its thread's stack, one with well-formed
+ *    texts less than 40 KiB, and one with a text that is nested as deep as any is read up to 84 KiB;
+ *    all were measured. So a thread that makes calls with texts has 128 KiB or more.
  *  - malloc, realloc and free are of one allocator, and malloc aligns a block to each power of two
  *    up to 16 that divides its size.
  *  - The platform has pointers and size_t of 64 bits. ./build_c builds for Linux on x86-64

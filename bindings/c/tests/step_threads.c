@@ -1,15 +1,21 @@
 /* Eight agents, each on a thread of its own, move amounts between shared accounts by steps, and
  * count them on counters that they share. What a step rests on and another agent writes makes it
  * stale, so that nothing is lost: the sums are right in each of two storages, of which the second
- * goes on where the first ended, and both journals are legal. */
+ * goes on where the first ended, and both journals are legal. Then a thread makes calls, which have
+ * to take no more of its stack than folugben.h says. */
 #include "tests.h"
 
 #include <pthread.h>
 
 enum { AGENTS = 8, ACCOUNTS = 4, STORAGES = 2 };
+enum { KIB = 1024, STACK = 256 * KIB, PLAIN = 16 * KIB, FORMED = 40 * KIB, DEEP = 112 * KIB };
 
-#ifndef TIMES
+/* With fewer TIMES it runs under valgrind, where nobody may read what a stack held. */
+#ifdef TIMES
+enum { MEASURES = false };
+#else
 #define TIMES 200
+enum { MEASURES = true };
 #endif
 
 typedef struct worker {
@@ -128,6 +134,116 @@ static void open_first(struct asm_storage *storage) {
     open_with(init, AGENTS * TIMES, storage);
 }
 
+static _Alignas(4096) uint8_t stack[STACK];
+static uintptr_t top;
+
+/* A list as deep as one may be, and a text that is nested as deep as any is read. */
+#define PAIR_OF_LISTS "{'list':[{'list':["
+#define PAIR_OF_ENDS "]}]}"
+#define LIST                                                                                       \
+    PAIR_OF_LISTS PAIR_OF_LISTS PAIR_OF_LISTS PAIR_OF_LISTS PAIR_OF_ENDS PAIR_OF_ENDS PAIR_OF_ENDS \
+        PAIR_OF_ENDS
+enum { DEEPEST = 127 };
+static char deep[2 * DEEPEST];
+
+static void *calls_on_stack(void *argument) {
+    uint8_t here;
+    top = (uintptr_t)&here;
+    void (**calls)(void) = argument;
+    (*calls)();
+    return NULL;
+}
+
+/* How many bytes of a thread's stack the calls take. */
+static size_t stack_of(void (*calls)(void)) {
+    pthread_attr_t attributes;
+    pthread_t thread;
+    size_t lowest = 0;
+    memset(stack, UNTOUCHED, sizeof stack);
+    REQUIRE(!pthread_attr_init(&attributes));
+    REQUIRE(!pthread_attr_setstack(&attributes, stack, STACK));
+    REQUIRE(!pthread_create(&thread, &attributes, calls_on_stack, &calls));
+    REQUIRE(!pthread_join(thread, NULL) && !pthread_attr_destroy(&attributes));
+    while (stack[lowest] == UNTOUCHED)
+        lowest++;
+    return (size_t)(top - (uintptr_t)(stack + lowest));
+}
+
+/* Calls without text. */
+static void plain_calls(void) {
+    static struct asm_storage storage;
+    static struct asm_agent agents[2];
+    static struct asm_location at;
+    static struct asm_move move;
+    static struct asm_step step;
+    uint32_t number;
+    size_t written;
+    asm_value value;
+    asm_numbers numbers;
+    if (!storage.slot.full) {
+        open_with("[[['x'],1]]", 4, &storage);
+        REQUIRE(asm_location(TEXT("['x']"), &at) == ASM_DONE);
+        return;
+    }
+    REQUIRE(asm_agents(&storage, agents, 2) == ASM_DONE);
+    REQUIRE(asm_begin(&agents[0], &step, &number) == ASM_DONE);
+    REQUIRE(asm_get_at(&agents[0], &step, &at, &value, NULL, 0, &written) == ASM_DONE);
+    REQUIRE(asm_instruct(&move, &at, ASM_INC, ASM_KIND_NUM, 2, NULL, 0, 0) == ASM_DONE);
+    REQUIRE(asm_push_move(&agents[0], &step, &move, NULL, 0, &written) == ASM_DONE);
+    REQUIRE(asm_extend_move(&agents[0], &step, &move, NULL, 0, &written) == ASM_DONE);
+    REQUIRE(asm_commit(&agents[0], &step, &numbers) == ASM_DONE);
+    REQUIRE(asm_learn(&agents[1], &agents[0]) == ASM_DONE);
+    REQUIRE(asm_follow(&agents[1], &number) == ASM_DONE && number == 1);
+    REQUIRE(asm_peek_at(&agents[1], &at, &number, &value, NULL, 0, &written) == ASM_DONE);
+    REQUIRE(value.kind == ASM_KIND_NUM && value.number == 5);
+    asm_free_move(&move);
+    asm_free_location(&at);
+    REQUIRE(asm_give(&storage, &agents[0]) == ASM_DONE);
+    REQUIRE(asm_give(&storage, &agents[1]) == ASM_DONE);
+    REQUIRE(asm_close(&storage, &number) == ASM_DONE);
+    asm_free_storage(&storage);
+}
+
+/* Calls with texts that have spaces, so that they are read as any JSON. */
+static void formed_calls(void) {
+    static uint8_t journal[LONGEST], text[LONGEST];
+    struct asm_storage storage = {0};
+    struct asm_agent agent = {0};
+    uint64_t calls, line;
+    uint32_t number;
+    size_t length, written;
+    asm_numbers numbers;
+    open_with("[ [['x'," LIST "],{'set':[" LIST "]}]]", 4, &storage);
+    REQUIRE(asm_agent(&storage, 0, &agent) == ASM_DONE);
+    REQUIRE(asm_read(&agent, TEXT("[ ['x'," LIST "]]")) == ASM_DONE);
+    REQUIRE(asm_answer(&agent, text, sizeof text, &written) == ASM_DONE);
+    const char *fire = "{'fire': [['put',['x'," LIST "],{'set':[" LIST "]}]],'reads':[]}";
+    REQUIRE(asm_try_fire(&agent, TEXT(fire), &numbers) == ASM_DONE);
+    REQUIRE(asm_give(&storage, &agent) == ASM_DONE && asm_close(&storage, &number) == ASM_DONE);
+    REQUIRE(asm_journal(&storage, journal, sizeof journal - 1, &length) == ASM_DONE);
+    /* A space at the end of a line is no compact JSON. */
+    journal[length - 1] = ' ';
+    journal[length++] = '\n';
+    REQUIRE(asm_check(journal, length, &calls, &number) == ASM_DONE && calls == 2);
+    REQUIRE(asm_replay(journal, length, text, sizeof text, &written, &line) == ASM_DONE);
+    asm_free_storage(&storage);
+}
+
+static void deep_calls(void) {
+    struct asm_storage storage = {0};
+    REQUIRE(asm_open(bytes(deep), sizeof deep, 4, &storage) == ASM_SHAPE);
+}
+
+static void small_stacks(void) {
+    memset(deep, '[', DEEPEST);
+    memset(deep + DEEPEST, ']', DEEPEST);
+    plain_calls();
+    size_t plain = stack_of(plain_calls), formed = stack_of(formed_calls);
+    size_t most = stack_of(deep_calls);
+    fprintf(stderr, "stack: %zu, %zu, %zu bytes\n", plain, formed, most);
+    REQUIRE(plain < PLAIN && formed < FORMED && most < DEEP);
+}
+
 int main(void) {
     static struct asm_storage storages[STORAGES];
     uint64_t calls;
@@ -148,6 +264,8 @@ int main(void) {
     }
     for (int round = 0; round < STORAGES; round++)
         asm_free_storage(&storages[round]);
+    if (MEASURES)
+        small_stacks();
     puts("passed");
     return 0;
 }

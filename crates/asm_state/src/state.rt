@@ -1,4 +1,5 @@
-ghost use Rattle.std.specs.Prelude.{◌≡◌, ◌+◌, ◌<◌, ◌++◌, ◌∷◌, [], List, false, nat_lt};
+ghost use Rattle.std.specs.Prelude.{◌≡◌, ◌+◌, ◌<◌, ◌++◌, ◌∷◌, [], List, false, nat_le, nat_lt};
+ghost use Rattle.std.specs.List.{list_all};
 ghost use Rattle.std.specs.Prelude.{Some, IfOk, IfSome, OnOk, OnErr};
 ghost use Rattle.std.specs.Arc.{arc_value};
 ghost use Rattle.std.specs.FinMap as map;
@@ -15,7 +16,7 @@ ghost use Rattle.asm_state.specs.LeastNamed.{IsLeastNamed, told_stale};
 ghost use Rattle.asm_state.specs.Limits.{followed_limit};
 ghost use Rattle.asm_state.specs.Scans.{is_rewritten, IsLeastOf};
 ghost use Rattle.asm_state.specs.Stands.{Stands, IsLastWriter, is_stale};
-ghost use Rattle.asm_state.specs.Verdict.{IsObjection, IsVerdict, least_named};
+ghost use Rattle.asm_state.specs.Verdict.{IsObjection, IsVerdict, least_named, least_stale};
 
 use crate::entries::{Entries, WrittenValue};
 use crate::in_place::one_change;
@@ -69,6 +70,13 @@ impl Lookup for State {
             None => self.base.get(at),
         }
     }
+}
+
+// Whether all were read at this number or a later one.
+fn are_read_from(number: u32, reads: &[Named]) -> bool
+    ensures { result ≡ list_all (λ r. nat_le number r.number) reads.now }
+{
+    reads.iter().all(|named| number <= named.number)
 }
 
 impl State {
@@ -168,6 +176,17 @@ impl State {
         best
     }
 
+    // The smallest location that was written since it was read; it looks up none where the reads are as new as the state.
+    fn least_overtaken<'a>(&self, reads: &'a [Named]) -> Option<&'a Location>
+        ensures { (part : Part) (init : plain.State) (q : List Move) → Stands part init self.now q →
+            option_copied result ≡ least_stale part init q reads.now }
+    {
+        if are_read_from(self.number(), reads) {
+            return None;
+        }
+        self.least_stale(reads)
+    }
+
     /// Validate a move: return whether it is stale, clashes, or is ready to fire.
     ///
     /// It is stale at the smallest declared location that is stale; else it has its clash, or else its update set. The
@@ -191,7 +210,7 @@ impl State {
             IfOk result (λ verdict. IsLeastNamed (is_stale (A.meaning aggregator.now).part init q) reads.now
             (told_stale verdict)) }
     {
-        match self.least_stale(reads) {
+        match self.least_overtaken(reads) {
             Some(at) => return Ok(Verdict::Stale(at.copy(alloc)?)),
             None => {}
         }
@@ -220,7 +239,7 @@ impl State {
         ensures { (init : plain.State) (q : List Move) → Stands (A.meaning aggregator.now).part init self.now q →
             IsObjection (A.meaning aggregator.now).part init q reads.now instructions.now result }
     {
-        match self.least_stale(reads) {
+        match self.least_overtaken(reads) {
             Some(at) => return Ok(Some(Objection::Stale(at.copy(alloc)?))),
             None => {}
         }
