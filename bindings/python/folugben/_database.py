@@ -26,6 +26,15 @@ _OFD_SETLK = 37
 
 # The calls behind a place.
 _SINCE = "select place, token, segment, agent, call, scans from call where place > ? order by place limit ?"
+# Appends calls in PostgreSQL, and returns what is behind a place: of those that it has appended the place and the token alone.
+_APPEND = """prepare folugben_append(bigint, bigint, bytea[], bigint[], integer[], text[], text[]) as
+    with own as (
+        insert into call select (select coalesce(max(place), 0) from call) + at, token, segment, agent, call, scans
+        from unnest($3, $4, $5, $6, $7) with ordinality as it(token, segment, agent, call, scans, at)
+        on conflict (token) do nothing returning place, token
+    )
+    select place, token, segment, agent, call, scans from call where place > $1
+    union all select place, token, null, null, null, null from own order by place limit $2"""
 
 
 class Lost(Exception):
@@ -46,7 +55,7 @@ class Database(Protocol):
 
     def append(self, calls: Sequence[Sequence[Any]], since: int, most: int) -> list[Any]:
         """Append calls to the log, but those whose token is there; return up to so many rows behind a place, once all is on the
-        disk."""
+        disk. A row of a call that was appended now may have its place and its token alone."""
 
     def transaction(self) -> contextlib.AbstractContextManager[None]:
         """Run what is done within as one transaction, alone, that is on the disk at the end."""
@@ -168,24 +177,39 @@ class Sqlite:
     def append(self, calls: Sequence[Sequence[Any]], since: int, most: int) -> list[Any]:
         if not calls:
             return self.run(_SINCE, (since, most))
-        with self.transaction():
-            ((last,),) = self.run("select coalesce(max(place), 0) from call")
-            self.insert("call", [(last + at, *call) for at, call in enumerate(calls, 1)], "on conflict (token) do nothing")
-            return self.run(_SINCE, (since, most))
+        self._begin()
+        try:
+            ((last,),) = self._db.execute("select coalesce(max(place), 0) from call")
+            rows: list[Any] = [(last + at, *call) for at, call in enumerate(calls, 1)]
+            added = self._db.executemany("insert into call values (?, ?, ?, ?, ?, ?) on conflict (token) do nothing", rows)
+            # Where that place was the last one, and no call was there, these are all that is behind it.
+            if last != since or added.rowcount != len(rows):
+                rows = self.run(_SINCE, (since, most))
+            self._db.execute("commit")
+            return rows[:most]
+        except BaseException:
+            self._roll_back()
+            raise
 
     @contextlib.contextmanager
     def transaction(self) -> Iterator[None]:
-        # Neither SQLite nor a new connection notices a file that was removed.
-        if not os.path.samestat(os.stat(self._path), self._file):
-            raise DamagedError(0, f"{self._path} was removed or replaced")
-        self._db.execute("begin immediate")
+        self._begin()
         try:
             yield
             self._db.execute("commit")
         except BaseException:
-            if self._db.in_transaction:
-                self._db.execute("rollback")
+            self._roll_back()
             raise
+
+    def _begin(self) -> None:
+        # Neither SQLite nor a new connection notices a file that was removed.
+        if not os.path.samestat(os.stat(self._path), self._file):
+            raise DamagedError(0, f"{self._path} was removed or replaced")
+        self._db.execute("begin immediate")
+
+    def _roll_back(self) -> None:
+        if self._db.in_transaction:
+            self._db.execute("rollback")
 
     def has_run(self) -> bool:
         tables = self.run("select count(*) from sqlite_schema")[0][0]
@@ -250,7 +274,7 @@ class Postgres:
                 raise Lost(str(error)) from error
             except driver.ProgrammingError as error:
                 raise ValueError(f"{server} is no name of a server: {str(error).strip()}") from error
-            self._db.autocommit = True
+            self._db.autocommit, self._is_prepared = True, False
             # In psycopg 3 this one takes several statements at once, as those of psycopg 2 do.
             self._cursor = driver.ClientCursor(self._db) if hasattr(driver, "ClientCursor") else self._db.cursor()
             self.run("select set_config('search_path', quote_ident(?), false), set_config('synchronous_commit', 'on', false)",
@@ -279,18 +303,15 @@ class Postgres:
     def append(self, calls: Sequence[Sequence[Any]], since: int, most: int) -> list[Any]:
         if not calls:
             return self.run(_SINCE, (since, most))
-        # All is sent at once, as a round trip may take longer than a flush. The rows are read behind the commit.
-        rows = ", ".join(["(?, ?, ?, ?, ?, ?)"] * len(calls))
-        values = [it for at, call in enumerate(calls, 1) for it in (at, *call)]
-        sql = f"""begin; select pg_advisory_xact_lock(hashtext('folugben'), hashtext(?));
-            insert into call select (select coalesce(max(place), 0) from call) + own.at, token, segment, agent, call, scans
-            from (values {rows}) as own(at, token, segment, agent, call, scans) on conflict (token) do nothing; commit; {_SINCE}"""
-        try:
-            return self.run(sql, (self._schema, *values, since, most))
-        except BaseException:
-            with contextlib.suppress(Lost):
-                self.run("rollback")
-            raise
+        if not self._is_prepared:
+            # Each query goes by a key, whatever the statistics say of a table that was empty just now.
+            self.run(f"set enable_seqscan = off; set plan_cache_mode = force_generic_plan; {_APPEND}")
+            self._is_prepared = True
+        # All is sent at once, as a round trip may take longer than a flush. The server commits before it says that the last of the
+        # statements is done.
+        sql = """select pg_advisory_xact_lock(hashtext('folugben'), hashtext(?));
+            execute folugben_append(?, ?, ?::bytea[], ?::bigint[], ?::integer[], ?::text[], ?::text[])"""
+        return self.run(sql, (self._schema, since, most, *map(list, zip(*calls))))
 
     @contextlib.contextmanager
     def transaction(self) -> Iterator[None]:

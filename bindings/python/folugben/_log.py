@@ -124,7 +124,11 @@ class Log:
         Raises:
             Behind: the log doesn't have the next one any more.
         """
-        found = [Placed(row[0], Call(bytes(row[1]), *row[2:])) for row in self.database.append(calls, applied, READ)]
+        own = {call.token: call for call in calls}
+        found: list[Placed] = []
+        for row in self.database.append(calls, applied, READ):
+            token = bytes(row[1])
+            found.append(Placed(row[0], own.get(token) or Call(token, *row[2:])))
         # Of calls that were appended twice the later place stays empty.
         if found and found[0].place > applied + 1:
             self._expect_not_behind(applied)

@@ -1,4 +1,10 @@
-"""The thread of a shared run: it appends the calls of this process to the log, and applies the log to the replica."""
+"""How a process works on a shared run: it appends the calls of its agents to the log, and applies the log to its replica.
+
+One thread leads at a time, for one turn: it appends all calls that wait, in one transaction, and applies what the log has then.
+An agent that finds no leader leads its own turn, and so hands nothing to another thread. What comes meanwhile waits; at the end of
+a turn one of those that wait leads the next one. The worker, a thread of its own, leads where nobody else does: to look for calls
+of other processes, and for agents on the main thread, on which a signal handler may raise in the midst of a turn.
+"""
 import atexit
 import itertools
 import secrets
@@ -11,7 +17,7 @@ from typing import TypeVar
 from ._core import Agent
 from ._database import Lost, reaching
 from ._errors import BrokenError, Error, UnknownError
-from ._held import Locked
+from ._held import Locked, NestedError
 from ._library import Code
 from ._log import BATCH, READ, Behind, Call, Log, Placed
 from ._replica import Answer, Ended, Era, Replica
@@ -20,8 +26,8 @@ _R = TypeVar("_R")
 
 # How often it looks for calls of other processes.
 _PAUSE = 0.01
-# How long it waits for further calls at most, a quarter of what a transaction takes otherwise.
-_MOMENT = 0.002
+# How long a leader waits for a further call: a quarter of what a transaction takes, but so long at least and at most.
+_LEAST_MOMENT, _MOMENT = 0.0001, 0.002
 # How long it tries to reach a server again.
 _PATIENCE = 60.0
 _workers: "weakref.WeakSet[Worker]" = weakref.WeakSet()
@@ -30,24 +36,30 @@ _workers: "weakref.WeakSet[Worker]" = weakref.WeakSet()
 class Waiter:
     """An agent that waits for the answer to its call."""
 
-    __slots__ = ("call", "is_sent", "answer", "fault", "_done")
+    __slots__ = ("call", "may_lead", "is_sent", "is_over", "answer", "fault", "_woken")
 
-    def __init__(self, call: Call) -> None:
-        # Whether the call may be in the log.
-        self.call, self.is_sent = call, False
+    def __init__(self, call: Call, may_lead: bool) -> None:
+        # Whether the call may be in the log, and whether all is known.
+        self.call, self.may_lead, self.is_sent, self.is_over = call, may_lead, False, False
         self.answer: Answer | None = None
         self.fault: BaseException | None = None
-        # It is released when all is known.
-        self._done = threading.Lock()
-        self._done.acquire()
+        self._woken = threading.Lock()
+        self._woken.acquire()
 
     def end(self, answer: Answer | None, fault: BaseException | None = None) -> None:
-        self.answer, self.fault = answer, fault
-        self._done.release()
+        self.answer, self.fault, self.is_over = answer, fault, True
+        self.wake()
 
-    def wait(self) -> Answer | None:
+    def wake(self) -> None:
+        """Has it look whether all is known, or whether it leads."""
+        if self._woken.locked():
+            self._woken.release()
+
+    def wait(self, seconds: float = -1) -> None:
+        self._woken.acquire(timeout=seconds)
+
+    def told(self) -> Answer | None:
         """Return the answer, None where its segment had ended before its place."""
-        self._done.acquire()
         if self.fault is not None:
             raise self.fault
         return self.answer
@@ -64,8 +76,12 @@ class Worker(Locked):
         except BaseException:
             log.close()
             raise
-        self._changed = threading.Condition(threading.RLock())
-        self._locked_by(self._changed)
+        lock = threading.RLock()
+        self._changed = threading.Condition(lock)
+        self._locked_by(lock)
+        # Who leads: a waiter, or the worker; whether that waits for further calls; and the thread that is in a turn.
+        self._leader: Waiter | Worker | None = None
+        self._is_gathering, self._leading = False, 0
         # Who has one thread use the connection at a time.
         self._using = threading.RLock()
         # Tokens that rise by one make the database write fewer pages than random ones.
@@ -75,8 +91,9 @@ class Worker(Locked):
         self._sent: dict[bytes, Waiter] = {}
         # How many calls are expected to come at once, and how long it waits for them.
         self._expected, self._moment = 1, 0.0
-        # How often all that is in the log was asked for, and applied.
+        # How often all that is in the log was asked for, and applied; and when that was looked for.
         self._asked = self._applied = 0
+        self._looked = 0.0
         # The numbers of this process's agents.
         self._held: set[int] = set()
         self._fault: BaseException | None = None
@@ -100,17 +117,34 @@ class Worker(Locked):
 
     def answer(self, segment: int, agent: int, call: bytes, scans: bytes) -> Answer | None:
         """Append a call, and return its answer, None where its segment had ended."""
-        token = self._prefix + next(self._count).to_bytes(6, "big")
-        waiter = Waiter(Call(token, segment, agent, call.decode(), scans.decode()))
+        token, me = self._prefix + next(self._count).to_bytes(6, "big"), threading.get_ident()
+        waiter = Waiter(Call(token, segment, agent, call.decode(), scans.decode()), me != threading.main_thread().ident)
+        self._expect_no_turn()
         with self._lock:
             self.expect_going()
             self._waiting.append(waiter)
-            if len(self._waiting) >= self._expected:
-                self._changed.notify_all()
-        return waiter.wait()
+            # Whoever comes last leads, so nobody has to be woken for that.
+            if self._leader is None or self._is_gathering and self._is_due():
+                if waiter.may_lead:
+                    self._leader, self._is_gathering = waiter, not self._is_due()
+                else:
+                    self._changed.notify_all()
+        try:
+            while not waiter.is_over:
+                self._lead(waiter) if self._leader is waiter else waiter.wait()
+        finally:
+            if self._leader is waiter:
+                self._hand_over()
+        return waiter.told()
+
+    def _expect_no_turn(self) -> None:
+        """Expect that this thread isn't in a turn, as a finalizer may be which comes in its midst."""
+        if self._leading == threading.get_ident():
+            raise NestedError("this thread is in another call, which a finalizer has interrupted")
 
     def follow(self) -> None:
         """Wait until all is applied that is in the log now."""
+        self._expect_no_turn()
         with self._lock:
             self.expect_going()
             self._asked += 1
@@ -138,6 +172,7 @@ class Worker(Locked):
 
     def hold(self, agent: int) -> bool:
         """Take an agent's number, unless another process has it."""
+        self._expect_no_turn()
         with self._using:
             is_held = self._reaching(lambda: self._log.database.hold(agent))
             if is_held:
@@ -146,6 +181,7 @@ class Worker(Locked):
 
     def let(self, agent: int) -> None:
         """Let others have it."""
+        self._expect_no_turn()
         with self._using:
             self._held.discard(agent)
             if not self._is_over:
@@ -160,57 +196,104 @@ class Worker(Locked):
         if self._fault is not None:
             raise BrokenError(self.replica.era.number, self._fault)
 
-    # What the thread does.
+    # What the worker does.
 
     def _work(self) -> None:
         try:
-            while self._is_going():
-                self._turn()
-        except BaseException as error:
-            self._fault = error
+            while self._is_to_lead():
+                self._lead(self)
         finally:
             self._end()
 
-    def _is_going(self) -> bool:
+    def _is_to_lead(self) -> bool:
+        """Wait until nobody leads and there is something to do. Return whether the run goes on."""
         with self._changed:
-            # As long as calls come, further ones may.
-            came, end = -1, time.monotonic() + 4 * self._moment
-            while self._expected > 1 and not self._is_due() and came < len(self._waiting) and time.monotonic() < end:
-                came = len(self._waiting)
-                self._changed.wait(self._moment)
-            self._expected = 1
-            if not self._is_due():
+            while self._fault is None:
+                if self._leader is None and self._is_closing and not self._waiting and not self._sent:
+                    return False
+                is_due = self._waiting or self._asked != self._applied or time.monotonic() >= self._looked + _PAUSE
+                if self._leader is None and is_due:
+                    self._leader, self._is_gathering = self, bool(self._waiting)
+                    return True
                 self._changed.wait(_PAUSE)
-            return not self._is_closing or bool(self._waiting or self._sent)
+        return False
+
+    # What a leader does.
+
+    def _lead(self, leader: "Waiter | Worker") -> None:
+        """Does one turn, and has another one lead; unless that was taken over."""
+        if self._is_gathering and not self._gathers(leader):
+            return
+        self._leading = threading.get_ident()
+        try:
+            self._turn()
+        except BaseException as error:
+            self._fault = error
+        finally:
+            self._leading = 0
+            self._hand_over()
+
+    def _hand_over(self) -> None:
+        """Has one of those that wait lead, or the worker."""
+        with self._lock:
+            following = None
+            if self._waiting and self._fault is None:
+                following = next((it for it in self._waiting if it.may_lead), None)
+            self._leader, self._is_gathering = following, following is not None
+            if following is not None:
+                following.wake()
+            elif self._waiting or self._is_closing or self._fault is not None or self._asked != self._applied:
+                self._changed.notify_all()
+
+    def _gathers(self, leader: "Waiter | Worker") -> bool:
+        """Wait for those that are expected: as long as calls come, further ones may. Return whether it leads still."""
+        came, end = -1, time.monotonic() + 4 * self._moment
+        while True:
+            with self._lock:
+                if self._leader is not leader:
+                    return False
+                if self._is_due() or came == len(self._waiting) or time.monotonic() >= end:
+                    self._is_gathering = False
+                    return True
+                came = len(self._waiting)
+            leader.wait(self._moment)
+
+    def wait(self, seconds: float) -> None:
+        """Wait until something has changed."""
+        with self._changed:
+            self._changed.wait(seconds)
 
     def _is_due(self) -> bool:
         return len(self._waiting) >= self._expected or self._is_closing or self._asked != self._applied
 
     def _turn(self) -> None:
         begun = time.monotonic()
-        with self._changed:
+        with self._lock:
             batch, self._waiting = self._waiting[:BATCH], self._waiting[BATCH:]
             asked = self._asked
-            self._sent.update((waiter.call.token, waiter) for waiter in batch)
+            for waiter in batch:
+                self._sent[waiter.call.token] = waiter
         try:
             placed = self._exchange(batch)
         except Behind:
             self._rejoin()
             return
-        self._moment, answered = min(_MOMENT, (time.monotonic() - begun) / 4), list[tuple[Waiter, Answer | None]]()
+        self._moment = max(_LEAST_MOMENT, min(_MOMENT, (time.monotonic() - begun) / 4))
+        answered: list[tuple[Waiter, Answer | None]] = []
         try:
             self._apply(placed, answered)
         finally:
-            with self._changed:
-                # Those that are answered now may call again soon, beside those that wait by now.
-                self._expected = max(1, min(BATCH, len(answered) + len(self._waiting)))
+            # Those that are answered now may call again soon, beside those that wait by now.
+            self._expected = max(1, min(BATCH, len(answered) + len(self._waiting)))
             # Agents are woken when all is done, as they would only hinder that.
             for waiter, answer in answered:
                 waiter.end(answer)
         if len(placed) < READ:
-            with self._changed:
-                self._applied = asked
-                self._changed.notify_all()
+            self._looked = time.monotonic()
+            if asked != self._applied:
+                with self._changed:
+                    self._applied = asked
+                    self._changed.notify_all()
 
     def _apply(self, placed: list[Placed], answered: list[tuple[Waiter, Answer | None]]) -> None:
         """Apply calls to the replica, and note the answers to those of this process."""
@@ -221,7 +304,7 @@ class Worker(Locked):
     def _apply_some(self, placed: Iterator[Placed], answered: list[tuple[Waiter, Answer | None]]) -> Ended | None:
         """Apply calls until one ends a segment."""
         sent = self._sent
-        with self._changed:
+        with self._lock:
             for place, call in placed:
                 waiter = sent.get(call.token)
                 answer, ended = self.replica.apply(place, call, waiter is not None)

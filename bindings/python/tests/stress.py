@@ -1,11 +1,12 @@
 """Runs that are stressed for longer than a test may take.
 
-usage: stress.py threads SECONDS | kills N | failures N | flips N | processes N | servers N
+usage: stress.py threads SECONDS | kills N | failures N | flips N | processes N | servers N | day SECONDS
 
 `threads` has 4 agents in threads raise one number, in parts of 200 moves; `kills` kills a process so often and resumes its run;
 `failures` resumes from so many states that a power failure may leave; `flips` alters so many bits and lengths of files. `processes`
 has 8 processes of 4 agents on a shared run over SQLite, of which it kills so many; `servers` does so over PostgreSQL, and kills and
-starts the server after about each third.
+starts the server after about each third. `day` has 24 hours of one move each so many seconds, by a clock that doesn't wait, in
+parts of half that time.
 """
 import pathlib
 import sys
@@ -17,6 +18,7 @@ from folugben import Run, audit  # noqa: E402
 from rooms import INIT, raised  # noqa: E402
 from test_damage import Folders, PowerFailures  # noqa: E402
 from test_folders import Folders as Killed  # noqa: E402
+from test_saving import Days  # noqa: E402
 from test_shared import OnPostgres, OnSqlite  # noqa: E402
 from threads import in_threads  # noqa: E402
 
@@ -39,12 +41,12 @@ def threads(seconds):
         return told
 
 
-def tried(case, name, method, times):
+def tried(case, name, method, *words):
     """What a method of a test case returns, in a room of its own."""
     it = case(name)
     it.setUp()
     try:
-        return getattr(it, method)(times)
+        return getattr(it, method)(*words)
     finally:
         it.doCleanups()
 
@@ -63,6 +65,7 @@ WORKS = {
     "failures": lambda times: tried(PowerFailures, "test_nothing_is_lost", "fail", times),
     "processes": lambda kills: tried(OnSqlite, "test_processes_that_are_killed", "kill_many", kills),
     "servers": servers,
+    "day": lambda gap: tried(Days, "test_a_day_of_a_slow_run", "live_a_day", [gap] * (86_400 // gap), gap / 2),
     "flips": lambda times: tried(Folders, "test_flipped_bits_and_cut_files_are_found", "flip", times),
 }
 
