@@ -8,7 +8,9 @@ use crate::sys;
 
 /// How a step's pushed moves changed.
 pub(crate) enum Change {
-    Pushed { is_partial: bool },
+    Pushed {
+        is_partial: bool,
+    },
     /// A push was refused, or moves were popped.
     Other,
 }

@@ -27,7 +27,7 @@ final class ConformanceTests {
     }
 
     /** The items of an array: its text is split at the commas outside of brackets and strings. */
-    private static List<String> items(String array) {
+    static List<String> items(String array) {
         List<String> items = new ArrayList<>();
         int depth = 0;
         int begin = 1;

@@ -11,8 +11,11 @@ import java.io.UncheckedIOException;
 import java.nio.file.Files;
 import java.nio.file.Path;
 import java.util.ArrayList;
+import java.util.HashMap;
 import java.util.List;
 import java.util.Map;
+import java.util.regex.Matcher;
+import java.util.regex.Pattern;
 
 /** Nothing is lost at the end of a scope, and a rule is played until it fires. */
 final class ScopeTests {
@@ -151,5 +154,177 @@ final class ScopeTests {
             throw new UncheckedIOException(fault);
         }
         System.out.println("scopes");
+    }
+
+    /** Tests of agents that record what their steps read. */
+    static final class RecordTests {
+        private static final Pattern READ = Pattern.compile(
+                "\\{\"agent\":(\\d+),\"call\":\\{\"read\":(.*)\\},\"reply\":\\{\"number\":\\d+,\"values\":(.*)\\}\\}",
+                Pattern.DOTALL);
+
+        private static final Location X = Location.of("x");
+        private static final Location Y = Location.of("y", 1);
+
+        private RecordTests() {}
+
+        /** The reads of each agent in a journal, in order: the texts of locations and values. */
+        private static Map<Integer, List<Map<String, String>>> reads(String journal) {
+            Map<Integer, List<Map<String, String>>> reads = new HashMap<>();
+            journal.lines().map(READ::matcher).filter(Matcher::matches).forEach(it -> {
+                List<String> places = ConformanceTests.items(it.group(2));
+                List<String> values = ConformanceTests.items(it.group(3));
+                Map<String, String> read = new HashMap<>();
+                for (int i = 0; i < values.size(); i++) read.put(places.get(i), values.get(i));
+                reads.computeIfAbsent(Integer.valueOf(it.group(1)), own -> new ArrayList<>()).add(read);
+            });
+            return reads;
+        }
+
+        private static Value got(Step step, Location at, int way) {
+            if (way == 0)
+                return step.get(at);
+            if (way == 1) {
+                List<Location> places = List.of(at);
+                return JsonReader.reading(step.get(JsonWriter.locations(places)), places).value(at);
+            }
+            Value kind = step.see(at); // which isn't recorded
+            try (PreparedLocation prepared = at.prepare()) {
+                if (way == 2 && kind instanceof Element.Num)
+                    return Value.of(step.getNumber(prepared));
+                if (way == 2 && kind instanceof Element.Bool)
+                    return Value.of(step.getBoolean(prepared));
+                if (way == 2 && kind instanceof Element.Text)
+                    return Value.of(step.getText(prepared));
+                return step.get(prepared);
+            }
+        }
+
+        /** Commits a random step: what its gets returned where the agent was answered; else null. */
+        private static Map<Location, Value> step(Agent agent, List<Location> places, Randoms random) {
+            try (Step step = agent.step()) {
+                Map<Location, Value> got = new HashMap<>();
+                for (int left = random.below(4); left > 0; left--) {
+                    Location at = places.get(random.below(places.size()));
+                    got.put(at, got(step, at, random.below(4)));
+                }
+                for (int left = random.below(3); left > 0; left--)
+                    try {
+                        step.push(random.move());
+                    } catch (ClashException | LargeException refused) {
+                        // The step depends on what was refused.
+                    }
+                return step.tryCommit().code() == Code.MOVED ? null : got;
+            }
+        }
+
+        /** What gets return is what the journal has, which a check judges. */
+        private static void getsAreRecorded() throws InterruptedException {
+            for (int round = 0; round < 10; round++) {
+                Map<Location, Value> state = new Randoms(round).state();
+                List<Location> places = new ArrayList<>(state.keySet());
+                places.add(Location.of("none"));
+                List<List<Map<Location, Value>>> all = new ArrayList<>();
+                List<Thread> threads = new ArrayList<>();
+                try (Storage storage = Storage.open(state, 1000).record(true)) {
+                    for (int number = 0; number < 4; number++) {
+                        Agent agent = storage.agent(number);
+                        Randoms random = new Randoms(10 * round + number);
+                        List<Map<Location, Value>> got = new ArrayList<>();
+                        all.add(got);
+                        threads.add(new Thread(() -> {
+                            for (int i = 0; i < 100; i++) got.add(step(agent, places, random));
+                            agent.close();
+                        }));
+                    }
+                    for (Thread thread : threads) thread.start();
+                    for (Thread thread : threads) thread.join();
+                    String journal = storage.closeJournal();
+                    Storage.check(journal);
+                    Map<Integer, List<Map<String, String>>> reads = reads(journal);
+                    for (int number = 0; number < 4; number++) {
+                        equal(reads.get(number).size(), 100);
+                        for (int i = 0; i < 100; i++)
+                            for (Map.Entry<Location, Value> it : all.get(number).get(i).entrySet())
+                                equal(reads.get(number).get(i).get(it.getKey().json()), it.getValue().json());
+                    }
+                }
+            }
+        }
+
+        /** A commit whose agent has moved on does nothing, and a play begins again. */
+        private static void movedCommitsAreConflicts() {
+            try (Storage storage = Storage.open(Map.of(X, 3), 10); Agent rival = storage.agent(1);
+                    Agent agent = storage.agent(0).record(true)) {
+                List<Instruction> other = List.of(Instruction.put(Location.of("z"), 1));
+                try (Step step = agent.step()) {
+                    step.push(Instruction.put(Y, step.get(X)));
+                    rival.fire(other, List.of());
+                    agent.follow();
+                    Actor.Reply moved = step.tryCommit();
+                    equal(moved.code(), Code.MOVED);
+                    equal(moved.shouldRetry() && !moved.isFired(), true);
+                    ConflictException told = (ConflictException) refused(Code.MOVED, moved::orThrow);
+                    equal(told.getClass(), CommitMovedException.class);
+                    equal(refused(Code.MOVED, step::commit).getClass(), CommitMovedException.class);
+                    agent.record(false);
+                    equal(step.commit(), 2L);
+                    agent.record(true);
+                }
+                int[] tries = new int[1];
+                equal(agent.play(step -> {
+                    step.push(Instruction.put(Y, step.get(X)));
+                    if (tries[0]++ < 2) {
+                        rival.fire(other, List.of());
+                        agent.follow();
+                    }
+                    return null;
+                }), new Actor.Played<>(5, null, 2));
+                agent.give();
+                rival.give();
+                equal(reads(storage.closeJournal()), Map.of(0, List.of(Map.of("[\"x\"]", "3"))));
+            }
+        }
+
+        private static int recorded(Storage storage, Agent agent) {
+            agent.play(step -> {
+                step.push(Instruction.put(X, step.get(X)));
+                step.see(Y);
+                step.getAll("y");
+                return null;
+            });
+            agent.close();
+            List<Map<String, String>> reads = reads(storage.closeJournal()).getOrDefault(agent.number(), List.of());
+            reads.forEach(it -> equal(it, Map.of("[\"x\"]", "3")));
+            return reads.size();
+        }
+
+        /** Storages that go on record as the one before, and agents as their storage when they are made. */
+        private static void storagesHandItOn() {
+            try (Storage storage = Storage.open(Map.of(X, 3, Y, 4), 5)) {
+                equal(recorded(storage, storage.agent(0)), 0);
+                storage.record(true);
+                equal(recorded(storage, storage.take(0)), 1);
+                equal(recorded(storage, storage.agent(1).record(false)), 0);
+                Agent last = storage.agent(2);
+                equal(recorded(storage, last), 1);
+                try (Storage next = storage.next(1); Agent agent = next.agent(0)) {
+                    equal(recorded(next, agent), 1);
+                    try (Agent again = next.take(0)) {
+                        again.follow();
+                        try (Storage behind = again.goOn(2)) {
+                            equal(recorded(behind, behind.agent(0)), 1);
+                            equal(recorded(behind.record(false), behind.agent(1)), 0);
+                        }
+                    }
+                }
+            }
+        }
+
+        static void all() throws InterruptedException {
+            getsAreRecorded();
+            movedCommitsAreConflicts();
+            storagesHandItOn();
+            System.out.println("recorded reads");
+        }
     }
 }

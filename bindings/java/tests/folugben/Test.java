@@ -233,6 +233,7 @@ public final class Test {
         ValueTests.KindTests.all();
         PlainTests.all();
         ScopeTests.all();
+        ScopeTests.RecordTests.all();
         OddTests.all();
         AuditTests.all();
         TurnTests.all();
