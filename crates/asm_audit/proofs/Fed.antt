@@ -1,16 +1,16 @@
 -- What is told of bytes, piece by piece.
-use Rattle.std.proofs.Common.{◌≡◌, ◌≢◌, ◌≤◌, ◌<◌, ◌+◌, ℕ, suc, take, drop, get_or, Bool, true, false, eqb, List, [], ◌∷◌, ◌++◌, length, Option, Some, None, Result, Ok, Err, refl, sym, ap, subst, ◌∙◌, inl, inr, append-nil, append_assoc, length-append, arith}
+use Rattle.std.proofs.Common.{◌≡◌, ◌≢◌, ◌≤◌, ◌<◌, ◌+◌, ◌-◌, ℕ, suc, take, drop, get_or, Bool, true, false, eqb, List, [], ◌∷◌, ◌++◌, length, Option, Some, None, Result, Ok, Err, refl, sym, ap, subst, ◌∙◌, inl, inr, append-nil, append_assoc, length-append, arith}
 use Rattle.std.proofs.lemmas.Bool.{eqb-true, eqb-false}
 use Rattle.std.proofs.Math.Seq.{drop-cons}
 use Rattle.std.proofs.lemmas.Grind.{flat_map-append}
-use Rattle.std.proofs.lemmas.List.{take_all, take_more, take-append-drop, drop_all}
-use Rattle.std.proofs.lemmas.List.Elements.{All-append, All-nil, All-from_recursion}
+use Rattle.std.proofs.lemmas.List.{take_all, take-append-drop, take_at, drop_at, length-take-le, length-drop}
+use Rattle.std.proofs.lemmas.List.Elements.{All-append, All-nil, All-from_recursion, All-take, All-get_or}
 use Rattle.asm_update.specs.Fire.{Part}
 use Rattle.asm_update.specs.State.{State}
 use Rattle.asm_storage.specs.declared.history.History.{History}
 use Rattle.asm_journal.specs.Reading.{HasNoLineFeed, EndsLine}
 use Rattle.asm_audit.specs.declared.error.AuditError.{AuditError}
-use Rattle.asm_audit.specs.declared.error.AuditError.TheVariants.{LongLine}
+use Rattle.asm_audit.specs.declared.error.AuditError.TheVariants.{Journal, Apart, LongLine, Memory}
 use Rattle.asm_audit.specs.declared.opened.Opened.{Opened}
 use Rattle.asm_audit.specs.declared.progress.Counts.{Counts}
 use Rattle.asm_audit.specs.declared.progress.Progress.{Progress}
@@ -23,6 +23,7 @@ use Rattle.asm_audit.specs.Fault.{counted, HasLong, IsFaulty}
 use Rattle.asm_audit.specs.Opened.{history_of}
 use Rattle.asm_audit.specs.Audited.{IsRead, IsAudited, IsLineAnswer, IsEnd, IsFirstIllegal}
 use Rattle.asm_audit.specs.Fed.{IsFed, HasTaken, HasTakenSome, IsFedAnswer, IsFedEnd, LeavesLine, IsToldNext, HasTakenFirst}
+use Rattle.asm_audit.specs.Fed.{legal, IsExtended, IsLineEnd, HasTakenLine}
 use Rattle.asm_audit.specs.Step.{IsKept}
 use Rattle.asm_audit.proofs.Extended.{begun_more, ended}
 use Rattle.asm_audit.proofs.Steps.{legal_more}
@@ -54,30 +55,29 @@ ends_line : (line : List ℕ) → HasNoLineFeed line → EndsLine (line ++ 10 �
 ends_line line none = (refl, none)
 
 -- the line feed
-pub fed_end : (part : Part) (p q : Progress) (line left : List ℕ) (b : ℕ) (r : Result Told AuditError) → b ≡ 10 →
-    IsLineAnswer part (line ++ 10 ∷ []) p q r → LeavesLine line left r → IsFedAnswer part (b ∷ []) p line q left r
-fed_end part p q line left b r feed answer leaves =
-    subst (λ n. IsFedAnswer part (n ∷ []) p line q left r) (sym feed) (by_answer r answer leaves) where
-      new : List ℕ
-      new = line ++ 10 ∷ []
+fed_end : (part : Part) (p q : Progress) (line left : List ℕ) (r : Result Told AuditError) →
+    IsLineAnswer part (line ++ 10 ∷ []) p q r → LeavesLine line left r → IsFedAnswer part (10 ∷ []) p line q left r
+fed_end part p q line left r answer leaves = by_answer r answer leaves where
+  new : List ℕ
+  new = line ++ 10 ∷ []
 
-      by_answer : (r : Result Told AuditError) → IsLineAnswer part new p q r → LeavesLine line left r →
-          IsFedAnswer part (10 ∷ []) p line q left r
-      by_answer (Ok Legal) answer none = λ text fed. record {
-        ended = fed.ended ++ new;
-        all = ap (λ l. (fed.ended ++ new) ++ l) none ∙ append-nil (fed.ended ++ new)
-            ∙ ap (λ l. fed.ended ++ l) (sym (append-nil new)) ∙ same_bytes fed.ended line text new (10 ∷ []) [] fed.all refl
-            ∙ ap (λ l. text ++ l) (append-nil (10 ∷ []));
-        short = lines_push fed.ended line fed.short fed.open_line;
-        open_line = subst IsShortLine (sym none) none_open;
-        audited = answer fed.ended fed.audited;
-      }
-      by_answer (Ok (Illegal j c)) answer same = λ text more fed.
-          subst (λ (t : List ℕ). IsFirstIllegal part t j c) (same_bytes fed.ended line text new (10 ∷ []) more fed.all refl)
-          (answer fed.ended more fed.audited (inl (line, ends_line line fed.open_line.0)))
-      by_answer (Err e) answer same = λ text more fed.
-          subst (λ (t : List ℕ). IsFaulty part t e) (same_bytes fed.ended line text new (10 ∷ []) more fed.all refl)
-          (answer fed.ended more fed.audited (inl (line, ends_line line fed.open_line.0)))
+  by_answer : (r : Result Told AuditError) → IsLineAnswer part new p q r → LeavesLine line left r →
+      IsFedAnswer part (10 ∷ []) p line q left r
+  by_answer (Ok Legal) answer none = λ text fed. record {
+    ended = fed.ended ++ new;
+    all = ap (λ l. (fed.ended ++ new) ++ l) none ∙ append-nil (fed.ended ++ new)
+        ∙ ap (λ l. fed.ended ++ l) (sym (append-nil new)) ∙ same_bytes fed.ended line text new (10 ∷ []) [] fed.all refl
+        ∙ ap (λ l. text ++ l) (append-nil (10 ∷ []));
+    short = lines_push fed.ended line fed.short fed.open_line;
+    open_line = subst IsShortLine (sym none) none_open;
+    audited = answer fed.ended fed.audited;
+  }
+  by_answer (Ok (Illegal j c)) answer same = λ text more fed.
+      subst (λ (t : List ℕ). IsFirstIllegal part t j c) (same_bytes fed.ended line text new (10 ∷ []) more fed.all refl)
+      (answer fed.ended more fed.audited (inl (line, ends_line line fed.open_line.0)))
+  by_answer (Err e) answer same = λ text more fed.
+      subst (λ (t : List ℕ). IsFaulty part t e) (same_bytes fed.ended line text new (10 ∷ []) more fed.all refl)
+      (answer fed.ended more fed.audited (inl (line, ends_line line fed.open_line.0)))
 
 -- one byte more without a line feed
 pub no_feed_push : (line : List ℕ) (b : ℕ) → HasNoLineFeed line → b ≢ 10 → HasNoLineFeed (line ++ b ∷ [])
@@ -105,7 +105,7 @@ long_more part A hs rest more (Some o) read long =
     )
 
 -- a byte more than the limit
-pub fed_long : (part : Part) (p q : Progress) (line left : List ℕ) (b : ℕ) → b ≢ 10 → line_limit ≤ length line →
+fed_long : (part : Part) (p q : Progress) (line left : List ℕ) (b : ℕ) → b ≢ 10 → line_limit ≤ length line →
     IsFedAnswer part (b ∷ []) p line q left (Err LongLine)
 fed_long part p q line left b other full = λ text more fed.
     let new = line ++ b ∷ [] in
@@ -135,7 +135,7 @@ joined : (text front next more : List ℕ) → (text ++ front) ++ (next ++ more)
 joined text front next more =
     append_assoc text front (next ++ more) ∙ ap (λ l. text ++ l) (sym (append_assoc front next more))
 
-pub fed_join : (part : Part) (front next : List ℕ) (p q s : Progress) (line left right : List ℕ) (r : Result Told AuditError) →
+fed_join : (part : Part) (front next : List ℕ) (p q s : Progress) (line left right : List ℕ) (r : Result Told AuditError) →
     IsFedAnswer part front p line q left (Ok Legal) → IsFedAnswer part next q left s right r →
     IsFedAnswer part (front ++ next) p line s right r
 fed_join part front next p q s line left right (Ok Legal) first second = λ text fed.
@@ -148,100 +148,243 @@ fed_join part front next p q s line left right (Err e) first second = λ text mo
 cut_more : (text front behind more : List ℕ) → text ++ (front ++ (behind ++ more)) ≡ text ++ ((front ++ behind) ++ more)
 cut_more text front behind more = ap (λ l. text ++ l) (sym (append_assoc front behind more))
 
-pub fed_wrong : (part : Part) (front behind bytes : List ℕ) (p q : Progress) (line left : List ℕ) (j c : ℕ) →
+fed_wrong : (part : Part) (front behind bytes : List ℕ) (p q : Progress) (line left : List ℕ) (j c : ℕ) →
     front ++ behind ≡ bytes → IsFedAnswer part front p line q left (Ok (Illegal j c)) →
     IsFedAnswer part bytes p line q left (Ok (Illegal j c))
 fed_wrong part front behind bytes p q line left j c all answer = λ text more fed.
     subst (λ (t : List ℕ). IsFirstIllegal part t j c) (cut_more text front behind more ∙ ap (λ l. text ++ (l ++ more)) all)
     (answer text (behind ++ more) fed)
 
-pub fed_fault : (part : Part) (front behind bytes : List ℕ) (p q : Progress) (line left : List ℕ) (e : AuditError) →
+fed_fault : (part : Part) (front behind bytes : List ℕ) (p q : Progress) (line left : List ℕ) (e : AuditError) →
     front ++ behind ≡ bytes → IsFedAnswer part front p line q left (Err e) → IsFedAnswer part bytes p line q left (Err e)
 fed_fault part front behind bytes p q line left e all answer = λ text more fed.
     subst (λ (t : List ℕ). IsFaulty part t e) (cut_more text front behind more ∙ ap (λ l. text ++ (l ++ more)) all)
     (answer text (behind ++ more) fed)
 
+-- ---- the bytes of a line
+
+-- the line gets these too
+open_taken : (part : Part) (p : Progress) (line body left : List ℕ) → HasNoLineFeed body → left ≡ line ++ body →
+    length left ≤ line_limit → HasTaken part body p line p left
+open_taken part p line body left none is within = λ text fed. record {
+  ended = fed.ended;
+  all = ap (λ l. fed.ended ++ l) is ∙ sym (append_assoc fed.ended line body) ∙ ap (λ t. t ++ body) fed.all;
+  short = fed.short;
+  open_line = (
+    subst HasNoLineFeed (sym is) (All-append (λ b. b ≢ 10) line body fed.open_line.0 none),
+    within,
+  );
+  audited = fed.audited;
+}
+
+pub some_first : (bytes : List ℕ) → bytes ≢ [] → (b : ℕ) × (more : List ℕ) × (bytes ≡ b ∷ more)
+some_first [] some = absurd (some refl)
+some_first (b ∷ more) some = (b, more, refl)
+
+-- what is told at a byte that wasn't taken
+told_next : (part : Part) (behind : List ℕ) (b : ℕ) (more : List ℕ) (p q : Progress) (line left : List ℕ)
+    (r : Result Told AuditError) → behind ≡ b ∷ more → legal r ≡ false → IsFedAnswer part (b ∷ []) p line q left r →
+    q ≡ p → left ≡ line → IsToldNext part behind q left r
+told_next part behind b more p q line left (Ok Legal) is stop answer same kept = absurd cc
+told_next part behind b more p q line left (Ok (Illegal j c)) is stop answer same kept = (
+  b,
+  more,
+  is,
+  subst (λ l. IsFedAnswer part (b ∷ []) q l q left (Ok (Illegal j c))) (sym kept)
+      (subst (λ x. IsFedAnswer part (b ∷ []) x line q left (Ok (Illegal j c))) (sym same) answer),
+)
+told_next part behind b more p q line left (Err e) is stop answer same kept = (
+  b,
+  more,
+  is,
+  subst (λ l. IsFedAnswer part (b ∷ []) q l q left (Err e)) (sym kept)
+      (subst (λ x. IsFedAnswer part (b ∷ []) x line q left (Err e)) (sym same) answer),
+)
+
+stops : (part : Part) (front behind : List ℕ) (q : Progress) (left : List ℕ) (r : Result Told AuditError) →
+    legal r ≡ false → HasNoLineFeed front → IsToldNext part behind q left r → IsLineEnd part front behind q left r
+stops part front behind q left (Ok Legal) stop none next = absurd cc
+stops part front behind q left (Ok (Illegal j c)) stop none next = (none, next)
+stops part front behind q left (Err e) stop none next = (none, next)
+
+-- the line doesn't get all of these
+pub kept_some : (part : Part) (p : Progress) (line left body rest bytes : List ℕ) (n : ℕ) (r : Result Told AuditError) →
+    HasNoLineFeed body → body ++ rest ≡ bytes → bytes ≢ [] → length left ≤ line_limit → IsExtended body line left n r →
+    legal r ≡ false → HasTakenLine part bytes p line p left n r
+kept_some part p line left body rest bytes n (Ok Legal) none all some within kept stop = absurd cc
+kept_some part p line left body rest bytes n (Ok (Illegal j c)) none all some within kept stop = absurd kept
+kept_some part p line left body rest bytes n (Err (Journal j fault)) none all some within kept stop = absurd kept
+kept_some part p line left body rest bytes n (Err (Apart j)) none all some within kept stop = absurd kept
+kept_some part p line left body rest bytes n (Err LongLine) none all some within (is, less, full) stop =
+    let fronts = All-take (λ b. b ≢ 10) n body none in
+    let b = get_or body n 0 in
+    record {
+      front = take n body;
+      behind = drop n body ++ rest;
+      all = sym (append_assoc (take n body) (drop n body) rest) ∙ ap (λ l. l ++ rest) (take-append-drop n body) ∙ all;
+      count = sym (length-take-le n body (omega (arith, less)));
+      taken = open_taken part p line (take n body) left fronts is within;
+      ends = (
+        fronts,
+        (
+          b,
+          drop (suc n) body ++ rest,
+          ap (λ l. l ++ rest) (drop-cons body n 0 less),
+          fed_long part p p left left b (All-get_or (λ x. x ≢ 10) body n 0 less none) full,
+        ),
+      );
+    }
+kept_some part p line left body rest bytes n (Err Memory) none all some within (is, nothing) stop =
+    let first = some_first bytes some in
+    record {
+      front = [];
+      behind = bytes;
+      all = refl;
+      count = nothing;
+      taken = open_taken part p line [] left none_open.0 (is ∙ sym (append-nil line)) within;
+      ends = (none_open.0, (first.0, first.1, first.2, λ text more fed. tt));
+    }
+
+-- no line feed is in the bytes
+pub kept_all : (part : Part) (p : Progress) (line left bytes : List ℕ) (n : ℕ) (r : Result Told AuditError) →
+    HasNoLineFeed bytes → bytes ≢ [] → length left ≤ line_limit → IsExtended bytes line left n r →
+    HasTakenLine part bytes p line p left n r
+kept_all part p line left bytes n (Ok Legal) none some within (is, count) = record {
+  front = bytes;
+  behind = [];
+  all = append-nil bytes;
+  count = count;
+  taken = open_taken part p line bytes left none is within;
+  ends = (some, inr (none, refl));
+}
+kept_all part p line left bytes n (Ok (Illegal j c)) none some within kept = absurd kept
+kept_all part p line left bytes n (Err e) none some within kept =
+    kept_some part p line left bytes [] bytes n (Err e) none (append-nil bytes) some within kept refl
+
+pub kept_body : (body line left : List ℕ) (n : ℕ) (r : Result Told AuditError) → legal r ≡ true →
+    IsExtended body line left n r → left ≡ line ++ body
+kept_body body line left n (Ok Legal) on kept = kept.0
+kept_body body line left n (Ok (Illegal j c)) on kept = absurd kept
+kept_body body line left n (Err e) on kept = absurd cc
+
+same_kept : {T : Type 0} (old new : T) (r : Result Told AuditError) → legal r ≡ false → IsKept old new r → new ≡ old
+same_kept old new (Ok Legal) stop kept = absurd cc
+same_kept old new (Ok (Illegal j c)) stop kept = kept
+same_kept old new (Err e) stop kept = kept
+
+same_line : (old new : List ℕ) (r : Result Told AuditError) → legal r ≡ false → LeavesLine old new r → new ≡ old
+same_line old new (Ok Legal) stop leaves = absurd cc
+same_line old new (Ok (Illegal j c)) stop leaves = leaves
+same_line old new (Err e) stop leaves = leaves
+
+-- a line feed is behind these bytes
+module _ (part : Part) (p q : Progress) (line mid left body rest bytes : List ℕ) (ends : EndsLine bytes body rest)
+    (is : mid ≡ line ++ body) (within : length mid ≤ line_limit) where
+  -- it ends a line
+  pub ended_on : (n : ℕ) (r : Result Told AuditError) → n ≡ length body + 1 → legal r ≡ true →
+      IsLineAnswer part (mid ++ 10 ∷ []) p q r → LeavesLine mid left r → HasTakenLine part bytes p line q left n r
+  ended_on n (Ok Legal) count on answer leaves = record {
+    front = body ++ 10 ∷ [];
+    behind = rest;
+    all = append_assoc body (10 ∷ []) rest ∙ sym ends.0;
+    count = omega (arith, count, length-append body (10 ∷ []));
+    taken = fed_join part body (10 ∷ []) p p q line mid left (Ok Legal) (open_taken part p line body mid ends.1 is within)
+        (fed_end part p q mid left (Ok Legal) answer leaves);
+    ends = ((λ e. absurd (no_end_front e)), inl (body, (refl, ends.1)));
+  } where
+    no_end_front : body ++ 10 ∷ [] ≡ [] → ⊥
+    no_end_front e = omega (arith, ap length e, length-append body (10 ∷ []))
+  ended_on n (Ok (Illegal j c)) count on answer leaves = absurd cc
+  ended_on n (Err e) count on answer leaves = absurd cc
+
+  -- or something is told at it
+  pub ended_not : (n : ℕ) (r : Result Told AuditError) → n ≡ length body → legal r ≡ false →
+      IsLineAnswer part (mid ++ 10 ∷ []) p q r → IsKept p q r → LeavesLine mid left r →
+      HasTakenLine part bytes p line q left n r
+  ended_not n r count stop answer kept leaves =
+      let same = same_kept p q r stop kept in
+      let left_is = same_line mid left r stop leaves in
+      record {
+        front = body;
+        behind = 10 ∷ rest;
+        all = sym ends.0;
+        count = count;
+        taken = subst (λ x. HasTaken part body p line x left) (sym same)
+            (open_taken part p line body left ends.1 (left_is ∙ is) (subst (λ l. length l ≤ line_limit) (sym left_is) within));
+        ends = stops part body (10 ∷ rest) q left r stop ends.1
+            (told_next part (10 ∷ rest) 10 rest p q mid left r refl stop (fed_end part p q mid left r answer leaves) same left_is);
+      }
+
 -- ---- so many of the bytes
 
--- the answer isn't that all is legal
-abbrev pub IsStop : Result Told AuditError → Type 0
-IsStop (Ok Legal) = ⊥
-IsStop (Ok (Illegal j c)) = Unit {0}
-IsStop (Err e) = Unit {0}
+-- these were taken, and what is told at the next one
+first_taken : (part : Part) (front behind bytes : List ℕ) (p q : Progress) (line left : List ℕ) (n : ℕ)
+    (r : Result Told AuditError) → front ++ behind ≡ bytes → length front ≡ n → HasTaken part front p line q left →
+    IsToldNext part behind q left r → HasTakenFirst part bytes p line q left n r
+first_taken part front behind bytes p q line left n r all count taken next = record {
+  within = omega (arith, count, ap length all, length-append front behind);
+  taken = subst (λ (t : List ℕ). HasTaken part t p line q left)
+      (sym (take_at front behind n count) ∙ ap (λ t. take n t) all) taken;
+  next = subst (λ (t : List ℕ). IsToldNext part t q left r)
+      (sym (drop_at front behind n count) ∙ ap (λ t. drop n t) all) next;
+}
 
-module _ (part : Part) (bytes : List ℕ) (i b : ℕ) (p q s : Progress) (line left right : List ℕ) (within : i < length bytes)
-    (here : b ≡ get_or bytes i 0) (taken : HasTaken part (take i bytes) p line q left) where
-  behind_is : drop i bytes ≡ b ∷ drop (suc i) bytes
-  behind_is = drop-cons bytes i 0 within ∙ ap (λ x. x ∷ drop (suc i) bytes) (sym here)
+-- what is told at the next byte is told of all, since it stands whatever comes behind
+pub told_first : (part : Part) (bytes : List ℕ) (p q : Progress) (line left : List ℕ) (n : ℕ) (r : Result Told AuditError) →
+    HasTakenFirst part bytes p line q left n r → IsFedAnswer part bytes p line q left r
+told_first part bytes p q line left n (Ok Legal) first =
+    subst (λ (t : List ℕ). HasTaken part t p line q left)
+    (sym (append-nil (take n bytes)) ∙ ap (λ t. take n bytes ++ t) (sym first.next) ∙ take-append-drop n bytes) first.taken
+told_first part bytes p q line left n (Ok (Illegal j c)) first =
+    let (b, more, is, answer) = first.next in
+    fed_wrong part (take n bytes ++ b ∷ []) more bytes p q line left j c
+    (append_assoc (take n bytes) (b ∷ []) more ∙ ap (λ t. take n bytes ++ t) (sym is) ∙ take-append-drop n bytes)
+    (fed_join part (take n bytes) (b ∷ []) p q q line left left (Ok (Illegal j c)) first.taken answer)
+told_first part bytes p q line left n (Err e) first =
+    let (b, more, is, answer) = first.next in
+    fed_fault part (take n bytes ++ b ∷ []) more bytes p q line left e
+    (append_assoc (take n bytes) (b ∷ []) more ∙ ap (λ t. take n bytes ++ t) (sym is) ∙ take-append-drop n bytes)
+    (fed_join part (take n bytes) (b ∷ []) p q q line left left (Err e) first.taken answer)
 
-  whole : (take i bytes ++ b ∷ []) ++ drop (suc i) bytes ≡ bytes
-  whole =
-      append_assoc (take i bytes) (b ∷ []) (drop (suc i) bytes) ∙ ap (λ l. take i bytes ++ l) (sym behind_is)
-      ∙ take-append-drop i bytes
+-- of the rest of the bytes a line was taken
+module _ (part : Part) (done rest bytes : List ℕ) (p q s : Progress) (line left right : List ℕ) (n : ℕ)
+    (r : Result Told AuditError) (all : done ++ rest ≡ bytes) (taken : HasTaken part done p line q left)
+    (here : HasTakenLine part rest q left s right n r) where
+  -- what is left behind it
+  abbrev after : List ℕ
+  after = take (length rest - n) (drop n rest)
 
-  joined_to : (r : Result Told AuditError) → IsFedAnswer part (b ∷ []) q left s right r →
-      IsFedAnswer part (take i bytes ++ b ∷ []) p line s right r
-  joined_to r answer = fed_join part (take i bytes) (b ∷ []) p q s line left right r taken answer
+  dropped : after ≡ here.behind
+  dropped =
+      take_all (length rest - n) (drop n rest) (omega (arith, length-drop n rest)) ∙ ap (λ t. drop n t) (sym here.all)
+      ∙ drop_at here.front here.behind n (sym here.count)
 
-  -- one more was taken
-  pub one_taken : HasTaken part (b ∷ []) q left s right → HasTaken part (take (i + 1) bytes) p line s right
-  one_taken more =
-      subst (λ (xs : List ℕ). HasTaken part xs p line s right)
-      (ap (λ x. take i bytes ++ x ∷ []) here ∙ sym (take_more bytes i 0 within)) (joined_to (Ok Legal) more)
+  pub all_more : (done ++ here.front) ++ after ≡ bytes
+  all_more =
+      ap (λ t. (done ++ here.front) ++ t) dropped ∙ append_assoc done here.front here.behind
+      ∙ ap (λ t. done ++ t) here.all ∙ all
 
-  -- what is told at a byte is told of all, since it stands whatever comes behind
-  pub told_of_all : (r : Result Told AuditError) → IsStop r → IsFedAnswer part (b ∷ []) q left s right r →
-      IsFedAnswer part bytes p line s right r
-  told_of_all (Ok Legal) stop answer = absurd stop
-  told_of_all (Ok (Illegal j c)) stop answer =
-      fed_wrong part (take i bytes ++ b ∷ []) (drop (suc i) bytes) bytes p s line right j c whole
-      (joined_to (Ok (Illegal j c)) answer)
-  told_of_all (Err e) stop answer =
-      fed_fault part (take i bytes ++ b ∷ []) (drop (suc i) bytes) bytes p s line right e whole (joined_to (Err e) answer)
+  pub taken_more : HasTaken part (done ++ here.front) p line s right
+  taken_more = fed_join part done here.front p q s line left right (Ok Legal) taken here.taken
 
-  same_answer : (r : Result Told AuditError) → IsStop r → IsFedAnswer part (b ∷ []) q left s right r → s ≡ q → right ≡ left →
-      IsToldNext part (drop i bytes) s right r
-  same_answer (Ok Legal) stop answer same kept = absurd stop
-  same_answer (Ok (Illegal j c)) stop answer same kept = (
-    b,
-    drop (suc i) bytes,
-    behind_is,
-    subst (λ l. IsFedAnswer part (b ∷ []) s l s l (Ok (Illegal j c))) (sym kept)
-        (subst (λ x. IsFedAnswer part (b ∷ []) x left x left (Ok (Illegal j c))) (sym same) answer),
-  )
-  same_answer (Err e) stop answer same kept = (
-    b,
-    drop (suc i) bytes,
-    behind_is,
-    subst (λ l. IsFedAnswer part (b ∷ []) s l s l (Err e)) (sym kept)
-        (subst (λ x. IsFedAnswer part (b ∷ []) x left x left (Err e)) (sym same) answer),
-  )
-
-  -- and those before it were taken alone
-  pub taken_before : (r : Result Told AuditError) → IsStop r → IsFedAnswer part (b ∷ []) q left s right r → s ≡ q →
-      right ≡ left → HasTakenFirst part bytes p line s right i r
-  taken_before r stop answer same kept = record {
-    within = omega (arith, within);
-    taken = subst (λ x. HasTaken part (take i bytes) p line x right) (sym same)
-        (subst (λ l. HasTaken part (take i bytes) p line q l) (sym kept) taken);
-    next = same_answer r stop answer same kept;
-  }
+  pub stopped : (m : ℕ) → legal r ≡ false → m ≡ length bytes - length after → HasTakenFirst part bytes p line s right m r
+  stopped m stop count =
+      first_taken part (done ++ here.front) after bytes p s line right m r all_more
+      (omega (arith, count, ap length all_more, length-append (done ++ here.front) after)) taken_more
+      (subst (λ (t : List ℕ). IsToldNext part t s right r) (sym dropped) (by_end r stop here.ends)) where
+        by_end : (x : Result Told AuditError) → legal x ≡ false → IsLineEnd part here.front here.behind s right x →
+            IsToldNext part here.behind s right x
+        by_end (Ok Legal) stop ends = absurd cc
+        by_end (Ok (Illegal j c)) stop ends = ends.1
+        by_end (Err e) stop ends = ends.1
 
 -- all were taken
-pub taken_all : (part : Part) (bytes : List ℕ) (n i : ℕ) (p q : Progress) (line left : List ℕ) → n ≡ length bytes →
-    length bytes ≤ i → HasTaken part (take i bytes) p line q left →
-    HasTaken part bytes p line q left × HasTakenFirst part bytes p line q left n (Ok Legal)
-taken_all part bytes n i p q line left long past taken =
-    let all : HasTaken part bytes p line q left =
-    subst (λ (xs : List ℕ). HasTaken part xs p line q left) (take_all i bytes past) taken in
-    let end : length bytes ≤ n = omega (arith, long) in (
-      all,
-      record {
-        within = omega (arith, long);
-        taken = subst (λ (xs : List ℕ). HasTaken part xs p line q left) (sym (take_all n bytes end)) all;
-        next = drop_all n bytes end;
-      },
-    )
+pub taken_all : (part : Part) (done rest bytes : List ℕ) (p q : Progress) (line left : List ℕ) (n : ℕ) →
+    done ++ rest ≡ bytes → rest ≡ [] → n ≡ length bytes → HasTaken part done p line q left →
+    HasTakenFirst part bytes p line q left n (Ok Legal)
+taken_all part done rest bytes p q line left n all none count taken =
+    first_taken part done rest bytes p q line left n (Ok Legal) all
+    (omega (arith, count, ap length all, length-append done rest, ap length none)) taken none
 
 -- where so many were, some were
 pub some_taken : (part : Part) (bytes : List ℕ) (p q : Progress) (line left : List ℕ) (n : ℕ) (r : Result Told AuditError) →

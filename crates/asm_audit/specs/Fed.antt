@@ -1,12 +1,15 @@
 -- Texts whose bytes come in pieces.
-use Rattle.std.specs.Prelude.{◌≡◌, ◌≤◌, ℕ, List, [], ◌∷◌, ◌++◌, length, take, drop, Result, Ok, Err}
+use Rattle.std.specs.Prelude.{◌≡◌, ◌≢◌, ◌≤◌, ◌<◌, ◌⊎◌, ℕ, Bool, true, false, List, [], ◌∷◌, ◌++◌, length, take, drop, Result, Ok, Err}
 use Rattle.asm_update.specs.Fire.{Part}
+use Rattle.asm_journal.specs.Reading.{HasNoLineFeed, EndsLine}
 use Rattle.asm_audit.specs.declared.error.AuditError.{AuditError}
+use Rattle.asm_audit.specs.declared.error.AuditError.TheVariants.{LongLine, Memory}
 use Rattle.asm_audit.specs.declared.progress.Progress.{Progress}
 use Rattle.asm_audit.specs.declared.progress.Told.{Told}
 use Rattle.asm_audit.specs.declared.progress.Told.TheVariants.{Legal, Illegal}
 use Rattle.asm_audit.specs.declared.progress.Counts.{Counts}
 use Rattle.asm_audit.specs.declared.reading.Verdict.TheVariants as verdict
+use Rattle.asm_audit.specs.Limits.{line_limit}
 use Rattle.asm_audit.specs.Text.{IsShortLine, IsShortLines}
 use Rattle.asm_audit.specs.Fault.{IsFaulty}
 use Rattle.asm_audit.specs.Audited.{IsAudited, IsFirstIllegal, IsVerdict}
@@ -61,3 +64,32 @@ pub record HasTakenFirst (part : Part) (bytes : List ℕ) (p : Progress) (line :
   pub within : n ≤ length bytes
   pub taken : HasTaken part (take n bytes) p line q left
   pub next : IsToldNext part (drop n bytes) q left r
+
+-- each answer so far is right
+abbrev pub legal : Result Told AuditError → Bool
+legal (Ok Legal) = true
+legal (Ok (Illegal j c)) = false
+legal (Err e) = false
+
+-- so many of these bytes were added to the line: all, or those up to the limit, or none, since memory was refused
+abbrev pub IsExtended : List ℕ → List ℕ → List ℕ → ℕ → Result Told AuditError → Type 0
+IsExtended body old new n (Ok Legal) = (new ≡ old ++ body) × (n ≡ length body)
+IsExtended body old new n (Err LongLine) = (new ≡ old ++ take n body) × (n < length body) × (line_limit ≤ length new)
+IsExtended body old new n (Err Memory) = (new ≡ old) × (n ≡ 0)
+IsExtended body old new n r = ⊥
+
+-- these bytes end in the first line feed, or no line feed is in them, and no byte is left; or this is told at the next one
+abbrev pub IsLineEnd : Part → List ℕ → List ℕ → Progress → List ℕ → Result Told AuditError → Type 0
+IsLineEnd part front behind q left (Ok Legal) =
+    (front ≢ []) × (((body : List ℕ) × EndsLine front body []) ⊎ (HasNoLineFeed front × (behind ≡ [])))
+IsLineEnd part front behind q left r = HasNoLineFeed front × IsToldNext part behind q left r
+
+-- the first so many of the bytes were taken, up to the first line feed, and no others
+pub record HasTakenLine (part : Part) (bytes : List ℕ) (p : Progress) (line : List ℕ) (q : Progress) (left : List ℕ)
+    (n : ℕ) (r : Result Told AuditError) : Type 0 where
+  pub front : List ℕ
+  pub behind : List ℕ
+  pub all : front ++ behind ≡ bytes
+  pub count : n ≡ length front
+  pub taken : HasTaken part front p line q left
+  pub ends : IsLineEnd part front behind q left r

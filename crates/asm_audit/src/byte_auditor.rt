@@ -1,6 +1,7 @@
 //! The audit of a run, as its bytes come.
-ghost use Rattle.std.specs.Prelude.{◌≡◌, ◌≤◌, length, IfOk};
-ghost use Rattle.asm_journal.specs.Reading.{HasNoLineFeed};
+ghost use Rattle.std.specs.Prelude.{◌≡◌, ◌≢◌, ◌≤◌, ◌+◌, length, take, drop, IfOk, IfSome, IfNone};
+ghost use Rattle.asm_journal.specs.Reading.{HasNoLineFeed, EndsLine};
+ghost use Rattle.asm_audit.specs.Fed.{legal};
 ghost use Rattle.asm_audit.specs.Limits.{line_limit};
 
 use crate::auditor::Auditor;
@@ -11,6 +12,21 @@ use std::alloc::{AllocError, Global};
 
 /// The most bytes of a line that an audit of bytes keeps, the line feed apart.
 pub const LINE_LIMIT: usize = 1_073_741_824;
+
+// Where the first line feed of the bytes stands.
+fn line_feed_in(bytes: &[u8]) -> Option<usize>
+    ensures some { IfSome result (λ end. EndsLine bytes.now (take end bytes.now) (drop (end + 1) bytes.now)) }
+    ensures none { IfNone result (HasNoLineFeed bytes.now) }
+{
+    bytes.iter().position(|b| *b == b'\n')
+}
+
+// Whether each answer so far is right.
+fn is_legal(told: Result<Told, AuditError>) -> bool
+    ensures { result ≡ legal told }
+{
+    matches!(told, Ok(Told::Legal))
+}
 
 /// Audits a run as its bytes come, in pieces that may begin and end anywhere. Beside an `Auditor` it holds the bytes of
 /// the line that hasn't ended, of which there are at most 1,073,741,824.
@@ -26,7 +42,8 @@ impl<A: Aggregator + Drop> ByteAuditor<A> {
     ghost use Rattle.std.specs.Prelude.{◌++◌, ◌∷◌, []};
     ghost use Rattle.asm_audit.specs.Audited.{IsLineAnswer};
     ghost use Rattle.asm_audit.specs.Step.{IsKept};
-    ghost use Rattle.asm_audit.specs.Fed.{IsFed, IsFedAnswer, HasTakenSome, HasTakenFirst, IsFedEnd, LeavesLine};
+    ghost use Rattle.asm_audit.specs.Fed.{IsFed, IsFedAnswer, IsExtended, HasTakenSome, HasTakenLine, HasTakenFirst, IsFedEnd};
+    ghost use Rattle.asm_audit.specs.Fed.{LeavesLine};
     ghost use Rattle.asm_audit.specs.SoFar.{AreFedSoFar, IsFedStateSoFar};
 
     /// An auditor that has read nothing.
@@ -66,22 +83,44 @@ impl<A: Aggregator + Drop> ByteAuditor<A> {
         }
     }
 
-    // Takes one byte.
-    fn feed_byte(&mut self, alloc: Global, byte: u8) -> Result<Told, AuditError>
-        ensures aggregator { self.new.auditor.aggregator ≡ self.old.auditor.aggregator }
-        ensures told { IsFedAnswer (A.meaning self.old.auditor.aggregator).part (byte ∷ [])
-            self.old.auditor.progress self.old.line.items self.new.auditor.progress self.new.line.items result }
-        ensures kept { IsKept self.old.auditor.progress self.new.auditor.progress result }
-        ensures line { IsKept self.old.line.items self.new.line.items result }
+    // Adds bytes to the line: fewer where it would be too long, and none where memory was refused. How many.
+    fn keep(&mut self, body: &[u8]) -> (usize, Result<Told, AuditError>)
+        requires { HasNoLineFeed body.now }
+        ensures auditor { self.new.auditor ≡ self.old.auditor }
+        ensures kept { IsExtended body.now self.old.line.items self.new.line.items result.0 result.1 }
     {
-        if byte == b'\n' {
-            return self.end_line(alloc);
+        let count = body.len().min(LINE_LIMIT - self.line.len());
+        if self.line.extend_from_slice(&body[..count]).is_err() {
+            return (0, Err(AuditError::Memory));
         }
-        if LINE_LIMIT <= self.line.len() {
-            return Err(AuditError::LongLine);
+        if count < body.len() {
+            return (count, Err(AuditError::LongLine));
         }
-        self.line.push(byte)?;
-        Ok(Told::Legal)
+        (count, Ok(Told::Legal))
+    }
+
+    /// Takes the next bytes, up to the first line feed or all where there is none, and how many of them were taken.
+    ///
+    /// What is told is as `feed_some` tells it.
+    pub fn feed_line(&mut self, alloc: Global, bytes: &[u8]) -> (usize, Result<Told, AuditError>)
+        requires { bytes.now ≢ [] }
+        ensures aggregator { self.new.auditor.aggregator ≡ self.old.auditor.aggregator }
+        ensures taken { HasTakenLine (A.meaning self.old.auditor.aggregator).part bytes.now
+            self.old.auditor.progress self.old.line.items self.new.auditor.progress self.new.line.items
+            result.0 result.1 }
+    {
+        let Some(end) = line_feed_in(bytes) else {
+            return self.keep(bytes);
+        };
+        let (count, kept) = self.keep(&bytes[..end]);
+        if !is_legal(kept) {
+            return (count, kept);
+        }
+        let told = self.end_line(alloc);
+        if !is_legal(told) {
+            return (end, told);
+        }
+        (end + 1, told)
     }
 
     /// Takes the next bytes, and how many of them were taken.
@@ -98,16 +137,12 @@ impl<A: Aggregator + Drop> ByteAuditor<A> {
             self.old.auditor.progress self.old.line.items self.new.auditor.progress self.new.line.items
             result.0 result.1 }
     {
-        for (taken, byte) in bytes.iter().enumerate() {
-            let told = match self.feed_byte(alloc, *byte) {
-                Ok(told) => told,
-                Err(error) => return (taken, Err(error)),
-            };
-            match told {
-                Told::Legal => {}
-                Told::Illegal { part, call } => {
-                    return (taken, Ok(Told::Illegal { part, call }));
-                }
+        let mut rest = bytes;
+        while !rest.is_empty() {
+            let (count, told) = self.feed_line(alloc, rest);
+            rest = &rest[count..];
+            if !is_legal(told) {
+                return (bytes.len() - rest.len(), told);
             }
         }
         (bytes.len(), Ok(Told::Legal))

@@ -1,97 +1,80 @@
-use Rattle.std.proofs.Common.{◌≡◌, [], ◌∷◌, length, get_or, Ok, Err, refl, ap, subst, ◌∙◌}
-use Rattle.asm_audit.specs.declared.progress.Told.TheVariants.{Legal, Illegal}
-use Rattle.asm_audit.specs.Fed.{IsFedAnswer}
-use Rattle.asm_audit.proofs.Fed.{one_taken, told_of_all, taken_before, taken_all}
+use Rattle.std.proofs.Common.{◌++◌, true, length, sym, ap, subst, ◌∙◌, refl, Ok}
+use Rattle.asm_audit.specs.declared.progress.Told.TheVariants.{Legal}
+use Rattle.asm_audit.specs.Fed.{HasTakenLine}
+use Rattle.asm_audit.proofs.Fed.{told_first, all_more, taken_more, stopped, taken_all, none_left}
 use Rattle.asm_audit.proofs.byte_auditor.ByteAuditor.feed_some.Goals as goal
 
-pub loop-taken-preserved : goal.loop-taken-preserved
-loop-taken-preserved g c =
+pub returns-then-not-is_legal-clause-told : goal.returns-then-not-is_legal-clause-told
+returns-then-not-is_legal-clause-told g c =
     let part = (g.A.Aggregator.meaning c.args.self.now.auditor.aggregator).part in
-    let l = c.loop-taken in
-    let b = get_or c.args.bytes.now l.taken 0 in
     let old = c.args.self.now in
-    let here = l.self in
-    let new = c.feed_byte.new.self in
-    let same = ap (λ a. (g.A.Aggregator.meaning a).part) l.invariant.0 in
-    let told = subst (λ q. IsFedAnswer q (b ∷ []) here.auditor.progress here.line.items new.auditor.progress new.line.items (Ok Legal)) same
-    (rw c.in-Legal.is at c.in-Ok.ensures.told) in (
-      c.feed_byte.ensures.aggregator ∙ l.invariant.0,
-      one_taken part c.args.bytes.now l.taken b old.auditor.progress here.auditor.progress new.auditor.progress
-          old.line.items here.line.items new.line.items c.loop-taken-test.true refl l.invariant.1 told,
-    )
+    let bytes = c.args.bytes.now in
+    let l = c.loop-rest in
+    let i = l.invariant in
+    let f = c.feed_line-count in
+    let new = f.new.self in
+    let rest = l.rest.now in
+    let here = subst (λ q. HasTakenLine q rest l.self.auditor.progress l.self.line.items new.auditor.progress new.line.items f.result.0 f.result.1)
+    (ap (λ a. (g.A.Aggregator.meaning a).part) i.same) f.ensures.taken in
+    told_first part bytes old.auditor.progress new.auditor.progress old.line.items new.line.items _ f.result.1
+    (stopped part i.done rest bytes old.auditor.progress l.self.auditor.progress new.auditor.progress old.line.items
+    l.self.line.items new.line.items f.result.0 f.result.1 i.all i.taken here _
+    (sym c.is_legal.ensures ∙ c.if-not-is_legal.true) refl)
 
-pub returns-in-Illegal-clause-told : goal.returns-in-Illegal-clause-told
-returns-in-Illegal-clause-told g c =
+pub returns-then-not-is_legal-clause-taken : goal.returns-then-not-is_legal-clause-taken
+returns-then-not-is_legal-clause-taken g c =
     let part = (g.A.Aggregator.meaning c.args.self.now.auditor.aggregator).part in
-    let l = c.loop-taken in
-    let b = get_or c.args.bytes.now l.taken 0 in
     let old = c.args.self.now in
-    let here = l.self in
-    let new = c.feed_byte.new.self in
-    let r = Ok (Illegal c.in-Illegal.part c.in-Illegal.call) in
-    let same = ap (λ a. (g.A.Aggregator.meaning a).part) l.invariant.0 in
-    let told = subst (λ q. IsFedAnswer q (b ∷ []) here.auditor.progress here.line.items new.auditor.progress new.line.items r) same
-    (rw c.in-Illegal.is at c.in-Ok.ensures.told) in
-    told_of_all part c.args.bytes.now l.taken b old.auditor.progress here.auditor.progress new.auditor.progress
-    old.line.items here.line.items new.line.items c.loop-taken-test.true refl l.invariant.1 r tt told
+    let bytes = c.args.bytes.now in
+    let l = c.loop-rest in
+    let i = l.invariant in
+    let f = c.feed_line-count in
+    let new = f.new.self in
+    let rest = l.rest.now in
+    let here = subst (λ q. HasTakenLine q rest l.self.auditor.progress l.self.line.items new.auditor.progress new.line.items f.result.0 f.result.1)
+    (ap (λ a. (g.A.Aggregator.meaning a).part) i.same) f.ensures.taken in
+    stopped part i.done rest bytes old.auditor.progress l.self.auditor.progress new.auditor.progress old.line.items
+    l.self.line.items new.line.items f.result.0 f.result.1 i.all i.taken here _
+    (sym c.is_legal.ensures ∙ c.if-not-is_legal.true) refl
 
-pub returns-in-Illegal-clause-taken : goal.returns-in-Illegal-clause-taken
-returns-in-Illegal-clause-taken g c =
+pub loop-rest-preserved : goal.loop-rest-preserved
+loop-rest-preserved g c =
     let part = (g.A.Aggregator.meaning c.args.self.now.auditor.aggregator).part in
-    let l = c.loop-taken in
-    let b = get_or c.args.bytes.now l.taken 0 in
     let old = c.args.self.now in
-    let here = l.self in
-    let new = c.feed_byte.new.self in
-    let r = Ok (Illegal c.in-Illegal.part c.in-Illegal.call) in
-    let same = ap (λ a. (g.A.Aggregator.meaning a).part) l.invariant.0 in
-    let told = subst (λ q. IsFedAnswer q (b ∷ []) here.auditor.progress here.line.items new.auditor.progress new.line.items r) same
-    (rw c.in-Illegal.is at c.in-Ok.ensures.told) in
-    taken_before part c.args.bytes.now l.taken b old.auditor.progress here.auditor.progress new.auditor.progress
-    old.line.items here.line.items new.line.items c.loop-taken-test.true refl l.invariant.1 r tt told
-    (rw c.in-Illegal.is at c.in-Ok.ensures.kept) (rw c.in-Illegal.is at c.in-Ok.ensures.line)
-
-pub returns-in-Err-clause-told : goal.returns-in-Err-clause-told
-returns-in-Err-clause-told g c =
-    let part = (g.A.Aggregator.meaning c.args.self.now.auditor.aggregator).part in
-    let l = c.loop-taken in
-    let b = get_or c.args.bytes.now l.taken 0 in
-    let old = c.args.self.now in
-    let here = l.self in
-    let new = c.feed_byte.new.self in
-    let r = Err c.in-Err.error in
-    let same = ap (λ a. (g.A.Aggregator.meaning a).part) l.invariant.0 in
-    let told = subst (λ q. IsFedAnswer q (b ∷ []) here.auditor.progress here.line.items new.auditor.progress new.line.items r) same
-    c.in-Err.ensures.told in
-    told_of_all part c.args.bytes.now l.taken b old.auditor.progress here.auditor.progress new.auditor.progress
-    old.line.items here.line.items new.line.items c.loop-taken-test.true refl l.invariant.1 r tt told
-
-pub returns-in-Err-clause-taken : goal.returns-in-Err-clause-taken
-returns-in-Err-clause-taken g c =
-    let part = (g.A.Aggregator.meaning c.args.self.now.auditor.aggregator).part in
-    let l = c.loop-taken in
-    let b = get_or c.args.bytes.now l.taken 0 in
-    let old = c.args.self.now in
-    let here = l.self in
-    let new = c.feed_byte.new.self in
-    let r = Err c.in-Err.error in
-    let same = ap (λ a. (g.A.Aggregator.meaning a).part) l.invariant.0 in
-    let told = subst (λ q. IsFedAnswer q (b ∷ []) here.auditor.progress here.line.items new.auditor.progress new.line.items r) same
-    c.in-Err.ensures.told in
-    taken_before part c.args.bytes.now l.taken b old.auditor.progress here.auditor.progress new.auditor.progress
-    old.line.items here.line.items new.line.items c.loop-taken-test.true refl l.invariant.1 r tt told
-    c.in-Err.ensures.kept c.in-Err.ensures.line
+    let bytes = c.args.bytes.now in
+    let l = c.loop-rest in
+    let i = l.invariant in
+    let f = c.feed_line-count in
+    let new = f.new.self in
+    let rest = l.rest.now in
+    let here = subst (λ q. HasTakenLine q rest l.self.auditor.progress l.self.line.items new.auditor.progress new.line.items f.result.0 f.result.1)
+    (ap (λ a. (g.A.Aggregator.meaning a).part) i.same) f.ensures.taken in
+    record {
+      done = i.done ++ here.front;
+      all = all_more part i.done rest bytes old.auditor.progress l.self.auditor.progress new.auditor.progress old.line.items
+          l.self.line.items new.line.items f.result.0 f.result.1 i.all i.taken here;
+      same = f.ensures.aggregator ∙ i.same;
+      taken = taken_more part i.done rest bytes old.auditor.progress l.self.auditor.progress new.auditor.progress old.line.items
+          l.self.line.items new.line.items f.result.0 f.result.1 i.all i.taken here;
+    }
 
 pub returns-clause-told : goal.returns-clause-told
 returns-clause-told g c =
     let part = (g.A.Aggregator.meaning c.args.self.now.auditor.aggregator).part in
-    let l = c.loop-taken in
-    (taken_all part c.args.bytes.now (length c.args.bytes.now) l.taken c.args.self.now.auditor.progress l.self.auditor.progress
-    c.args.self.now.line.items l.self.line.items refl c.loop-taken-test.false l.invariant.1).0
+    let old = c.args.self.now in
+    let bytes = c.args.bytes.now in
+    let l = c.loop-rest in
+    let i = l.invariant in
+    told_first part bytes old.auditor.progress l.self.auditor.progress old.line.items l.self.line.items (length bytes) (Ok Legal)
+    (taken_all part i.done l.rest.now bytes old.auditor.progress l.self.auditor.progress old.line.items l.self.line.items
+    (length bytes) i.all (none_left l.rest.now (length l.rest.now) true refl c.loop-rest-test.ensures refl) refl i.taken)
 
 pub returns-clause-taken : goal.returns-clause-taken
 returns-clause-taken g c =
     let part = (g.A.Aggregator.meaning c.args.self.now.auditor.aggregator).part in
-    let l = c.loop-taken in
-    (taken_all part c.args.bytes.now (length c.args.bytes.now) l.taken c.args.self.now.auditor.progress l.self.auditor.progress
-    c.args.self.now.line.items l.self.line.items refl c.loop-taken-test.false l.invariant.1).1
+    let old = c.args.self.now in
+    let bytes = c.args.bytes.now in
+    let l = c.loop-rest in
+    let i = l.invariant in
+    taken_all part i.done l.rest.now bytes old.auditor.progress l.self.auditor.progress old.line.items l.self.line.items
+    (length bytes) i.all (none_left l.rest.now (length l.rest.now) true refl c.loop-rest-test.ensures refl) refl i.taken
