@@ -4,7 +4,7 @@ use Rattle.std.proofs.lemmas.List.{length-map, length-take}
 use Rattle.std.proofs.lemmas.List.Elements.{All-contains, All-map, Contains-append_left, Contains-append_right}
 use Rattle.asm_update.specs.Fire.{Old, fire, state_of}
 use Rattle.asm_update.specs.Move.{Move}
-use Rattle.asm_update.specs.State.{State, IsProper, val}
+use Rattle.asm_update.specs.State.{State, val}
 use Rattle.asm_state.specs.Scans.{has_name}
 use Rattle.asm_state.specs.declared.named.Named.{Named}
 use Rattle.asm_state.specs.declared.scanned.Scanned.{Scanned}
@@ -13,8 +13,8 @@ use Rattle.asm_step.specs.Resting.{left_by, AgreesAtRests}
 use Rattle.asm_step.proofs.Built.{resting_those, sees_there}
 use Rattle.asm_step.proofs.OneMove.{one_does}
 use Rattle.asm_step.proofs.Standing.{told_stands}
-use Rattle.asm_step.specs.Layers.{Layer, all_moves, one_move, resting_of, IsStepOf}
-use Rattle.asm_update.specs.Aggregator.{AggregatorLaws, Meaning}
+use Rattle.asm_step.specs.Layers.{all_moves, one_move, resting_of}
+use Rattle.asm_update.specs.Aggregator.{AggregatorLaws}
 use Rattle.asm_update.specs.declared.clash.Clash as clash
 use Rattle.asm_element.specs.Place.{Place}
 use Rattle.asm_aggregate.specs.Standard.{standard_meaning}
