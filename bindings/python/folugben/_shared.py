@@ -88,7 +88,7 @@ class SharedStep(Step):
         """What the fire offers, and the scans that it rests on."""
         call = self._offer_text()
         expect_call(call)
-        return call, encoded([[name, self._own_number] for name in self._scans], "scans")
+        return call, encoded([[name, self._own_number] for name in self._scans], "scans") if self._scans else b"[]"
 
 
 class SharedRun:

@@ -221,8 +221,8 @@ class Worker(Locked):
     # What a leader does.
 
     def _lead(self, leader: "Waiter | Worker") -> None:
-        """Does one turn, and has another one lead; unless that was taken over."""
-        if self._is_gathering and not self._gathers(leader):
+        """Does one turn, and has another one lead; unless another one has taken over."""
+        if not self._gathers(leader):
             return
         self._leading = threading.get_ident()
         try:
@@ -246,13 +246,16 @@ class Worker(Locked):
                 self._changed.notify_all()
 
     def _gathers(self, leader: "Waiter | Worker") -> bool:
-        """Wait for those that are expected: as long as calls come, further ones may. Return whether it leads still."""
+        """Wait for those that are expected: as long as calls come, further ones may. Return whether it leads still.
+
+        While it waits another one may take over, and no longer once this has returned.
+        """
         came, end = -1, time.monotonic() + 4 * self._moment
         while True:
             with self._lock:
                 if self._leader is not leader:
                     return False
-                if self._is_due() or came == len(self._waiting) or time.monotonic() >= end:
+                if not self._is_gathering or self._is_due() or came == len(self._waiting) or time.monotonic() >= end:
                     self._is_gathering = False
                     return True
                 came = len(self._waiting)
