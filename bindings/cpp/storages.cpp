@@ -3,6 +3,7 @@
 
 #include <cstdint>
 #include <cstdio>
+#include <map>
 #include <span>
 #include <string>
 #include <thread>
@@ -234,6 +235,116 @@ void threads_take_agents() {
     WANTED(reader.follow() == 800 && reader.peek(folugben::location("count")).number() == 800);
 }
 
+// The JSON of a value, written by what it is read as.
+std::string json(const folugben::value &it) {
+    std::string text;
+    if (it.kind() == ASM_KIND_SET) return folugben::detail::json_of(it.as_set());
+    if (it.kind() == ASM_KIND_BAG) return folugben::detail::json_of(it.as_bag());
+    it.as_element().write_json(text);
+    return text;
+}
+
+std::string place(std::uint64_t number) { return R"(["x",)" + std::to_string(number) + "]"; }
+
+// What locations have at first: values of all kinds.
+const std::vector<std::string> VALUES = {"null", "true", "false", "-7", "9223372036854775807", R"("")", R"("a \"\\ \u0001")",
+                                         R"({"list":[1,{"list":[]}]})", R"({"set":[null,1,"a"]})", R"({"bag":[[1,2],["a",4294967295]]})"};
+
+// Commits steps that get some places and put to one: the lines that a journal has to have of what they got.
+std::vector<std::string> recorded_steps(folugben::agent agent, std::uint64_t number) {
+    std::vector<std::string> lines;
+    std::uint64_t draw = number + 1;
+    const auto below = [&](std::uint64_t most) { return (draw = draw * 6364136223846793005u + 1442695040888963407u) / 65536 % most; };
+    for (int i = 0; i < 200; ++i) {
+        folugben::step step = agent.begin();
+        std::map<std::uint64_t, std::string> got;
+        for (std::uint64_t left = below(4); left > 0; --left) {
+            const std::uint64_t at = below(VALUES.size());
+            const std::string text = step.get_json("[" + place(at) + "]");
+            got[at] = json(step.get(folugben::location::of_json(place(at))));
+            WANTED(text == R"({"number":)" + std::to_string(step.number()) + R"(,"values":[)" + got[at] + "]}");
+        }
+        step.push_json(R"([["put",)" + place(below(VALUES.size())) + "," + VALUES[below(VALUES.size())] + "]]");
+        std::string places, values;
+        for (const auto &[at, value] : got) {
+            places += (places.empty() ? "" : ",") + place(at);
+            values += (values.empty() ? "" : ",") + value;
+        }
+        lines.push_back(R"({"agent":)" + std::to_string(number) + R"(,"call":{"read":[)" + places + R"(]},"reply":{"number":)" +
+                        std::to_string(step.number()) + R"(,"values":[)" + values + "]}}");
+        const folugben::outcome told = step.try_commit();
+        WANTED(told || (told.is_conflict() && told.code != code::moved));
+    }
+    return lines;
+}
+
+// The lines of a journal that begin so.
+std::vector<std::string> lines_of(const std::string &journal, const std::string &begin) {
+    std::vector<std::string> lines;
+    for (std::size_t at = 0, end; (end = journal.find('\n', at)) != std::string::npos; at = end + 1)
+        if (journal.compare(at, begin.size(), begin) == 0) lines.push_back(journal.substr(at, end - at));
+    return lines;
+}
+
+void journals_have_what_gets_return() {
+    std::string state;
+    for (std::size_t i = 0; i < VALUES.size(); ++i) state += (i ? ",[" : "[") + place(i) + "," + VALUES[i] + "]";
+    folugben::storage storage("[" + state + "]", 1000);
+    storage.record(true);
+    std::vector<std::vector<std::string>> expected(4);
+    std::vector<std::thread> threads;
+    for (std::uint32_t i = 0; i < 4; ++i)
+        threads.emplace_back([&, i, agent = storage.make_agent(i)]() mutable { expected[i] = recorded_steps(std::move(agent), i); });
+    for (std::thread &it : threads) it.join();
+    const std::string journal = storage.close();
+    WANTED(folugben::check(journal).is_legal);
+    for (std::size_t i = 0; i < expected.size(); ++i)
+        WANTED(lines_of(journal, R"({"agent":)" + std::to_string(i) + R"(,"call":{"read")") == expected[i]);
+}
+
+void moved_commits_are_conflicts() {
+    folugben::storage storage(COUNT, 10);
+    folugben::agent rival = storage.make_agent(1);
+    storage.record(true);
+    folugben::agent agent = storage.make_agent(0);
+    const folugben::location count("count");
+    const auto go_on = [&] {
+        rival.fire_json(R"({"fire":[["put",["z"],1]],"reads":[]})");
+        agent.follow();
+    };
+    folugben::step step = agent.begin();
+    step.push(folugben::instructions().put(folugben::location("y"), step.get(count)));
+    go_on();
+    const folugben::outcome moved = step.try_commit();
+    WANTED(moved.code == code::moved && moved.is_conflict() && moved.number == 0);
+    WANTED(REFUSED(folugben::conflict, step.commit()).code() == code::moved);
+    agent.record(false);
+    WANTED(step.commit() == 2); // nothing was done
+    agent.record(true);
+    int tries = 0;
+    const auto played = agent.play([&](folugben::step &it) {
+        it.push(folugben::instructions().put(folugben::location("y"), it.get(count)));
+        if (tries++ < 2) go_on();
+    });
+    WANTED(played.number == 5 && played.retries == 2);
+    const auto leave = [](folugben::agent gone) { (void)gone; };
+    leave(std::move(agent));
+    leave(std::move(rival));
+    const std::string read = R"("call":{"read":[["count"]]},"reply":{"number":4,"values":[7]}})";
+    WANTED(lines_of(storage.close(), R"({"agent":0,"call":{"read")") == std::vector<std::string>{R"({"agent":0,)" + read});
+    // Storages that go on do as this one, and agents that are taken too.
+    folugben::storage next = storage.next(1);
+    leave(next.make_agent(0));
+    next.take(0).play([&](folugben::step &it) { it.push(folugben::instructions().put(count, it.get(count))); });
+    folugben::agent last = next.take(0);
+    last.follow();
+    folugben::storage behind = last.go_on(1);
+    behind.make_agent(0).play([&](folugben::step &it) { it.push(folugben::instructions().put(count, it.get(count))); });
+    WANTED(lines_of(behind.close(), R"({"agent":0,"call":{"read":[["count"]]})").size() == 1);
+    leave(std::move(last));
+    WANTED(lines_of(next.close(), R"({"agent":0,"call":{"read":[["count"]]})").size() == 1);
+}
+
 } // namespace
 
 int main() {
@@ -245,5 +356,7 @@ int main() {
     steps_go_on_where_their_agents_move();
     moved_objects_are_empty();
     threads_take_agents();
+    journals_have_what_gets_return();
+    moved_commits_are_conflicts();
     std::puts("passed");
 }

@@ -168,6 +168,21 @@ fn too_long_lines() {
     assert_eq!(agent.play(|step| step.put("a", half.as_str())).map(fired), Ok(1));
     assert_eq!(run.flush().unwrap().moves, 1);
     assert_eq!(agent.play(|step| step.put("b", half.as_str())).map(fired), Ok(2));
+    // A read of both is too long to be recorded.
+    agent.set_recording(true);
+    let both = |step: &mut folugben::Step<'_>| {
+        step.get_each(&["a".into(), "b".into()])?;
+        step.put("c", 1)
+    };
+    assert_eq!(agent.play(both), Err(Error::TooLong));
+    let changes = agent.play(|step| {
+        for at in ["a", "b", "a", "b"] {
+            assert!(matches!(step.inc(at, 1), Err(Error::Clash { .. })));
+        }
+        step.put("c", 1)
+    });
+    assert_eq!(changes, Err(Error::TooLong));
+    agent.set_recording(false);
     // Its part goes on until it is full, as no further one can open.
     assert_eq!(run.flush(), Err(Error::TooLong));
     assert_eq!(add_one(&mut agent), Ok(3));

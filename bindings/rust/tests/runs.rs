@@ -32,9 +32,11 @@ fn agents_and_runs_go_between_threads() {
 #[test]
 fn threads_go_on_from_part_to_part_as_one_run() {
     const AGENTS: u8 = 8;
-    for (moves, each) in [(1, 20), (7, 100), (64, 300)] {
-        let room = Room::new(&format!("threads-{moves}"));
-        let run = open(&room, moves);
+    for (moves, each, is_recording) in
+        [(1, 20, false), (7, 100, false), (64, 300, false), (7, 100, true), (64, 300, true)]
+    {
+        let room = Room::new(&format!("threads-{moves}-{is_recording}"));
+        let run = RunOptions::new().moves(moves).record(is_recording).open([(count(), 0.into())], room.path()).unwrap();
         let mut all: Vec<u64> = thread::scope(|threads| {
             let works = run.agents(AGENTS.into()).unwrap().into_iter().map(|mut agent| {
                 threads.spawn(move || (0..each).map(|_| add_one(&mut agent).unwrap()).collect::<Vec<_>>())
@@ -50,6 +52,10 @@ fn threads_go_on_from_part_to_part_as_one_run() {
         let (counts, state) = room.audited();
         assert_eq!(counts, told);
         assert_eq!(counts.moves, fired);
+        let bytes = room.bytes();
+        let reads = String::from_utf8_lossy(&bytes).matches("\"call\":{\"read\":[[\"count\"]]}").count() as u64;
+        assert_eq!(counts.calls, if is_recording { 2 * reads } else { counts.calls });
+        assert_eq!(reads >= fired, is_recording);
         assert!(counts.parts > fired / u64::from(moves));
         assert_eq!(state, [(count(), Value::from(i64::try_from(fired).unwrap()))]);
     }

@@ -1,10 +1,14 @@
 //! Storages: how agents come back, what is refused, and journals.
+mod common;
+
+use common::Draw;
 use folugben::{
-    Agent, Element, Error, Journal, JournalError, Legality, Limit, Location, Move, MoveNumber, Storage, Value,
-    aggregate, compose,
+    Agent, Element, Error, Journal, JournalError, Legality, Limit, Location, Move, MoveNumber, Prepared, Storage,
+    Value, aggregate, compose,
 };
 use std::cell::RefCell;
-use std::thread;
+use std::collections::{BTreeMap, BTreeSet};
+use std::{slice, thread};
 
 fn count() -> Location {
     Location::new("count")
@@ -214,4 +218,125 @@ fn calls_are_made_as_a_thread_ends() {
     });
     ends.join().unwrap();
     assert_eq!(storage.close().unwrap().replay().unwrap(), [(count(), 8.into())]);
+}
+
+/// The JSON of elements and of a value, written apart from the crate.
+fn json_of(items: &[Element]) -> String {
+    let one = |it: &Element| match it {
+        Element::Undef => "null".to_owned(),
+        Element::Bool(it) => it.to_string(),
+        Element::Num(it) => it.to_string(),
+        Element::Text(it) => format!("\"{}\"", it.replace('\\', "\\\\").replace('"', "\\\"")),
+        Element::List(items) => format!("{{\"list\":[{}]}}", json_of(items)),
+        other => panic!("{other:?}"),
+    };
+    items.iter().map(one).collect::<Vec<_>>().join(",")
+}
+
+fn json(value: &Value) -> String {
+    match value {
+        Value::Plain(it) => json_of(slice::from_ref(it)),
+        Value::Set(it) => format!("{{\"set\":[{}]}}", json_of(&it.iter().cloned().collect::<Vec<_>>())),
+        Value::Bag(it) => {
+            let pair = |(it, count): (&Element, &u32)| format!("[{},{count}]", json_of(slice::from_ref(it)));
+            format!("{{\"bag\":[{}]}}", it.iter().map(pair).collect::<Vec<_>>().join(","))
+        }
+        other => panic!("{other:?}"),
+    }
+}
+
+/// Values of all kinds.
+fn values() -> Vec<Value> {
+    let items = [Element::Undef, true.into(), (-7).into(), "a \"\\ä".into(), vec![Element::from(1)].into()];
+    let mut all: Vec<Value> = items.iter().cloned().map(Value::Plain).collect();
+    all.extend([i64::MIN.into(), i64::MAX.into(), false.into(), "".into()]);
+    all.push(Value::Set(BTreeSet::from(items.clone())));
+    all.push(Value::Bag(items.into_iter().zip([1, 2, 3, 4, u32::MAX]).collect::<BTreeMap<_, _>>()));
+    all
+}
+
+fn place(number: u64) -> Location {
+    Location::new("x").arg(i64::try_from(number).unwrap())
+}
+
+/// Commits steps that get some places and put to one: the lines that a journal has to have of what they got.
+fn recorded_steps(mut agent: Agent, values: &[Value]) -> Vec<String> {
+    let (number, most) = (agent.number(), values.len() as u64);
+    let mut draw = Draw(77 + u64::from(number.get()));
+    let mut one = || {
+        let mut step = agent.step().unwrap();
+        let mut got = BTreeMap::new();
+        for _ in 0..draw.below(4) {
+            let at = place(draw.below(most));
+            let value = match draw.below(3) {
+                0 => step.get(&at).unwrap(),
+                1 => step.get_each(slice::from_ref(&at)).unwrap().remove(0),
+                _ => step.get_at(&Prepared::new(&at).unwrap()).unwrap(),
+            };
+            got.insert(at.args().to_vec(), value);
+        }
+        let value = values[usize::try_from(draw.below(most)).unwrap()].clone();
+        step.put(place(draw.below(most)), value).unwrap();
+        let read: Vec<_> = step.offer().unwrap().1.into_iter().map(|(at, _)| at.args().to_vec()).collect();
+        assert_eq!(read.len(), got.len());
+        let places: Vec<_> = read.iter().map(|it| format!("[\"x\",{}]", json_of(it))).collect();
+        let seen: Vec<_> = read.iter().map(|it| json(&got[it])).collect();
+        let (at, places, seen) = (step.number(), places.join(","), seen.join(","));
+        assert!(step.commit().map_or_else(|error| error.is_retry(), |_| true));
+        let reply = format!("{{\"number\":{at},\"values\":[{seen}]}}");
+        format!("{{\"agent\":{number},\"call\":{{\"read\":[{places}]}},\"reply\":{reply}}}")
+    };
+    (0..200).map(|_| one()).collect()
+}
+
+#[test]
+fn journals_have_what_gets_return() {
+    let values = values();
+    let state = values.iter().zip(0..).map(|(it, number)| (place(number), it.clone()));
+    let storage = Storage::open(state, 1_000).unwrap();
+    storage.set_recording(true);
+    let wanted: Vec<_> = thread::scope(|threads| {
+        let works = storage.agents(4).unwrap().into_iter().map(|it| threads.spawn(|| recorded_steps(it, &values)));
+        let works: Vec<_> = works.collect();
+        works.into_iter().map(|it| it.join().unwrap()).collect()
+    });
+    let journal = storage.close().unwrap();
+    assert!(journal.check().unwrap().is_legal());
+    let text = String::from_utf8(journal.into_bytes()).unwrap();
+    for (number, wanted) in wanted.iter().enumerate() {
+        let begin = format!("{{\"agent\":{number},\"call\":{{\"read\":");
+        let reads: Vec<_> = text.lines().filter(|it| it.starts_with(&begin)).collect();
+        assert_eq!(reads, *wanted);
+    }
+}
+
+/// How many reads the journal has once the agent has committed a step that gets, sees and scans.
+fn recorded(storage: &Storage, mut agent: Agent) -> usize {
+    let played = agent.play(|step| {
+        step.see(&[place(1)])?;
+        step.scan("y")?;
+        step.put(count(), step.get(count())?)
+    });
+    assert!(played.unwrap().number.is_some());
+    drop(agent);
+    let text = String::from_utf8(storage.close().unwrap().into_bytes()).unwrap();
+    text.matches("\"call\":{\"read\":[[\"count\"]]},\"reply\":{\"number\":").count()
+}
+
+#[test]
+fn storages_that_go_on_record_as_those_before() {
+    let storage = Storage::open([(count(), 3.into())], 4).unwrap();
+    assert_eq!(recorded(&storage, storage.agent(0).unwrap()), 0);
+    storage.set_recording(true);
+    let mut quiet = storage.agent(1).unwrap();
+    quiet.set_recording(false);
+    assert!(!quiet.is_recording() && storage.take(0).unwrap().is_recording());
+    assert_eq!((recorded(&storage, storage.take(0).unwrap()), recorded(&storage, quiet)), (1, 1));
+    assert_eq!(recorded(&storage, storage.agent(2).unwrap()), 2);
+    let next = storage.next(1).unwrap();
+    assert_eq!(recorded(&next, next.agent(0).unwrap()), 1);
+    let mut agent = next.take(0).unwrap();
+    agent.follow().unwrap();
+    let behind = agent.go_on(2).unwrap();
+    assert_eq!(recorded(&behind, behind.agent(0).unwrap()), 1);
 }

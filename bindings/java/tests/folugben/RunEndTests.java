@@ -187,7 +187,7 @@ final class RunEndTests {
     private static void longLinesEndNoRun(Path path) throws IOException {
         Location text = Location.of("t");
         String half = "x".repeat(9_000_000);
-        try (Run run = Run.open(Map.of(COUNT, 0), path, 3); RunAgent agent = run.agent(0);
+        try (Run run = Run.open(Map.of(COUNT, 0), path, 4); RunAgent agent = run.agent(0);
                 PreparedLocation at = text.prepare(); Move move = new Move()) {
             List<Instruction> both = List.of(Instruction.put(text, half),
                     Instruction.put(Location.of("u"), half));
@@ -209,12 +209,26 @@ final class RunEndTests {
                 return null;
             });
             agent.fire(both.subList(1, 2), List.of());
+            // Of both texts no read can be recorded.
+            agent.record(true);
+            List<Location> texts = List.of(text, Location.of("u"));
+            try (Step step = agent.step()) {
+                step.get(texts);
+                equal(refused(Code.LONG_LINE, step::commit).getClass(), kind);
+            }
+            try (Step step = agent.step()) {
+                for (Location it : texts)
+                    refused(Code.CLASH, () -> step.push(Instruction.inc(it, 1)));
+                equal(refused(Code.LONG_LINE, step::commit).getClass(), kind);
+            }
+            agent.record(false);
+            RunTests.count(agent);
             // The state is too long for the part that comes next: the move that comes there is refused.
             equal(refused(Code.LONG_LINE, agent::step).getClass(), kind);
-            equal(agent.won(), 3L);
+            equal(agent.won(), 4L);
             equal(Auditor.audit(path).moves(), 0L);
         }
-        equal(Auditor.audit(path).moves(), 3L);
+        equal(Auditor.audit(path).moves(), 4L);
     }
 
     /** Has 4 agents in threads raise one number for so long, in parts of 200 moves. */

@@ -24,6 +24,8 @@ import java.util.stream.Stream;
 /** Tests of runs without end: agents that go on from part to part. */
 final class RunTests {
     private static final Location COUNT = Location.of("count");
+    /** Whether the runs record; the reads that they record aren't counted. */
+    private static boolean isRecording;
 
     private RunTests() {}
 
@@ -65,7 +67,13 @@ final class RunTests {
     }
 
     static Run open(Path path, int moves) {
-        return Run.open(Map.of(COUNT, 0), path, moves);
+        return Run.open(Map.of(COUNT, 0), path, moves).record(isRecording);
+    }
+
+    /** The same with so many receipts of fires. */
+    private static Run open(Path path, int moves, long receipts) {
+        return Run.open(Map.of(COUNT, 0), path, moves, isRecording ? 2 * receipts : receipts)
+                .record(isRecording);
     }
 
     static Instruction up() {
@@ -85,7 +93,18 @@ final class RunTests {
         try (Auditor auditor = new Auditor()) {
             auditor.feed(path);
             equal(auditor.values(), state);
-            return auditor.end();
+            return unrecorded(path, auditor.end());
+        }
+    }
+
+    /** The numbers of a run without the reads that were recorded. */
+    private static Auditor.Counts unrecorded(Path path, Auditor.Counts told) {
+        try {
+            long reads = text(path).lines().filter(it -> it.contains("\"call\":{\"read\":")).count();
+            equal(reads > 0, isRecording && told.moves() > 0);
+            return new Auditor.Counts(told.parts(), told.calls() - reads, told.moves());
+        } catch (IOException fault) {
+            throw new UncheckedIOException(fault);
         }
     }
 
@@ -150,7 +169,7 @@ final class RunTests {
     }
 
     private static void threadsGoOn(Path path) throws Exception {
-        try (Run run = Run.open(Map.of(COUNT, 0), path, 64, 1_000_000)) {
+        try (Run run = open(path, 64, 1_000_000)) {
             inThreads(run, 8, agent -> {
                 for (int i = 0; i < 500; i++) count(agent);
             });
@@ -214,7 +233,7 @@ final class RunTests {
                 throw own;
             })) == own, true);
         }
-        Auditor.Counts told = Auditor.audit(path);
+        Auditor.Counts told = unrecorded(path, Auditor.audit(path));
         equal(told.calls(), told.moves() + 1);
     }
 
@@ -258,7 +277,7 @@ final class RunTests {
     /** Stale tries end a part before it is full, once no agent is in a step. */
     private static void partsEndAtRest(Path path) throws Exception {
         boolean isFired;
-        try (Run run = Run.open(Map.of(COUNT, 0), path, 1000, 6); RunAgent agent = run.agent(0);
+        try (Run run = open(path, 1000, 6); RunAgent agent = run.agent(0);
                 RunAgent rival = run.agent(1); RunAgent idle = run.agent(2)) {
             count(idle);
             for (int i = 0; i < 3; i++)
@@ -299,7 +318,7 @@ final class RunTests {
 
     /** One who stays in a step is waited for a tenth of a second, and then begins anew. */
     private static void stepsThatLastAreEnded(Path path) throws Exception {
-        try (Run run = Run.open(Map.of(COUNT, 0), path, 1000, 3); RunAgent agent = run.agent(0);
+        try (Run run = open(path, 1000, 3); RunAgent agent = run.agent(0);
                 RunAgent lasting = run.agent(1)) {
             Step step = lasting.step();
             step.push(up());
@@ -316,7 +335,7 @@ final class RunTests {
     }
 
     private static void contendersEndPartsAtRest(Path path) throws Exception {
-        try (Run run = Run.open(Map.of(COUNT, 0), path, 500, 300)) {
+        try (Run run = open(path, 500, 300)) {
             inThreads(run, 8, agent -> {
                 for (int i = 0; i < 250; i++) count(agent);
             });
@@ -349,7 +368,7 @@ final class RunTests {
 
     private static String byTurns(Path path, long seed) throws IOException {
         drop(path);
-        try (Run run = Run.open(Map.of(COUNT, 0), path, 7, 9)) {
+        try (Run run = open(path, 7, 9)) {
             List<RunAgent> agents = List.of(run.agent(0), run.agent(1), run.agent(2));
             Interleave.Work<RunAgent, Object> work = agent -> {
                 for (int i = 0; i < 10; i++) count(agent);
@@ -398,6 +417,14 @@ final class RunTests {
     }
 
     static void all() {
+        for (boolean it : new boolean[] {true, false}) {
+            isRecording = it;
+            allOnce();
+            System.out.println(it ? "runs that record" : "runs");
+        }
+    }
+
+    private static void allOnce() {
         try {
             for (OnFile test : List.<OnFile>of(RunTests::agentsGoOn, RunTests::lastPartsAreNotEmpty,
                          RunTests::threadsGoOn, RunTests::idleAgentsAreTaken,
@@ -411,6 +438,5 @@ final class RunTests {
         } catch (Exception fault) {
             throw fault instanceof RuntimeException told ? told : new IllegalStateException(fault);
         }
-        System.out.println("runs");
     }
 }
