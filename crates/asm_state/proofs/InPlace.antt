@@ -29,9 +29,9 @@ actions M = map (λ i. i.action) M
 pub first_of : (l : Place) (i : Instruction) (M : Move) → changes_only l (i ∷ M) ≡ true →
     (eq_by_cmp location_cmp i.at l ≡ true) × (is_partial i.action ≡ true) × (changes_only l M ≡ true)
 first_of l i M h =
-    let parts = both (eq_by_cmp location_cmp i.at l && is_partial i.action) (changes_only l M) h in
-    let here = both (eq_by_cmp location_cmp i.at l) (is_partial i.action) parts.0 in
-    (here.0, here.1, parts.1)
+    let parts = both (is_partial i.action && eq_by_cmp location_cmp i.at l) (changes_only l M) h in
+    let here = both (is_partial i.action) (eq_by_cmp location_cmp i.at l) parts.0 in
+    (here.1, here.0, parts.1)
 
 pub all_here : (l : Place) (M : Move) → changes_only l M ≡ true → actions_at M l ≡ actions M
 all_here l [] h = refl

@@ -18,7 +18,7 @@ IsChanged part old group n new =
 
 -- whether the instructions are partial updates of this location
 abbrev pub changes_only : Place → Move → Bool
-changes_only l M = list_all (λ i. eq_by_cmp location_cmp i.at l && is_partial i.action) M
+changes_only l M = list_all (λ i. is_partial i.action && eq_by_cmp location_cmp i.at l) M
 
 -- there is no instruction, or no location at which all of them are partial updates
 abbrev pub IsNotOneChange : Move → Type 0

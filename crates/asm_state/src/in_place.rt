@@ -10,9 +10,9 @@ use asm_update::{Group, Instruction, Instructions};
 use std::alloc::{AllocError, Global};
 
 fn is_change_at(at: &Location, instruction: &Instruction) -> bool
-    ensures { result ≡ (eq_by_cmp location_cmp instruction.now.at at.now && is_partial instruction.now.action) }
+    ensures { result ≡ (is_partial instruction.now.action && eq_by_cmp location_cmp instruction.now.at at.now) }
 {
-    instruction.at == *at && instruction.action.family().is_some()
+    instruction.action.family().is_some() && instruction.at == *at
 }
 
 fn are_changes_at(at: &Location, instructions: &[Instruction]) -> bool
