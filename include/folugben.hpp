@@ -2,13 +2,13 @@
 //
 // An element, a set, a bag and a value are values of their own. Each other class owns a slot on the heap, which is released with
 // it; it can be moved, and not copied. What was moved from is empty: a call on it throws code::empty, and a `try_` call answers
-// that. An agent is given back to its storage when it is destroyed, so that its moves are in the next journal. What folugben.h
-// says of threads holds: an object is used in one thread at a time, but for a storage, which has a lock of its own. A storage
+// that. An agent is returned to its storage when it is destroyed, so that its moves are in the next journal. What folugben.h
+// says of threads holds: an object is used in one thread at a time, except a storage, which has a lock of its own. A storage
 // that is copied is one storage, which two objects share.
 //
 // The calls whose name begins with `try_` are noexcept, and answer a code, or an `outcome`; those beside them throw an error in its
-// place. A `conflict` alone means that a step is to be begun again. A step goes on with its agent wherever that moves, and is refused
-// with code::empty once that is given back.
+// place. A `conflict` alone means: begin the step again. A step goes on with its agent wherever that moves, and is refused with
+// code::empty once that is returned.
 //
 // Each agent follows all moves in a state of its own. Where one thread plays several agents of a storage by turns, the one that
 // is about to poll takes the state of the one that polled last there, if that has ended its step or fired since and is in no
@@ -146,7 +146,7 @@ class full : public error {
   public:
     using error::error;
 };
-// A move, whose number `number()` tells, was fired by an agent that wasn't given back.
+// A move was fired by an agent that wasn't returned; `number()` is the move's number.
 class missing : public error {
   public:
     explicit missing(std::uint32_t number) : error(folugben::code::missing, "move " + std::to_string(number)), number_(number) {}
@@ -262,7 +262,7 @@ inline std::string explained(std::int32_t form, std::string_view refused) {
     return nests_too_deep(refused) ? "lists nest at most 8 deep" : text;
 }
 
-// The text within what stands before and behind it.
+// The text between two others.
 inline std::string within(std::string_view before, std::string_view text, std::string_view behind) {
     std::string whole;
     whole.reserve(before.size() + text.size() + behind.size());
@@ -512,7 +512,7 @@ class reader {
 
 } // namespace detail
 
-// What is told of a location: undef, a boolean, a number, a text, or the JSON of a list, a set or a bag.
+// The value of a location: undef, a boolean, a number, a text, or the JSON of a list, a set or a bag.
 class value {
   public:
     value() = default;
@@ -623,8 +623,8 @@ class location {
     detail::held<struct asm_location> slot_;
 };
 
-// An operand of an instruction: an element, what was told of a location, a set or a bag; sets and bags can be put alone. It has no
-// copy of a text.
+// An operand of an instruction: an element, the value of a location, a set or a bag; sets and bags can only be put. It has no copy
+// of a text.
 class operand {
   public:
     operand(std::nullptr_t) noexcept {}
@@ -665,7 +665,7 @@ class operand {
     std::string own_; // of a list, a set or a bag
 };
 
-// A move, gathered instruction by instruction. A refused instruction leaves it as it was. What is popped into it counts as one
+// A move, gathered instruction by instruction. A refused instruction leaves it unchanged. What is popped into it counts as one
 // instruction, and more can be gathered behind that.
 class instructions {
   public:
@@ -725,7 +725,7 @@ namespace detail {
 struct shared {
     held<struct asm_storage> storage;
     std::mutex lock;
-    std::vector<held<struct asm_agent>> waiting; // agents that were let go when there was no memory to give them back
+    std::vector<held<struct asm_agent>> waiting; // agents that were freed when there was no memory to return them
     bool is_recording = false;                   // what agents that are made or taken do; under the lock
 
     shared() { waiting.reserve(256); }
@@ -842,7 +842,7 @@ class seat {
         std::uintptr_t thread = here();
         if (!other.thread_.compare_exchange_strong(thread, thread | taking, std::memory_order_acquire, std::memory_order_relaxed)) return;
         if (other.has_acted_.load(std::memory_order_relaxed) && other.steps_.load(std::memory_order_relaxed) == 0) {
-            // An agent that was given back or abandoned is refused, and nothing is done.
+            // An agent that was returned or abandoned is refused, and nothing is done.
             (void)asm_take_state(slot_.get(), other.slot_.get());
             other.is_behind_.store(true, std::memory_order_relaxed);
         }
@@ -901,7 +901,7 @@ class step {
     std::string get_json(std::string_view locations);
     // The same, but nothing is got: a commit fires though another agent has written there since.
     std::string see_json(std::string_view locations);
-    // All locations of a function with their values, ascending. The step rests on the whole function.
+    // All locations of a function with their values, ascending. The step depends on the whole function.
     std::vector<entry> scan(std::string_view name) { return detail::entries(scan_json(name)); }
     // The same as [PAIR, ..].
     std::string scan_json(std::string_view name);
@@ -1048,7 +1048,7 @@ class agent {
         }
     }
 
-    // Looks on; how many moves it has then seen.
+    // Polls; returns how many moves it has then seen.
     std::uint32_t follow() {
         begin_turn();
         std::uint32_t number = 0;
@@ -1079,7 +1079,7 @@ class agent {
                                   text));
         return text;
     }
-    // The same of one function alone, with the number of moves at which its state stands, under which a fire rests on the scan.
+    // The same of one function alone, with its state's version, under which a fire names the scan.
     std::vector<entry> scan(std::string_view name, std::uint32_t &number) { return detail::entries(scan_json(name, number)); }
     std::string scan_json(std::string_view name, std::uint32_t &number) {
         detail::done(catch_up());
@@ -1092,7 +1092,7 @@ class agent {
         return text;
     }
 
-    // The answer to a read of [LOC, ..], and to a fire of {"fire":[INSTR, ..],"reads":[NAMED, ..]}, which may rest on the whole
+    // The answer to a read of [LOC, ..], and to a fire of {"fire":[INSTR, ..],"reads":[NAMED, ..]}, which may depend on the whole
     // functions of [[NAME,NUMBER], ..] too.
     std::string read_json(std::string_view locations) {
         begin_turn();
@@ -1141,7 +1141,7 @@ class agent {
     }
 
     // A storage for 1 to 1,048,576 moves that goes on where the agent's own is full and the agent has looked on to its end, as
-    // `follow` does: it opens with what all moves leave, and its agents and numbers begin anew. No other agent waits. Else it is
+    // `follow` does: it opens with what all moves leave, and its agents and numbers start again. No other agent waits. Else it is
     // code::not_full.
     storage go_on(std::uint32_t capacity);
 
@@ -1395,7 +1395,7 @@ class storage {
         return made(std::move(seat));
     }
 
-    // The agent with this number that was given back, to go on where it was; code::no_agent where none was, or it was taken since. The
+    // The agent with this number that was returned, to go on where it was; code::no_agent where none was, or it was taken since. The
     // journal of an earlier `close` is discarded.
     agent take(std::uint32_t number) {
         auto seat = std::make_shared<detail::seat>(shared_);
@@ -1413,7 +1413,7 @@ class storage {
         return moves;
     }
 
-    // The journal of the agents that were given back, as each is when it is destroyed.
+    // The journal of the agents that were returned, as each is when it is destroyed.
     std::string close() {
         std::uint32_t number = 0;
         std::string text;
@@ -1427,7 +1427,7 @@ class storage {
         return text;
     }
 
-    // A storage that opens with what the moves of the closed journal leave; its agents and numbers begin anew.
+    // Opens a storage with what the moves of the closed journal leave; its agents and numbers start again.
     storage next(std::uint32_t capacity) {
         storage it;
         std::lock_guard<std::mutex> guard(own().lock);

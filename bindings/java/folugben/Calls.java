@@ -252,6 +252,24 @@ final class Calls {
         return told.text;
     }
 
+    /** A call on a journal that writes a text. */
+    interface JournalCall {
+        int answer(
+                byte[] journal, long len, byte[] out, long room, long[] written, long[] line);
+    }
+
+    /** Returns what a call writes of a journal; where the room is too small, all is done again. */
+    static String ofJournal(String journal, int times, JournalCall call) {
+        byte[] text = Texts.utf8(journal, "journal");
+        long[] line = new long[1];
+        return text((out, room, written) -> {
+            Code code = Code.of(call.answer(text, text.length, out, room, written, line));
+            if (code != Code.SMALL)
+                FolugbenException.expectJournal(code, text, line[0]);
+            return code.number();
+        }, room((long) times * text.length));
+    }
+
     /**
      * Has the calls of a step go past JNA, which takes longer for each than the call itself: by a
      * further library, bindings/java/quick.c, if it lies where JNA looks for libraries.

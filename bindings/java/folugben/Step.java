@@ -6,11 +6,12 @@ import java.util.Objects;
 import java.util.SortedMap;
 
 /**
- * What an engine does between a look and a fire: it gets values and pushes moves in any order, all
- * of which see one state, and fires one move that does what the pushed ones do in turn. {@link
- * Agent#step} begins a step. Calls take and give objects, or texts: JSON in the forms of
- * docs/FORMATS.md, of which one with a lone surrogate is refused by an IllegalArgumentException.
- * Any thread may call it; each call waits for the agent's calls that are under way.
+ * A transaction of an agent: it gets values and pushes moves in any order, and commits.
+ *
+ * <p>All calls see one state, and the moves pushed before. A commit fires one move that does what
+ * the pushed ones do in turn. {@link Agent#step} begins a step. Calls take and return objects, or
+ * texts: JSON in the forms of docs/FORMATS.md. A text with a lone surrogate is an
+ * IllegalArgumentException. Any thread may call it; a call waits for the agent's other calls.
  *
  * <pre>{@code
  * try (Step step = agent.step()) {
@@ -18,13 +19,13 @@ import java.util.SortedMap;
  *     long there = step.get(count).asLong();
  *     step.push(Instruction.put(count, there + 1));
  *     step.push(Instruction.put(twice, 2 * step.get(count).asLong())); // 2 * (there + 1)
- *     step.commit(); // throws a ConflictException where another step is to be begun, as play does
+ *     step.commit(); // throws a ConflictException where the step is to be begun again
  * }
  * }</pre>
  *
- * <p>Where the agent's own state has moved on since the step began, as it may in read, fire, follow
- * and stands, and in another step that begins or fires, getting and pushing throw MOVED: begin
- * another step. Nothing is released by the garbage collector; call close().
+ * <p>Where the agent has moved past the step's version, as by read, fire, follow, stands or another
+ * step, calls that get or push throw MOVED: begin another step. No garbage collector releases a
+ * step: call close().
  */
 public sealed class Step extends StepCalls implements AutoCloseable permits SharedAgent.SharedStep {
     /** To be called with the agent's lock, as all that uses the slot. */
@@ -32,43 +33,42 @@ public sealed class Step extends StepCalls implements AutoCloseable permits Shar
         super(agent);
     }
 
-    /** The number of moves that its state is after: of a run all of its moves. */
+    /** Returns its version: the number of moves that its state is after, of a run all moves. */
     public long number() {
         Turns.here().readsAll();
         return before() + number;
     }
 
     /**
-     * What is seen through the pushed moves at the locations [LOC, ..], as
-     * {"number":N,"values":[VALUE, ..]}. A location is got, and the fire names it, where its value
-     * is made from that of the state below; what a pushed move put there, and all that was done to
-     * it since, rests on nothing.
+     * Returns {"number":N,"values":[VALUE, ..]} of the locations [LOC, ..].
      *
-     * @throws FolugbenException MOVED; MANY if more than 256 would be got
+     * <p>The values are seen through the pushed moves. A location is tracked, and the commit names
+     * it, where its value comes from the state; what a pushed move put there depends on nothing.
+     *
+     * @throws FolugbenException MOVED; MANY if more than 256 would be tracked
      */
     public String get(String locations) {
         return looked(Calls::asm_get, locations);
     }
 
     /**
-     * What is seen through the pushed moves at the locations, in their order. They are got where
-     * their values are made from those of the state below.
+     * Returns the values of the locations, in their order, as get of a text does.
      *
      * @throws FolugbenException as a {@link MovedException}; as a {@link ManyException} if more
-     *         than 256 would be got
+     *         than 256 would be tracked
      */
     public List<Value> get(List<Location> locations) {
         List<Location> copy = Texts.Copies.of(locations, "locations");
         return JsonReader.reading(get(JsonWriter.locations(copy)), copy).values();
     }
 
-    /** The same of one location. */
+    /** Returns the value of one location, as get of several does. */
     public Value get(Location location) {
         return get(List.of(Objects.requireNonNull(location, "location"))).get(0);
     }
 
     /**
-     * The number there.
+     * Returns the number there.
      *
      * @throws IllegalStateException if the value is no number
      */
@@ -95,9 +95,9 @@ public sealed class Step extends StepCalls implements AutoCloseable permits Shar
     }
 
     /**
-     * What get tells, but nothing is got: the fire doesn't rest on it, and is done though another
-     * agent has written there since. It is for what is told or shown, and for what the step doesn't
-     * go by.
+     * Returns what get returns, and tracks nothing.
+     *
+     * <p>So the commit fires though another agent has written there since.
      *
      * @throws FolugbenException MOVED
      */
@@ -105,23 +105,19 @@ public sealed class Step extends StepCalls implements AutoCloseable permits Shar
         return looked(Calls::asm_see, locations);
     }
 
-    /**
-     * What get tells of the locations, in their order, but nothing is got.
-     *
-     * @throws FolugbenException as a {@link MovedException}
-     */
+    /** Returns the values of the locations, in their order, and tracks nothing. */
     public List<Value> see(List<Location> locations) {
         List<Location> copy = Texts.Copies.of(locations, "locations");
         return JsonReader.reading(see(JsonWriter.locations(copy)), copy).values();
     }
 
-    /** The same of one location. */
+    /** Returns the value of one location, and tracks nothing. */
     public Value see(Location location) {
         return see(List.of(Objects.requireNonNull(location, "location"))).get(0);
     }
 
     /**
-     * The same as get of a prepared location.
+     * Returns the value of a prepared location.
      *
      * @throws FolugbenException as a {@link MovedException} or {@link ManyException}, as get of
      *         others
@@ -135,8 +131,9 @@ public sealed class Step extends StepCalls implements AutoCloseable permits Shar
     }
 
     /**
-     * The number there, of which no object is made. The location is got as by get, also where the
-     * value is another one.
+     * Returns the number there, and makes no object.
+     *
+     * <p>The location is tracked as by get, also where the value is of another kind.
      *
      * @throws IllegalStateException if the value is no number
      */
@@ -149,7 +146,7 @@ public sealed class Step extends StepCalls implements AutoCloseable permits Shar
     }
 
     /**
-     * The truth there, as getNumber tells a number.
+     * Returns the boolean there, as getNumber returns a number.
      *
      * @throws IllegalStateException if the value is no boolean
      */
@@ -162,7 +159,7 @@ public sealed class Step extends StepCalls implements AutoCloseable permits Shar
     }
 
     /**
-     * The text there, as getNumber tells a number.
+     * Returns the text there, as getNumber returns a number.
      *
      * @throws IllegalStateException if the value is no text
      */
@@ -175,25 +172,27 @@ public sealed class Step extends StepCalls implements AutoCloseable permits Shar
     }
 
     /**
-     * What is seen through the pushed moves at all locations with a function name, as {@link
-     * Agent#scan} tells those of the agent's own state. The step then rests on the whole function: a
-     * write to any location of it, be it one that has no value yet, makes the fire stale. A scan
-     * counts as one of the 256 locations that may be got, however many it finds.
+     * Scans a function: returns all its locations with their values, through the pushed moves.
      *
-     * @throws FolugbenException MOVED; MANY if more than 256 would be got and scanned
+     * <p>The step then depends on the whole function: a write to any location of it, including one
+     * that has no value yet, makes the commit stale. A scan takes one of the 256 places, however
+     * many locations it finds.
+     *
+     * @throws FolugbenException MOVED; MANY if more than 256 would be tracked and scanned
      */
     public Agent.State scan(String name) {
         return scanned(name);
     }
 
-    /** The values of such a scan: the locations with their values, in ascending order. */
+    /** Returns what a scan finds: the locations with their values, in ascending order. */
     public SortedMap<Location, Value> getAll(String name) {
         return scan(name).values();
     }
 
     /**
-     * Pushes the move [INSTR, ..]: what is got and pushed later is seen through what it leaves. A
-     * move that is refused, or popped, was a dry run.
+     * Pushes the move [INSTR, ..], through which later calls see.
+     *
+     * <p>A move that is refused or popped was a dry run.
      *
      * @throws FolugbenException CLASH, whose answer is {"clash":[LOC,CAUSE]}, if its updates clash
      *         on what is seen; MOVED; DEEP if 64 moves are pushed; LONG_MOVE if the one move of all
@@ -214,13 +213,13 @@ public sealed class Step extends StepCalls implements AutoCloseable permits Shar
         push(JsonWriter.move(move, "move"));
     }
 
-    /** The same of a move of these instructions. */
+    /** Pushes a move of these instructions. */
     public void push(Instruction... move) {
         push(Arrays.asList(Objects.requireNonNull(move, "move")));
     }
 
     /**
-     * The same of a move that was gathered, which stays as it is.
+     * Pushes a gathered move, which is unchanged.
      *
      * @throws FolugbenException as push of others; EMPTY if the move is closed
      */
@@ -229,8 +228,9 @@ public sealed class Step extends StepCalls implements AutoCloseable permits Shar
     }
 
     /**
-     * Has the move [INSTR, ..] join the one that was pushed last, with which it is popped: a loop
-     * of a thousand rounds is one move deep. Without a pushed move it is pushed.
+     * Joins the move [INSTR, ..] to the one that was pushed last, with which it is popped.
+     *
+     * <p>So a loop of a thousand rounds is one move deep. Without a pushed move it is pushed.
      *
      * @throws FolugbenException as push, but never DEEP
      */
@@ -239,7 +239,7 @@ public sealed class Step extends StepCalls implements AutoCloseable permits Shar
     }
 
     /**
-     * Has the move join the one that was pushed last.
+     * Joins the move to the one that was pushed last.
      *
      * @throws FolugbenException as push, but never a DeepException
      */
@@ -247,13 +247,13 @@ public sealed class Step extends StepCalls implements AutoCloseable permits Shar
         extend(JsonWriter.move(move, "move"));
     }
 
-    /** The same of a move of these instructions. */
+    /** Joins a move of these instructions. */
     public void extend(Instruction... move) {
         extend(Arrays.asList(Objects.requireNonNull(move, "move")));
     }
 
     /**
-     * The same of a move that was gathered, which stays as it is.
+     * Joins a gathered move, which is unchanged.
      *
      * @throws FolugbenException as push of such a move, but never a DeepException
      */
@@ -262,7 +262,7 @@ public sealed class Step extends StepCalls implements AutoCloseable permits Shar
     }
 
     /**
-     * Takes away the move that was pushed last, and what it rests on; what was got stays got.
+     * Takes away the move that was pushed last; what is tracked stays so.
      *
      * @throws FolugbenException NO_PUSH if no move is pushed
      */
@@ -275,8 +275,9 @@ public sealed class Step extends StepCalls implements AutoCloseable permits Shar
     }
 
     /**
-     * As pop, and the one move that does what the popped ones do in turn: push and extend take it,
-     * of any step. A move that nothing extended is as it was pushed. Close it.
+     * Pops, and returns the one move that does what the popped ones do in turn.
+     *
+     * <p>Push and extend of any step take it. A move that nothing joined is unchanged. Close it.
      *
      * @throws FolugbenException NO_PUSH if no move is pushed; as a {@link ManyException} if the one
      *         move would have more than 4,096 instructions; nothing is popped then
@@ -286,7 +287,7 @@ public sealed class Step extends StepCalls implements AutoCloseable permits Shar
     }
 
     /**
-     * The same into a move, whose instructions are dropped for it; that move.
+     * Pops into a move, in the place of its instructions, and returns that.
      *
      * @throws FolugbenException as the other; EMPTY if the move is closed
      */
@@ -296,9 +297,9 @@ public sealed class Step extends StepCalls implements AutoCloseable permits Shar
     }
 
     /**
-     * What a fire would offer by now: the one move, and each location that it would name. Agent.fire
-     * takes both. A fire of the step rests besides on the functions that were scanned, which aren't
-     * told.
+     * What a commit would offer now: the one move, and each location that it would name.
+     *
+     * <p>Agent.fire takes both. The functions that were scanned aren't in it.
      */
     public record Offer(List<Instruction> fire, List<Named> reads) {
         /** Copies of both. */
@@ -313,7 +314,7 @@ public sealed class Step extends StepCalls implements AutoCloseable permits Shar
         }
     }
 
-    /** What a fire would offer by now. */
+    /** Returns what a commit would offer now. */
     public Offer offer() {
         return JsonReader.offer(offerText()).plus(before());
     }
@@ -323,13 +324,13 @@ public sealed class Step extends StepCalls implements AutoCloseable permits Shar
         return JsonReader.offer(offered());
     }
 
-    /** The same as the text {"fire":[INSTR, ..],"reads":[NAMED, ..]}, with numbers of its storage. */
+    /** Returns the same as {"fire":[INSTR, ..],"reads":[NAMED, ..]}, with its storage's numbers. */
     public String offerText() {
         Turns.Player.call(this);
         return offered();
     }
 
-    /** How many moves are pushed, at most 64. */
+    /** Returns how many moves are pushed, at most 64. */
     public int depth() {
         synchronized (agent.slot) {
             return isOver() ? 0 : Calls.asm_depth(slot.at);
@@ -337,13 +338,13 @@ public sealed class Step extends StepCalls implements AutoCloseable permits Shar
     }
 
     /**
-     * Fires one move that does what the pushed moves do in turn, unless a location was written
-     * since the step began that was got or is one of a function that was scanned, or where the first of the moves that write there has
-     * partial updates alone and another one writes too. What one move alone adds, removes or
-     * increments is named by nothing: it clashes where it doesn't fit what is there by now, as
-     * where another agent took out what it removes. Where it fires, the step is over; else it stays
-     * until it is closed. That it is stale, or clashes, is a reply, which asks to begin another
-     * step ({@link Agent.Reply#shouldRetry}), and which {@link Agent.Reply#orThrow} throws.
+     * Fires one move that does what the pushed moves do in turn, unless the step is stale.
+     *
+     * <p>It is stale where a location was written since that is tracked, is of a scanned function,
+     * or has partial updates of one pushed move and another one writes it too. What one move alone
+     * adds, removes or increments is judged when it is fired: it clashes where it doesn't fit.
+     * Where the move fires, the step is over; else it stays until it is closed. Stale and clash are
+     * replies, which ask to begin again ({@link Agent.Reply#shouldRetry}).
      *
      * @throws FolugbenException MANY if more than 256 locations would be named and functions
      *         were scanned
@@ -355,10 +356,9 @@ public sealed class Step extends StepCalls implements AutoCloseable permits Shar
     }
 
     /**
-     * As tryCommit; the number of the move that was fired, from 1 up. A reply that is another one is
-     * thrown, so none is lost.
+     * Commits as tryCommit does, and returns the number of the fired move, from 1 up.
      *
-     * @throws ConflictException where another step is to be begun, as {@link Agent#play} does: as a
+     * @throws ConflictException if the step is to be begun again, as {@link Agent#play} does: as a
      *         {@link StaleException}, {@link BusyException}, {@link CommitClashException}, {@link
      *         CommitMovedException} or {@link PartException}
      * @throws FolugbenException as a {@link FullException} or {@link ManyException}
@@ -367,21 +367,13 @@ public sealed class Step extends StepCalls implements AutoCloseable permits Shar
         return tryCommit().orThrow();
     }
 
-    /**
-     * The same as tryCommit.
-     *
-     * @deprecated A step commits: call {@link #tryCommit}.
-     */
+    /** @deprecated A step commits: call {@link #tryCommit}. */
     @Deprecated
     public final Agent.Reply tryFire() {
         return tryCommit();
     }
 
-    /**
-     * The same as commit.
-     *
-     * @deprecated A step commits: call {@link #commit}.
-     */
+    /** @deprecated A step commits: call {@link #commit}. */
     @Deprecated
     public final long fire() {
         return commit();

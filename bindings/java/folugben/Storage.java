@@ -13,11 +13,11 @@ import java.util.Objects;
 import java.util.SortedMap;
 
 /**
- * A storage of which agents read and fire in threads. Calls take and give objects, or texts: JSON
- * in the forms of docs/FORMATS.md, of which one with a lone surrogate is refused by an
- * IllegalArgumentException. Any thread may call it. Nothing is released by the garbage collector;
- * call close(). Of the header's calls only asm_agents has no method here: call agent(number) for
- * each number.
+ * A state that agents read, and fire moves on, in threads.
+ *
+ * <p>Calls take and return objects, or texts: JSON in the forms of docs/FORMATS.md. A text with a
+ * lone surrogate is an IllegalArgumentException. Any thread may call it. No garbage collector
+ * releases it: call close().
  */
 public final class Storage implements AutoCloseable {
     static final int AGENTS = 256;
@@ -32,8 +32,8 @@ public final class Storage implements AutoCloseable {
     /** Those that were made and not given back, by their numbers; with the lock of the slot. */
     private final Agent[] agents = new Agent[AGENTS];
 
-    /** Whether agents that are made or taken record; with the lock of the slot. */
-    private boolean isRecording;
+    /** Whether agents that are made or taken record. */
+    private volatile boolean isRecording;
 
     /** The agent that each thread has played last. */
     private final ThreadLocal<WeakReference<Agent>> last = new ThreadLocal<>();
@@ -42,17 +42,14 @@ public final class Storage implements AutoCloseable {
         this.path = path;
     }
 
-    /**
-     * The same, whose journal is written to a file when it is closed, also where an exception ends a
-     * try: once its agents are closed.
-     */
+    /** Does the same, and writes the journal to a file when the storage is closed. */
     public Storage(String init, int capacity, Path journal) {
         this(Objects.requireNonNull(journal, "journal"));
         begin(init, capacity);
     }
 
     /**
-     * A storage with the opening state [PAIR, ..], for 1 to 1,048,576 moves.
+     * Opens a storage with the state [PAIR, ..], for 1 to 1,048,576 moves.
      *
      * @throws IllegalArgumentException for another capacity
      */
@@ -71,8 +68,9 @@ public final class Storage implements AutoCloseable {
     }
 
     /**
-     * A storage with the opening state, for 1 to 1,048,576 moves. The values are such as {@link
-     * Value#of} takes; undef leaves a location empty.
+     * Opens a storage with the state, for 1 to 1,048,576 moves.
+     *
+     * <p>The values are such as {@link Value#of} takes; undef leaves a location empty.
      *
      * @throws IllegalArgumentException as Value.of
      */
@@ -80,7 +78,7 @@ public final class Storage implements AutoCloseable {
         return new Storage(JsonWriter.state(init, "init"), capacity);
     }
 
-    /** The same, whose journal is written to a file when it is closed. */
+    /** Does the same, and writes the journal to a file when the storage is closed. */
     public static Storage open(Map<Location, ?> init, int capacity, Path journal) {
         return new Storage(JsonWriter.state(init, "init"), capacity, journal);
     }
@@ -91,9 +89,9 @@ public final class Storage implements AutoCloseable {
     }
 
     /**
-     * The same of the opening state in any order.
+     * Opens a storage with the pairs, in any order.
      *
-     * @throws FolugbenException SHAPE if a location stands twice
+     * @throws FolugbenException SHAPE if a location occurs twice
      */
     public static Storage open(List<Pair> init, int capacity) {
         return new Storage(JsonWriter.state(init, "init"), capacity);
@@ -107,16 +105,8 @@ public final class Storage implements AutoCloseable {
      * @return this storage
      */
     public Storage record(boolean isRecording) {
-        synchronized (slot) {
-            this.isRecording = isRecording;
-        }
+        this.isRecording = isRecording;
         return this;
-    }
-
-    private boolean isRecording() {
-        synchronized (slot) {
-            return isRecording;
-        }
     }
 
     static void expectNumber(int number) {
@@ -125,7 +115,7 @@ public final class Storage implements AutoCloseable {
     }
 
     /**
-     * An agent with this number, 0 to 255, of which none was made before.
+     * Makes the agent with this number, 0 to 255.
      *
      * @throws IllegalArgumentException for another number
      * @throws FolugbenException NUMBER if one was made before
@@ -147,10 +137,11 @@ public final class Storage implements AutoCloseable {
     }
 
     /**
-     * An agent that was given back, taken out again: it goes on where it was, with its number and
-     * what it did. A journal that was closed before is discarded.
+     * Checks out an agent that was returned, to go on where it was, with its receipts.
      *
-     * @throws FolugbenException NO_AGENT if no agent with this number was given back
+     * <p>A journal that was closed before is discarded.
+     *
+     * @throws FolugbenException NO_AGENT if no agent with this number was returned
      */
     public Agent take(int number) {
         expectNumber(number);
@@ -165,7 +156,7 @@ public final class Storage implements AutoCloseable {
         return agent;
     }
 
-    /** Notes that an agent is about to look on; the one that did so last on this thread. */
+    /** Notes that an agent is about to poll; returns the one that did so last on this thread. */
     Agent plays(Agent agent) {
         WeakReference<Agent> before = last.get();
         if (before == agent.weak)
@@ -181,7 +172,7 @@ public final class Storage implements AutoCloseable {
         FolugbenException.expect(code);
     }
 
-    /** How many moves were fired on it. */
+    /** Returns how many moves were fired. */
     public int moves() {
         int[] moves = new int[1];
         synchronized (slot) {
@@ -190,7 +181,7 @@ public final class Storage implements AutoCloseable {
         return moves[0];
     }
 
-    /** Takes an agent back. */
+    /** Returns an agent to this storage. */
     public void give(Agent agent) {
         Objects.requireNonNull(agent, "agent");
         if (agent.storage() != this)
@@ -223,8 +214,9 @@ public final class Storage implements AutoCloseable {
     }
 
     /**
-     * The journal of the agents that were given back, as each is when it is closed. It has to tell
-     * every move: where an agent that fired was abandoned, MISSING is thrown for good.
+     * Returns the journal of the agents that were returned, as each is when it is closed.
+     *
+     * @throws FolugbenException MISSING if it lacks a move; for good, where its agent was abandoned
      */
     public String closeJournal() {
         synchronized (slot) {
@@ -273,17 +265,18 @@ public final class Storage implements AutoCloseable {
     }
 
     /**
-     * A storage for 1 to 1,048,576 moves that goes on where this one, whose journal was closed,
-     * ended: it opens with the state that the journal's moves leave, and its agents start anew, as
-     * numbers do. The journals of both, one after the other, tell one run.
+     * Opens a storage for 1 to 1,048,576 moves that goes on where this one was closed.
      *
-     * @throws FolugbenException NO_JOURNAL if no journal was closed since an agent was given back
+     * <p>Its opening state is what the journal's moves leave. Its agents and numbers start again.
+     * The journals of both, one after the other, are one run.
+     *
+     * @throws FolugbenException NO_JOURNAL if no journal was closed since an agent was returned
      */
     public Storage next(int capacity) {
         return next(new Storage((Path) null), capacity);
     }
 
-    /** The same, whose journal is written to a file when it is closed. */
+    /** Does the same, and writes the journal to a file when that storage is closed. */
     public Storage next(int capacity, Path journal) {
         return next(new Storage(Objects.requireNonNull(journal, "journal")), capacity);
     }
@@ -301,7 +294,7 @@ public final class Storage implements AutoCloseable {
     /** The storage that goes on from the agent's own state. */
     static Storage behind(Agent agent, int capacity) {
         expectCapacity(capacity);
-        Storage next = new Storage((Path) null).record(agent.storage.isRecording());
+        Storage next = new Storage((Path) null).record(agent.storage.isRecording);
         synchronized (agent.slot) {
             synchronized (next.slot) {
                 Code code = agent.slot.goOn(capacity, next.slot);
@@ -312,8 +305,9 @@ public final class Storage implements AutoCloseable {
     }
 
     /**
-     * Writes its journal, if it was made to write one, and releases it. Its agents go on, and can't
-     * be given back any more.
+     * Writes the journal, if a path was given, and releases the storage.
+     *
+     * <p>Its agents go on, and can't be returned any more.
      *
      * @throws FolugbenException MISSING if the journal lacks a move
      * @throws UncheckedIOException if the journal can't be written
@@ -343,7 +337,11 @@ public final class Storage implements AutoCloseable {
     /** The numbers of calls and of moves of a legal journal. */
     public record Checked(long calls, int moves) {}
 
-    /** Checks a journal; an exception where it isn't legal, or is none. */
+    /**
+     * Checks a journal.
+     *
+     * @throws FolugbenException if it isn't legal, or is none
+     */
     public static Checked check(String journal) {
         byte[] text = Texts.utf8(journal, "journal");
         long[] calls = new long[1];
@@ -353,37 +351,21 @@ public final class Storage implements AutoCloseable {
         return new Checked(calls[0], moves[0]);
     }
 
-    private interface JournalCall {
-        int answer(
-                byte[] journal, long len, byte[] out, long room, long[] written, long[] line);
-    }
-
-    // What a call writes of a journal: all is done again where the room was too small.
-    private static String told(String journal, int times, JournalCall call) {
-        byte[] text = Texts.utf8(journal, "journal");
-        long[] line = new long[1];
-        return Calls.text((out, room, written) -> {
-            Code code = Code.of(call.answer(text, text.length, out, room, written, line));
-            if (code != Code.SMALL)
-                FolugbenException.expectJournal(code, text, line[0]);
-            return code.number();
-        }, Calls.room((long) times * text.length));
-    }
-
-    /** The state [PAIR, ..] that the moves of a journal leave. */
+    /** Returns the state [PAIR, ..] that the moves of a journal leave. */
     public static String replay(String journal) {
-        return told(journal, 1, Calls::asm_replay);
+        return Calls.ofJournal(journal, 1, Calls::asm_replay);
     }
 
     /**
-     * What each call of a journal did, whether it is legal or not: the lines of its trace, the
-     * header first, each a JSON object. The page on formats has them.
+     * Returns what each call of a journal did, legal or not: the lines of its trace.
+     *
+     * <p>Each is a JSON object, the header first. The page on formats has them.
      */
     public static List<String> trace(String journal) {
-        return told(journal, 2, Calls::asm_trace).lines().toList();
+        return Calls.ofJournal(journal, 2, Calls::asm_trace).lines().toList();
     }
 
-    /** The same as objects: the locations that aren't empty with their values, in order. */
+    /** Returns the same as objects: the locations that have a value, in order. */
     public static SortedMap<Location, Value> replayed(String journal) {
         return JsonReader.state(replay(journal));
     }
@@ -402,13 +384,13 @@ public final class Storage implements AutoCloseable {
         SCRIPT
     }
 
-    /** Where and why a text isn't of a form; empty for a text that is. */
+    /** Returns where and why a text isn't of a form; the empty text for one that is. */
     public static String explain(Form form, String text) {
         return Calls.explain(
                 Objects.requireNonNull(form, "form"), Texts.utf8(text, "text"));
     }
 
-    /** The version of the library: a million for each major one, a thousand for each minor one. */
+    /** Returns the library's version: a million for each major, a thousand for each minor one. */
     public static int version() {
         return Calls.asm_version();
     }

@@ -40,7 +40,7 @@ impl Reading {
 
 /// Who reads the state and fires moves on it, in any one thread at a time.
 ///
-/// It is given back to its storage when it is let go; its answered calls are then in the journal of the next
+/// It is returned to its storage when it is dropped; its answered calls are then in the journal of the next
 /// [`Storage::close`](crate::Storage::close).
 pub struct Agent {
     pub(crate) slots: Arc<AgentSlots>,
@@ -119,7 +119,7 @@ impl Agent {
         unsafe { sys::asm_misses(self.slots.agent()) }
     }
 
-    /// Looks on, and begins a step on the state that it then sees.
+    /// Polls, and begins a step on the state that it then sees.
     ///
     /// # Errors
     ///
@@ -129,7 +129,7 @@ impl Agent {
         Ok(Step { agent: Holder::Own(self), number })
     }
 
-    /// Looks on, and has its step's slot hold a step at the number that is answered.
+    /// Polls, and begins a step in its slot at the number that it returns.
     pub(crate) fn begin(&mut self) -> Result<u32, Error> {
         self.slots.begin_turn();
         let mut number = 0;
@@ -200,7 +200,7 @@ impl Agent {
     }
 
     /// Fires the move as [`Agent::fire`] does, unless a location of one of these functions was written since the number
-    /// that [`Agent::scan`] told, including one that had no value. Both together are at most 256.
+    /// that [`Agent::scan`] returned, including one that had no value. Both together are at most 256.
     ///
     /// # Errors
     ///
@@ -267,7 +267,7 @@ impl Agent {
         done(unsafe { sys::asm_learn(self.slots.agent(), other.slots.agent()) })
     }
 
-    /// Looks on, and answers how many moves it has then seen. It leaves no receipt.
+    /// Polls, and returns how many moves it has then seen. It leaves no receipt.
     ///
     /// # Errors
     ///
@@ -288,7 +288,7 @@ impl Agent {
         Ok(number)
     }
 
-    /// Looks on, and checks that none of the named locations was written since. It leaves no receipt, and a fire may still be
+    /// Polls, and checks that none of the named locations was written since. It leaves no receipt, and a fire may still be
     /// stale, by a move that comes in between.
     ///
     /// # Errors
@@ -315,7 +315,7 @@ impl Agent {
     }
 
     /// Opens a storage for `capacity` moves that goes on where the agent's own is full: its opening state is what all moves
-    /// leave, its agents and numbers begin anew. No journal is needed, and no other agent waits.
+    /// leave, its agents and numbers start again. No journal is needed, and no other agent waits.
     ///
     /// # Errors
     ///

@@ -96,7 +96,7 @@ impl Replayer {
         Ok(fired(told?.into()))
     }
 
-    /// How many reads were recorded by the agents that were given back.
+    /// How many reads were recorded by the agents that were returned.
     fn recorded(&self) -> u64 {
         self.recorded.iter().filter(|(number, _)| !self.agents.contains_key(number)).map(|(_, count)| count).sum()
     }

@@ -11,7 +11,7 @@ use std::{fmt, io};
 
 pub(crate) const TOO_LONG: &str = "a line would be longer than the 1,073,741,824 bytes that an audit reads";
 
-/// Why a call wasn't done. Nothing was fired or lost, but for [`Error::Ended`].
+/// Why a call wasn't done. Nothing was fired or lost, except by [`Error::Ended`].
 #[derive(Clone, Debug, PartialEq, Eq)]
 #[non_exhaustive]
 pub enum Error {
@@ -40,16 +40,16 @@ pub enum Error {
     Large(Location),
     /// No move is pushed, so there is none to pop.
     NoMove,
-    /// No journal was made since an agent was given back.
+    /// No journal was made since an agent was returned.
     NoJournal,
     /// A number is out of its range: a capacity, a count of agents, an amount, or the number of a read that the agent hasn't seen.
     Range(OutOfRange),
     /// An agent with this number was made before.
     NumberTaken(AgentNumber),
-    /// No agent with this number was given back, or another one has it.
+    /// No agent with this number was returned, or another one has it.
     NotGiven(AgentNumber),
-    /// The move with this number has no receipt among the agents that were given back; the agent that fired it was
-    /// abandoned, or isn't given back yet.
+    /// The move with this number has no receipt among the agents that were returned; the agent that fired it was
+    /// abandoned, or isn't returned yet.
     Missing(MoveNumber),
     /// The agent, or the mark of what it has seen, is of another storage.
     OtherStorage,
@@ -82,7 +82,7 @@ pub enum Error {
 }
 
 impl Error {
-    /// Whether what was tried is to be begun again, on what other agents have written since.
+    /// Whether to begin again, on what other agents have written since.
     #[must_use]
     pub fn is_retry(&self) -> bool {
         matches!(self, Error::Conflict(_))

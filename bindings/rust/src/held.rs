@@ -1,4 +1,4 @@
-//! Slots that are freed when they are let go, and texts that calls write.
+//! Slots that are freed when they are dropped, and texts that calls write.
 use crate::sys;
 use std::cell::{Cell, UnsafeCell};
 use std::ptr;
@@ -8,7 +8,7 @@ const FIRST_ROOM: usize = 1024;
 /// The most room that a thread keeps for its next call.
 const KEPT_ROOM: usize = 64 * FIRST_ROOM;
 
-/// A slot that never moves, and is freed when it is let go.
+/// A slot that never moves, and is freed when it is dropped.
 pub(crate) struct Held(Box<UnsafeCell<sys::Slot>>);
 
 // SAFETY: A slot goes from one thread to another with what holds it; it isn't Sync, so no two threads call with it at once.

@@ -1,4 +1,4 @@
-//! Journals, and what is told of moves without a storage.
+//! Journals, and moves without a storage.
 use crate::error::{Error, answer, done_or_told, done_with};
 use crate::held::told;
 use crate::instruction::{Instruction, Move};

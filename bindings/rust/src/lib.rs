@@ -1,12 +1,12 @@
 //! The abstract storage of a `CoreASM` engine: a state in memory that the agents of many threads read, and fire moves on, at
-//! once and without locks. A fire that rests on an old read is refused, so no update is lost; all answered calls are one
+//! once and without locks. A fire that depends on an old read is refused, so no update is lost; all answered calls are one
 //! history, which can be checked again.
 //!
 //! This is a safe crate over the library for C, in which every function is proved to meet its contract; what this crate adds
 //! isn't proved, only tested.
 //!
 //! An agent works in steps. All that a step gets is of one state; what it pushes is seen by what comes after, and is fired as
-//! one move. [`Agent::play`] begins anew where another agent wrote first:
+//! one move. [`Agent::play`] begins again where another agent wrote first:
 //!
 //! ```
 //! use folugben::{Error, Location, MoveNumber, Storage, Value};
@@ -25,7 +25,7 @@
 //!     })?;
 //!     assert_eq!((played.number, played.result), (Some(MoveNumber::new(1)), 30));
 //!
-//!     drop(teller); // it is given back
+//!     drop(teller); // it is returned
 //!     let journal = storage.close()?;
 //!     assert!(journal.check()?.is_legal());
 //!     assert_eq!(journal.replay()?, [(balance("anna"), Value::from(70)), (balance("ben"), Value::from(30))]);
@@ -34,7 +34,7 @@
 //! ```
 //!
 //! A storage has room for so many moves, and its history is in memory. [`Run`] goes on from one to the next by itself, and
-//! saves the history in a folder, of which [`audit_run`] tells whether it is legal, however long it is.
+//! saves the history in a folder, of which [`audit_run`] checks whether it is legal, however long it is.
 //!
 //! A step that is moved, an empty slot and a foreign agent's step can't be written: a [`Step`] borrows its [`Agent`].
 //!

@@ -1,4 +1,4 @@
-//! What an agent tells of its own state.
+//! What an agent shows of its own state.
 use crate::agent::{Agent, Reading};
 use crate::error::{Error, answer, done, done_with};
 use crate::held::told;

@@ -77,7 +77,7 @@ impl Patience {
         Patience { timeout: Some(timeout), ..self }
     }
 
-    /// Has the call try until it fires or refuses: it tells the number of the move, and what the rule returned.
+    /// Has the call try until it fires or refuses: returns the number of the move, and what the rule returned.
     pub(crate) fn play<T, E: From<Error>>(
         self,
         mut attempt: impl FnMut() -> Result<Attempt<T>, E>,
@@ -105,7 +105,7 @@ pub(crate) enum Attempt<T> {
     Fired(MoveNumber, T),
     /// Nothing was pushed.
     Unfired(T),
-    /// It is to be begun again.
+    /// Begin again.
     Vain(Error),
 }
 

@@ -48,7 +48,7 @@ impl fmt::Debug for Prepared {
     }
 }
 
-/// The value that a call told by its kind, its number and its bytes.
+/// The value that a call returned by its kind, its number and its bytes.
 pub(crate) fn value_of(head: &sys::Value, bytes: &[u8]) -> Result<Value, Error> {
     Ok(match head.kind {
         sys::KIND_UNDEF => Value::UNDEF,

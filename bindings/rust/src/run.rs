@@ -222,7 +222,7 @@ impl Default for RunOptions {
 /// # }
 /// ```
 ///
-/// A run that is let go is closed, but nobody is told of an error: so [`Run::close`] it. Where a part can't be saved, the run
+/// A run that is dropped is closed, but no error is reported: so [`Run::close`] it. Where a part can't be saved, the run
 /// ends: each further call on it and its agents is [`Error::Ended`] with the part. What was saved before is complete.
 #[must_use = "a run is closed when it is let go"]
 pub struct Run {
@@ -258,7 +258,7 @@ impl Run {
     ///
     /// # Errors
     ///
-    /// - [`Error::NumberTaken`]: an agent with this number is in use; once that is let go, another may be made.
+    /// - [`Error::NumberTaken`]: an agent with this number is in use; once that is dropped, another may be made.
     /// - [`Error::Ended`], [`Error::Closed`].
     pub fn agent(&self, number: impl Into<AgentNumber>) -> Result<RunAgent, Error> {
         let seat = self.core.seat(number.into())?;

@@ -13,10 +13,10 @@ use crate::value::{Element, Location, Value};
 use std::fmt;
 use std::slice;
 
-/// What an engine does between a look and a fire: it gets values and pushes moves in any order, all of which see one state
-/// and the moves pushed before; and it fires one move that does what these do in turn.
+/// A transaction of an agent: it gets values and pushes moves in any order, all of which see one state and the moves pushed
+/// before; and it commits one move that does what these do in turn.
 ///
-/// It borrows its agent. A step that is let go without [`Step::commit`] has done nothing.
+/// It borrows its agent. A step that is dropped without [`Step::commit`] has done nothing.
 #[must_use = "a step does nothing until it is committed"]
 pub struct Step<'a> {
     pub(crate) agent: Holder<'a>,
@@ -29,13 +29,13 @@ impl Step<'_> {
         MoveNumber::from(self.number).behind(self.agent.before())
     }
 
-    /// What is seen at the location through the pushed moves.
+    /// Returns the value of the location, seen through the pushed moves.
     ///
-    /// The step then rests on the location, if what is told is made from the state that it began on.
+    /// The step then depends on the location, if the value comes from the state that it began on.
     ///
     /// # Errors
     ///
-    /// - [`Error::Many`]: it would rest on more than 256 locations and functions.
+    /// - [`Error::Many`]: it would depend on more than 256 locations and functions.
     /// - [`Error::Refused`]: the location is against the rules.
     /// - [`Error::Memory`].
     /// - Of a step of a run [`Error::Conflict`] with [`Past`](crate::Conflict::Past), [`Error::Ended`] and [`Error::Closed`], here
@@ -54,8 +54,8 @@ impl Step<'_> {
         self.look(sys::asm_get, places)
     }
 
-    /// What [`Step::get_each`] tells, but the step doesn't rest on it: it is fired though another agent has written there
-    /// since. So it is for what is told or shown, and for what the step doesn't go by. Any number of locations is seen.
+    /// Returns what [`Step::get_each`] returns, of any number of locations, and tracks nothing: the step commits though another
+    /// agent has written there since. It is for what is only shown.
     ///
     /// # Errors
     ///
@@ -101,7 +101,7 @@ impl Step<'_> {
         value_of(&head, &bytes)
     }
 
-    /// What is seen at all locations of a function, in ascending order. The step then rests on the whole function: a write to
+    /// Scans a function: returns all its locations, ascending. The step then depends on the whole function: a write to
     /// any location of it, including one that had no value, makes the commit stale. It counts as one of 256, however many
     /// locations it has.
     ///
@@ -125,7 +125,7 @@ impl Step<'_> {
     ///
     /// - [`Error::Clash`]: its updates clash on what is seen.
     /// - [`Error::Deep`]: 64 moves are pushed already.
-    /// - [`Error::Many`]: the one move of all would have more than 4,096 instructions, or the step rest on more than 256 places.
+    /// - [`Error::Many`]: the one move of all would have more than 4,096 instructions, or the step depend on more than 256 places.
     /// - [`Error::Large`], [`Error::Refused`], [`Error::Memory`].
     pub fn push(&mut self, instructions: &Move) -> Result<(), Error> {
         self.grow(sys::asm_push, instructions.instructions())
@@ -266,7 +266,7 @@ impl Step<'_> {
     /// As [`Step::pop`], and answers the one move that does what the popped ones do in turn, which
     /// [`Step::push_prepared`] and [`Step::extend_prepared`] take, of any step.
     ///
-    /// A move that nothing joined is as it was pushed.
+    /// A move that nothing joined is unchanged.
     ///
     /// # Errors
     ///
@@ -285,7 +285,7 @@ impl Step<'_> {
     }
 
     /// What [`Step::commit`] would offer by now: the one move, and each location that it would name with its number, which
-    /// [`Agent::fire`](crate::Agent::fire) takes. A commit rests besides on the functions of [`Step::scan`], which aren't told.
+    /// [`Agent::fire`](crate::Agent::fire) takes. A commit also depends on the functions of [`Step::scan`], which aren't in it.
     ///
     /// # Errors
     ///

@@ -27,7 +27,7 @@ struct Slots {
     storage: Held,
     /// The numbers of which an agent was made.
     made: [bool; AGENTS],
-    /// Agents that were let go when there was no memory to give them back.
+    /// Agents that were dropped when there was no memory to return them.
     waiting: Vec<Arc<AgentSlots>>,
 }
 
@@ -125,7 +125,7 @@ impl Storage {
         Storage::of(storage)
     }
 
-    /// Opens a storage with the state that the text `[PAIR, ..]` of the library tells.
+    /// Opens a storage with the state of the text `[PAIR, ..]`, which the library wrote.
     pub(crate) fn open_text(state: &[u8], capacity: u32) -> Result<Storage, Error> {
         let storage = Held::empty();
         // SAFETY: the storage is held under its lock, the agent by this thread, and the texts and numbers outlive the call.
@@ -170,14 +170,13 @@ impl Storage {
         Agent::new(agent, &self.shared, number)
     }
 
-    /// Takes the agent with this number out again, which was given back: it goes on where it was, with what it was
-    /// answered.
+    /// Checks out the agent with this number again, which was returned: it goes on where it was, with its receipts.
     ///
     /// A journal that was made before is discarded, so [`Storage::next`] needs a further [`Storage::close`].
     ///
     /// # Errors
     ///
-    /// - [`Error::NotGiven`]: no agent with this number was given back, or it was taken since.
+    /// - [`Error::NotGiven`]: no agent with this number was returned, or it was taken since.
     /// - [`Error::Memory`].
     pub fn take(&self, number: impl Into<AgentNumber>) -> Result<Agent, Error> {
         let number = number.into();
@@ -221,11 +220,11 @@ impl Storage {
         moves
     }
 
-    /// Makes the journal of the agents that were given back. It may be made again, when more agents have come back.
+    /// Makes the journal of the agents that were returned. It may be made again, when more agents have come back.
     ///
     /// # Errors
     ///
-    /// - [`Error::Missing`]: a move whose agent wasn't given back. An abandoned agent's moves are missing for good.
+    /// - [`Error::Missing`]: a move whose agent wasn't returned. An abandoned agent's moves are missing for good.
     /// - [`Error::Memory`].
     pub fn close(&self) -> Result<Journal, Error> {
         let mut slots = self.shared.slots();
@@ -244,13 +243,13 @@ impl Storage {
     }
 
     /// Opens a storage that goes on where this one was closed: its opening state is what the moves of the journal leave, its
-    /// agents and numbers begin anew.
+    /// agents and numbers start again.
     ///
     /// Moves that were fired after `close` are in neither journal.
     ///
     /// # Errors
     ///
-    /// - [`Error::NoJournal`]: none was made since an agent was given back.
+    /// - [`Error::NoJournal`]: none was made since an agent was returned.
     /// - [`Error::Range`]: the capacity is outside 1 to 1,048,576.
     /// - [`Error::Memory`].
     pub fn next(&self, capacity: u32) -> Result<Storage, Error> {

@@ -1,7 +1,10 @@
 package folugben;
 
 import static folugben.Test.Checks.equal;
+import static folugben.Test.Checks.outOfRange;
 import static folugben.Test.Checks.refused;
+import static folugben.Test.Checks.refusedAt;
+import static folugben.Test.Checks.thrown;
 
 import folugben.Test.CopiedLibrary;
 
@@ -11,6 +14,7 @@ import java.nio.file.Files;
 import java.nio.file.Path;
 import java.util.Arrays;
 import java.util.BitSet;
+import java.util.Collections;
 import java.util.List;
 import java.util.Map;
 
@@ -231,6 +235,53 @@ final class RunEndTests {
         equal(Auditor.audit(path).moves(), 4L);
     }
 
+    private static void numbersAreFreedAtTheEnd(Path path) {
+        try (Run run = RunTests.open(path, 3)) {
+            RunAgent agent = run.agent(7);
+            RunTests.count(agent);
+            refusedAt(Code.NUMBER, 0, ": agent 7", () -> run.agent(7));
+            outOfRange(() -> run.agent(256));
+            agent.close();
+            agent.close();
+            equal(refused(Code.EMPTY, agent::step).getMessage(),
+                    Code.EMPTY.text()
+                            + ": the agent was closed");
+            try (RunAgent again = run.agent(7)) {
+                equal(again.won(), 0L);
+                for (int i = 1; i < 5; i++)
+                    equal(RunTests.count(again), new RunAgent.Played<>(i + 1, (long) i, 0));
+                equal(again.won(), 4L);
+            }
+        }
+        equal(RunTests.counted(path, 5), new Auditor.Counts(3, 5, 5));
+    }
+
+    private static void argumentsAreLookedAt(Path path) {
+        Class<? extends RuntimeException> kind = NullPointerException.class;
+        thrown(kind, "path", () -> Run.open(Map.of(), null));
+        thrown(kind, "init", () -> Run.open((Map<Location, ?>) null, path));
+        thrown(kind, "path", () -> Run.resume(null));
+        outOfRange(() -> RunTests.open(path, 0));
+        thrown(kind, "check", () -> Run.resume(path, null));
+        outOfRange(() -> Run.resume(path, 1_048_577));
+        refused(Code.NOT_JSON, () -> Run.open("[", path, 5, 9));
+        equal(Files.exists(path), false);
+        try (Run run = RunTests.open(path, 5); RunAgent agent = run.agent(0)) {
+            thrown(kind, "rule", () -> agent.play(null));
+            thrown(kind, "reads[0] is null",
+                    () -> agent.fire(List.of(), Collections.singletonList(null)));
+            thrown(kind, "locations", () -> agent.peek(null));
+            thrown(IllegalStateException.class, "no", () -> agent.play(step -> {
+                step.push(RunTests.up());
+                throw new IllegalStateException("no");
+            }));
+            refused(Code.CLASH, () -> agent.play(step -> {
+                step.push(Instruction.put(COUNT, 1), Instruction.put(COUNT, 2));
+                return null;
+            }));
+        }
+    }
+
     /** Has 4 agents in threads raise one number for so long, in parts of 200 moves. */
     private static void stress(Path path, int seconds) throws Exception {
         long end = System.nanoTime() + seconds * 1_000_000_000L;
@@ -264,7 +315,9 @@ final class RunEndTests {
                          RunEndTests::lostAgentsEndTheRun,
                          RunEndTests::lostAgentsThatFiredNothingAreMissedByNone,
                          RunEndTests::fullDisksEndTheRun, RunEndTests::harmEndsTheRun,
-                         RunEndTests::linesAreShort, RunEndTests::longLinesEndNoRun))
+                         RunEndTests::linesAreShort, RunEndTests::longLinesEndNoRun,
+                         RunEndTests::numbersAreFreedAtTheEnd,
+                         RunEndTests::argumentsAreLookedAt))
                 RunTests.withFile(test);
         } catch (IOException fault) {
             throw new UncheckedIOException(fault);

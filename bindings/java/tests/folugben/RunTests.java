@@ -1,10 +1,7 @@
 package folugben;
 
 import static folugben.Test.Checks.equal;
-import static folugben.Test.Checks.outOfRange;
 import static folugben.Test.Checks.refused;
-import static folugben.Test.Checks.refusedAt;
-import static folugben.Test.Checks.thrown;
 
 import java.io.IOException;
 import java.io.UncheckedIOException;
@@ -345,27 +342,6 @@ final class RunTests {
         equal(told.parts() >= 7, true);
     }
 
-    private static void numbersAreFreedAtTheEnd(Path path) {
-        try (Run run = open(path, 3)) {
-            RunAgent agent = run.agent(7);
-            count(agent);
-            refusedAt(Code.NUMBER, 0, ": agent 7", () -> run.agent(7));
-            outOfRange(() -> run.agent(256));
-            agent.close();
-            agent.close();
-            equal(refused(Code.EMPTY, agent::step).getMessage(),
-                    Code.EMPTY.text()
-                            + ": the agent was closed");
-            try (RunAgent again = run.agent(7)) {
-                equal(again.won(), 0L);
-                for (int i = 1; i < 5; i++)
-                    equal(count(again), new RunAgent.Played<>(i + 1, (long) i, 0));
-                equal(again.won(), 4L);
-            }
-        }
-        equal(counted(path, 5), new Auditor.Counts(3, 5, 5));
-    }
-
     private static String byTurns(Path path, long seed) throws IOException {
         drop(path);
         try (Run run = open(path, 7, 9)) {
@@ -390,32 +366,6 @@ final class RunTests {
         equal(files.size() > 7, true);
     }
 
-    private static void argumentsAreLookedAt(Path path) {
-        Class<? extends RuntimeException> kind = NullPointerException.class;
-        thrown(kind, "path", () -> Run.open(Map.of(), null));
-        thrown(kind, "init", () -> Run.open((Map<Location, ?>) null, path));
-        thrown(kind, "path", () -> Run.resume(null));
-        outOfRange(() -> open(path, 0));
-        thrown(kind, "check", () -> Run.resume(path, null));
-        outOfRange(() -> Run.resume(path, 1_048_577));
-        refused(Code.NOT_JSON, () -> Run.open("[", path, 5, 9));
-        equal(Files.exists(path), false);
-        try (Run run = open(path, 5); RunAgent agent = run.agent(0)) {
-            thrown(kind, "rule", () -> agent.play(null));
-            thrown(kind, "reads[0] is null",
-                    () -> agent.fire(List.of(), Collections.singletonList(null)));
-            thrown(kind, "locations", () -> agent.peek(null));
-            thrown(IllegalStateException.class, "no", () -> agent.play(step -> {
-                step.push(up());
-                throw new IllegalStateException("no");
-            }));
-            refused(Code.CLASH, () -> agent.play(step -> {
-                step.push(Instruction.put(COUNT, 1), Instruction.put(COUNT, 2));
-                return null;
-            }));
-        }
-    }
-
     static void all() {
         for (boolean it : new boolean[] {true, false}) {
             isRecording = it;
@@ -430,8 +380,7 @@ final class RunTests {
                          RunTests::threadsGoOn, RunTests::idleAgentsAreTaken,
                          RunTests::stepsInFullPartsEnd, RunTests::partsAreApart,
                          RunTests::partsEndAtRest, RunTests::contendersEndPartsAtRest,
-                         RunTests::stepsThatLastAreEnded, RunTests::numbersAreFreedAtTheEnd, RunTests::runsGoByTurns,
-                         RunTests::argumentsAreLookedAt))
+                         RunTests::stepsThatLastAreEnded, RunTests::runsGoByTurns))
                 withFile(test);
         } catch (IOException fault) {
             throw new UncheckedIOException(fault);

@@ -14,7 +14,7 @@ use std::ops::{Deref, DerefMut};
 use std::sync::Arc;
 
 /// Who reads the state of a [`Run`](crate::Run) and fires moves on it, in any one thread at a time. It goes on from part to
-/// part by itself, and is given back when it is let go.
+/// part by itself, and is returned when it is dropped.
 pub struct RunAgent {
     pub(crate) core: Arc<Core>,
     pub(crate) seat: Arc<Seat>,
@@ -40,7 +40,7 @@ impl RunAgent {
         self.seat.is_recording()
     }
 
-    /// Looks on, and begins a step on the state that it then sees, in the newest part.
+    /// Polls, and begins a step on the state that it then sees, in the newest part.
     ///
     /// It waits while two parts that have ended wait for the disk, and for 0.1 s at most while a part comes to rest.
     ///
@@ -93,7 +93,7 @@ impl RunAgent {
         })
     }
 
-    /// Looks on, and answers how many moves of the run it has then seen.
+    /// Polls, and returns how many moves of the run it has then seen.
     ///
     /// # Errors
     ///
@@ -109,7 +109,7 @@ impl RunAgent {
 
     /// The values of the locations in its own state, with the number of moves of the run up to that.
     ///
-    /// It doesn't look on. Where its part has ended since, while it was in no step, its state is that at the beginning of the
+    /// It doesn't poll. Where its part has ended since, while it was in no step, its state is that at the beginning of the
     /// newest part.
     ///
     /// # Errors
@@ -121,7 +121,7 @@ impl RunAgent {
         Ok(Reading { number: told.number.behind(before), ..told })
     }
 
-    /// All locations of a function, as [`RunAgent::peek`] tells some.
+    /// Returns all locations of a function, as [`RunAgent::peek`] returns some.
     ///
     /// # Errors
     ///
@@ -131,7 +131,7 @@ impl RunAgent {
         Ok((number.behind(before), told))
     }
 
-    /// All locations that have a value, as [`RunAgent::peek`] tells some.
+    /// Returns all locations that have a value, as [`RunAgent::peek`] returns some.
     ///
     /// # Errors
     ///
@@ -172,7 +172,7 @@ impl fmt::Debug for RunAgent {
 
 /// A [`Step`] of a run's agent: its calls are those of a step, and rules take both.
 ///
-/// It goes on in its part when that has ended, for 0.1 s. Then its agent is given back, and each call is an [`Error::Conflict`]
+/// It goes on in its part when that has ended, for 0.1 s. Then its agent is returned, and each call is an [`Error::Conflict`]
 /// with [`Conflict::Past`].
 #[must_use = "a step does nothing until it is committed"]
 pub struct RunStep<'a> {

@@ -10,7 +10,7 @@ pub(crate) struct Limits {
     pub(crate) moves: u32,
     pub(crate) receipts: u64,
     pub(crate) every: Option<Duration>,
-    /// Whether agents record, unless they are told otherwise.
+    /// Whether agents record, unless one is set otherwise.
     pub(crate) is_recording: bool,
 }
 
