@@ -6,17 +6,16 @@ use Rattle.std.proofs.lemmas.List.{take_more, flat_map_more, length-take-le}
 use Rattle.asm_driver.specs.Report.{step_name, reason, line, outcome_line}
 use Rattle.asm_play.specs.declared.outcome.Outcome.{Outcome}
 use Rattle.asm_play.specs.declared.outcome.Outcome.TheVariants.{Fired}
-use Rattle.std.proofs.lemmas.Bool.{cases_eq}
 use Rattle.std.proofs.lemmas.Grind.{flat_map-append}
-use Rattle.std.proofs.lemmas.List.Elements.{All-nil, All-push}
-use Rattle.asm_journal.specs.Reading.{HasNoLineFeed}
+use Rattle.std.proofs.lemmas.List.Elements.{All-nil, All-push, All-append}
+use Rattle.asm_journal.specs.Reading.{HasNoLineFeed, EndsLine}
 use Rattle.asm_audit.specs.Fed.{IsFed}
 use Rattle.asm_audit.specs.SoFar.{HasCounts, HasEnded, AreFedSoFar}
 use Rattle.asm_audit.specs.Text.{ended_lines}
 use Rattle.asm_audit.specs.declared.progress.Counts.{Counts}
 use Rattle.asm_audit.specs.declared.progress.Progress.{Progress}
 use Rattle.asm_audit.proofs.Ended.{one_ending, plain_lines}
-use Rattle.asm_audit.proofs.Fed.{no_feed_push}
+use Rattle.asm_audit.proofs.OneSoFar.{one_count}
 use Rattle.asm_aggregate.specs.Standard.{standard_part}
 use Rattle.asm_driver.specs.Watch.{IsDueText, IsToldOfLine, IsToldOfLines, IsToldOf}
 
@@ -83,81 +82,80 @@ ended_is text ended lines line (other, all, short, open_line) is plain none =
     (ap (λ (t : List ℕ). t ++ other) (sym short.1) ∙ all ∙ sym is) in
     short.1 ∙ ap ended_lines same.0
 
+none_open : HasNoLineFeed []
+none_open = All-nil (λ b. b ≢ 10)
+
 lines_and : (ls : List (List ℕ)) (l : List ℕ) → ended_lines (ls ++ l ∷ []) ≡ ended_lines ls ++ (l ++ 10 ∷ [])
 lines_and ls l =
     flat_map-append (λ (x : List ℕ). x ++ 10 ∷ []) ls (l ∷ []) ∙ ap (λ t. ended_lines ls ++ t) (append-nil (l ++ 10 ∷ []))
 
-module _ (every : ℕ) (text told : List ℕ) (w : IsToldOf every text told) where
-  -- a byte that ends no line
-  pub told_byte : (b : ℕ) → b ≢ 10 → IsToldOf every (text ++ b ∷ []) told
-  told_byte b other = record {
+-- bytes behind the lines that were told of
+module _ (every : ℕ) (text told front : List ℕ) (w : IsToldOf every text told) where
+  -- none of them ends a line
+  pub told_bytes : HasNoLineFeed front → IsToldOf every (text ++ front) told
+  told_bytes none = record {
     lines = w.lines;
-    line = w.line ++ b ∷ [];
-    all = sym (append_assoc (ended_lines w.lines) w.line (b ∷ [])) ∙ ap (λ t. t ++ b ∷ []) w.all;
+    line = w.line ++ front;
+    all = sym (append_assoc (ended_lines w.lines) w.line front) ∙ ap (λ t. t ++ front) w.all;
     ended = w.ended;
-    open_line = no_feed_push w.line b w.open_line other;
+    open_line = All-append (λ b. b ≢ 10) w.line front w.open_line none;
     of_lines = w.of_lines;
   }
 
-  abbrev one_more : List (List ℕ)
-  one_more = w.lines ++ w.line ∷ []
+  module _ (p q : Progress) (line left : List ℕ) (x y : Counts) (first : List ℕ) (fed : IsFed standard_part text p line)
+      (next : IsFed standard_part (text ++ front) q left) (before : AreFedSoFar standard_part p line x)
+      (after : AreFedSoFar standard_part q left y) (due : IsDueText every x y first) where
+    here : HasCounts standard_part (ended_lines w.lines) x
+    here =
+        let is = before text fed in
+        subst (λ (t : List ℕ). HasCounts standard_part t x)
+        (ended_is text is.0 w.lines w.line is.1 w.all w.ended w.open_line) is.2
 
-  line_ends : ended_lines one_more ++ [] ≡ text ++ 10 ∷ []
-  line_ends =
-      append-nil (ended_lines one_more) ∙ lines_and w.lines w.line
-      ∙ sym (append_assoc (ended_lines w.lines) w.line (10 ∷ [])) ∙ ap (λ t. t ++ 10 ∷ []) w.all
+    -- the last ends a line, with what is due behind it
+    told_line : (body : List ℕ) → EndsLine front body [] → IsToldOf every (text ++ front) (told ++ first)
+    told_line body (is, none) =
+        let l : List ℕ = w.line ++ body in
+        let lines = w.lines ++ l ∷ [] in
+        let plain = All-push HasNoLineFeed w.lines l w.ended (All-append (λ b. b ≢ 10) w.line body w.open_line none) in
+        let whole : ended_lines lines ++ [] ≡ text ++ front =
+        append-nil (ended_lines lines) ∙ lines_and w.lines l
+        ∙ ap (λ t. ended_lines w.lines ++ t) (append_assoc w.line body (10 ∷ []) ∙ ap (λ t. w.line ++ t) (sym is))
+        ∙ sym (append_assoc (ended_lines w.lines) w.line front) ∙ ap (λ t. t ++ front) w.all in
+        let there = after (text ++ front) next in
+        record {
+          lines = lines;
+          line = [];
+          all = whole;
+          ended = plain;
+          open_line = none_open;
+          of_lines = told_push every w.lines l [] told first w.of_lines (
+            x,
+            y,
+            here,
+            subst (λ (t : List ℕ). HasCounts standard_part t y)
+                (ended_is (text ++ front) there.0 lines [] there.1 whole plain none_open ∙ lines_and w.lines l) there.2,
+            due,
+          );
+        }
 
-  all_plain : All HasNoLineFeed one_more
-  all_plain = All-push HasNoLineFeed w.lines w.line w.ended w.open_line
+    -- nothing is due where no line ends
+    told_none : HasNoLineFeed front → IsToldOf every (text ++ front) (told ++ first)
+    unfolding told_bytes
+    told_none none =
+        let more = told_bytes none in
+        let there = after (text ++ front) next in
+        let same = one_count standard_part (ended_lines w.lines) x y here
+        (subst (λ (t : List ℕ). HasCounts standard_part t y)
+        (ended_is (text ++ front) there.0 more.lines more.line there.1 more.all more.ended more.open_line) there.2) in
+        subst (λ (t : List ℕ). IsToldOf every (text ++ front) t)
+        (sym (append-nil told) ∙ ap (λ t. told ++ t) (sym (nothing_due same due))) more
+      where
+        nothing_due : x ≡ y → IsDueText every x y first → first ≡ []
+        nothing_due same (inl ((some, less, divides), is)) = absurd (omega (arith, less, ap (λ (c : Counts). c.calls) same))
+        nothing_due same (inr (never, is)) = is
 
-  none_open : HasNoLineFeed []
-  none_open = All-nil (λ b. b ≢ 10)
-
-  -- the byte that ends a line, with what is due behind it
-  pub told_line : (p q : Progress) (line left : List ℕ) (x y : Counts) (first : List ℕ) →
-      IsFed standard_part text p line → IsFed standard_part (text ++ 10 ∷ []) q left →
-      AreFedSoFar standard_part p line x → AreFedSoFar standard_part q left y → IsDueText every x y first →
-      IsToldOf every (text ++ 10 ∷ []) (told ++ first)
-  told_line p q line left x y first fed next before after due =
-      let here = before text fed in
-      let there = after (text ++ 10 ∷ []) next in
-      let here_is : here.0 ≡ ended_lines w.lines = ended_is text here.0 w.lines w.line here.1 w.all w.ended w.open_line in
-      let there_is : there.0 ≡ ended_lines w.lines ++ (w.line ++ 10 ∷ []) =
-      ended_is (text ++ 10 ∷ []) there.0 one_more [] there.1 line_ends all_plain none_open ∙ lines_and w.lines w.line in
-      record {
-        lines = one_more;
-        line = [];
-        all = line_ends;
-        ended = all_plain;
-        open_line = none_open;
-        of_lines = told_push every w.lines w.line [] told first w.of_lines (inr (
-          x,
-          y,
-          subst (λ (t : List ℕ). HasCounts standard_part t x) here_is here.2,
-          subst (λ (t : List ℕ). HasCounts standard_part t y) there_is there.2,
-          due,
-        ));
-      }
-
-  -- the byte that ends a line, where nothing is ever told
-  pub silent_line : every ≡ 0 → IsToldOf every (text ++ 10 ∷ []) told
-  silent_line never = subst (λ (t : List ℕ). IsToldOf every (text ++ 10 ∷ []) t) (append-nil told) (record {
-    lines = one_more;
-    line = [];
-    all = line_ends;
-    ended = all_plain;
-    open_line = none_open;
-    of_lines = told_push every w.lines w.line [] told [] w.of_lines (inl (never, refl));
-  })
-
--- bytes of which nothing is ever told
-pub silent : (every : ℕ) (text told bytes : List ℕ) → every ≡ 0 → IsToldOf every text told →
-    IsToldOf every (text ++ bytes) told
-silent every text told [] never w = subst (λ (t : List ℕ). IsToldOf every t told) (sym (append-nil text)) w
-silent every text told (b ∷ bs) never w =
-    subst (λ (t : List ℕ). IsToldOf every t told) (append_assoc text (b ∷ []) bs)
-    (silent every (text ++ b ∷ []) told bs never (by_byte (cases_eq b 10))) where
-      by_byte : (b ≡ 10) ⊎ (b ≢ 10) → IsToldOf every (text ++ b ∷ []) told
-      by_byte (inl feed) =
-          subst (λ (x : ℕ). IsToldOf every (text ++ x ∷ []) told) (sym feed) (silent_line every text told w never)
-      by_byte (inr other) = told_byte every text told w b other
+    pub told_more : (behind : List ℕ) →
+        ((body : List ℕ) × EndsLine front body []) ⊎ (HasNoLineFeed front × (behind ≡ [])) →
+        IsToldOf every (text ++ front) (told ++ first)
+    told_more behind (inl (body, ends)) = told_line body ends
+    told_more behind (inr (none, nothing)) = told_none none

@@ -7,7 +7,8 @@ use Rattle.std.proofs.Math.Seq.{take-append-add}
 use Rattle.std.specs.Io.KnownBytes.{Keeps, Consumes, Appends, IsAtEnd}
 use Rattle.asm_journal.specs.Reading.{HasNoLineFeed}
 use Rattle.asm_audit.specs.Audited.{IsVerdict}
-use Rattle.asm_audit.specs.Fed.{IsFed, HasTaken, HasTakenFirst, IsFedAnswer, IsFedEnd}
+use Rattle.asm_audit.specs.Fed.{IsFed, HasTakenLine, IsFedEnd}
+use Rattle.asm_audit.proofs.Fed.{some_first}
 use Rattle.asm_audit.specs.SoFar.{AreFedSoFar}
 use Rattle.asm_audit.specs.declared.error.AuditError.{AuditError}
 use Rattle.asm_audit.specs.declared.error.AuditError.TheVariants.{Journal, Apart, LongLine, Memory}
@@ -26,7 +27,7 @@ use Rattle.asm_driver.specs.declared.program.refusal.Refusal.{Refusal}
 use Rattle.asm_driver.specs.declared.program.refusal.Refusal.TheVariants as refusal
 use Rattle.asm_driver.specs.declared.program.watching.Stop.{Stop}
 use Rattle.asm_driver.specs.declared.program.watching.Stop.TheVariants.{Refused, Unwritten}
-use Rattle.asm_driver.proofs.Lines.{told_byte, told_line, silent}
+use Rattle.asm_driver.proofs.Lines.{told_bytes, told_more}
 
 -- an audit's error as the refusal that is made of it
 pub bad_run : (text : List ℕ) (e : AuditError) → IsVerdict standard_part text (Err e) → IsBadRun text (refusal_of_audit e)
@@ -41,101 +42,73 @@ no_read (Apart part) = refl
 no_read LongLine = refl
 no_read Memory = refl
 
--- ---- one byte
+-- ---- a line
 
--- it is told at this byte, which wasn't taken
-pub stopped_here : (every : ℕ) (text told : List ℕ) (b : ℕ) (r : Result Verdict Refusal) → IsToldOf every text told →
-    is_failed_read r ≡ false → ((more : List ℕ) → IsAuditOf (text ++ b ∷ more) r) → IsStopped every text (b ∷ []) told r
-stopped_here every text told b r watched noted ends = record {
-  front = [];
-  next = b;
-  behind = [];
-  all = refl;
-  watched = subst (λ (t : List ℕ). IsToldOf every t told) (sym (append-nil text)) watched;
-  noted = noted;
-  ends = λ more. subst (λ (t : List ℕ). IsAuditOf (t ++ b ∷ more) r) (sym (append-nil text)) (ends more);
-}
-
-module _ (every : ℕ) (text told : List ℕ) (p q : Progress) (line left : List ℕ) (b : ℕ) (w : IsWatched every text p line told)
+-- the audit ends behind these bytes
+module _ (every : ℕ) (text told rest : List ℕ) (p q : Progress) (line left : List ℕ) (n : ℕ) (w : IsWatched every text p line told)
   where
-    pub stopped_wrong : (j c : ℕ) → IsFedAnswer standard_part (b ∷ []) p line q left (Ok (tells.Illegal j c)) →
-        IsStopped every text (b ∷ []) told (Ok (Illegal j c))
-    stopped_wrong j c answer =
-        stopped_here every text told b (Ok (Illegal j c)) w.watched refl (λ more. answer text more w.fed)
-
-    pub stopped_fault : (e : AuditError) → IsFedAnswer standard_part (b ∷ []) p line q left (Err e) →
-        IsStopped every text (b ∷ []) told (Err (refusal_of_audit e))
-    stopped_fault e answer =
-        stopped_here every text told b (Err (refusal_of_audit e)) w.watched (no_read e)
-        (λ more. bad_run (text ++ b ∷ more) e (answer text more w.fed))
-
-    -- for the line that is due there is no memory
-    pub stopped_memory : IsStopped every text (b ∷ []) told (Err refusal.Memory)
-    stopped_memory = stopped_here every text told b (Err refusal.Memory) w.watched refl (λ more. tt)
-
-    pub other_byte : (r : Result Told AuditError) → b ≢ 10 → IsFedAnswer standard_part (b ∷ []) p line q left r →
-        IsWatchAnswer every text (b ∷ []) q left told r
-    other_byte (Ok tells.Legal) other answer =
-        record { fed = answer text w.fed; watched = told_byte every text told w.watched b other }
-    other_byte (Ok (tells.Illegal j c)) other answer = stopped_wrong j c answer
-    other_byte (Err e) other answer = stopped_fault e answer
-
--- a line has ended
-pub line_taken : (every : ℕ) (text before old new : List ℕ) (p q : Progress) (line left : List ℕ) (x y : Counts) →
-    IsWatched every text p line (before ++ old) → HasTaken standard_part (10 ∷ []) p line q left →
-    AreFedSoFar standard_part p line x → AreFedSoFar standard_part q left y → AddsDue every x y old new →
-    IsWatched every (text ++ 10 ∷ []) q left (before ++ new)
-line_taken every text before old new p q line left x y w taken here there (first, due, added) =
-    let fed = taken text w.fed in
-    record {
-      fed = fed;
-      watched = subst (λ (t : List ℕ). IsToldOf every (text ++ 10 ∷ []) t)
-          (append_assoc before old first ∙ ap (λ t. before ++ t) (sym added))
-          (told_line every text (before ++ old) w.watched p q line left x y first w.fed fed here there due);
+    stopped_at : (front behind : List ℕ) (b : ℕ) (more : List ℕ) (r : Result Verdict Refusal) → front ++ behind ≡ rest →
+        behind ≡ b ∷ more → HasNoLineFeed front → is_failed_read r ≡ false →
+        ((after : List ℕ) → IsAuditOf ((text ++ front) ++ b ∷ after) r) → IsStopped every text rest told r
+    stopped_at front behind b more r all is none noted ends = record {
+      front = front;
+      next = b;
+      behind = more;
+      all = ap (λ t. front ++ t) (sym is) ∙ all;
+      watched = told_bytes every text told front w.watched none;
+      noted = noted;
+      ends = ends;
     }
 
--- ---- bytes behind one another
+    pub stopped_wrong : (j c : ℕ) → HasTakenLine standard_part rest p line q left n (Ok (tells.Illegal j c)) →
+        IsStopped every text rest told (Ok (Illegal j c))
+    stopped_wrong j c t =
+        let (none, (b, more, is, answer)) = t.ends in
+        stopped_at t.front t.behind b more (Ok (Illegal j c)) t.all is none refl
+        (λ after. answer (text ++ t.front) after (t.taken text w.fed))
 
-module _ (every : ℕ) (text done bytes rest whole told : List ℕ) (all : done ++ (bytes ++ rest) ≡ whole) where
-  -- where it ends within some bytes, it ends within all
-  pub stopped_more : (r : Result Verdict Refusal) → IsStopped every (text ++ done) bytes told r → IsStopped every text whole told r
-  stopped_more r s =
-      let here : (text ++ done) ++ s.front ≡ text ++ (done ++ s.front) = append_assoc text done s.front in
-      record {
-        front = done ++ s.front;
-        next = s.next;
-        behind = s.behind ++ rest;
-        all = append_assoc done s.front (s.next ∷ (s.behind ++ rest))
-            ∙ ap (λ t. done ++ t) (sym (append_assoc s.front (s.next ∷ s.behind) rest) ∙ ap (λ t. t ++ rest) s.all) ∙ all;
-        watched = subst (λ (t : List ℕ). IsToldOf every t told) here s.watched;
-        noted = s.noted;
-        ends = λ more. subst (λ (t : List ℕ). IsAuditOf (t ++ s.next ∷ more) r) here (s.ends more);
-      }
+    pub stopped_fault : (e : AuditError) → HasTakenLine standard_part rest p line q left n (Err e) →
+        IsStopped every text rest told (Err (refusal_of_audit e))
+    stopped_fault e t =
+        let (none, (b, more, is, answer)) = t.ends in
+        stopped_at t.front t.behind b more (Err (refusal_of_audit e)) t.all is none (no_read e)
+        (λ after. bad_run ((text ++ t.front) ++ b ∷ after) e (answer (text ++ t.front) after (t.taken text w.fed)))
 
--- bytes that are taken at once, where nothing is ever told
-module _ (every : ℕ) (text told bytes : List ℕ) (p q : Progress) (line left : List ℕ) (n : ℕ) (never : every ≡ 0)
-    (w : IsWatched every text p line told) where
-  abbrev front : List ℕ
-  front = take n bytes
+    -- for the line that is due there is no memory
+    pub stopped_memory : rest ≢ [] → IsStopped every text rest told (Err refusal.Memory)
+    stopped_memory some =
+        let (b, more, is) = some_first rest some in
+        stopped_at [] rest b more (Err refusal.Memory) refl is (All-nil (λ b. b ≢ 10)) refl (λ after. tt)
 
-  fed_front : HasTaken standard_part front p line q left → IsWatched every (text ++ front) q left told
-  fed_front taken = record { fed = taken text w.fed; watched = silent every text told front never w.watched }
+-- a line was taken, or what is left of one
+pub line_taken : (every : ℕ) (text before old new rest : List ℕ) (p q : Progress) (line left : List ℕ) (n : ℕ) (x y : Counts) →
+    IsWatched every text p line (before ++ old) → (t : HasTakenLine standard_part rest p line q left n (Ok tells.Legal)) →
+    AreFedSoFar standard_part p line x → AreFedSoFar standard_part q left y → AddsDue every x y old new →
+    IsWatched every (text ++ t.front) q left (before ++ new)
+line_taken every text before old new rest p q line left n x y w t here there (first, due, added) =
+    let fed = t.taken text w.fed in
+    record {
+      fed = fed;
+      watched = subst (λ (l : List ℕ). IsToldOf every (text ++ t.front) l)
+          (append_assoc before old first ∙ ap (λ l. before ++ l) (sym added))
+          (told_more every text (before ++ old) t.front w.watched p q line left x y first w.fed fed here there due t.behind
+          t.ends.1);
+    }
 
-  rest_is : (b : ℕ) (more : List ℕ) → drop n bytes ≡ b ∷ more → front ++ (b ∷ [] ++ more) ≡ bytes
-  rest_is b more is = ap (λ (t : List ℕ). front ++ t) (sym is) ∙ take-append-drop n bytes
-
-  pub taken_at_once : (r : Result Told AuditError) → IsFedAnswer standard_part bytes p line q left r →
-      HasTakenFirst standard_part bytes p line q left n r → IsWatchAnswer every text bytes q left told r
-  taken_at_once (Ok tells.Legal) all first =
-      record { fed = all text w.fed; watched = silent every text told bytes never w.watched }
-  taken_at_once (Ok (tells.Illegal j c)) all first =
-      let (b, more, is, answer) = first.next in
-      stopped_more every text front (b ∷ []) more bytes told (rest_is b more is) (Ok (Illegal j c))
-      (stopped_wrong every (text ++ front) told q q left left b (fed_front first.taken) j c answer)
-  taken_at_once (Err e) all first =
-      let (b, more, is, answer) = first.next in
-      stopped_more every text front (b ∷ []) more bytes told (rest_is b more is) (Err (refusal_of_audit e))
-      (stopped_fault every (text ++ front) told q q left left b (fed_front first.taken) e answer)
+-- where it ends within the rest of some bytes, it ends within all
+pub stopped_more : (every : ℕ) (text done rest whole told : List ℕ) (r : Result Verdict Refusal) → done ++ rest ≡ whole →
+    IsStopped every (text ++ done) rest told r → IsStopped every text whole told r
+stopped_more every text done rest whole told r all s =
+    let here : (text ++ done) ++ s.front ≡ text ++ (done ++ s.front) = append_assoc text done s.front in
+    record {
+      front = done ++ s.front;
+      next = s.next;
+      behind = s.behind;
+      all = append_assoc done s.front (s.next ∷ s.behind) ∙ ap (λ t. done ++ t) s.all ∙ all;
+      watched = subst (λ (t : List ℕ). IsToldOf every t told) here s.watched;
+      noted = s.noted;
+      ends = λ more. subst (λ (t : List ℕ). IsAuditOf (t ++ s.next ∷ more) r) here (s.ends more);
+    }
 
 -- ---- what is written of some bytes
 

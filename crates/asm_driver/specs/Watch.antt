@@ -37,13 +37,11 @@ abbrev pub IsDueText : ℕ → Counts → Counts → List ℕ → Type 0
 IsDueText every w x text =
     (IsDue every w.calls x.calls × (text ≡ so_far_line x)) ⊎ (¬ IsDue every w.calls x.calls × (text ≡ []))
 
--- what is told of this line of the run, behind those that were taken: what is due by the numbers before it and behind
--- it; never anything where it would be after each 0 calls
+-- what is told of this line of the run, behind those that were taken: what is due by the numbers before it and behind it
 abbrev pub IsToldOfLine : ℕ → List ℕ → List ℕ → List ℕ → Type 0
 IsToldOfLine every taken l text =
-    ((every ≡ 0) × (text ≡ []))
-    ⊎ ((w x : Counts) × HasCounts standard_part taken w × HasCounts standard_part (taken ++ (l ++ 10 ∷ [])) x
-    × IsDueText every w x text)
+    (w x : Counts) × HasCounts standard_part taken w × HasCounts standard_part (taken ++ (l ++ 10 ∷ [])) x
+    × IsDueText every w x text
 
 -- what is told of these lines of the run in turn, behind those that were taken
 abbrev pub IsToldOfLines : ℕ → List (List ℕ) → List ℕ → List ℕ → Type 0

@@ -109,75 +109,7 @@ fn add_due(
     lines.push_str(line.as_str())
 }
 
-/// Takes the line feed that ends a line, and adds the line that is due behind it.
-fn take_line_feed<A: Aggregator + Drop>(
-    alloc: Global,
-    every: u32,
-    auditor: &mut ByteAuditor<A>,
-    lines: &mut String,
-) -> Result<Told, AuditError>
-    requires { A.meaning auditor.old.auditor.aggregator ≡ standard_meaning }
-    ensures aggregator { auditor.new.auditor.aggregator ≡ auditor.old.auditor.aggregator }
-    ensures told { (text before : List ℕ)
-        → IsWatched every text auditor.old.auditor.progress auditor.old.line.items (before ++ string_bytes lines.old)
-        → IsWatchAnswer every text (10 ∷ []) auditor.new.auditor.progress auditor.new.line.items
-        (before ++ string_bytes lines.new) result }
-{
-    let before = auditor.counts();
-    match auditor.feed(alloc, b"\n")? {
-        Told::Legal => {}
-        Told::Illegal { part, call } => return Ok(Told::Illegal { part, call }),
-    }
-    add_due(alloc, every, before, auditor.counts(), lines)?;
-    Ok(Told::Legal)
-}
-
-/// Takes one byte, and adds the line that is due behind it.
-fn take_byte<A: Aggregator + Drop>(
-    alloc: Global,
-    every: u32,
-    auditor: &mut ByteAuditor<A>,
-    byte: u8,
-    lines: &mut String,
-) -> Result<Told, AuditError>
-    requires { A.meaning auditor.old.auditor.aggregator ≡ standard_meaning }
-    ensures aggregator { auditor.new.auditor.aggregator ≡ auditor.old.auditor.aggregator }
-    ensures told { (text before : List ℕ)
-        → IsWatched every text auditor.old.auditor.progress auditor.old.line.items (before ++ string_bytes lines.old)
-        → IsWatchAnswer every text (byte ∷ []) auditor.new.auditor.progress auditor.new.line.items
-        (before ++ string_bytes lines.new) result }
-{
-    if byte == b'\n' {
-        return take_line_feed(alloc, every, auditor, lines);
-    }
-    auditor.feed(alloc, &[byte])
-}
-
-/// Takes the bytes one by one, and adds the lines that are due meanwhile.
-fn take_each<A: Aggregator + Drop>(
-    alloc: Global,
-    every: u32,
-    auditor: &mut ByteAuditor<A>,
-    bytes: &[u8],
-    lines: &mut String,
-) -> Result<Told, AuditError>
-    requires { A.meaning auditor.old.auditor.aggregator ≡ standard_meaning }
-    ensures aggregator { auditor.new.auditor.aggregator ≡ auditor.old.auditor.aggregator }
-    ensures told { (text before : List ℕ)
-        → IsWatched every text auditor.old.auditor.progress auditor.old.line.items (before ++ string_bytes lines.old)
-        → IsWatchAnswer every text bytes.now auditor.new.auditor.progress auditor.new.line.items
-        (before ++ string_bytes lines.new) result }
-{
-    for byte in bytes {
-        match take_byte(alloc, every, auditor, *byte, lines)? {
-            Told::Legal => {}
-            Told::Illegal { part, call } => return Ok(Told::Illegal { part, call }),
-        }
-    }
-    Ok(Told::Legal)
-}
-
-/// Takes the bytes, and adds the lines that are due meanwhile; none is where they are due after each 0 calls.
+/// Takes the bytes, line by line, and adds the line that is due behind each.
 fn take_bytes<A: Aggregator + Drop>(
     alloc: Global,
     every: u32,
@@ -192,11 +124,18 @@ fn take_bytes<A: Aggregator + Drop>(
         → IsWatchAnswer every text bytes.now auditor.new.auditor.progress auditor.new.line.items
         (before ++ string_bytes lines.new) result }
 {
-    if 0 < every {
-        return take_each(alloc, every, auditor, bytes, lines);
+    let mut rest = bytes;
+    while !rest.is_empty() {
+        let before = auditor.counts();
+        let (count, told) = auditor.feed_line(alloc, rest);
+        rest = &rest[count..];
+        match told? {
+            Told::Legal => {}
+            Told::Illegal { part, call } => return Ok(Told::Illegal { part, call }),
+        }
+        add_due(alloc, every, before, auditor.counts(), lines)?;
     }
-    let (_, told) = auditor.feed_some(alloc, bytes);
-    told
+    Ok(Told::Legal)
 }
 
 /// Writes the lines and flushes them, if there are any.
