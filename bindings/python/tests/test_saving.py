@@ -13,8 +13,8 @@ import unittest
 from unittest import mock
 
 from folugben import BadJournalError, Error, PastError, Run, Storage, __main__, _part, _parts, audit, check, import_run, interleave, states
+from core_work import used
 from rooms import AT, BANK, COUNT, INIT, Rooms, called, environment, raised, segments, text_of, transfer, until
-from test_steps import memory
 from threads import in_threads
 
 
@@ -67,10 +67,10 @@ class Days(Rooms):
                     ends = clock.now + every
                     wanted.append(0)
                 wanted[-1] += 1
-                before = before or memory() * (at > 43_200)
+                before = before or used() * (at > 43_200)
             clock.now = ends
             self.end_part(run, agent, wanted)
-            grown = memory() - before
+            grown = used() - before
             self.assertEqual(run.state(), (len(times), [(COUNT, len(times))]))
         self.assertEqual([check(file.read_bytes())[1] for file in segments(self.path)], wanted)
         self.assertEqual(audit(self.path), (len(times), len(times), len(wanted)))
@@ -92,8 +92,8 @@ class Days(Rooms):
                 self.assertRaises(PastError, step.commit)
         until(lambda: run.parts == len(wanted))
         self.assertEqual(run.saved, sum(wanted))
-        # It was the only one that wasn't saved.
-        self.assertIs(run._chain._oldest, run._chain.newest())
+        # It was the only one that wasn't saved, and its memory is released.
+        until(lambda: run._chain._oldest is run._chain.newest())
 
 
 class Races(Rooms):
