@@ -10,8 +10,8 @@ import threading
 import time
 from unittest import mock
 
-from folugben import BrokenError, ClashError, DamagedError, Error, ForkedError, MismatchError, Move, NestedError, OverError, PastError
-from folugben import SharedRun, StaleError, TooLongError, UnknownError, _lines, audit, check, states
+from folugben import BrokenError, ClashError, DamagedError, Error, ForkedError, MismatchError, Move, OverError, PastError, SharedRun, StaleError, TooLongError
+from folugben import UnknownError, _lines, audit, check, states
 from folugben._reading import save, texts, verify
 from folugben_engine import bank
 from folugben_engine.agents import live_all
@@ -57,72 +57,6 @@ class Plays(Shared):
         self.assertEqual(sorted(sum(told, [])), list(range(1, 121)))
         self.assertTrue(all(it == sorted(it) for it in told))
         self.assert_is_run(120)
-
-    def test_agents_lead_but_on_the_main_thread(self):
-        with SharedRun(self.target, INIT) as run, run.agent(0) as agent, run.agent(1) as other:
-            exchange, led, nested = run._worker._exchange, [], []
-
-            def exchanged(batch):
-                if batch:
-                    led.append(threading.current_thread())
-                    for call in lambda: other.play(raised), other.follow, lambda: run.agent(2):
-                        with self.assertRaises(NestedError):
-                            call()
-                        nested.append(call)
-                return exchange(batch)
-
-            thread = threading.Thread(target=agent.play, args=(raised,))
-            with mock.patch.object(run._worker, "_exchange", exchanged):
-                agent.play(raised)
-                thread.start()
-                thread.join()
-            self.assertEqual((led, len(nested)), ([run._worker._thread, thread], 6))
-            self.assertEqual(other.play(raised)[0], 3)
-
-    def test_the_main_thread_beside_others(self):
-        def work(own):
-            with run.agent(own) as agent:
-                for _ in range(20):
-                    told.append(agent.play(raised)[0])
-
-        told = []
-        with SharedRun(self.target, INIT, 25) as run:
-            threads = [threading.Thread(target=work, args=(own,)) for own in range(3)]
-            for thread in threads:
-                thread.start()
-            work(3)
-            for thread in threads:
-                thread.join()
-        self.assertEqual(sorted(told), list(range(1, 81)))
-        self.assert_is_run(80)
-
-    def test_a_signal_handler_that_raises_takes_no_call_back(self):
-        class Alarm(Exception):
-            pass
-
-        def alarm(*_):
-            raise Alarm
-
-        was = signal.signal(signal.SIGALRM, alarm)
-        self.addCleanup(signal.signal, signal.SIGALRM, was)
-        told, raises = [], 0
-        with SharedRun(self.target, INIT) as run, run.agent(0) as agent, run.agent(1) as other:
-            thread = threading.Thread(target=lambda: [other.play(raised) for _ in range(40)])
-            thread.start()
-            for number in range(40):
-                try:
-                    # While it waits, and before and behind that.
-                    signal.setitimer(signal.ITIMER_REAL, 0.0002 * (number % 10 + 1))
-                    told.append(agent.play(raised)[0])
-                except Alarm:
-                    raises += 1
-                finally:
-                    signal.setitimer(signal.ITIMER_REAL, 0)
-            thread.join()
-            moves = run.state()[0]
-        self.assertEqual(len(set(told)), len(told))
-        self.assertTrue(40 + len(told) <= moves <= 80, (moves, told, raises))
-        self.assert_is_run(moves)
 
     def test_two_replicas_have_the_same_states(self):
         with SharedRun(self.target, INIT, 4) as one, SharedRun(self.target) as other:

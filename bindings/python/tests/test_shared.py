@@ -1,19 +1,91 @@
 """Shared runs, over SQLite, and over PostgreSQL where that is installed: agents in threads, runs and processes."""
 import contextlib
 import os
+import signal
 import sqlite3
 import threading
 import time
 import unittest
+from unittest import mock
 
 import servers
 import shared_plays
-from folugben import BrokenError, DamagedError, Error, SharedRun, _log, audit
+from folugben import BrokenError, DamagedError, Error, NestedError, SharedRun, _log, audit
 from rooms import COUNT, INIT, raised
 from threads import in_threads
 
 
-class OnSqlite(shared_plays.Plays):
+class Leads:
+    """Who appends the calls of a process, over each database."""
+
+    def test_agents_lead_but_on_the_main_thread(self):
+        with SharedRun(self.target, INIT) as run, run.agent(0) as agent, run.agent(1) as other:
+            exchange, led, nested = run._worker._exchange, [], []
+
+            def exchanged(batch):
+                if batch:
+                    led.append(threading.current_thread())
+                    for call in lambda: other.play(raised), other.follow, lambda: run.agent(2):
+                        with self.assertRaises(NestedError):
+                            call()
+                        nested.append(call)
+                return exchange(batch)
+
+            thread = threading.Thread(target=agent.play, args=(raised,))
+            with mock.patch.object(run._worker, "_exchange", exchanged):
+                agent.play(raised)
+                thread.start()
+                thread.join()
+            self.assertEqual((led, len(nested)), ([run._worker._thread, thread], 6))
+            self.assertEqual(other.play(raised)[0], 3)
+
+    def test_the_main_thread_beside_others(self):
+        def work(own):
+            with run.agent(own) as agent:
+                for _ in range(20):
+                    told.append(agent.play(raised)[0])
+
+        told = []
+        with SharedRun(self.target, INIT, 25) as run:
+            threads = [threading.Thread(target=work, args=(own,)) for own in range(3)]
+            for thread in threads:
+                thread.start()
+            work(3)
+            for thread in threads:
+                thread.join()
+        self.assertEqual(sorted(told), list(range(1, 81)))
+        self.assert_is_run(80)
+
+    def test_a_signal_handler_that_raises_takes_no_call_back(self):
+        class Alarm(Exception):
+            pass
+
+        def alarm(*_):
+            raise Alarm
+
+        was = signal.signal(signal.SIGALRM, alarm)
+        self.addCleanup(signal.signal, signal.SIGALRM, was)
+        told, raises = [], 0
+        with SharedRun(self.target, INIT) as run, run.agent(0) as agent, run.agent(1) as other:
+            thread = threading.Thread(target=lambda: [other.play(raised) for _ in range(40)])
+            thread.start()
+            for number in range(40):
+                try:
+                    # While it waits, and before and behind that.
+                    signal.setitimer(signal.ITIMER_REAL, 0.0002 * (number % 10 + 1))
+                    told.append(agent.play(raised)[0])
+                except Alarm:
+                    raises += 1
+                finally:
+                    signal.setitimer(signal.ITIMER_REAL, 0)
+            thread.join()
+            moves = run.state()[0]
+        self.assertEqual(len(set(told)), len(told))
+        self.assertTrue(40 + len(told) <= moves <= 80, (moves, told, raises))
+        self.assert_is_run(moves)
+
+
+class OnSqlite(Leads, shared_plays.Plays):
     def alter(self, sql):
         with contextlib.closing(sqlite3.connect(self.target, isolation_level=None)) as connection:
             connection.execute(sql)
@@ -86,7 +158,7 @@ class OnSqlite(shared_plays.Plays):
 
 
 @unittest.skipUnless(servers.programs(), "Debian's postgresql and psycopg aren't there")
-class OnPostgres(shared_plays.Plays):
+class OnPostgres(Leads, shared_plays.Plays):
     @classmethod
     def setUpClass(cls):
         cls.server, cls.count = servers.Server(), 0
