@@ -20,7 +20,7 @@ public final class Agent extends AgentCalls implements Actor {
     /** By which its storage knows it without keeping it. */
     final WeakReference<Agent> weak = new WeakReference<>(this);
 
-    /** Its number among the agents of its storage. */
+    /** Returns its number among the agents of its storage. */
     @Override
     public int number() {
         return number;
@@ -43,7 +43,7 @@ public final class Agent extends AgentCalls implements Actor {
         return this;
     }
 
-    /** Reads the locations [LOC, ..]; the answer is {"number":N,"values":[VALUE, ..]}. */
+    /** Reads the locations [LOC, ..], and returns {"number":N,"values":[VALUE, ..]}. */
     public String read(String locations) {
         Turns.Player player = Turns.Player.look(this);
         byte[] call = Texts.utf8(locations, "locations");
@@ -73,8 +73,9 @@ public final class Agent extends AgentCalls implements Actor {
     }
 
     /**
-     * Fires the instructions, at most 4,096, which rest on the reads, at most 256; the number of the
-     * move, from 1 up. A reply that is another one is thrown, so none is lost.
+     * Fires a move that depends on the reads, and returns its number, from 1 up.
+     *
+     * <p>At most 4,096 instructions and 256 reads. Any other reply is thrown, so none is lost.
      *
      * @throws FolugbenException as a {@link StaleException}, {@link ClashException}, {@link
      *         FullException} or {@link BusyException}; as tryFire
@@ -83,28 +84,28 @@ public final class Agent extends AgentCalls implements Actor {
         return tryFire(instructions, reads).orThrow();
     }
 
-    /** The same of instructions that rest on the whole functions of the scans too, as tryFire. */
+    /** Fires a move that depends on the functions of the scans too, as tryFire does. */
     public long fire(
             List<? extends Instruction> instructions, List<Named> reads, List<Scanned> scans) {
         return tryFire(instructions, reads, scans).orThrow();
     }
 
-    /** The same of the instructions [INSTR, ..], which rest on the reads [NAMED, ..]. */
+    /** Fires the instructions [INSTR, ..], which depend on the reads [NAMED, ..]. */
     public long fire(String instructions, String reads) {
         return tryFire(instructions, reads).orThrow();
     }
 
-    /** The same of instructions that rest on the scans [[NAME,NUMBER], ..] too. */
+    /** Fires instructions that depend on the scans [[NAME,NUMBER], ..] too. */
     public long fire(String instructions, String reads, String scans) {
         return tryFire(instructions, reads, scans).orThrow();
     }
 
     /**
-     * Fires the instructions, at most 4,096, which rest on the reads, at most 256, and answers what
-     * became of it.
+     * Fires a move that depends on the reads, and returns the reply.
      *
-     * <p>No update is lost where each number is that of a reading of this agent, or of one of which
-     * it has learnt. After {@link Storage#next} numbers begin anew: keep none.
+     * <p>At most 4,096 instructions and 256 reads. No update is lost where each number is that of a
+     * reading of this agent, or of one of which it has learnt. After {@link Storage#next} numbers
+     * start again: keep none.
      *
      * @throws FolugbenException as a {@link ManyException} if there are more reads; SHAPE if there
      *         are more instructions; AHEAD, which says of which location, if a number is above that
@@ -115,8 +116,10 @@ public final class Agent extends AgentCalls implements Actor {
     }
 
     /**
-     * The same of instructions that rest on the whole functions of the scans too: it is stale also
-     * where a location of one of the functions was written since, be it one that had no value.
+     * Fires a move that depends on the whole functions of the scans too.
+     *
+     * <p>It is stale also where a location of one of the functions was written since, including one
+     * that had no value.
      *
      * <p>At most 256 reads and scans together. The number of a scan is that of {@link #scan}.
      */
@@ -127,7 +130,7 @@ public final class Agent extends AgentCalls implements Actor {
     }
 
     /**
-     * Fires the instructions [INSTR, ..], which rest on the reads [NAMED, ..].
+     * Fires the instructions [INSTR, ..], which depend on the reads [NAMED, ..].
      *
      * @throws FolugbenException NOT_JSON, which names the argument, if one isn't one value; AHEAD
      *         as of reads that are objects
@@ -137,8 +140,7 @@ public final class Agent extends AgentCalls implements Actor {
     }
 
     /**
-     * Fires the instructions [INSTR, ..], which rest on the reads [NAMED, ..] and on the whole
-     * functions of the scans [[NAME,NUMBER], ..].
+     * Fires the instructions, which depend on the reads and on the scans [[NAME,NUMBER], ..] too.
      *
      * @throws FolugbenException as of two arguments
      */
@@ -165,8 +167,9 @@ public final class Agent extends AgentCalls implements Actor {
     }
 
     /**
-     * Begins a step on the agent's own state, which follows all moves that are found first. Several
-     * steps may be under way, as long as the state doesn't move on.
+     * Polls, and begins a step on the agent's own state.
+     *
+     * <p>Several steps may be open, as long as the state doesn't move on.
      */
     @Override
     public Step step() {
@@ -185,10 +188,11 @@ public final class Agent extends AgentCalls implements Actor {
     }
 
     /**
-     * Has the agent's own state follow all moves that are found; how many it has then seen. That
-     * state moves on only here and in read, fire, stands and step, and as a step is fired; and where
-     * it is shown after another agent, that the same thread plays, went on from it: then it looks on
-     * first. No receipt is made: a look isn't in the journal.
+     * Polls until no further move is found, and returns how many moves the agent has then seen.
+     *
+     * <p>Its own state moves on only here, in read, fire, stands and step, and by a commit. It also
+     * polls before it is shown, where another agent of the same thread took the state. A poll leaves
+     * no receipt.
      */
     @Override
     public long follow() {
@@ -201,9 +205,10 @@ public final class Agent extends AgentCalls implements Actor {
     }
 
     /**
-     * The values of the locations [LOC, ..], any number of them, in the agent's own state, as
-     * {"number":N,"values":[VALUE, ..]}. It makes neither a look nor a receipt; a fire may name
-     * each location with this number.
+     * Returns {"number":N,"values":[VALUE, ..]} of the locations [LOC, ..] in its own state.
+     *
+     * <p>Any number of locations. It doesn't poll and leaves no receipt; a fire may name each
+     * location with this number.
      */
     public String peek(String locations) {
         Turns.Player player = Turns.Player.call(this);
@@ -217,14 +222,14 @@ public final class Agent extends AgentCalls implements Actor {
         }
     }
 
-    /** The same of any number of locations as objects. */
+    /** Returns the values of any number of locations in its own state. */
     @Override
     public Reading peek(List<Location> locations) {
         List<Location> copy = Texts.Copies.of(locations, "locations");
         return JsonReader.reading(peek(JsonWriter.locations(copy)), copy);
     }
 
-    /** The same of a prepared location. */
+    /** Returns the value of a prepared location in its own state. */
     public Peeked peek(PreparedLocation location) {
         Turns.Player player = Turns.Player.call(this);
         synchronized (slot) {
@@ -234,7 +239,7 @@ public final class Agent extends AgentCalls implements Actor {
     }
 
     /**
-     * The number there, of which no object is made.
+     * Returns the number there, and makes no object.
      *
      * @throws IllegalStateException if the value is no number
      */
@@ -246,7 +251,7 @@ public final class Agent extends AgentCalls implements Actor {
         }
     }
 
-    /** The agent's own state, in ascending order of locations, without a look or a receipt. */
+    /** Returns its own state, ascending by locations, without a poll or a receipt. */
     @Override
     public State state() {
         Turns.Player player = Turns.Player.call(this);
@@ -260,9 +265,10 @@ public final class Agent extends AgentCalls implements Actor {
     }
 
     /**
-     * The same with the locations of one function name alone. A fire that names each that was found
-     * doesn't notice that a further one is written later; one that rests on the scan does, as a step
-     * that scans.
+     * Returns the locations of one function in its own state.
+     *
+     * <p>A fire that names each of them doesn't notice that a further one is written later. One that
+     * depends on the scan does, as a step that scans.
      */
     @Override
     public State scan(String name) {
@@ -278,8 +284,9 @@ public final class Agent extends AgentCalls implements Actor {
     }
 
     /**
-     * Looks on, as follow does, and tells whether the named reads [NAMED, ..], at most 256, still
-     * stand: the reply is DONE, or STALE for the least location that was written since. A fire may
+     * Polls, and validates the named reads [NAMED, ..], at most 256.
+     *
+     * <p>The reply is DONE, or STALE for the smallest location that was written since. A fire may
      * still be refused, by a move that comes in between.
      *
      * @throws FolugbenException AHEAD, which says of which location, if a number is above that of
@@ -291,7 +298,7 @@ public final class Agent extends AgentCalls implements Actor {
     }
 
     /**
-     * The same of reads as objects.
+     * Polls, and validates the reads, at most 256.
      *
      * @throws FolugbenException as a {@link ManyException} if there are more than 256
      */
@@ -299,25 +306,25 @@ public final class Agent extends AgentCalls implements Actor {
         return stands(JsonWriter.reads(reads));
     }
 
-    /** The answer to the last answered call, of whichever thread. */
+    /** Returns the answer to the last answered call, of any thread. */
     public String answer() {
         Turns.Player.call(this);
         return lastAnswer();
     }
 
     /**
-     * A storage for 1 to 1,048,576 moves that opens with the agent's own state, where that stands at
-     * all moves that its storage has room for: that is full, and the agent has looked on. No journal
-     * is closed and no other agent waits; the journals of both, one after the other, tell one run.
-     * Its agents start anew, as numbers do.
+     * Opens a storage for 1 to 1,048,576 moves that goes on where this agent's is full.
      *
-     * @throws FolugbenException NOT_FULL if the own state stands at fewer moves
+     * <p>The agent has polled to its end. No journal is closed, and no other agent waits. The
+     * journals of both, one after the other, are one run. Agents and numbers start again.
+     *
+     * @throws FolugbenException NOT_FULL if its own state is at fewer moves than that storage's room
      */
     public Storage goOn(int capacity) {
         return Storage.behind(this, capacity);
     }
 
-    /** Takes in what the other agent of the storage has seen. */
+    /** Learns what the other agent of the storage has seen. */
     public void learn(Agent other) {
         Turns.Player.look(this).depends();
         Objects.requireNonNull(other, "other");
@@ -333,7 +340,7 @@ public final class Agent extends AgentCalls implements Actor {
         }
     }
 
-    /** How many moves it has seen. */
+    /** Returns how many moves it has seen. */
     @Override
     public long seen() {
         Turns.here().readsAll();
@@ -342,7 +349,7 @@ public final class Agent extends AgentCalls implements Actor {
         }
     }
 
-    /** How many moves it fired. */
+    /** Returns how many moves it fired. */
     @Override
     public long won() {
         synchronized (slot) {
@@ -350,7 +357,7 @@ public final class Agent extends AgentCalls implements Actor {
         }
     }
 
-    /** How many of its looks found no further move. */
+    /** Returns how many of its looks found no further move. */
     public long misses() {
         Turns.here().readsAll();
         synchronized (slot) {
@@ -358,15 +365,16 @@ public final class Agent extends AgentCalls implements Actor {
         }
     }
 
-    /** Gives it back to its storage. */
+    /** Returns it to its storage. */
     public void give() {
         Turns.Player.call(this);
         storage.give(this);
     }
 
     /**
-     * Releases the agent <b>without</b> giving it back: its moves stand, and {@link
-     * Storage#closeJournal} throws MISSING for good if it fired one.
+     * Releases the agent <b>without</b> returning it.
+     *
+     * <p>If it fired a move, {@link Storage#closeJournal} throws MISSING for good.
      */
     public void abandon() {
         synchronized (slot) {
@@ -374,7 +382,7 @@ public final class Agent extends AgentCalls implements Actor {
         }
     }
 
-    /** Gives it back to its storage, if that isn't closed yet; it may be called again. */
+    /** Returns it to its storage, if that isn't closed yet; it may be called again. */
     @Override
     public void close() {
         if (!storage.takesBack(this))
