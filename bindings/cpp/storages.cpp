@@ -244,7 +244,14 @@ std::string json(const folugben::value &it) {
     return text;
 }
 
-std::string place(std::uint64_t number) { return R"(["x",)" + std::to_string(number) + "]"; }
+using folugben::detail::within;
+
+std::string place(std::uint64_t number) { return within(R"(["x",)", std::to_string(number), "]"); }
+// A reading at this number, of values that are separated by commas.
+std::string reading(std::uint32_t number, const std::string &values) {
+    std::string text = within(R"({"number":)", std::to_string(number), R"(,"values":[)");
+    return text.append(values).append("]}");
+}
 
 // What locations have at first: values of all kinds.
 const std::vector<std::string> VALUES = {"null", "true", "false", "-7", "9223372036854775807", R"("")", R"("a \"\\ \u0001")",
@@ -260,18 +267,19 @@ std::vector<std::string> recorded_steps(folugben::agent agent, std::uint64_t num
         std::map<std::uint64_t, std::string> got;
         for (std::uint64_t left = below(4); left > 0; --left) {
             const std::uint64_t at = below(VALUES.size());
-            const std::string text = step.get_json("[" + place(at) + "]");
+            const std::string text = step.get_json(within("[", place(at), "]"));
             got[at] = json(step.get(folugben::location::of_json(place(at))));
-            WANTED(text == R"({"number":)" + std::to_string(step.number()) + R"(,"values":[)" + got[at] + "]}");
+            WANTED(text == reading(step.number(), got[at]));
         }
-        step.push_json(R"([["put",)" + place(below(VALUES.size())) + "," + VALUES[below(VALUES.size())] + "]]");
+        const std::string to = within(R"([["put",)", place(below(VALUES.size())), ",");
+        step.push_json(within(to, VALUES[below(VALUES.size())], "]]"));
         std::string places, values;
         for (const auto &[at, value] : got) {
-            places += (places.empty() ? "" : ",") + place(at);
-            values += (values.empty() ? "" : ",") + value;
+            places.append(places.empty() ? "" : ",").append(place(at));
+            values.append(values.empty() ? "" : ",").append(value);
         }
-        lines.push_back(R"({"agent":)" + std::to_string(number) + R"(,"call":{"read":[)" + places + R"(]},"reply":{"number":)" +
-                        std::to_string(step.number()) + R"(,"values":[)" + values + "]}}");
+        std::string line = within(R"({"agent":)", std::to_string(number), R"(,"call":{"read":[)");
+        lines.push_back(line.append(places).append(R"(]},"reply":)").append(reading(step.number(), values)).append("}"));
         const folugben::outcome told = step.try_commit();
         WANTED(told || (told.is_conflict() && told.code != code::moved));
     }
@@ -288,8 +296,8 @@ std::vector<std::string> lines_of(const std::string &journal, const std::string 
 
 void journals_have_what_gets_return() {
     std::string state;
-    for (std::size_t i = 0; i < VALUES.size(); ++i) state += (i ? ",[" : "[") + place(i) + "," + VALUES[i] + "]";
-    folugben::storage storage("[" + state + "]", 1000);
+    for (std::size_t i = 0; i < VALUES.size(); ++i) state.append(within(i ? ",[" : "[", place(i), ",")).append(VALUES[i]).append("]");
+    folugben::storage storage(within("[", state, "]"), 1000);
     storage.record(true);
     std::vector<std::vector<std::string>> expected(4);
     std::vector<std::thread> threads;
@@ -299,7 +307,7 @@ void journals_have_what_gets_return() {
     const std::string journal = storage.close();
     WANTED(folugben::check(journal).is_legal);
     for (std::size_t i = 0; i < expected.size(); ++i)
-        WANTED(lines_of(journal, R"({"agent":)" + std::to_string(i) + R"(,"call":{"read")") == expected[i]);
+        WANTED(lines_of(journal, within(R"({"agent":)", std::to_string(i), R"(,"call":{"read")")) == expected[i]);
 }
 
 void moved_commits_are_conflicts() {
@@ -330,8 +338,8 @@ void moved_commits_are_conflicts() {
     const auto leave = [](folugben::agent gone) { (void)gone; };
     leave(std::move(agent));
     leave(std::move(rival));
-    const std::string read = R"("call":{"read":[["count"]]},"reply":{"number":4,"values":[7]}})";
-    WANTED(lines_of(storage.close(), R"({"agent":0,"call":{"read")") == std::vector<std::string>{R"({"agent":0,)" + read});
+    const std::string read = R"({"agent":0,"call":{"read":[["count"]]},"reply":{"number":4,"values":[7]}})";
+    WANTED(lines_of(storage.close(), R"({"agent":0,"call":{"read")") == std::vector<std::string>{read});
     // Storages that go on do as this one, and agents that are taken too.
     folugben::storage next = storage.next(1);
     leave(next.make_agent(0));
