@@ -11,18 +11,24 @@ use asm_slots::take_and_put::{audit_in, put_shell, take_shell};
 use asm_slots::{AuditNumbers, Content, Slot, in_box};
 use std::alloc::Global;
 
-/// Takes the next bytes of a run, any number of them, into a slot that holds an audit, or is empty: then one begins.
+/// Take the next bytes of a run into a slot that holds an audit or is empty.
+/// There may be any number of them, and `taken` is how many were taken. In an empty slot an audit begins. A run is
+/// parts, each a complete journal, one after the other, each of which opens with the state that the one before it
+/// leaves. An audit holds that state and the line that hasn't ended.
 ///
-/// A run is parts, each a whole journal, one behind the other, each of which opens with the state that the one before it
-/// leaves. An audit holds that state and the line that hasn't ended. `taken` is how many of the bytes were taken.
+/// With `ASM_DONE` all bytes were taken, and each answer in the lines that have ended is right. `told` then has the
+/// numbers of complete parts, and of calls and moves, so far. With any other code those before the byte at which it
+/// comes were taken, and no others; a line is judged at its line feed. A number that its code doesn't set is 0.
 ///
-/// `ASM_DONE`: all of them, and each answer is right in the lines that have ended, with the numbers of whole parts, and of
-/// calls and moves. With any other code the bytes before the one at which it comes were taken, and no others; what is told of
-/// a line is told at its line feed. `ASM_ILLEGAL`: the first answer that is wrong, with the numbers of its part, from 0, and
-/// of its call in it, from 0. `ASM_NOT_JSON`, `ASM_SHAPE`, `ASM_VERSION`, `ASM_CUT`: the fault of the journal of a part,
-/// with its number, and with the first two that of the line in it, from 1. `ASM_APART`: the part with this number opens with
-/// another state than the one before it leaves. `ASM_LONG_LINE`: a line has more than 1,073,741,824 bytes. `ASM_MEMORY`: pass the
-/// bytes that weren't taken again. `ASM_TAKEN`: the slot holds something else, and is as it was. What a code doesn't set is 0.
+/// # Errors
+/// - `ASM_ILLEGAL`: the first wrong answer, with the numbers of its part, from 0, and of its call in it, from 0.
+/// - `ASM_NOT_JSON`, `ASM_SHAPE`: the first fault of the journal of a part, with the numbers of the part, from 0, and
+///   of the line in it, from 1.
+/// - `ASM_VERSION`, `ASM_CUT`: the same, with the number of the part.
+/// - `ASM_APART`: the part with this number opens with another state than the one before it leaves.
+/// - `ASM_LONG_LINE`: a line has more than 1,073,741,824 bytes.
+/// - `ASM_MEMORY`: out of memory. Pass the bytes that weren't taken again.
+/// - `ASM_TAKEN`: the slot holds something else, and is unchanged.
 #[unsafe(no_mangle)]
 pub extern "C" fn asm_audit(
     alloc: Global,
@@ -41,11 +47,15 @@ pub extern "C" fn asm_audit(
     }
 }
 
-/// Tells what is so of the run if no further byte comes.
+/// Report what holds of the run if no further byte comes.
+/// With `ASM_DONE` it is complete parts, at least one, and legal, with its numbers. The slot is unchanged, and further
+/// bytes may come. A number that its code doesn't set is 0.
 ///
-/// `ASM_DONE`: it is whole parts, one at least, and legal, with their numbers. `ASM_CUT`, `ASM_NOT_JSON`: its last part or
-/// its last line isn't whole, with the numbers that `asm_audit` tells with them. `ASM_EMPTY`: the slot has no audit.
-/// `ASM_MEMORY`. What a code doesn't set is 0. The slot stays as it was, and further bytes may come.
+/// # Errors
+/// - `ASM_CUT`, `ASM_NOT_JSON`: its last part or its last line isn't complete, with the numbers that `asm_audit` sets
+///   with them.
+/// - `ASM_EMPTY`: the slot has no audit.
+/// - `ASM_MEMORY`: out of memory.
 #[unsafe(no_mangle)]
 pub extern "C" fn asm_audited(alloc: Global, audit: &mut Slot, told: &mut AuditNumbers) -> i32
     ensures ends { EndsAudit (content_of audit.old) told.new result }
@@ -67,10 +77,14 @@ pub extern "C" fn asm_audited(alloc: Global, audit: &mut Slot, told: &mut AuditN
     code
 }
 
-/// Writes the state `[PAIR, ..]` that the moves so far leave, of the lines that have ended, in ascending order of locations.
+/// Write the state `[PAIR, ..]` that the moves so far leave.
+/// They are those of the lines that have ended. The locations are in ascending order. The slot is unchanged.
 ///
-/// `ASM_SMALL`: `written` is the room that it needs. `ASM_NO_PART`: no part has begun. `ASM_EMPTY`: the slot has no audit.
-/// `ASM_MEMORY`. The slot stays as it was.
+/// # Errors
+/// - `ASM_SMALL`: `out` is too small, and `written` is the room that is needed.
+/// - `ASM_NO_PART`: no part has begun.
+/// - `ASM_EMPTY`: the slot has no audit.
+/// - `ASM_MEMORY`: out of memory.
 #[unsafe(no_mangle)]
 pub extern "C" fn asm_audit_state(
     alloc: Global,

@@ -1,11 +1,14 @@
-//! The codes that calls answer, and their texts.
+//! The codes that calls return, and their texts.
 ghost use Rattle.std.specs.Prelude.{◌∷◌, [], ◌≡◌, length};
 ghost use Rattle.asm_slots.specs.Codes.{IsOneOf, text_of_code, ASM_DONE, ASM_SMALL};
 ghost use Rattle.asm_slots.specs.WrittenText.{TellsText};
 
 use asm_slots::codes::{copied, text_of_code};
 
-/// Writes what the code means, in a line of English. `ASM_SMALL` comes with the room that it needs.
+/// Write what a code means, in a line of English.
+///
+/// # Errors
+/// - `ASM_SMALL`: `out` is too small, and `written` is the room that is needed.
 #[unsafe(no_mangle)]
 pub extern "C" fn asm_error_text(code: i32, out: &mut [u8], written: &mut usize) -> i32
     ensures codes { IsOneOf (ASM_DONE ∷ ASM_SMALL ∷ []) result }
@@ -15,7 +18,8 @@ pub extern "C" fn asm_error_text(code: i32, out: &mut [u8], written: &mut usize)
     copied(text_of_code(code).as_bytes(), out, written)
 }
 
-/// The version of this library: a million for each major one, a thousand for each minor one.
+/// Return the version of the library.
+/// It is a million for each major version, and a thousand for each minor one.
 #[unsafe(no_mangle)]
 pub extern "C" fn asm_version() -> u32
     ensures { result ≡ 2000 }

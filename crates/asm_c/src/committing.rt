@@ -13,7 +13,7 @@ use asm_slots::take_and_put::{put_shell, take_shell};
 use asm_slots::{Content, Numbers, Slot};
 use std::alloc::Global;
 
-// Leaves the step's slot empty where the move was fired, and else puts the step back into it.
+// Empty the step's slot if the move was fired; else put the step back into it.
 fn end_step(alloc: Global, step: &mut Slot, held: Box<Content>, code: i32)
     ensures over { code ≡ ASM_DONE → content_of step.new ≡ None }
     ensures stays { code ≢ ASM_DONE → content_of step.new ≡ Some held.value }
@@ -25,22 +25,23 @@ fn end_step(alloc: Global, step: &mut Slot, held: Box<Content>, code: i32)
     }
 }
 
-/// Fires the one move that does what the pushed moves do in turn.
+/// Fire the one move that does what the pushed moves do in turn.
+/// It names, at the step's number, each tracked location, and each that one pushed move writes with partial updates
+/// alone and a later one writes too. It covers each scanned function. Codes, numbers and receipt are those of
+/// `asm_try_fire`, and `asm_answer` writes the answer. The step must be one of the agent's storage.
 ///
-/// It names, at the step's number, each tracked location, and each that one pushed move writes with partial updates alone
-/// and a later one writes too. It covers each scanned function. Codes, numbers and receipt are those of `asm_try_fire`.
-/// Where it fires, all that was got, scanned and seen through the pushed moves is as if it were read at that moment. The
-/// step has to be one of the agent's storage.
-///
-/// With `ASM_DONE` the step is over, and its slot is empty. After any other code it is unchanged.
+/// If it fires, what was tracked, what was scanned and what pushed moves put is as if it were read at that moment. With
+/// `ASM_DONE` the step is over, and its slot is empty. After any other code it is unchanged. The call polls, so it
+/// returns neither `ASM_MOVED` nor `ASM_AHEAD`.
 ///
 /// # Errors
-///
-/// - `ASM_STALE`: also where a later move wrote a location of a scanned function, including one that had no value. The
+/// - `ASM_STALE`: also if a later move wrote a location of a scanned function, including one that had no value. The
 ///   receipt names the smallest of these, behind the others, at the step's number.
 /// - `ASM_MANY`: the locations that it would name and the scanned functions are more than 256 together.
 /// - `ASM_EMPTY`: the first slot has no agent, the second no step, or the two are one.
-/// - `ASM_CLASH`, `ASM_FULL`, `ASM_BUSY`, `ASM_MEMORY`: as of `asm_try_fire`.
+/// - `ASM_CLASH`: each push was accepted, and something was written since that one of the moves doesn't fit. Begin the
+///   step again, as after `ASM_STALE`.
+/// - `ASM_FULL`, `ASM_BUSY`, `ASM_MEMORY`: as of `asm_try_fire`.
 #[unsafe(no_mangle)]
 pub extern "C" fn asm_commit(
     alloc: Global,
@@ -66,20 +67,21 @@ pub extern "C" fn asm_commit(
     code
 }
 
-/// Adds a receipt of a read of what the step depends on, and then fires as `asm_commit` does.
-///
-/// The read has the locations that the fire names, in its order, with their values in the agent's own state at the step's
-/// number. So the journal has what the step read in front of its fire. It has none of the scanned functions. The
-/// numbers, and what becomes of the step, are as of `asm_commit`.
+/// Record what the step read, and then commit it as `asm_commit` does.
+/// The journal then has a read in front of the fire. That read has the locations that the fire names, in its order,
+/// with their values in the agent's own state at the step's number. It has none of the scanned functions. The numbers,
+/// and what becomes of the step, are as of `asm_commit`.
 ///
 /// # Errors
-///
-/// - `ASM_MANY`: as of `asm_commit`, and nothing changes.
-/// - `ASM_MOVED`: the agent's own state isn't at the step's number, or is behind the agent's receipts; nothing changes.
-///   Begin the step again.
+/// - `ASM_MANY`: as of `asm_commit`, and nothing changes. It comes before `ASM_MOVED`.
+/// - `ASM_MOVED`: the agent's own state isn't at the step's number, or is behind a receipt of the agent's, such as that
+///   of a fire which it hasn't followed; nothing changes. Begin the step again.
 /// - `ASM_EMPTY`: as of `asm_commit`.
-/// - `ASM_STALE`, `ASM_CLASH`, `ASM_FULL`, `ASM_BUSY`: as of `asm_commit`. The receipt of the read stays: it is a legal read.
+/// - `ASM_STALE`, `ASM_CLASH`, `ASM_FULL`, `ASM_BUSY`: as of `asm_commit`. The receipt of the read stays: it is a legal
+///   read.
 /// - `ASM_MEMORY`: nothing was fired. The agent may have the receipt of the read.
+///
+/// After `ASM_BUSY` and `ASM_MEMORY` the agent may have followed further moves: the same call then returns `ASM_MOVED`.
 #[unsafe(no_mangle)]
 pub extern "C" fn asm_commit_recorded(
     alloc: Global,
@@ -105,19 +107,15 @@ pub extern "C" fn asm_commit_recorded(
     code
 }
 
-/// Writes `{"fire":[INSTR, ..],"reads":[NAMED, ..]}`, which is what a commit would fire.
-///
-/// It has the one move that does what the pushed moves do in turn, and each location that a commit of the step would name,
-/// with the step's number. `asm_try_fire` takes it, if these are at most 256.
-///
-/// These are what the step depends on by now, except the scanned functions, on which its commit depends too. The call
-/// makes no poll and no receipt, and the slot is unchanged.
+/// Write `{"fire":[INSTR, ..],"reads":[NAMED, ..]}`, as a commit would fire it.
+/// It has the one move that does what the pushed moves do in turn, and each location that a commit of the step would
+/// name, with the step's number. `asm_try_fire` takes it, if these are at most 256. A commit depends on the scanned
+/// functions too, which aren't in it. The call doesn't poll and adds no receipt, and the slot is unchanged.
 ///
 /// # Errors
-///
-/// - `ASM_SMALL`: `written` is the room that it needs.
+/// - `ASM_SMALL`: `out` is too small, and `written` is the room that is needed.
 /// - `ASM_EMPTY`: the slot has no step.
-/// - `ASM_MEMORY`
+/// - `ASM_MEMORY`: out of memory.
 #[unsafe(no_mangle)]
 pub extern "C" fn asm_offer(
     alloc: Global,

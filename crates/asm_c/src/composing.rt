@@ -5,12 +5,16 @@ use asm_slots::codes::written_as;
 use asm_slots::composing::{aggregated, composed};
 use std::alloc::Global;
 
-/// Writes the updates `[PAIR, ..]` of the move `[INSTR, ..]` on the state `[PAIR, ..]`, in ascending order of
-/// locations; null is a value that leaves a location empty, as each is that the state doesn't have.
+/// Write the updates `[PAIR, ..]` of the move `[INSTR, ..]` on a state.
+/// The state is `[PAIR, ..]`, and needs the locations of partial updates alone. The updates are in ascending order of
+/// locations. A null leaves a location empty, as each is that the state doesn't have.
 ///
-/// `ASM_CLASH`: the updates clash, and `{"clash":[LOC,CAUSE]}` is written. `ASM_SMALL`: `written` is the room
-/// that it needs. `ASM_NOT_JSON` and `ASM_SHAPE`: the state, or else the move, is not JSON or none.
-/// `ASM_MEMORY`.
+/// # Errors
+/// - `ASM_CLASH`: the updates clash, and `{"clash":[LOC,CAUSE]}` is written, of the smallest location that clashes.
+/// - `ASM_NOT_JSON`: the state, or else the move, isn't JSON.
+/// - `ASM_SHAPE`: the state, or else the move, is JSON of another shape, or beyond a limit.
+/// - `ASM_SMALL`: `out` is too small, and `written` is the room that is needed.
+/// - `ASM_MEMORY`: out of memory.
 #[unsafe(no_mangle)]
 pub extern "C" fn asm_aggregate(
     alloc: Global,
@@ -28,13 +32,17 @@ pub extern "C" fn asm_aggregate(
     }
 }
 
-/// Writes one move `[INSTR, ..]` that does what the two moves do in turn.
+/// Write one move `[INSTR, ..]` that does what two moves do in turn.
+/// On a state on which the first fires, it fires as the two in turn, or clashes as the second does then.
 ///
-/// Where the first fires, the written move fires as the first and then the second, clashes included. On no state
-/// do both fire with `ASM_CLASH`, where `{"clash":[LOC,CAUSE]}` is written, and with `ASM_LARGE`: an amount or a
-/// sum is too large, and `{"large":LOC}` is written. `ASM_LONG_MOVE`: the move would have more than 4,096
-/// instructions. `ASM_SMALL`: `written` is the room that it needs. `ASM_NOT_JSON` and `ASM_SHAPE`: the first, or
-/// else the second, is not JSON or no move. `ASM_MEMORY`.
+/// # Errors
+/// - `ASM_CLASH`: on no state both fire, and `{"clash":[LOC,CAUSE]}` is written.
+/// - `ASM_LARGE`: on no state both fire, as an amount or a sum is too large, and `{"large":LOC}` is written.
+/// - `ASM_LONG_MOVE`: the move would have more than 4,096 instructions.
+/// - `ASM_NOT_JSON`: the first move, or else the second, isn't JSON.
+/// - `ASM_SHAPE`: the first move, or else the second, is JSON of another shape, or beyond a limit.
+/// - `ASM_SMALL`: `out` is too small, and `written` is the room that is needed.
+/// - `ASM_MEMORY`: out of memory.
 #[unsafe(no_mangle)]
 pub extern "C" fn asm_compose(
     alloc: Global,

@@ -10,7 +10,7 @@ use asm_slots::take_and_put::{TwoAgents, put_agent, put_shell, take_agents, take
 use asm_slots::{Content, Slot};
 use std::alloc::Global;
 
-/// How many moves the agent has seen; 0 for a slot with no agent.
+/// Return how many moves the agent has seen; 0 for a slot without an agent.
 #[unsafe(no_mangle)]
 pub extern "C" fn asm_seen(alloc: Global, agent: &mut Slot) -> u32
     ensures kept { content_of agent.new ≡ content_of agent.old }
@@ -28,7 +28,7 @@ pub extern "C" fn asm_seen(alloc: Global, agent: &mut Slot) -> u32
     seen
 }
 
-/// How many moves the agent fired; 0 for a slot with no agent.
+/// Return how many moves the agent fired; 0 for a slot without an agent.
 #[unsafe(no_mangle)]
 pub extern "C" fn asm_won(alloc: Global, agent: &mut Slot) -> u32
     ensures kept { content_of agent.new ≡ content_of agent.old }
@@ -46,7 +46,8 @@ pub extern "C" fn asm_won(alloc: Global, agent: &mut Slot) -> u32
     won
 }
 
-/// How many looks of the agent found an empty cell; 0 for a slot with no agent.
+/// Return how many of the agent's polls found no further move.
+/// It returns 0 for a slot without an agent.
 #[unsafe(no_mangle)]
 pub extern "C" fn asm_misses(alloc: Global, agent: &mut Slot) -> u64
     ensures kept { content_of agent.new ≡ content_of agent.old }
@@ -64,11 +65,16 @@ pub extern "C" fn asm_misses(alloc: Global, agent: &mut Slot) -> u64
     misses
 }
 
-/// Takes in what the other agent of the same storage has seen, without a look at the storage.
+/// Take in what the other agent of the same storage has seen, without polling.
+/// So what the agent is answered from then on comes after all that the other was answered before. The other slot is
+/// unchanged; on error, both are.
 ///
-/// `ASM_EMPTY`: one of the slots has no agent, or the two are one. `ASM_OTHER`: the agents are of two
-/// storages. After each of these both slots are as they were. That the agents are of one storage is owed:
-/// `ASM_OTHER` comes unless other threads learn or give in both storages at that moment.
+/// The caller must pass agents of one storage. `ASM_OTHER` reports a mistake, except possibly while other threads are
+/// in `asm_learn`, `asm_take_state` or `asm_give` on both storages.
+///
+/// # Errors
+/// - `ASM_EMPTY`: one of the slots has no agent, or the two are one.
+/// - `ASM_OTHER`: the agents are of two storages.
 #[unsafe(no_mangle)]
 pub extern "C" fn asm_learn(alloc: Global, agent: &mut Slot, other: &mut Slot) -> i32
     requires { AreOfOneStorage (content_of agent.old) (content_of other.old) }
@@ -90,14 +96,18 @@ pub extern "C" fn asm_learn(alloc: Global, agent: &mut Slot, other: &mut Slot) -
     DONE
 }
 
-/// Takes in what the other agent of the same storage has seen, and exchanges the states of the two where the other's
-/// stands at more moves.
+/// Take in what the other agent has seen, and take its state if that is newer.
+/// The two agents are of one storage, and exchange their states if the other's is at more moves. So agents that one
+/// thread plays by turns follow each move about once: the one that is about to act takes the state of the one that
+/// acted last. The call doesn't poll and takes no memory; the receipts and counts of both are unchanged. A step at the
+/// number of a state that was given away is `ASM_MOVED` until its agent's state is at that number again. On error, both
+/// slots are unchanged.
 ///
-/// So agents that one thread plays by turns follow each move about once: the one that is about to act takes the state of
-/// the one that acted last. It makes no look and takes no memory; receipts and counts stay as they were. A step at the
-/// number at which a state stood that was given away is `ASM_MOVED` until its agent's state stands there again.
-/// `ASM_EMPTY`: one of the slots has no agent, or the two are one. `ASM_OTHER`: the agents are of two storages. After each
-/// of these both slots are as they were. That the agents are of one storage is owed, as of `asm_learn`.
+/// The caller must pass agents of one storage, as to `asm_learn`.
+///
+/// # Errors
+/// - `ASM_EMPTY`: one of the slots has no agent, or the two are one.
+/// - `ASM_OTHER`: the agents are of two storages.
 #[unsafe(no_mangle)]
 pub extern "C" fn asm_take_state(alloc: Global, agent: &mut Slot, other: &mut Slot) -> i32
     requires { AreOfOneStorage (content_of agent.old) (content_of other.old) }

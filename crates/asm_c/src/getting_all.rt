@@ -1,4 +1,4 @@
-//! What is seen through a step at all locations with one function name, and the scan of the function.
+//! Scanning a function through a step.
 ghost use Rattle.std.specs.Prelude.{◌≡◌};
 ghost use Rattle.asm_slots.specs.GetByText.{GetsAll};
 ghost use Rattle.asm_slots.specs.Slots.{content_of};
@@ -7,14 +7,19 @@ use asm_slots::getting_all::get_all_in;
 use asm_slots::{Slot, in_both};
 use std::alloc::Global;
 
-/// Writes `[PAIR, ..]`: what is seen through the pushed moves at all locations with the function name, a text in
-/// UTF-8 without quotes, in ascending order, any number of them. The function is scanned: the step rests on all its
-/// locations as they were at the step's number, those that have a value and those that have none. A pop leaves it so.
+/// Write what is seen through the pushed moves at all locations of a function.
+/// The text is `[PAIR, ..]`, in ascending order of locations, any number of them. The function name is passed in UTF-8
+/// without quotes. The function is scanned, also if no location is found: the step depends on all its locations as they
+/// were at the step's number, those that have a value and those that have none. A pop leaves it scanned.
 ///
-/// It makes no look and no receipt, and the agent's slot stays as it was. `ASM_MANY`: the function isn't scanned yet,
-/// and 256 places are taken, one by each location that was got and one by each function that was scanned. `ASM_SHAPE`:
-/// the name isn't UTF-8. `ASM_MOVED`, `ASM_SMALL`, `ASM_EMPTY` and `ASM_MEMORY` come as of `asm_get`; after each of
-/// these the step's slot is as it was. The step has to be one of the agent's storage.
+/// The call doesn't poll and adds no receipt, and the agent's slot is unchanged. On error, the step's slot is unchanged
+/// too. The step must be one of the agent's storage.
+///
+/// # Errors
+/// - `ASM_MANY`: the function isn't scanned yet, and 256 places are taken, one by each tracked location and one by each
+///   scanned function.
+/// - `ASM_SHAPE`: the name isn't UTF-8.
+/// - `ASM_MOVED`, `ASM_SMALL`, `ASM_EMPTY`, `ASM_MEMORY`: as of `asm_get`.
 #[unsafe(no_mangle)]
 pub extern "C" fn asm_step_scan(
     alloc: Global,

@@ -1,4 +1,4 @@
-//! Counting a storage's moves, giving agents back, closing them into a journal, and its text.
+//! Counting a storage's moves, returning agents, closing them into a journal, and its text.
 ghost use Rattle.std.specs.Prelude.{◌≡◌, ◌≢◌, ◌⊎◌, ◌≤◌, ◌∷◌, [], length, None, Some};
 ghost use Rattle.asm_slots.specs.AgentCalls.{Closes, Gives, IsThere};
 ghost use Rattle.asm_slots.specs.ClosedStore.{IsTooLarge, LacksReceipt};
@@ -13,11 +13,13 @@ use asm_slots::take_and_put::{put_agent, put_store, store_in, take_agent, take_s
 use asm_slots::{Slot, are_one, in_box};
 use std::alloc::Global;
 
-/// Tells how many moves stand in the storage's row: it looks from the first one on until it finds nothing more.
-///
-/// `ASM_EMPTY`: the slot has no storage, and `moves` is 0. The slot stays as it was. Other agents may fire
-/// meanwhile. Contracts don't tell what stands in a row: that it counts the moves that were fired before the
+/// Return how many moves were fired on the storage: `moves` is that number.
+/// The call polls all of them, from the first one until no further move is found; agents may fire more meanwhile. The
+/// slot is unchanged. Contracts don't cover the cells of a row: that it counts the moves that were fired before the
 /// call is tested.
+///
+/// # Errors
+/// - `ASM_EMPTY`: the slot has no storage, and `moves` is 0.
 #[unsafe(no_mangle)]
 pub extern "C" fn asm_moves(alloc: Global, store: &mut Slot, moves: &mut u32) -> i32
     ensures codes { IsOneOf (ASM_DONE ∷ ASM_EMPTY ∷ []) result }
@@ -32,13 +34,18 @@ pub extern "C" fn asm_moves(alloc: Global, store: &mut Slot, moves: &mut u32) ->
     DONE
 }
 
-/// Gives an agent back to its storage, in any order, and leaves its slot empty. The journal that the
-/// storage kept is discarded.
+/// Return an agent to its storage, in any order; its slot is then empty.
+/// The journal that the storage retained is discarded. On error, both slots are unchanged.
 ///
-/// `ASM_EMPTY`: the first slot has no storage, the second no agent, or the two are one. `ASM_NUMBER`: an
-/// agent with this number was given before. `ASM_OTHER`: the agent is of another storage. `ASM_MEMORY`.
-/// After each of these both slots are as they were. That the agent is of the storage is owed: `ASM_OTHER`
-/// comes unless other threads learn or give in both storages at that moment.
+/// The caller must pass an agent of the storage. `ASM_OTHER` reports a mistake, except possibly while other threads are
+/// in `asm_learn`, `asm_take_state` or `asm_give` on both storages.
+///
+/// # Errors
+/// - `ASM_EMPTY`: the first slot has no storage, the second no agent, or the two are one.
+/// - `ASM_NUMBER`: an agent with this number was returned before. One of the two is then of another storage, which
+///   `ASM_OTHER` didn't detect: of one storage no two agents have the same number.
+/// - `ASM_OTHER`: the agent is of another storage.
+/// - `ASM_MEMORY`: out of memory.
 #[unsafe(no_mangle)]
 pub extern "C" fn asm_give(alloc: Global, store: &mut Slot, agent: &mut Slot) -> i32
     requires { IsOfStore (content_of agent.old) (content_of store.old) }
@@ -67,17 +74,19 @@ pub extern "C" fn asm_give(alloc: Global, store: &mut Slot, agent: &mut Slot) ->
     give_at(alloc, store, agent, (store_shell, kept), (shell, inner))
 }
 
-/// Closes the agents that were given back into one journal, which the storage keeps for `asm_journal`.
+/// Make the journal of the returned agents, which the storage retains.
+/// They must have a receipt of every move that was fired before this call. If each move that they have seen has one,
+/// the call polls along the storage's row, so it also detects a move that none of them has seen. More agents may be
+/// made, returned and closed afterwards. On error, the slot is unchanged. Contracts don't cover the cells of a row:
+/// that it reports no such move if there is none is tested.
 ///
-/// Where each move that they have seen has a receipt among them, it looks along the storage's row, so it tells of a
-/// move that none of them has seen too. Contracts don't tell what stands in a row: that it tells of no such move where
-/// there is none is tested.
-///
-/// `ASM_MISSING`: the move with this number, the least such, has no receipt among them; give back the agent
-/// that fired it, and close again. The moves of an agent that was freed without being given back are missing
-/// for good. With any other code the number is 0. `ASM_MANY_CALLS`: more calls than a journal holds.
-/// `ASM_EMPTY`: the slot has no storage. `ASM_MEMORY`. After each of these the slot is as it was. More
-/// agents may be made, given back and closed afterwards.
+/// # Errors
+/// - `ASM_MISSING`: the move `number`, the smallest such, has no receipt among them. Return the agent that fired it,
+///   and close again. The moves of an agent that was freed without being returned are missing for good. With any other
+///   code `number` is 0.
+/// - `ASM_MANY_CALLS`: there are more calls than the 4,294,967,295 that a journal holds.
+/// - `ASM_EMPTY`: the slot has no storage.
+/// - `ASM_MEMORY`: out of memory.
 #[unsafe(no_mangle)]
 pub extern "C" fn asm_close(alloc: Global, store: &mut Slot, number: &mut u32) -> i32
     ensures codes { IsOneOf (ASM_DONE ∷ ASM_MEMORY ∷ ASM_EMPTY ∷ ASM_MISSING ∷ ASM_MANY_CALLS ∷ []) result }
@@ -106,10 +115,13 @@ pub extern "C" fn asm_close(alloc: Global, store: &mut Slot, number: &mut u32) -
     }
 }
 
-/// Writes the journal that the storage keeps, as often as it is asked for.
+/// Write the journal that `asm_close` made.
+/// It can be written any number of times. The slot is unchanged.
 ///
-/// `ASM_SMALL`: `written` is the room that it needs. `ASM_NO_JOURNAL`: the storage wasn't closed since an agent
-/// was given back or taken. `ASM_EMPTY`: the slot has no storage. The slot stays as it was.
+/// # Errors
+/// - `ASM_SMALL`: `out` is too small, and `written` is the room that is needed.
+/// - `ASM_NO_JOURNAL`: the storage wasn't closed since an agent was returned or checked out.
+/// - `ASM_EMPTY`: the slot has no storage.
 #[unsafe(no_mangle)]
 pub extern "C" fn asm_journal(
     alloc: Global,

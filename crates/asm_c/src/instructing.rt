@@ -1,4 +1,4 @@
-//! Moves that are gathered in slots.
+//! Gathering moves in slots.
 ghost use Rattle.std.specs.Prelude.{◌≡◌, ◌≢◌, ◌≤◌, ◌<◌, ◌+◌, ◌↔◌, ◌∷◌, ◌++◌, [], length};
 ghost use Rattle.asm_update.specs.Limits.{instructions_limit};
 ghost use Rattle.asm_explain.specs.Bytes.{IsNoJson};
@@ -14,15 +14,21 @@ use asm_slots::take_and_put::{put_shell, take_shell};
 use asm_slots::{Content, Slot};
 use std::alloc::Global;
 
-/// Puts an instruction at the prepared location behind those of the move in a slot; an empty slot holds the move of
-/// this instruction then.
+/// Append an instruction at a prepared location to the move in a slot.
+/// An empty slot holds the move of this instruction then. The operand is a value, given by its kind, its number and its
+/// bytes. The bytes of a list, a set or a bag are any JSON of it. A set and a bag can be put, and no more. `amount` is
+/// 1 or above for `ASM_BAGADD` and `ASM_BAGREMOVE`, and 0 for any other verb. `ASM_INC` takes a number alone. On error,
+/// both slots are unchanged; the location's always is.
 ///
-/// The operand is a value, which kind, number and bytes mean; the bytes of a list, a set or a bag are any JSON of it, and
-/// sets and bags can be put alone. `ASM_TAKEN`: the first slot holds something else than a move. `ASM_EMPTY`: the second
-/// has no location, or the two are one. `ASM_OPERAND`: there is no such verb, no such operand of it, or no such amount.
-/// `ASM_NOT_JSON`: the bytes of a list, a set or a bag aren't JSON. `ASM_SHAPE`: they are JSON of no such value, or the
-/// bytes of a text aren't UTF-8. `ASM_LONG_MOVE`: the move has 4,096 instructions. `ASM_MEMORY`. After each of these both slots
-/// are as they were.
+/// # Errors
+/// `ASM_TAKEN` comes before all others. If several of the others hold, one of them is returned.
+/// - `ASM_TAKEN`: the first slot holds something else than a move.
+/// - `ASM_EMPTY`: the second slot has no location, or the two are one.
+/// - `ASM_OPERAND`: there is no such verb, no such operand of it, or no such amount.
+/// - `ASM_NOT_JSON`: the bytes of a list, a set or a bag aren't JSON.
+/// - `ASM_SHAPE`: these are JSON of no value of this kind, or the bytes of a text aren't UTF-8.
+/// - `ASM_LONG_MOVE`: the move has 4,096 instructions.
+/// - `ASM_MEMORY`: out of memory.
 #[unsafe(no_mangle)]
 pub extern "C" fn asm_instruct(
     alloc: Global,
@@ -60,12 +66,16 @@ pub extern "C" fn asm_instruct(
     code
 }
 
-/// Puts the instructions of the move in the other slot behind those of the move in the first one, which then fires as both
-/// at once. An empty slot is the move of no instructions.
+/// Append the instructions of the other move to those of `instrs`.
+/// It is then the move that does what both do at once, as the agents of a block in parallel do. Instructions that occur
+/// in both count twice. An empty slot is the move of no instructions, so `instrs` holds a move afterwards. On error,
+/// both slots are unchanged; the second always is.
 ///
-/// `ASM_TAKEN`: the first slot holds something else than a move. `ASM_EMPTY`: the second does, or the two are one.
-/// `ASM_LONG_MOVE`: the two have more than 4,096 instructions. `ASM_MEMORY`. After each of these the first slot is as it was;
-/// the second one always is.
+/// # Errors
+/// - `ASM_TAKEN`: the first slot holds something else than a move. It comes before all others.
+/// - `ASM_EMPTY`: the second slot holds something else than a move, or the two are one.
+/// - `ASM_LONG_MOVE`: the two have more than 4,096 instructions together.
+/// - `ASM_MEMORY`: out of memory.
 #[unsafe(no_mangle)]
 pub extern "C" fn asm_unite(alloc: Global, instrs: &mut Slot, other: &mut Slot) -> i32
     ensures codes { IsOneOf (ASM_DONE ∷ ASM_MEMORY ∷ ASM_EMPTY ∷ ASM_LONG_MOVE ∷ ASM_TAKEN ∷ []) result }
@@ -84,7 +94,7 @@ pub extern "C" fn asm_unite(alloc: Global, instrs: &mut Slot, other: &mut Slot) 
         return unite_first(alloc, instrs, other);
     };
     let code = match &mut *shell {
-        // A slot that C passes twice is empty now.
+        // If C passes one slot twice, it is empty by now.
         Content::Move(_) if other.is_full() != was_full => EMPTY,
         Content::Move(gathered) => unite_in(alloc, gathered, other),
         _ => TAKEN,

@@ -6,12 +6,19 @@ use asm_slots::codes::{DONE, ILLEGAL, copied};
 use asm_slots::journals::{checked, code_of_error, replayed, traced};
 use std::alloc::Global;
 
-/// Checks a journal, of version 1 or 2.
+/// Check a journal, of version 1 or 2.
+/// With `ASM_DONE` it is legal: each answer is the one that a sequential storage gives there. `calls` and `moves` are
+/// the numbers of its calls and of its moves. A number that its code doesn't set is 0.
 ///
-/// `ASM_DONE`: it is legal, with the numbers of its calls and of its moves. `ASM_ILLEGAL`: it isn't, and
-/// `calls` is the number of the first call whose answer is another, counted from 0. `ASM_NOT_JSON` and
-/// `ASM_SHAPE`: a line is not JSON, or not that of a journal, and `calls` is the number of the line.
-/// `ASM_VERSION`, `ASM_CUT`, `ASM_MEMORY`. What a code doesn't set is 0.
+/// # Errors
+/// - `ASM_ILLEGAL`: the journal isn't legal, and `calls` is the number of the first call whose answer is another, from
+///   0 up.
+/// - `ASM_NOT_JSON`: a line isn't JSON, and `calls` is the number of the line, from 1 up.
+/// - `ASM_SHAPE`: a line isn't that of a journal, or is beyond a limit, and `calls` is the number of the line, from 1
+///   up.
+/// - `ASM_VERSION`: the journal has another version than 1 and 2.
+/// - `ASM_CUT`: the journal ends too early.
+/// - `ASM_MEMORY`: out of memory.
 #[unsafe(no_mangle)]
 pub extern "C" fn asm_check(alloc: Global, journal: &[u8], calls: &mut u64, moves: &mut u32) -> i32
     ensures { Checks journal.now calls.new moves.new result }
@@ -41,11 +48,17 @@ pub extern "C" fn asm_check(alloc: Global, journal: &[u8], calls: &mut u64, move
     }
 }
 
-/// Writes the state `[PAIR, ..]` that the moves of a journal leave, of version 1 or 2, legal or not.
+/// Write the state `[PAIR, ..]` that the moves of a journal leave.
+/// Its locations are in ascending order. The journal is of version 1 or 2, and isn't checked. `line` is 0 if the code
+/// doesn't set it.
 ///
-/// `ASM_SMALL`: `written` is the room that it needs. `ASM_NOT_JSON` and `ASM_SHAPE`: a line is not JSON, or
-/// not that of a journal, and `line` is its number. `ASM_VERSION`, `ASM_CUT`, `ASM_MEMORY`. What a code
-/// doesn't set is 0.
+/// # Errors
+/// - `ASM_NOT_JSON`: a line isn't JSON, and `line` is its number.
+/// - `ASM_SHAPE`: a line isn't that of a journal, or is beyond a limit, and `line` is its number.
+/// - `ASM_VERSION`: the journal has another version than 1 and 2.
+/// - `ASM_CUT`: the journal ends too early.
+/// - `ASM_SMALL`: `out` is too small, and `written` is the room that is needed.
+/// - `ASM_MEMORY`: out of memory.
 #[unsafe(no_mangle)]
 pub extern "C" fn asm_replay(
     alloc: Global,
@@ -68,11 +81,11 @@ pub extern "C" fn asm_replay(
     }
 }
 
-/// Writes the trace of a journal, of version 1 or 2, legal or not: what each of its calls did.
+/// Write the trace of a journal, legal or not: what each of its calls did.
+/// The journal is of version 1 or 2. The trace is for a viewer or a debugger. `line` is 0 if the code doesn't set it.
 ///
-/// `ASM_SMALL`: `written` is the room that it needs. `ASM_NOT_JSON` and `ASM_SHAPE`: a line is not JSON, or
-/// not that of a journal, and `line` is its number. `ASM_VERSION`, `ASM_CUT`, `ASM_MEMORY`. What a code
-/// doesn't set is 0.
+/// # Errors
+/// The codes are those of `asm_replay`, with the same conditions.
 #[unsafe(no_mangle)]
 pub extern "C" fn asm_trace(
     alloc: Global,

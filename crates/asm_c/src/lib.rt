@@ -1,4 +1,5 @@
-//! The library for C: its calls on the slots of `asm_slots`. A slot of zeros holds nothing.
+//! The library for C: its calls on the slots of `asm_slots`.
+//! A slot of zeros holds nothing.
 #![tactic(auto)]
 
 mod auditing;

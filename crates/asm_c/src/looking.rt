@@ -1,4 +1,4 @@
-//! Values in an agent's own state, and whether named reads still stand: looks that leave no receipt.
+//! Polling, values in an agent's own state, and validating declared reads: calls that add no receipt.
 ghost use Rattle.std.specs.Prelude.{◌≡◌, ◌≢◌, ◌∷◌, []};
 ghost use Rattle.asm_storage.specs.Storage.{IsSameAgent};
 ghost use Rattle.asm_explain.specs.Bytes.{AreLocations, IsNoJson, IsOtherJson};
@@ -15,11 +15,13 @@ use asm_slots::take_and_put::{agent_in, take_agent};
 use asm_slots::{Slot, in_agent, in_box};
 use std::alloc::{AllocError, Global};
 
-/// Has the agent look on until it finds nothing more, and its own state follow; `number` is then how many moves
-/// it has seen.
+/// Poll until no further move is found; the agent's own state follows.
+/// `number` is then how many moves the agent has seen. No receipt is added. Until the next call that polls or fires,
+/// its own state is at this number. On error, `number` is 0.
 ///
-/// No receipt is made. Until the next call that looks on or fires, its state stands at this number. `ASM_EMPTY`: the
-/// slot has no agent. `ASM_MEMORY`: it may have seen more. `number` is then 0.
+/// # Errors
+/// - `ASM_EMPTY`: the slot has no agent, and is unchanged.
+/// - `ASM_MEMORY`: out of memory; the agent may have seen more moves.
 #[unsafe(no_mangle)]
 pub extern "C" fn asm_follow(alloc: Global, agent: &mut Slot, number: &mut u32) -> i32
     ensures codes { IsOneOf (ASM_DONE ∷ ASM_MEMORY ∷ ASM_EMPTY ∷ []) result }
@@ -42,11 +44,16 @@ pub extern "C" fn asm_follow(alloc: Global, agent: &mut Slot, number: &mut u32) 
     }
 }
 
-/// Writes `{"number":N,"values":[VALUE, ..]}`: the values of the locations `[LOC, ..]`, of which there may be
-/// any number, in the agent's own state, which stands at N moves.
+/// Write the values of the locations `[LOC, ..]` in the agent's own state.
+/// There may be any number of them. The text is `{"number":N,"values":[VALUE, ..]}`, after N moves. The call doesn't
+/// poll and adds no receipt, and the slot is unchanged.
 ///
-/// It makes no look and no receipt. `ASM_SMALL`: `written` is the room that it needs. `ASM_EMPTY`: the slot has
-/// no agent. `ASM_NOT_JSON`, `ASM_SHAPE`, `ASM_MEMORY`. The slot stays as it was.
+/// # Errors
+/// - `ASM_EMPTY`: the slot has no agent.
+/// - `ASM_SMALL`: `out` is too small, and `written` is the room that is needed.
+/// - `ASM_NOT_JSON`: `locations` isn't JSON.
+/// - `ASM_SHAPE`: `locations` is JSON of another shape, or beyond a limit.
+/// - `ASM_MEMORY`: out of memory.
 #[unsafe(no_mangle)]
 pub extern "C" fn asm_peek(
     alloc: Global,
@@ -70,15 +77,24 @@ pub extern "C" fn asm_peek(
     }
 }
 
-/// Tells whether the named reads `[NAMED, ..]`, at most 256, still stand: whether no move has written one of
-/// the locations since the number under which it is named.
+/// Validate the declared reads `[NAMED, ..]`, at most 256, after polling.
+/// The agent polls until no further move is found, and its own state follows. No receipt is added. These codes are
+/// answers:
+/// - `ASM_DONE`: none of the locations was written since the number under which it is named.
+/// - `ASM_STALE`: one was, and `{"stale":LOC}` with the smallest such location is written.
 ///
-/// The agent looks on until it finds nothing more, and its own state follows; no receipt is made. A fire that
-/// names the same reads may still be refused, by a move that comes in between. `ASM_STALE`: one doesn't stand,
-/// and `{"stale":LOC}` with the least such location is written. `ASM_SMALL`: `written` is the room that it
-/// needs. `ASM_EMPTY`: the slot has no agent. `ASM_NOT_JSON`, `ASM_SHAPE`. `ASM_AHEAD`: a read has a number above
-/// what the agent had seen, so nothing can be told of it. `ASM_MANY`, after it: more than 256 reads. After these
-/// five the slot is as it was. `ASM_MEMORY`: the agent may have seen more.
+/// A fire that declares the same reads may still be refused, by a move that comes in between.
+///
+/// # Errors
+/// - `ASM_SMALL`: `out` is too small for the text, and `written` is the room that is needed.
+/// - `ASM_EMPTY`: the slot has no agent.
+/// - `ASM_NOT_JSON`: `reads` isn't JSON.
+/// - `ASM_SHAPE`: `reads` is JSON of another shape, or beyond a limit.
+/// - `ASM_AHEAD`: a read has a number above that of the moves that the agent has seen, so it can't be judged.
+/// - `ASM_MANY`: there are more than 256 reads. `ASM_AHEAD` comes before it.
+/// - `ASM_MEMORY`: out of memory; the agent may have seen more moves.
+///
+/// After `ASM_EMPTY`, `ASM_NOT_JSON`, `ASM_SHAPE`, `ASM_AHEAD` and `ASM_MANY` the slot is unchanged.
 #[unsafe(no_mangle)]
 pub extern "C" fn asm_stands(
     alloc: Global,

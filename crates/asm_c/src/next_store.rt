@@ -1,4 +1,4 @@
-//! The storages that go on where others ended.
+//! Storages that continue others.
 ghost use Rattle.std.specs.Prelude.{◌≡◌, ◌≢◌, ◌∷◌, [], None};
 ghost use Rattle.asm_slots.specs.AgentCalls.{IsNoCapacity};
 ghost use Rattle.asm_slots.specs.Codes.{IsOneOf, ASM_DONE, ASM_MEMORY, ASM_EMPTY, ASM_CAPACITY, ASM_NO_JOURNAL, ASM_TAKEN};
@@ -11,13 +11,18 @@ use asm_slots::take_and_put::{agent_in, store_in};
 use asm_slots::{Slot, in_box};
 use std::alloc::Global;
 
-/// Opens a storage, for at most `capacity` moves, in an empty slot, that goes on where the one that was closed
-/// ended: its opening state is the one that the moves of the kept journal leave, and its agents start anew.
+/// Open a storage in an empty slot that continues one that was closed.
+/// It has room for `capacity` moves, 1 to 1,048,576. Its opening state is the one that the moves of the retained
+/// journal leave; its agents start again, and numbers begin at 0. Keep no number of an earlier read: it is taken for
+/// one of this storage once so many moves were seen. The journals of both, one after the other, are one run; moves that
+/// were fired after `asm_close` are in neither. The first slot is unchanged; on error, both are.
 ///
-/// The first storage's slot stays as it was. The journals of both, one after the other, tell one run.
-/// `ASM_TAKEN`: the second slot is full. `ASM_EMPTY`: the first has no storage. `ASM_NO_JOURNAL`: the storage wasn't
-/// closed since an agent was given back or taken. `ASM_CAPACITY`: the capacity isn't 1 to 1,048,576. `ASM_MEMORY`. After
-/// each of these both slots are as they were.
+/// # Errors
+/// - `ASM_TAKEN`: the second slot is full.
+/// - `ASM_EMPTY`: the first slot has no storage.
+/// - `ASM_NO_JOURNAL`: the storage wasn't closed since an agent was returned or checked out.
+/// - `ASM_CAPACITY`: the capacity isn't 1 to 1,048,576.
+/// - `ASM_MEMORY`: out of memory.
 #[unsafe(no_mangle)]
 pub extern "C" fn asm_next(alloc: Global, store: &mut Slot, capacity: u32, next: &mut Slot) -> i32
     ensures codes { IsOneOf (ASM_DONE ∷ ASM_MEMORY ∷ ASM_EMPTY ∷ ASM_CAPACITY ∷ ASM_NO_JOURNAL ∷ ASM_TAKEN ∷ []) result }
@@ -42,14 +47,22 @@ pub extern "C" fn asm_next(alloc: Global, store: &mut Slot, capacity: u32, next:
     }
 }
 
-/// Opens a storage, for at most `capacity` moves, in an empty slot, that goes on where the agent's ended: its opening state is
-/// the agent's own state, where that stands at all moves that the agent's storage has room for. So that storage is full, and
-/// the agent has looked on to its end (`asm_follow`, `asm_begin`).
+/// Open a storage in an empty slot that continues the agent's full one.
+/// It has room for `capacity` moves, 1 to 1,048,576. Its opening state is the agent's own state, if that is after all
+/// moves that the agent's storage has room for: that storage is full, and the agent has polled to its end
+/// (`asm_follow`, `asm_begin`).
 ///
-/// No journal is needed, and no other agent waits. The journals of both storages, one after the other, tell one run, and the
-/// numbers of moves begin at 0 again. `ASM_TAKEN`: the second slot is full. `ASM_EMPTY`: the first has no agent. `ASM_NOT_FULL`:
-/// the agent's own state stands at fewer moves. `ASM_CAPACITY`: the capacity isn't 1 to 1,048,576. `ASM_MEMORY`. The first of
-/// these that holds is answered, and after each of them the second slot is as it was; the agent's always is.
+/// No journal is needed, and no other agent waits: each may read on, be returned and be closed into the first storage's
+/// journal later. The journals of both storages, one after the other, are one run. Numbers begin at 0, as after
+/// `asm_next`. The agent's slot is unchanged; on error, the second is too.
+///
+/// # Errors
+/// The first of these that holds is returned.
+/// - `ASM_TAKEN`: the second slot is full.
+/// - `ASM_EMPTY`: the first slot has no agent.
+/// - `ASM_NOT_FULL`: the agent's own state is at fewer moves than its storage has room for.
+/// - `ASM_CAPACITY`: the capacity isn't 1 to 1,048,576.
+/// - `ASM_MEMORY`: out of memory.
 #[unsafe(no_mangle)]
 pub extern "C" fn asm_go_on(alloc: Global, agent: &mut Slot, capacity: u32, next: &mut Slot) -> i32
     ensures goes_on { GoesOnWith capacity (content_of agent.old) (content_of next.old) (content_of next.new) result }

@@ -1,4 +1,4 @@
-//! Opening storages, making agents and taking them again, and letting go of what slots hold.
+//! Opening storages, making agents and checking them out again, and freeing what slots hold.
 ghost use Rattle.std.specs.Prelude.{◌≡◌, ◌≢◌, ◌↔◌, ◌∷◌, [], None};
 ghost use Rattle.asm_slots.specs.AgentCalls.{IsNoCapacity, IsOpened};
 ghost use Rattle.asm_journal.specs.Value.{IsStateForm};
@@ -14,10 +14,15 @@ use asm_slots::take_and_put::{put_store, take_store};
 use asm_storage::AGENTS_LIMIT;
 use std::alloc::Global;
 
-/// Opens a storage with the state `[PAIR, ..]`, for at most `capacity` moves, in an empty slot.
+/// Open a storage with the state `[PAIR, ..]` in an empty slot.
+/// It has room for `capacity` moves, 1 to 1,048,576. On error, the slot is unchanged.
 ///
-/// `ASM_TAKEN`, `ASM_NOT_JSON`, `ASM_SHAPE`, `ASM_CAPACITY` (the capacity isn't 1 to 1,048,576), `ASM_MEMORY`.
-/// After each of these the slot is as it was.
+/// # Errors
+/// - `ASM_TAKEN`: the slot is full.
+/// - `ASM_NOT_JSON`: `init` isn't JSON.
+/// - `ASM_SHAPE`: `init` is JSON of another shape, or beyond a limit.
+/// - `ASM_CAPACITY`: the capacity isn't 1 to 1,048,576.
+/// - `ASM_MEMORY`: out of memory.
 #[unsafe(no_mangle)]
 pub extern "C" fn asm_open(alloc: Global, init: &[u8], capacity: u32, store: &mut Slot) -> i32
     ensures codes { IsOneOf (ASM_DONE ∷ ASM_MEMORY ∷ ASM_CAPACITY ∷ ASM_TAKEN
@@ -42,12 +47,17 @@ pub extern "C" fn asm_open(alloc: Global, init: &[u8], capacity: u32, store: &mu
     }
 }
 
-/// Makes an agent of the storage with the number `id`, in an empty slot.
+/// Make an agent of the storage with the number `id`, below 256, in an empty slot.
+/// A storage has one agent of each number: also one that was freed keeps its number, as its moves may be in the
+/// journal. On error, both slots are unchanged, and the number is as free as before.
 ///
-/// `ASM_AGENTS`: the number isn't below 256. `ASM_TAKEN`: the slot for the agent is full. `ASM_EMPTY`: the
-/// other one has no storage. `ASM_NUMBER`: an agent of the storage with this number was made before, be it
-/// freed or not, as its moves may stand in the row. `ASM_MEMORY`. The first of these that holds is answered.
-/// After each of them both slots are as they were, and the number is as free as it was.
+/// # Errors
+/// The first of these that holds is returned.
+/// - `ASM_AGENTS`: the number isn't below 256.
+/// - `ASM_TAKEN`: the slot for the agent is full.
+/// - `ASM_EMPTY`: the other slot has no storage.
+/// - `ASM_NUMBER`: an agent of the storage with this number was made before, whether or not it was freed.
+/// - `ASM_MEMORY`: out of memory.
 #[unsafe(no_mangle)]
 pub extern "C" fn asm_agent(alloc: Global, store: &mut Slot, id: u32, agent: &mut Slot) -> i32
     ensures { MakesAgent id (content_of store.old) (content_of store.new) (content_of agent.old) (content_of agent.new) result }
@@ -72,12 +82,17 @@ pub extern "C" fn asm_agent(alloc: Global, store: &mut Slot, id: u32, agent: &mu
     }
 }
 
-/// Makes an agent of the storage in each of the empty slots, at most 256, with the numbers from 0 up.
+/// Make an agent of the storage in each of at most 256 empty slots.
+/// Their numbers go from 0 up. On error, the storage's slot is unchanged, and every agent slot still holds what it
+/// held.
 ///
-/// `ASM_AGENTS`: more than 256 slots. `ASM_TAKEN`: one of them is full. `ASM_EMPTY`: the other slot has no
-/// storage. `ASM_NUMBER`: an agent with one of the numbers was made before. `ASM_MEMORY`. The first of these
-/// that holds is answered. After each of them the storage's slot is as it was, and every agent slot still holds
-/// what it held.
+/// # Errors
+/// The first of these that holds is returned.
+/// - `ASM_AGENTS`: there are more than 256 slots.
+/// - `ASM_TAKEN`: one of the agents' slots is full.
+/// - `ASM_EMPTY`: the other slot has no storage.
+/// - `ASM_NUMBER`: an agent with one of the numbers was made before.
+/// - `ASM_MEMORY`: out of memory.
 #[unsafe(no_mangle)]
 pub extern "C" fn asm_agents(alloc: Global, store: &mut Slot, agents: &mut [Slot]) -> i32
     ensures { MakesAgents (content_of store.old) (content_of store.new) agents.old agents.new result }
@@ -99,12 +114,16 @@ pub extern "C" fn asm_agents(alloc: Global, store: &mut Slot, agents: &mut [Slot
     code
 }
 
-/// Takes an agent that was given back out of its storage again, in an empty slot: it goes on where it was, with its number
-/// and its receipts.
+/// Check a returned agent out of its storage again, into an empty slot.
+/// It continues with its number and its receipts. The journal that the storage retained is discarded. On error, both
+/// slots are unchanged.
 ///
-/// The journal that the storage kept is discarded. `ASM_TAKEN`: the slot for the agent is full. `ASM_EMPTY`: the other one
-/// has no storage. `ASM_NO_AGENT`: no agent with this number was given back. `ASM_MEMORY`. The first of these that holds is
-/// answered, and after each of them both slots are as they were.
+/// # Errors
+/// The first of these that holds is returned.
+/// - `ASM_TAKEN`: the slot for the agent is full.
+/// - `ASM_EMPTY`: the other slot has no storage.
+/// - `ASM_NO_AGENT`: no agent with this number was returned.
+/// - `ASM_MEMORY`: out of memory.
 #[unsafe(no_mangle)]
 pub extern "C" fn asm_take(alloc: Global, store: &mut Slot, number: u32, agent: &mut Slot) -> i32
     ensures { TakesAgent number (content_of store.old) (content_of store.new) (content_of agent.old) (content_of agent.new) result }
@@ -126,7 +145,8 @@ pub extern "C" fn asm_take(alloc: Global, store: &mut Slot, number: u32, agent: 
     }
 }
 
-/// Releases what the slot holds, if anything. A storage ends with the last slot that has a share of it.
+/// Release what the slot holds, if anything, and leave the slot empty.
+/// The memory of a storage is freed with the last slot that holds it or an agent of it.
 #[unsafe(no_mangle)]
 pub extern "C" fn asm_free(alloc: Global, slot: &mut Slot)
     ensures { content_of slot.new ≡ None }

@@ -1,4 +1,4 @@
-//! The whole of an agent's own state, and the part of it with one function name.
+//! An agent's own state, complete or with the locations of one function name alone.
 ghost use Rattle.std.specs.Prelude.{◌≡◌, ◌∷◌, [], IsUtf8};
 ghost use Rattle.asm_slots.specs.Codes.{IsOneOf, ASM_DONE, ASM_MEMORY, ASM_EMPTY, ASM_SMALL, ASM_SHAPE};
 ghost use Rattle.asm_slots.specs.OwnState.{IsOwnOfName, IsOwnState};
@@ -11,11 +11,13 @@ use asm_slots::take_and_put::agent_in;
 use asm_slots::{Slot, in_box};
 use std::alloc::{AllocError, Global};
 
-/// Writes the agent's own state `[PAIR, ..]`, in ascending order of locations; `number` is how many moves have
-/// led to it.
+/// Write the agent's own state `[PAIR, ..]`, in ascending order of locations.
+/// It is the state after `number` moves. The call doesn't poll and adds no receipt, and the slot is unchanged.
 ///
-/// It makes no look and no receipt. `ASM_SMALL`: `written` is the room that it needs, and `number` is told too.
-/// `ASM_EMPTY`: the slot has no agent. `ASM_MEMORY`. With these two both are 0. The slot stays as it was.
+/// # Errors
+/// - `ASM_SMALL`: `out` is too small, and `written` is the room that is needed. `number` is set too.
+/// - `ASM_EMPTY`: the slot has no agent. `number` and `written` are 0.
+/// - `ASM_MEMORY`: out of memory. `number` and `written` are 0.
 #[unsafe(no_mangle)]
 pub extern "C" fn asm_state(
     alloc: Global,
@@ -42,13 +44,17 @@ pub extern "C" fn asm_state(
     }
 }
 
-/// Writes the values of the agent's own state at all locations with the function name, a text in UTF-8 without
-/// quotes: `[PAIR, ..]`, in ascending order of locations; `number` is how many moves have led to it.
+/// Write what the agent's own state has at all locations of one function name.
+/// The text is `[PAIR, ..]`, in ascending order of locations, after `number` moves. The name is passed in UTF-8 without
+/// quotes. The call doesn't poll and adds no receipt, and the slot is unchanged. A fire may name each location that was
+/// found, with this number. It doesn't notice that a further location of the name is written later; a fire over the
+/// scan does (`asm_try_fire_over`), as does the commit of a step that reads them by `asm_step_scan`.
 ///
-/// It makes no look and no receipt. A fire may name each location that was found, with this number; that a
-/// further location of the name is written later isn't noticed by it. `ASM_SMALL`: `written` is the room that
-/// it needs, and `number` is told too. `ASM_EMPTY`: the slot has no agent. `ASM_SHAPE`: the name isn't UTF-8.
-/// `ASM_MEMORY`. With these three both are 0. The slot stays as it was.
+/// # Errors
+/// - `ASM_SMALL`: `out` is too small, and `written` is the room that is needed. `number` is set too.
+/// - `ASM_EMPTY`: the slot has no agent. `number` and `written` are 0.
+/// - `ASM_SHAPE`: the name isn't UTF-8. `number` and `written` are 0.
+/// - `ASM_MEMORY`: out of memory. `number` and `written` are 0.
 #[unsafe(no_mangle)]
 pub extern "C" fn asm_scan(
     alloc: Global,

@@ -11,10 +11,14 @@ use asm_slots::codes::{DONE, TAKEN};
 use asm_slots::prepared::prepared;
 use std::alloc::Global;
 
-/// Prepares the location `LOC` in an empty slot, for agents and steps of any storage.
+/// Prepare the location `LOC` in an empty slot.
+/// It serves agents and steps of any storage. On error, the slot is unchanged.
 ///
-/// `ASM_TAKEN`: the slot is full. `ASM_NOT_JSON`, `ASM_SHAPE`, `ASM_MEMORY`. After each of these the slot is as it
-/// was.
+/// # Errors
+/// - `ASM_TAKEN`: the slot is full.
+/// - `ASM_NOT_JSON`: `location` isn't JSON.
+/// - `ASM_SHAPE`: `location` is JSON of another shape, or beyond a limit.
+/// - `ASM_MEMORY`: out of memory.
 #[unsafe(no_mangle)]
 pub extern "C" fn asm_location(alloc: Global, location: &[u8], at: &mut Slot) -> i32
     ensures codes { IsOneOf (ASM_DONE ∷ ASM_MEMORY ∷ ASM_TAKEN ∷ ASM_NOT_JSON ∷ ASM_SHAPE ∷ []) result }

@@ -7,19 +7,31 @@ use asm_slots::pushing::grow_of;
 use asm_slots::{Slot, Way};
 use std::alloc::Global;
 
-/// Pushes the move `[INSTR, ..]`: what is got or pushed later is seen through what it leaves.
+/// Push the move `[INSTR, ..]` onto the step.
+/// Later gets and pushes see what it leaves. A push that is refused, or is popped, is a dry run, on which the step
+/// depends. The call doesn't poll and adds no receipt, and the agent's slot is unchanged. The step must be one of the
+/// agent's storage. On error, the pushed moves are unchanged.
 ///
-/// It makes no look and no receipt, and the agent's slot stays as it was. `ASM_CLASH`: its updates clash on what
-/// is seen, and `{"clash":[LOC,CAUSE]}` is written. `ASM_DEEP`: 64 moves are pushed. `ASM_LONG_MOVE`: the one
-/// move of all that is pushed would have more than 4,096 instructions. `ASM_LARGE`, with `{"large":LOC}`, never comes
-/// for a step of the agent's storage. `ASM_MOVED`: the agent's own state doesn't stand at the step's number.
-/// `ASM_SMALL`: `written` is the room that the text of a refusal needs. `ASM_EMPTY`: the first slot has no agent,
-/// the second no step, or the two are one. `ASM_NOT_JSON`, `ASM_SHAPE`, `ASM_MEMORY`. After each of these what is pushed
-/// is as it was, so a push that is refused, or is popped, is a dry run. The step has to be one of the agent's storage.
+/// A refusal (`ASM_CLASH`, `ASM_LARGE`, `ASM_LONG_MOVE`, or `ASM_SMALL` for its text) depends on the state below the
+/// step. So it tracks its location, and the smaller ones at which the move has partial updates, which fit; with
+/// `ASM_LONG_MOVE` all at which the move has partial updates. Each is tracked only if a get of it would track it. After
+/// any other error the step is unchanged.
 ///
-/// A refusal tells of the state below: its location, and the smaller ones at which the move has partial updates, which fit,
-/// are got where a get would get them; with `ASM_LONG_MOVE` all at which it has some. Where they would take more than 256 places,
-/// nothing is got, and `ASM_MANY` is answered without a text.
+/// The call costs by the move's own instructions, not by those pushed before, and by the size of a set or a bag that
+/// they change and the earlier updates of it.
+///
+/// # Errors
+/// - `ASM_CLASH`: the updates of the move clash on what is seen, and `{"clash":[LOC,CAUSE]}` is written.
+/// - `ASM_DEEP`: 64 moves are pushed already.
+/// - `ASM_LONG_MOVE`: the one move of all pushed moves would have more than 4,096 instructions.
+/// - `ASM_MANY`: the move is refused, and tracking it would take more than 256 places. Nothing is tracked or written.
+/// - `ASM_LARGE`, with the text `{"large":LOC}`: never for a step of the agent's storage.
+/// - `ASM_MOVED`: the agent's own state isn't at the step's number.
+/// - `ASM_SMALL`: `out` is too small for the text of a refusal, and `written` is the room that is needed.
+/// - `ASM_EMPTY`: the first slot has no agent, the second no step, or the two are one.
+/// - `ASM_NOT_JSON`: `instrs` isn't JSON.
+/// - `ASM_SHAPE`: `instrs` is JSON of another shape, or beyond a limit.
+/// - `ASM_MEMORY`: out of memory.
 #[unsafe(no_mangle)]
 pub extern "C" fn asm_push(
     alloc: Global,
@@ -36,10 +48,16 @@ pub extern "C" fn asm_push(
     grow_of(alloc, agent, step, Way::Push, instrs, out, written)
 }
 
-/// Extends the move that was pushed last by the move `[INSTR, ..]`: what is got or pushed later is seen through
-/// what it leaves, and a pop takes both away. Without a pushed move it is pushed.
+/// Extend the move that was pushed last by the move `[INSTR, ..]`.
+/// Later gets and pushes see what it leaves, and a pop takes both away. Without a pushed move it is pushed. A loop of a
+/// thousand rounds is one move deep, and each round costs by what it does itself. All else is as of `asm_push`.
 ///
-/// The codes are those of `asm_push`, but `ASM_DEEP`: the step is no deeper, however often it is extended.
+/// A round of one partial update changes a set or a bag in place: it costs by the logarithm of the size, after the
+/// first two in a pushed move, which copy the value. Any other round costs also by the size of a set or a bag that it
+/// changes and the earlier updates of it.
+///
+/// # Errors
+/// The codes are those of `asm_push` except `ASM_DEEP`: the step is no deeper, however often it is extended.
 #[unsafe(no_mangle)]
 pub extern "C" fn asm_extend(
     alloc: Global,

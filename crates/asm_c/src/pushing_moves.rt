@@ -9,10 +9,13 @@ use asm_slots::take_and_put::{put_shell, take_shell};
 use asm_slots::{Slot, Way};
 use std::alloc::Global;
 
-/// Pushes the move in the slot: what is got or pushed later is seen through what it leaves.
+/// Push the move in a slot, as `asm_push` does.
+/// Later gets and pushes see what it leaves. The slots of the agent and the move are unchanged.
 ///
-/// The codes are those of `asm_push` but `ASM_NOT_JSON` and `ASM_SHAPE`. `ASM_EMPTY`: the first slot has no agent, the
-/// second no step, the third no move, or two of them are one. The slots of the agent and the move stay as they were.
+/// # Errors
+/// The codes are those of `asm_push` except `ASM_NOT_JSON` and `ASM_SHAPE`.
+/// - `ASM_EMPTY`: the first slot has no agent, the second no step, the third no move, or two of them are one. An empty
+///   slot has no move, not one of no instructions.
 #[unsafe(no_mangle)]
 pub extern "C" fn asm_push_move(
     alloc: Global,
@@ -36,10 +39,12 @@ pub extern "C" fn asm_push_move(
     code
 }
 
-/// Extends the move that was pushed last by the one in the slot: what is got or pushed later is seen through what it
-/// leaves, and a pop takes both away. Without a pushed move it is pushed.
+/// Extend the move that was pushed last by the one in a slot, as `asm_extend` does.
+/// Later gets and pushes see what it leaves, and a pop takes both away. Without a pushed move it is pushed. The slots
+/// of the agent and the move are unchanged.
 ///
-/// The codes are those of `asm_push_move`, but `ASM_DEEP`: the step is no deeper, however often it is extended.
+/// # Errors
+/// The codes are those of `asm_push_move` except `ASM_DEEP`: the step is no deeper, however often it is extended.
 #[unsafe(no_mangle)]
 pub extern "C" fn asm_extend_move(
     alloc: Global,

@@ -12,10 +12,17 @@ use asm_slots::take_and_put::{put_agent, take_agent};
 use asm_slots::{Numbers, Slot, in_agent};
 use std::alloc::Global;
 
-/// Reads the locations `[LOC, ..]`, at most 256; `asm_answer` tells what was read.
+/// Read the locations `[LOC, ..]`, at most 256.
+/// The answer is the text `{"number":N,"values":[VALUE, ..]}`: their values after the first N moves, which `asm_answer`
+/// writes. After `ASM_MEMORY` the agent has no further receipt, and may have seen more moves. After any other error its
+/// slot is unchanged.
 ///
-/// `ASM_EMPTY`: the slot has no agent. `ASM_MANY`: more than 256 locations. `ASM_NOT_JSON`, `ASM_SHAPE`.
-/// After these the slot is as it was. `ASM_MEMORY`: the agent has no receipt more, and may have seen more.
+/// # Errors
+/// - `ASM_EMPTY`: the slot has no agent.
+/// - `ASM_NOT_JSON`: `locations` isn't JSON.
+/// - `ASM_SHAPE`: `locations` is JSON of another shape, or beyond a limit.
+/// - `ASM_MANY`: there are more than 256 locations.
+/// - `ASM_MEMORY`: out of memory.
 #[unsafe(no_mangle)]
 pub extern "C" fn asm_read(alloc: Global, agent: &mut Slot, locations: &[u8]) -> i32
     ensures { Reads locations.now (content_of agent.old) (content_of agent.new) result }
@@ -26,14 +33,29 @@ pub extern "C" fn asm_read(alloc: Global, agent: &mut Slot, locations: &[u8]) ->
     }
 }
 
-/// Fires `{"fire":[INSTR, ..],"reads":[NAMED, ..]}`, with at most 256 named locations.
+/// Fire the move `{"fire":[INSTR, ..],"reads":[NAMED, ..]}`.
+/// It has at most 4,096 instructions, and names at most 256 locations, each with the number of moves under which it was
+/// read. These codes are answers, of which `asm_answer` writes the text:
+/// - `ASM_DONE`, `{"fired":N}`: fired, and `numbers.fired` is the number of the move.
+/// - `ASM_STALE`, `{"stale":LOC}`: a named location was written since.
+/// - `ASM_CLASH`, `{"clash":[LOC,CAUSE]}`: the updates of the move clash.
+/// - `ASM_FULL`, `"full"`: as many moves were fired as the capacity.
 ///
-/// `ASM_DONE`: fired, with the number of the move. `ASM_STALE`, `ASM_CLASH`, `ASM_FULL`: answers too, which
-/// `asm_answer` tells whole. With any other code nothing was fired and there is no receipt more:
-/// `ASM_BUSY`: 64 offers were lost, with what had been seen at the start and at the end; `ASM_MEMORY`; and
-/// with the slot as it was `ASM_EMPTY` (no agent), `ASM_NOT_JSON`, `ASM_SHAPE`, `ASM_AHEAD` (a location is named
-/// at a number above what the agent had seen, which would guard nothing), and after it `ASM_MANY` (more than 256
-/// named locations). What a code doesn't set is 0.
+/// A number that its code doesn't set is 0.
+///
+/// # Errors
+/// Nothing was fired, and no receipt was added.
+/// - `ASM_EMPTY`: the slot has no agent.
+/// - `ASM_NOT_JSON`: `call` isn't JSON.
+/// - `ASM_SHAPE`: `call` is JSON of another shape, or beyond a limit.
+/// - `ASM_AHEAD`: a location is named at a number above that of the moves that the agent has seen, which would guard
+///   nothing.
+/// - `ASM_MANY`: there are more than 256 named locations. `ASM_AHEAD` comes before it.
+/// - `ASM_BUSY`: 64 attempts to append were lost to other agents. `numbers.from` and `numbers.to` are how many moves
+///   the agent had seen at the start and at the end of the call.
+/// - `ASM_MEMORY`: out of memory.
+///
+/// After `ASM_BUSY` and `ASM_MEMORY` the agent may have seen more moves. After any other error the slot is unchanged.
 #[unsafe(no_mangle)]
 pub extern "C" fn asm_try_fire(
     alloc: Global,
@@ -49,10 +71,14 @@ pub extern "C" fn asm_try_fire(
     code
 }
 
-/// Writes the answer to the agent's last answered call, as often as it is asked for.
+/// Write the text of the answer to the agent's last answered call.
+/// It can be written any number of times. The slot is unchanged.
 ///
-/// `ASM_SMALL`: `written` is the room that it needs. `ASM_NO_ANSWER`: no call was answered yet. `ASM_EMPTY`: the
-/// slot has no agent. `ASM_MEMORY`. The slot stays as it was.
+/// # Errors
+/// - `ASM_EMPTY`: the slot has no agent.
+/// - `ASM_NO_ANSWER`: no call was answered yet.
+/// - `ASM_SMALL`: `out` is too small, and `written` is the room that is needed.
+/// - `ASM_MEMORY`: out of memory.
 #[unsafe(no_mangle)]
 pub extern "C" fn asm_answer(
     alloc: Global,

@@ -1,4 +1,4 @@
-//! Beginning a step, what is seen through its pushed moves, and taking the last one away.
+//! Beginning a step, what is seen through its pushed moves, and popping the last of them.
 ghost use Rattle.std.specs.Prelude.{◌≡◌, ◌≢◌, ◌↔◌, ◌∷◌, [], Ok, length};
 ghost use Rattle.asm_slots.specs.Codes.{IsOneOf, ASM_CLASH, ASM_DONE, ASM_EMPTY, ASM_LARGE, ASM_MANY};
 ghost use Rattle.asm_slots.specs.Codes.{ASM_LONG_MOVE, ASM_MEMORY, ASM_NO_PUSH, ASM_TAKEN};
@@ -17,12 +17,15 @@ use asm_slots::take_and_put::{put_shell, take_shell};
 use asm_slots::{Content, Slot, in_agent, in_both};
 use std::alloc::{AllocError, Global};
 
-/// Begins a step of the agent in a slot that is empty or holds a step, which is then dropped: the agent looks on
-/// until it finds nothing more, its own state follows, and `number` is how many moves it has then seen.
+/// Begin a step of the agent in a slot that is empty or holds a step.
+/// A step that the slot held is dropped. The agent polls until no further move is found, and its own state follows.
+/// `number` is then how many moves it has seen. Until the agent's next call that polls, reads or fires, gets and pushes
+/// see the state at this number. On error, the step's slot is unchanged, and `number` is 0.
 ///
-/// Until the agent's next call that looks on, reads or fires, all that is got and pushed is seen at this number.
-/// `ASM_TAKEN`: the second slot holds something else. `ASM_EMPTY`: the first has no agent. `ASM_MEMORY`: the
-/// agent may have seen more. After these the step's slot is as it was, and `number` is 0.
+/// # Errors
+/// - `ASM_TAKEN`: the second slot holds something else.
+/// - `ASM_EMPTY`: the first slot has no agent.
+/// - `ASM_MEMORY`: out of memory; the agent may have seen more moves.
 #[unsafe(no_mangle)]
 pub extern "C" fn asm_begin(
     alloc: Global,
@@ -49,7 +52,7 @@ pub extern "C" fn asm_begin(
     }
 }
 
-/// How many moves are pushed, at most 64; 0 for a slot with no step.
+/// Return how many moves are pushed, at most 64; 0 for a slot without a step.
 #[unsafe(no_mangle)]
 pub extern "C" fn asm_depth(alloc: Global, step: &mut Slot) -> u32
     ensures kept { content_of step.new ≡ content_of step.old }
@@ -67,16 +70,22 @@ pub extern "C" fn asm_depth(alloc: Global, step: &mut Slot) -> u32
     depth
 }
 
-/// Writes `{"number":N,"values":[VALUE, ..]}`: what is seen at the locations `[LOC, ..]` through the pushed
-/// moves, with the step's number. Each location at which what is seen rests on the state below is got, and is named by
-/// the commit; what pushed moves put there rests on nothing.
+/// Write what is seen through the pushed moves at the locations `[LOC, ..]`.
+/// There may be any number of them. The text is `{"number":N,"values":[VALUE, ..]}`, with the step's number. Each
+/// location is tracked whose value depends on the state below the step, and the commit names it. A value that pushed
+/// moves put there is the step's own, and depends on nothing.
 ///
-/// It makes no look and no receipt, and the agent's slot stays as it was. `ASM_MOVED`: the agent's own state
-/// doesn't stand at the step's number, which another agent may not have reached. `ASM_MANY`: the locations that would
-/// be got and the functions that were scanned are more than 256 together. `ASM_SMALL`: `written` is the room that it
-/// needs. `ASM_EMPTY`: the first slot has no agent, the second no step, or the two are one. `ASM_NOT_JSON`,
-/// `ASM_SHAPE`, `ASM_MEMORY`. After each of these the step's slot is as it was. The step has to be one of the agent's
-/// storage.
+/// The call doesn't poll and adds no receipt, and the agent's slot is unchanged. On error, the step's slot is unchanged
+/// too. The step must be one of the agent's storage.
+///
+/// # Errors
+/// - `ASM_MOVED`: the agent's own state isn't at the step's number, which another agent may not have reached.
+/// - `ASM_MANY`: more than 256 places would be taken, one by each tracked location and one by each scanned function.
+/// - `ASM_SMALL`: `out` is too small, and `written` is the room that is needed.
+/// - `ASM_EMPTY`: the first slot has no agent, the second no step, or the two are one.
+/// - `ASM_NOT_JSON`: `locations` isn't JSON.
+/// - `ASM_SHAPE`: `locations` is JSON of another shape, or beyond a limit.
+/// - `ASM_MEMORY`: out of memory.
 #[unsafe(no_mangle)]
 pub extern "C" fn asm_get(
     alloc: Global,
@@ -94,11 +103,12 @@ pub extern "C" fn asm_get(
     in_both!(alloc, agent, step => get_in(alloc, agent, step, locations, out, written))
 }
 
-/// Writes what `asm_get` writes, and notes nothing: what is seen at the locations `[LOC, ..]` through the pushed moves, with the
-/// step's number.
+/// Write what `asm_get` writes, and track nothing.
+/// The step doesn't depend on it: a commit fires though another agent has written there since. It is for what is only
+/// shown, and for what is tracked anyway. Both slots are unchanged.
 ///
-/// The step doesn't rest on it: a commit fires though another agent has written there since. It is for what is told or
-/// shown, and for what is got anyway. The codes are those of `asm_get` but `ASM_MANY`, and both slots stay as they were.
+/// # Errors
+/// The codes are those of `asm_get` except `ASM_MANY`.
 #[unsafe(no_mangle)]
 pub extern "C" fn asm_see(
     alloc: Global,
@@ -116,11 +126,15 @@ pub extern "C" fn asm_see(
     in_both!(alloc, agent, step => see_in(alloc, agent, step, locations, out, written))
 }
 
-/// Takes away the move that was pushed last, with those that extended it.
+/// Take away the move that was pushed last, with those that extended it.
+/// It tracks each location at which these have partial updates that were judged on the state below the step: that they
+/// were accepted shows that these fit. What was tracked and scanned stays so. On error, the slot is unchanged.
 ///
-/// The locations where these have partial updates are got, where what is seen is made from the state below: that they were
-/// taken tells of it. What was got stays got, and what was scanned stays scanned. `ASM_NO_PUSH`: none is pushed. `ASM_MANY`: more
-/// than 256 places would be taken. `ASM_EMPTY`: the slot has no step. `ASM_MEMORY`. After each of these the slot is as it was.
+/// # Errors
+/// - `ASM_NO_PUSH`: no move is pushed.
+/// - `ASM_MANY`: more than 256 places would be taken.
+/// - `ASM_EMPTY`: the slot has no step.
+/// - `ASM_MEMORY`: out of memory.
 #[unsafe(no_mangle)]
 pub extern "C" fn asm_pop(alloc: Global, step: &mut Slot) -> i32
     ensures codes { IsOneOf (ASM_DONE ∷ ASM_MEMORY ∷ ASM_EMPTY ∷ ASM_MANY ∷ ASM_NO_PUSH ∷ []) result }
@@ -142,18 +156,23 @@ pub extern "C" fn asm_pop(alloc: Global, step: &mut Slot) -> i32
     code
 }
 
-/// Takes away the move that was pushed last, with those that extended it, and puts the one move that does what they did in
-/// turn into a slot that is empty or holds a move, which is then dropped.
+/// Take away the last pushed move as `asm_pop` does, and put it into a slot.
+/// The slot gets the one move that does in turn what that move and those that extended it do. It must be empty or hold
+/// a move, which is then dropped. `asm_push_move` and `asm_extend_move` take the new one, on this step or on another.
 ///
-/// A move that nothing extended is put as it was pushed; others are what they compose to. Where the first of these that writes a
-/// location has partial updates alone there, and another one writes there too, it is got, if what is seen is made from the
-/// state below: the one move may come to less there. What was got stays got.
+/// A move that none extended is put unchanged, and tracks nothing. Others are put as what they compose to. They track
+/// each location where the first of them that writes has partial updates alone, judged on the state below the step, and
+/// another of them writes too: the one move may come to less there. What was tracked stays so. On error, both slots are
+/// unchanged.
 ///
-/// `ASM_TAKEN`: the second slot holds something else than a move. `ASM_EMPTY`: the first has no step. `ASM_NO_PUSH`: none is
-/// pushed. `ASM_LONG_MOVE`: the first of the moves come to more than 4,096 instructions. `ASM_MANY`: more than 256 places would be
-/// taken.
-/// `ASM_CLASH`, `ASM_LARGE`: the moves fire in turn on no state, which doesn't come of moves that were pushed over an agent's.
-/// `ASM_MEMORY`. After each of these both slots are as they were.
+/// # Errors
+/// - `ASM_TAKEN`: the second slot holds something else than a move. It comes before all others.
+/// - `ASM_EMPTY`: the first slot has no step.
+/// - `ASM_NO_PUSH`: no move is pushed.
+/// - `ASM_LONG_MOVE`: the first of the moves come to more than 4,096 instructions, though all might come to fewer.
+/// - `ASM_MANY`: more than 256 places would be taken.
+/// - `ASM_CLASH`, `ASM_LARGE`: the moves fire in turn on no state; never for a step of the agent's storage.
+/// - `ASM_MEMORY`: out of memory.
 #[unsafe(no_mangle)]
 pub extern "C" fn asm_pop_move(alloc: Global, step: &mut Slot, instrs: &mut Slot) -> i32
     ensures codes { IsOneOf (ASM_DONE ∷ ASM_CLASH ∷ ASM_MEMORY ∷ ASM_EMPTY ∷ ASM_MANY ∷ ASM_TAKEN ∷ ASM_LARGE ∷ ASM_NO_PUSH

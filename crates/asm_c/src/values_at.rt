@@ -10,12 +10,15 @@ use asm_slots::take_and_put::{put_shell, take_shell};
 use asm_slots::{Slot, ValueHead};
 use std::alloc::Global;
 
-/// Tells the value at the prepared location in the agent's own state, which stands at `number` moves. The bytes of
-/// a text, and the JSON of a list, a set or a bag, are written.
+/// Return the value at a prepared location in the agent's own state.
+/// The state is the one after `number` moves. The bytes of a text, and the JSON of a list, a set or a bag, are written
+/// to `out`. The call doesn't poll and adds no receipt, and both slots are unchanged. On error, `number` and `value`
+/// are 0.
 ///
-/// It makes no look and no receipt, and both slots stay as they were. `ASM_SMALL`: `written` is the room that the
-/// bytes need. `ASM_EMPTY`: the first slot has no agent, the second no location, or the two are one. `ASM_MEMORY`.
-/// With each of these `number` and `value` are 0.
+/// # Errors
+/// - `ASM_SMALL`: `out` is too small, and `written` is the room that the bytes need.
+/// - `ASM_EMPTY`: the first slot has no agent, the second no location, or the two are one.
+/// - `ASM_MEMORY`: out of memory.
 #[unsafe(no_mangle)]
 pub extern "C" fn asm_peek_at(
     alloc: Global,
@@ -41,15 +44,18 @@ pub extern "C" fn asm_peek_at(
     code
 }
 
-/// Tells what is seen at the prepared location through the pushed moves. The bytes of a text, and the JSON of a
-/// list, a set or a bag, are written. The location is got, and is named by the commit, unless pushed moves put what is
-/// seen there.
+/// Return what is seen through the pushed moves at a prepared location.
+/// The bytes of a text, and the JSON of a list, a set or a bag, are written to `out`. The location is tracked as by
+/// `asm_get`, and the commit names it, unless pushed moves put what is seen there. The call doesn't poll and adds no
+/// receipt, and the slots of the agent and the location are unchanged. On error, the step's slot is unchanged too, and
+/// `value` is 0. The step must be one of the agent's storage.
 ///
-/// It makes no look and no receipt, and the slots of the agent and the location stay as they were. `ASM_MOVED`: the
-/// agent's own state doesn't stand at the step's number. `ASM_MANY`: 256 places are taken, by other locations that are
-/// got and by functions that were scanned. `ASM_SMALL`: `written` is the room that the bytes need. `ASM_EMPTY`: the
-/// first slot has no agent, the second no step, the third no location, or two of them are one. `ASM_MEMORY`. After each
-/// of these the step's slot is as it was, and `value` is 0. The step has to be one of the agent's storage.
+/// # Errors
+/// - `ASM_MOVED`: the agent's own state isn't at the step's number.
+/// - `ASM_MANY`: 256 places are taken, by other tracked locations and by scanned functions.
+/// - `ASM_SMALL`: `out` is too small, and `written` is the room that the bytes need.
+/// - `ASM_EMPTY`: the first slot has no agent, the second no step, the third no location, or two of them are one.
+/// - `ASM_MEMORY`: out of memory.
 #[unsafe(no_mangle)]
 pub extern "C" fn asm_get_at(
     alloc: Global,
