@@ -28,9 +28,9 @@
  *    that a call writes overlap neither one another nor a slot. No text has a zero byte at its end.
  *  - Storages. asm_learn and asm_take_state take two agents of one storage, and asm_give an agent
  *    of the storage. A step goes with agents of the storage that it began on; with one of another
- *    storage, what is got and committed has no meaning, and no code reports it. ASM_OTHER reports a
+ *    storage, what it reads and commits has no meaning, and no code reports it. ASM_OTHER reports a
  *    mistake, except possibly while other threads are in asm_learn, asm_take_state or asm_give on
- *    both storages. The behaviour is undefined where a mistake isn't reported.
+ *    both storages. The behaviour is undefined if a mistake isn't reported.
  *  - Stack. A call without text took less than 16 KiB of its thread's stack, one with well-formed
  *    texts less than 40 KiB, and one with a text that is nested as deep as any is read up to 84 KiB;
  *    all were measured. So a thread that makes calls with texts has 128 KiB or more.
@@ -43,9 +43,9 @@
  *
  *  - A receipt is an agent's record of one call that was answered: the call and its answer. The
  *    journal is made of the receipts.
- *  - A look is one read of the first move that the agent hasn't seen; it finds that move, or that
+ *  - A poll is one read of the first move that the agent hasn't seen; it finds that move, or that
  *    no further move was fired yet.
- *  - An offer is one try to make the agent's move the next one of the storage; it is lost if
+ *  - An attempt to append tries to make the agent's move the next one of the storage; it is lost if
  *    another agent's move is there first.
  *
  * STATE AFTER A CALL
@@ -74,7 +74,7 @@
  *    LOC     ["name",ELEMENT,..]          ELEMENT  null, true, 7, "text" or {"list":[ELEMENT,..]}
  *    VALUE   ELEMENT, {"set":[ELEMENT,..]} or {"bag":[[ELEMENT,COUNT],..]}
  *    PAIR    [LOC,VALUE]                  COUNT    1 to 4294967295, as AMOUNT
- *    NAMED   [LOC,NUMBER], with the number that the read of the location answered
+ *    NAMED   [LOC,NUMBER], with the number that the read of the location returned
  *    SCAN    ["name",NUMBER], with the number at which asm_scan returned the function of this name
  *    INSTR   ["put",LOC,VALUE]; of a set ["add",LOC,ELEMENT] and ["remove",LOC,ELEMENT]; of a bag
  *            ["bagadd",LOC,ELEMENT,AMOUNT] and ["bagremove",LOC,ELEMENT,AMOUNT]; of a number
@@ -112,7 +112,7 @@
  *        printf("%.*s", (int)written, (const char *)text);
  *    asm_free_storage(&storage);
  *
- * bindings/c/example.c is a whole program, with an agent on each of eight threads. Link with
+ * bindings/c/example.c is a complete program, with an agent on each of eight threads. Link with
  * libfolugben.a or libfolugben.so, which ./build_c makes; both need the C library alone. */
 #ifndef FOLUGBEN_H
 #define FOLUGBEN_H
@@ -125,7 +125,7 @@
 extern "C" {
 #endif
 
-/* A refused call has done nothing, so look at each code: C++17 and C23 warn where one isn't. To
+/* A refused call has done nothing, so check each code: C++17 and C23 warn if one isn't checked. To
  * have no warnings, define this as nothing before the header is included. */
 #ifndef FOLUGBEN_NODISCARD
 #if (defined(__cplusplus) && __cplusplus >= 201703L) || \
@@ -158,7 +158,7 @@ enum asm_code {
     ASM_EMPTY = 5,       /* a slot holds nothing of the kind that is wanted, or is passed twice */
     ASM_CAPACITY = 6,    /* the capacity isn't 1 to 1,048,576: asm_open, asm_next, asm_go_on */
     ASM_SMALL = 7,       /* the buffer is too small, and `*written` is the room that is needed */
-    ASM_BUSY = 8,        /* 64 offers were lost to other agents; nothing was fired */
+    ASM_BUSY = 8,        /* 64 attempts to append were lost to other agents; nothing was fired */
     ASM_MANY = 9,        /* more than 256 locations, or locations and scanned functions */
     ASM_NO_ANSWER = 10,  /* no call was answered yet: asm_answer */
     ASM_TAKEN = 11,      /* a slot that was to be filled holds something else */
@@ -236,13 +236,13 @@ FOLUGBEN_NODISCARD int32_t asm_open(const uint8_t *init, size_t len, uint32_t ca
 /* Makes an agent with this number, below 256, in an empty slot, at any time. A storage has one
  * agent of each number: also one that was freed keeps its number, as its moves may be in the
  * journal. ASM_AGENTS (the number), ASM_TAKEN (`agent` is full), ASM_EMPTY (`storage`), ASM_NUMBER,
- * ASM_MEMORY; the first of these that holds is answered. */
+ * ASM_MEMORY; the first of these that holds is returned. */
 FOLUGBEN_NODISCARD int32_t asm_agent(struct asm_storage *storage, uint32_t number,
     struct asm_agent *agent);
 
 /* Makes an agent in each of at most 256 empty slots, with the numbers from 0 up. ASM_AGENTS (the
- * count), ASM_TAKEN (one of the slots), ASM_EMPTY (`storage`), ASM_NUMBER (an agent with one of
- * the numbers was made before), ASM_MEMORY; the first of these that holds is answered. */
+ * count), ASM_TAKEN (one of the slots), ASM_EMPTY (`storage`), ASM_NUMBER (an agent with one of the
+ * numbers was made before), ASM_MEMORY; the first of these that holds is returned. */
 FOLUGBEN_NODISCARD int32_t asm_agents(struct asm_storage *storage, struct asm_agent *agents,
     size_t count);
 
@@ -251,7 +251,7 @@ FOLUGBEN_NODISCARD int32_t asm_agents(struct asm_storage *storage, struct asm_ag
  * ASM_SHAPE, ASM_MANY, ASM_MEMORY. */
 FOLUGBEN_NODISCARD int32_t asm_read(struct asm_agent *agent, const uint8_t *locations, size_t len);
 
-/* The numbers of a fire; each is 0 where its code isn't answered. */
+/* The numbers of a fire; each is 0 unless its code is returned. */
 typedef struct asm_numbers {
     uint32_t fired; /* ASM_DONE: the number of the move that was fired */
     uint32_t from;  /* ASM_BUSY: how many moves the agent had seen at the start of the call */
@@ -262,16 +262,16 @@ typedef struct asm_numbers {
  * ASM_SHAPE), unless one of the at most 256 named locations (else ASM_MANY) was written since the
  * number of moves under which it is named: that of a reading of this agent, or of one of which it
  * has learnt. A number above what asm_seen returns when the call begins would guard nothing:
- * ASM_AHEAD, before a look is made and before ASM_MANY. After asm_next numbers begin again at 0.
+ * ASM_AHEAD, before the agent polls and before ASM_MANY. After asm_next numbers begin again at 0.
  * ASM_DONE: fired. ASM_STALE, ASM_CLASH and ASM_FULL are answers too: asm_answer writes
  * {"fired":N}, {"stale":LOC}, {"clash":[LOC,CAUSE]} or "full". ASM_BUSY, ASM_EMPTY, ASM_NOT_JSON,
- * ASM_SHAPE, ASM_AHEAD, ASM_MANY, ASM_MEMORY: not answered, and nothing was fired. */
+ * ASM_SHAPE, ASM_AHEAD, ASM_MANY, ASM_MEMORY: no answer, and nothing was fired. */
 FOLUGBEN_NODISCARD int32_t asm_try_fire(struct asm_agent *agent, const uint8_t *call, size_t len,
     asm_numbers *numbers);
 
 /* The same for a move that depends on whole functions too, those of the scans [SCAN, ..]: on all
  * locations with the name, those that have a value and those that have none, as they were at the
- * scan's number. Where one of these was written since, also with its first value, the answer is
+ * scan's number. If one of these was written since, including its first value, the answer is
  * ASM_STALE too, and the receipt names the smallest such location of one scan, behind the others;
  * otherwise the journal doesn't record scans. Named locations and scans are at most 256 together
  * (ASM_MANY), each at a number that the agent has seen (ASM_AHEAD). ASM_NOT_JSON, ASM_SHAPE: the
@@ -302,8 +302,8 @@ FOLUGBEN_NODISCARD int32_t asm_take_state(struct asm_agent *agent, struct asm_ag
 /* AN AGENT'S OWN STATE is the state after a number of moves, its version. It moves on only in
  * asm_follow, asm_stands, asm_begin, asm_read, asm_try_fire, asm_try_fire_over, asm_commit and
  * asm_commit_recorded; asm_take_state exchanges it. A move that the agent fired itself is taken in
- * by its next look, as asm_follow makes one. asm_peek, asm_state and asm_scan read that state,
- * without a look or a receipt. A later fire may name each location, and each scanned function, with
+ * by its next poll, such as asm_follow makes. asm_peek, asm_state and asm_scan read that state,
+ * without a poll or a receipt. A later fire may name each location, and each scanned function, with
  * the number that they return. */
 
 /* Polls until no further move is found; the agent's own state follows. `*number` is then how many
@@ -328,7 +328,7 @@ FOLUGBEN_NODISCARD int32_t asm_state(struct asm_agent *agent, uint32_t *number, 
 FOLUGBEN_NODISCARD int32_t asm_scan(struct asm_agent *agent, const uint8_t *name, size_t len,
     uint32_t *number, uint8_t *out, size_t room, size_t *written);
 
-/* Validates the named reads [NAMED, ..], at most 256, after a poll as asm_follow makes one.
+/* Validates the declared reads [NAMED, ..], at most 256, after polling as asm_follow does.
  * ASM_DONE: none of the locations was written since. ASM_STALE, with the text {"stale":LOC}: the
  * smallest location that was. A fire may still be refused, by a move that comes in between.
  * ASM_AHEAD as of asm_try_fire. ASM_EMPTY, ASM_MANY, ASM_SMALL, ASM_NOT_JSON, ASM_SHAPE,
@@ -343,7 +343,7 @@ FOLUGBEN_NODISCARD int32_t asm_stands(struct asm_agent *agent, const uint8_t *re
  * A get is tracked if its value comes from the state at the step's number: if no pushed move writes
  * the location, or the first that does has partial updates alone there (it adds, removes or
  * increments). If that one puts a value, the value is the step's own. The step depends on tracked
- * locations. These are tracked too, where a get of them would be:
+ * locations. These are tracked too, if a get of them would be:
  *  - of a push or an extension that is refused, the location of the refusal, and the smaller ones
  *    at which its move has partial updates: that it comes there shows that these fit. Of one that
  *    has too many instructions, each at which it has partial updates.
@@ -373,8 +373,8 @@ FOLUGBEN_NODISCARD int32_t asm_begin(struct asm_agent *agent, struct asm_step *s
     uint32_t *number);
 
 /* Writes {"number":N,"values":[VALUE, ..]}: what is seen through the pushed moves at the locations
- * [LOC, ..], any number of them. Those are got where that is made from the state. ASM_MANY: more than
- * 256 places would be taken. ASM_MOVED, ASM_EMPTY (one of the slots), ASM_SMALL, ASM_NOT_JSON,
+ * [LOC, ..], any number of them. Those are tracked whose value comes from the state. ASM_MANY: more
+ * than 256 places would be taken. ASM_MOVED, ASM_EMPTY (one of the slots), ASM_SMALL, ASM_NOT_JSON,
  * ASM_SHAPE, ASM_MEMORY. */
 FOLUGBEN_NODISCARD int32_t asm_get(struct asm_agent *agent, struct asm_step *step,
     const uint8_t *locations, size_t len, uint8_t *out, size_t room, size_t *written);
@@ -386,28 +386,28 @@ FOLUGBEN_NODISCARD int32_t asm_see(struct asm_agent *agent, struct asm_step *ste
     const uint8_t *locations, size_t len, uint8_t *out, size_t room, size_t *written);
 
 /* Writes [PAIR, ..]: what is seen through the pushed moves at all locations with a function name,
- * which is passed in UTF-8 without quotes, any number of them. The function is scanned, also where
- * none is found. ASM_MANY: it isn't scanned yet, and 256 places are taken. ASM_SHAPE: the name isn't
- * UTF-8. Else as asm_get. */
+ * which is passed in UTF-8 without quotes, any number of them. The function is scanned, also if
+ * none is found. ASM_MANY: it isn't scanned yet, and 256 places are taken. ASM_SHAPE: the name
+ * isn't UTF-8. Else as asm_get. */
 FOLUGBEN_NODISCARD int32_t asm_step_scan(struct asm_agent *agent, struct asm_step *step,
     const uint8_t *name, size_t len, uint8_t *out, size_t room, size_t *written);
 
-/* The name of asm_step_scan in version 0.2, which goes in the next one. */
+/* The name of asm_step_scan in version 0.2, which the next version removes. */
 FOLUGBEN_NODISCARD FOLUGBEN_DEPRECATED static inline int32_t asm_get_all(
     struct asm_agent *agent, struct asm_step *step, const uint8_t *name, size_t len, uint8_t *out,
     size_t room, size_t *written) {
     return asm_step_scan(agent, step, name, len, out, room, written);
 }
 
-/* Pushes the move [INSTR, ..]: what is got and pushed later is seen through what it leaves. A push
- * that is refused, or is popped, is a dry run, on which the step depends. ASM_CLASH, with the text
+/* Pushes the move [INSTR, ..]: later gets and pushes see what it leaves. A push that is refused, or
+ * is popped, is a dry run, on which the step depends. ASM_CLASH, with the text
  * {"clash":[LOC,CAUSE]}: its updates clash on what is seen. ASM_DEEP. ASM_LONG_MOVE: the one move
  * of all would have more than 4,096 instructions. ASM_MANY: the move is refused, and tracking it
- * would take more than 256 places, so that nothing is tracked. ASM_LARGE, with {"large":LOC}:
- * never for a step of the agent's storage. ASM_MOVED, ASM_EMPTY (one of the slots), ASM_SMALL (for
- * the text of a refusal), ASM_NOT_JSON, ASM_SHAPE, ASM_MEMORY. It costs by the move's own
- * instructions, not by those pushed before, and by the size of a set or a bag that they change and
- * the earlier updates of it. */
+ * would take more than 256 places, so that nothing is tracked. ASM_LARGE, with {"large":LOC}: never
+ * for a step of the agent's storage. ASM_MOVED, ASM_EMPTY (one of the slots), ASM_SMALL (for the
+ * text of a refusal), ASM_NOT_JSON, ASM_SHAPE, ASM_MEMORY. It costs by the move's own instructions,
+ * not by those pushed before, and by the size of a set or a bag that they change and the earlier
+ * updates of it. */
 FOLUGBEN_NODISCARD int32_t asm_push(struct asm_agent *agent, struct asm_step *step,
     const uint8_t *move, size_t len, uint8_t *out, size_t room, size_t *written);
 
@@ -428,8 +428,8 @@ FOLUGBEN_NODISCARD int32_t asm_pop(struct asm_step *step);
 /* Takes these away too, and puts the one move that does what they do in turn into a slot that is
  * empty or holds a move, which is then dropped: asm_push_move and asm_extend_move take it, on this
  * step or on another. A move that none joined is put unchanged, and tracks nothing; of others the
- * locations are tracked that two of them change, where the first has partial updates alone that
- * were judged on the state. ASM_TAKEN (`move` holds something else), before all others; ASM_EMPTY
+ * locations are tracked that two of them change, if the first has partial updates alone that were
+ * judged on the state. ASM_TAKEN (`move` holds something else), before all others; ASM_EMPTY
  * (`step`), ASM_NO_PUSH; ASM_LONG_MOVE: the first of the moves come to more than 4,096
  * instructions, though all might come to fewer; ASM_MANY: more than 256 places would be taken;
  * ASM_CLASH, ASM_LARGE: never for a step of the agent's storage; ASM_MEMORY. */
@@ -438,10 +438,10 @@ FOLUGBEN_NODISCARD int32_t asm_pop_move(struct asm_step *step, struct asm_move *
 /* How many moves are pushed; 0 for a slot without a step. */
 uint32_t asm_depth(struct asm_step *step);
 
-/* Writes {"fire":[INSTR, ..],"reads":[NAMED, ..]}: the one move that asm_commit would offer, and
- * the locations that it would name, as the step is now; asm_try_fire takes it if these are at most
- * 256. The functions that were scanned aren't in it; a commit depends on them too. ASM_EMPTY,
- * ASM_SMALL, ASM_MEMORY. */
+/* Writes {"fire":[INSTR, ..],"reads":[NAMED, ..]}: the one move that asm_commit would fire, and the
+ * locations that it would name, as the step is now; asm_try_fire takes it if these are at most 256.
+ * The functions that were scanned aren't in it; a commit depends on them too. ASM_EMPTY, ASM_SMALL,
+ * ASM_MEMORY. */
 FOLUGBEN_NODISCARD int32_t asm_offer(struct asm_step *step, uint8_t *out, size_t room,
     size_t *written);
 
@@ -450,7 +450,7 @@ FOLUGBEN_NODISCARD int32_t asm_offer(struct asm_step *step, uint8_t *out, size_t
  * writes the reply in full. With ASM_DONE the step is over, and its slot is empty; with any other
  * code it stays, until asm_begin or asm_free_step. ASM_CLASH: each push was accepted, and something
  * was written since that one of the moves doesn't fit, such as a bag out of which another agent
- * took what it removes; begin again, as after ASM_STALE. ASM_STALE comes too where a location of a
+ * took what it removes; begin again, as after ASM_STALE. ASM_STALE comes too if a location of a
  * function that was scanned was written since: the receipt names the smallest of these too.
  * ASM_MANY: the locations that would be named and the functions that were scanned are more than
  * 256. It polls, so it answers neither ASM_MOVED nor ASM_AHEAD. */
@@ -509,26 +509,28 @@ FOLUGBEN_NODISCARD int32_t asm_location(const uint8_t *location, size_t len,
 
 /* Returns the value at a prepared location in the agent's own state, after `*number` moves. The
  * bytes of the value, if it is of a kind that has some, are written to the buffer. `*number` and
- * `*value` are 0 with each code but ASM_DONE. ASM_EMPTY (one of the slots), ASM_SMALL, ASM_MEMORY. */
+ * `*value` are 0 with each code except ASM_DONE. ASM_EMPTY (one of the slots), ASM_SMALL,
+ * ASM_MEMORY. */
 FOLUGBEN_NODISCARD int32_t asm_peek_at(struct asm_agent *agent, struct asm_location *at,
     uint32_t *number, asm_value *value, uint8_t *out, size_t room, size_t *written);
 
-/* Tells what is seen through the pushed moves at a prepared location, as asm_peek_at does. The
- * location is got as by asm_get. `*value` is 0 with each code but ASM_DONE. ASM_MANY: more than 256
- * places would be taken. ASM_MOVED, ASM_EMPTY (one of the slots), ASM_SMALL, ASM_MEMORY. */
+/* Returns what is seen through the pushed moves at a prepared location, as asm_peek_at does. The
+ * location is tracked as by asm_get. `*value` is 0 with each code except ASM_DONE. ASM_MANY: more
+ * than 256 places would be taken. ASM_MOVED, ASM_EMPTY (one of the slots), ASM_SMALL,
+ * ASM_MEMORY. */
 FOLUGBEN_NODISCARD int32_t asm_get_at(struct asm_agent *agent, struct asm_step *step,
     struct asm_location *at, asm_value *value, uint8_t *out, size_t room, size_t *written);
 
-/* Puts an instruction at a prepared location behind those of the move in a slot; an empty slot
- * holds the move of this instruction then. The operand is given by its kind, its number (as in
- * asm_value) and its bytes, of which a text, a list, a set and a bag alone have any; a set and a
- * bag can be put, and no more. `amount` is 1 or above for ASM_BAGADD and ASM_BAGREMOVE, and 0 for
- * any other verb. ASM_INC takes a number alone. ASM_TAKEN (`move` holds something else than a
- * move), ASM_EMPTY (`at`), ASM_OPERAND (the verb, the kind, the number or the bytes of this kind, the
- * amount, or a set or a bag that isn't put), ASM_NOT_JSON (the bytes of a list, a set or a bag),
- * ASM_SHAPE (these are JSON of no value of this kind, or the bytes of a text aren't UTF-8),
- * ASM_LONG_MOVE (the move has 4,096 instructions), ASM_MEMORY. ASM_TAKEN comes before all others; where
- * several of these hold, one of them is answered. */
+/* Appends an instruction at a prepared location to the move in a slot; an empty slot holds the move
+ * of this instruction then. The operand is given by its kind, its number (as in asm_value) and its
+ * bytes, of which a text, a list, a set and a bag alone have any; a set and a bag can be put, and
+ * no more. `amount` is 1 or above for ASM_BAGADD and ASM_BAGREMOVE, and 0 for any other verb.
+ * ASM_INC takes a number alone. ASM_TAKEN (`move` holds something else than a move), ASM_EMPTY
+ * (`at`), ASM_OPERAND (the verb, the kind, the number or the bytes of this kind, the amount, or a
+ * set or a bag that isn't put), ASM_NOT_JSON (the bytes of a list, a set or a bag), ASM_SHAPE
+ * (these are JSON of no value of this kind, or the bytes of a text aren't UTF-8), ASM_LONG_MOVE
+ * (the move has 4,096 instructions), ASM_MEMORY. ASM_TAKEN comes before all others; if several of
+ * these hold, one of them is returned. */
 FOLUGBEN_NODISCARD int32_t asm_instruct(struct asm_move *move, struct asm_location *at,
     int32_t verb, int32_t kind, int64_t number, const uint8_t *bytes, size_t len, uint32_t amount);
 
@@ -546,14 +548,14 @@ FOLUGBEN_NODISCARD int32_t asm_push_move(struct asm_agent *agent, struct asm_ste
 FOLUGBEN_NODISCARD int32_t asm_extend_move(struct asm_agent *agent, struct asm_step *step,
     struct asm_move *move, uint8_t *out, size_t room, size_t *written);
 
-/* How many moves the agent has seen, how many it fired, and how many of its looks found no further
+/* How many moves the agent has seen, how many it fired, and how many of its polls found no further
  * move; 0 for a slot without an agent. */
 uint32_t asm_seen(struct asm_agent *agent);
 uint32_t asm_won(struct asm_agent *agent);
 uint64_t asm_misses(struct asm_agent *agent);
 
-/* How many moves were fired on the storage: `*moves` is that number. It looks along all of them,
- * and agents may fire more meanwhile. ASM_EMPTY. */
+/* How many moves were fired on the storage: `*moves` is that number. It polls all of them, and
+ * agents may fire more meanwhile. ASM_EMPTY. */
 FOLUGBEN_NODISCARD int32_t asm_moves(struct asm_storage *storage, uint32_t *moves);
 
 /* Returns an agent to its storage, in any order; its slot is then empty, and the journal of an
@@ -562,10 +564,10 @@ FOLUGBEN_NODISCARD int32_t asm_moves(struct asm_storage *storage, uint32_t *move
  * agents have the same number. */
 FOLUGBEN_NODISCARD int32_t asm_give(struct asm_storage *storage, struct asm_agent *agent);
 
-/* Checks a returned agent out of its storage again, into an empty slot: it goes on where it was,
- * with its number and its receipts. So agents that leave and come again need no further numbers.
- * The journal of an earlier asm_close is discarded. ASM_TAKEN (`agent` is full), ASM_EMPTY
- * (`storage`), ASM_NO_AGENT, ASM_MEMORY; the first of these that holds is answered. */
+/* Checks a returned agent out of its storage again, into an empty slot: it continues with its
+ * number and its receipts. So agents that leave and come again need no further numbers. The journal
+ * of an earlier asm_close is discarded. ASM_TAKEN (`agent` is full), ASM_EMPTY (`storage`),
+ * ASM_NO_AGENT, ASM_MEMORY; the first of these that holds is returned. */
 FOLUGBEN_NODISCARD int32_t asm_take(struct asm_storage *storage, uint32_t number,
     struct asm_agent *agent);
 
@@ -579,7 +581,7 @@ FOLUGBEN_NODISCARD int32_t asm_close(struct asm_storage *storage, uint32_t *numb
 FOLUGBEN_NODISCARD int32_t asm_journal(struct asm_storage *storage, uint8_t *out, size_t room,
     size_t *written);
 
-/* Opens a storage for 1 to 1,048,576 moves, in an empty slot, that goes on where a closed one
+/* Opens a storage for 1 to 1,048,576 moves, in an empty slot, that continues where a closed one
  * ended: its opening state is the one that the journal's moves leave, its agents start again, and
  * numbers begin at 0: keep no number of a read before, as it is taken for one of this storage once
  * so many moves were seen. The journals of both, one after the other, are one run; moves that were
@@ -593,7 +595,8 @@ FOLUGBEN_NODISCARD int32_t asm_next(struct asm_storage *storage, uint32_t capaci
  * to the end (asm_follow, asm_begin). No journal is needed, and no other agent waits: each may read
  * on, be returned and be closed into the first storage's journal later. The journals of both, one
  * after the other, are one run. Numbers begin at 0, as after asm_next. ASM_TAKEN (`next`),
- * ASM_EMPTY (`agent`), ASM_NOT_FULL, ASM_CAPACITY, ASM_MEMORY; the first of these that holds is answered. */
+ * ASM_EMPTY (`agent`), ASM_NOT_FULL, ASM_CAPACITY, ASM_MEMORY; the first of these that holds is
+ * returned. */
 FOLUGBEN_NODISCARD int32_t asm_go_on(struct asm_agent *agent, uint32_t capacity,
     struct asm_storage *next);
 
@@ -634,7 +637,7 @@ static inline void asm_free_audit(struct asm_audit *audit) {
 FOLUGBEN_NODISCARD int32_t asm_check(const uint8_t *journal, size_t len, uint64_t *calls,
     uint32_t *moves);
 
-/* AN AUDIT checks a run of any length as its bytes come: parts, each a complete journal, one behind
+/* AN AUDIT checks a run of any length as its bytes come: parts, each a complete journal, one after
  * the other, each of which opens with the state that the one before it leaves. It holds that state
  * and the line that hasn't ended. asm_free_audit abandons it. */
 
@@ -688,12 +691,12 @@ FOLUGBEN_NODISCARD int32_t asm_trace(const uint8_t *journal, size_t len, uint8_t
 FOLUGBEN_NODISCARD int32_t asm_aggregate(const uint8_t *state, size_t state_len,
     const uint8_t *move, size_t move_len, uint8_t *out, size_t room, size_t *written);
 
-/* Writes one move [INSTR, ..] that does what the first move [INSTR, ..] and then the second do: on a
- * state on which the first fires, it fires as the two in turn, or clashes as the second does then.
- * ASM_CLASH and ASM_LARGE come where on no state both fire, with the texts {"clash":[LOC,CAUSE]}, and
- * {"large":LOC} where an amount would be above 4294967295 or a sum of increments farther from 0 than
- * 18446744073709551615. ASM_LONG_MOVE: more than 4,096 instructions. ASM_NOT_JSON, ASM_SHAPE (the first, or
- * else the second), ASM_SMALL, ASM_MEMORY. */
+/* Writes one move [INSTR, ..] that does what the first move [INSTR, ..] and then the second do: on
+ * a state on which the first fires, it fires as the two in turn, or clashes as the second does
+ * then. ASM_CLASH and ASM_LARGE come if on no state both fire, with the texts
+ * {"clash":[LOC,CAUSE]}, and {"large":LOC} if an amount would be above 4294967295 or a sum of
+ * increments farther from 0 than 18446744073709551615. ASM_LONG_MOVE: more than 4,096 instructions.
+ * ASM_NOT_JSON, ASM_SHAPE (the first, or else the second), ASM_SMALL, ASM_MEMORY. */
 FOLUGBEN_NODISCARD int32_t asm_compose(const uint8_t *first, size_t first_len,
     const uint8_t *second, size_t second_len, uint8_t *out, size_t room, size_t *written);
 
@@ -710,8 +713,8 @@ enum asm_form {
  * "instruction 3: a set can't hold a set", "4,097 instructions, at most 4,096" or "not JSON at byte
  * 17"; the parts, the lines and the bytes of a text are counted from 1. Of a script it says "agent
  * 1 step 0 block 0 instruction 2: unknown word \"putt\"", all counted from 0. The text is empty,
- * with `*written` 0, exactly where the form's readers accept what they are passed: nothing is said
- * of what makes ASM_MANY, nor of an event that doesn't fit the journal's first line; a script is
+ * with `*written` 0, exactly if the form's readers accept what they are passed: nothing is said of
+ * what makes ASM_MANY, nor of an event that doesn't fit the journal's first line; a script is
  * within its limits. The sentences may change with the version. ASM_NO_FORM, ASM_SMALL,
  * ASM_MEMORY. */
 FOLUGBEN_NODISCARD int32_t asm_explain(int32_t form, const uint8_t *text, size_t len, uint8_t *out,
