@@ -1,4 +1,4 @@
--- Chains of histories that go on from one another, and that they are one run.
+-- Chains of histories that continue one another, and that they are one run.
 use Rattle.std.proofs.Common.{◌≡◌, ◌≢◌, ◌+◌, List, [], ◌∷◌, ◌++◌, length, refl, arith, ℕ, sym, ap, subst, ◌∙◌}
 use Rattle.std.proofs.Common.{length-append}
 use Rattle.asm_update.specs.Fire.{Part, state_of, state_or, fire}

@@ -1,4 +1,4 @@
--- How the events of a journal end: they are whole, or a line is at fault, or an answer is wrong.
+-- How the events of a journal end: they are complete, or a line is at fault, or an answer is wrong.
 use Rattle.std.proofs.Common.{◌≡◌, ◌≢◌, ◌<◌, ◌+◌, ◌≤◌, ◌⊎◌, ℕ, List, [], ◌∷◌, ◌++◌, length, Option, Some, None, Result, Ok, Err, refl, sym, ap, subst, ◌∙◌, inl, inr, append-nil, length-append, arith}
 use Rattle.std.proofs.lemmas.Bool.{cases_lt}
 use Rattle.asm_update.specs.Fire.{Part}
@@ -17,7 +17,7 @@ use Rattle.asm_journal.proofs.Refused.{event_stands, next_event, same_left, one_
 use Rattle.asm_audit.specs.Text.{IsBegun, HasJournal}
 use Rattle.asm_audit.proofs.OneJournal.{events_begin, wrong_more}
 
--- ---- the end of a journal's events: they are whole, or a line is at fault, or one is wrong
+-- ---- the end of a journal's events: they are complete, or a line is at fault, or one is wrong
 
 abbrev pub Ending : Type 0
 Ending = Option (Result ℕ JournalError)
@@ -31,7 +31,7 @@ Ends m v agents count es left (Some (Err e)) =
 pub legal_or_wrong : (m : Machine) (es : List Event) (c : ℕ) → IsLegal m es → IsFirstWrong m es c → ⊥
 legal_or_wrong m es c legal w = w.wrong (legal w.before w.after w.event w.stands)
 
--- what stands before the later one is legal
+-- what comes before the later one is legal
 earlier_wrong : (m : Machine) (es : List Event) (c d : ℕ) → IsFirstWrong m es c → IsFirstWrong m es d → c < d → ⊥
 earlier_wrong m es c d w x less =
     let parts = prefix w.before w.event w.after x.before x.event x.after (w.stands ∙ sym x.stands)
@@ -59,7 +59,7 @@ wrong_once m es c d w x = by_order (cases_lt c d) (cases_lt d c) where
   by_order (inr h) (inr k) = omega arith
 
 module _ (m : Machine) (v agents count : ℕ) (text : List ℕ) where
-  -- a line at fault behind legal events, and events that go on there
+  -- a line at fault after legal events, and events that continue there
   broken_or_more : (es fs : List Event) (left end : List ℕ) (e : JournalError) → HasEvents v agents text es left →
       HasEvents v agents text fs end → e ≢ journal_error.Memory → BreaksEvent v agents (length es + 2) left e →
       length es < length fs → ⊥
@@ -114,9 +114,9 @@ module _ (m : Machine) (v agents count : ℕ) (text : List ℕ) where
       let same = one_wrong es fs left end c d h k p.1 q.1 in
       cc
 
--- ---- a journal that is begun
+-- ---- a journal that has begun
 
--- the text has a header, the history's events behind it, and then this end
+-- the text has a header, the history's events after it, and then this end
 pub record Begins (part : Part) (h : History) (text : List ℕ) (x : Ending) : Type 0 where
   pub v : ℕ
   pub count : ℕ
@@ -148,7 +148,7 @@ same_end part text g h x y b c =
     let s6 = subst (λ t. P h.init h.capacity h.agents c.count c.v t) line.1 s5 in
     ends_once (machine_of part h) c.v h.agents c.count c.begun.behind g.events h.events b.rest c.rest x y s6.0 c.begun.events s6.1 c.ends
 
--- two whole ones are the same
+-- two complete ones are the same
 pub same_journal : (text : List ℕ) (g h : History) (r s : List ℕ) → HasJournal g text r → HasJournal h text s → (g ≡ h) × (r ≡ s)
 same_journal text g h r s (v, b) (w, c) =
     let line = line_once text b.value c.value b.behind c.behind b.line c.line in

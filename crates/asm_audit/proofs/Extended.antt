@@ -1,4 +1,4 @@
--- Lines, journals and faults of a text that goes on.
+-- Lines, journals and faults of a text that continues.
 use Rattle.std.proofs.Common.{◌≡◌, ◌≢◌, ℕ, List, [], ◌∷◌, ◌++◌, length, refl, sym, ap, subst, ◌∙◌, inl, inr, append_assoc, append-nil}
 use Rattle.std.proofs.lemmas.List.Elements.{recursion_from_All}
 use Rattle.serde_json.specs.Data.{Data}
@@ -14,7 +14,7 @@ use Rattle.asm_journal.proofs.Lines.{HasEvents-push}
 use Rattle.asm_journal.proofs.OneHistory.{NoFeed, same_split}
 use Rattle.asm_audit.specs.Text.{IsLineBefore, IsBegun, HasJournal, HasJournals}
 
--- ---- more behind a text
+-- ---- more after a text
 
 ends_more : (text body rest more : List ℕ) → EndsLine text body rest → EndsLine (text ++ more) body (rest ++ more)
 ends_more text body rest more h = (ap (λ x. x ++ more) h.0 ∙ append_assoc body (10 ∷ rest) more, h.1)
@@ -67,7 +67,7 @@ begun_push v count agents capacity A es e text rest after d b line form = record
   events = HasEvents-push v agents b.behind es rest d e after b.events line form;
 }
 
--- ---- a line, and what stands behind it
+-- ---- a line, and what comes after it
 
 pub no_feed_inside : (a r : List ℕ) → NoFeed (a ++ 10 ∷ r) → ⊥
 no_feed_inside [] r h = h.0 refl
@@ -91,7 +91,7 @@ some_line line rest (inr open_line) e = open_line.1 e
 pub some_before : (line rest : List ℕ) → IsLineBefore line rest → line ++ rest ≢ []
 some_before line rest h = some_more line rest (some_line line rest h)
 
--- nothing of it stands behind its line feed
+-- nothing of it comes after its line feed
 pub line_alone : (line rest : List ℕ) (d : Data) (after : List ℕ) → IsLineBefore line rest → HasLine line d after →
     after ≡ []
 line_alone line rest d after (inl ends) h =
@@ -138,7 +138,7 @@ module _ (line rest body : List ℕ) (ends : EndsLine line body []) where
 alone : (P : List ℕ → Type 0) (line rest : List ℕ) → rest ≡ [] → P line → P (line ++ rest)
 alone P line rest none h = subst P (sym (ap (λ x. line ++ x) none ∙ append-nil line)) h
 
--- a fault of a line stays one, whatever may stand behind it
+-- a fault of a line stays one, whatever may come after it
 pub header_fault : (line rest : List ℕ) (e : JournalError) → IsLineBefore line rest → BreaksHeader line e →
     BreaksHeader (line ++ rest) e
 header_fault line rest e (inl ends) h = breaks_header line rest ends.0 ends.1 e h

@@ -1,4 +1,4 @@
--- What is told of bytes, piece by piece.
+-- What is reported of bytes, piece by piece.
 use Rattle.std.proofs.Common.{◌≡◌, ◌≢◌, ◌≤◌, ◌<◌, ◌+◌, ◌-◌, ℕ, suc, take, drop, get_or, Bool, true, false, eqb, List, [], ◌∷◌, ◌++◌, length, Option, Some, None, Result, Ok, Err, refl, sym, ap, subst, ◌∙◌, inl, inr, append-nil, append_assoc, length-append, arith}
 use Rattle.std.proofs.lemmas.Bool.{eqb-true, eqb-false}
 use Rattle.std.proofs.Math.Seq.{drop-cons}
@@ -44,7 +44,7 @@ lines_push text line h short = (
 
 -- ---- one byte
 
--- the same bytes, cut behind the line
+-- the same bytes, cut after the line
 same_bytes : (ended line text new bytes more : List ℕ) → ended ++ line ≡ text → new ≡ line ++ bytes →
     ended ++ (new ++ more) ≡ text ++ (bytes ++ more)
 same_bytes ended line text new bytes more all is =
@@ -129,7 +129,7 @@ fed_long part p q line left b other full = λ text more fed.
       },
     )
 
--- ---- bytes behind one another
+-- ---- bytes after one another
 
 joined : (text front next more : List ℕ) → (text ++ front) ++ (next ++ more) ≡ text ++ ((front ++ next) ++ more)
 joined text front next more =
@@ -181,7 +181,7 @@ pub some_first : (bytes : List ℕ) → bytes ≢ [] → (b : ℕ) × (more : Li
 some_first [] some = absurd (some refl)
 some_first (b ∷ more) some = (b, more, refl)
 
--- what is told at a byte that wasn't taken
+-- what is reported at a byte that wasn't taken
 told_next : (part : Part) (behind : List ℕ) (b : ℕ) (more : List ℕ) (p q : Progress) (line left : List ℕ)
     (r : Result Told AuditError) → behind ≡ b ∷ more → legal r ≡ false → IsFedAnswer part (b ∷ []) p line q left r →
     q ≡ p → left ≡ line → IsToldNext part behind q left r
@@ -277,7 +277,7 @@ same_line old new (Ok Legal) stop leaves = absurd cc
 same_line old new (Ok (Illegal j c)) stop leaves = leaves
 same_line old new (Err e) stop leaves = leaves
 
--- a line feed is behind these bytes
+-- a line feed is after these bytes
 module _ (part : Part) (p q : Progress) (line mid left body rest bytes : List ℕ) (ends : EndsLine bytes body rest)
     (is : mid ≡ line ++ body) (within : length mid ≤ line_limit) where
   -- it ends a line
@@ -297,7 +297,7 @@ module _ (part : Part) (p q : Progress) (line mid left body rest bytes : List �
   ended_on n (Ok (Illegal j c)) count on answer leaves = absurd cc
   ended_on n (Err e) count on answer leaves = absurd cc
 
-  -- or something is told at it
+  -- or something is reported at it
   pub ended_not : (n : ℕ) (r : Result Told AuditError) → n ≡ length body → legal r ≡ false →
       IsLineAnswer part (mid ++ 10 ∷ []) p q r → IsKept p q r → LeavesLine mid left r →
       HasTakenLine part bytes p line q left n r
@@ -315,9 +315,9 @@ module _ (part : Part) (p q : Progress) (line mid left body rest bytes : List �
             (told_next part (10 ∷ rest) 10 rest p q mid left r refl stop (fed_end part p q mid left r answer leaves) same left_is);
       }
 
--- ---- so many of the bytes
+-- ---- this many of the bytes
 
--- these were taken, and what is told at the next one
+-- these were taken, and what is reported at the next one
 first_taken : (part : Part) (front behind bytes : List ℕ) (p q : Progress) (line left : List ℕ) (n : ℕ)
     (r : Result Told AuditError) → front ++ behind ≡ bytes → length front ≡ n → HasTaken part front p line q left →
     IsToldNext part behind q left r → HasTakenFirst part bytes p line q left n r
@@ -329,7 +329,7 @@ first_taken part front behind bytes p q line left n r all count taken next = rec
       (sym (drop_at front behind n count) ∙ ap (λ t. drop n t) all) next;
 }
 
--- what is told at the next byte is told of all, since it stands whatever comes behind
+-- what is reported at the next byte is reported of all, since it holds whatever comes after
 pub told_first : (part : Part) (bytes : List ℕ) (p q : Progress) (line left : List ℕ) (n : ℕ) (r : Result Told AuditError) →
     HasTakenFirst part bytes p line q left n r → IsFedAnswer part bytes p line q left r
 told_first part bytes p q line left n (Ok Legal) first =
@@ -350,7 +350,7 @@ told_first part bytes p q line left n (Err e) first =
 module _ (part : Part) (done rest bytes : List ℕ) (p q s : Progress) (line left right : List ℕ) (n : ℕ)
     (r : Result Told AuditError) (all : done ++ rest ≡ bytes) (taken : HasTaken part done p line q left)
     (here : HasTakenLine part rest q left s right n r) where
-  -- what is left behind it
+  -- what is left after it
   abbrev after : List ℕ
   after = take (length rest - n) (drop n rest)
 
@@ -386,7 +386,7 @@ taken_all part done rest bytes p q line left n all none count taken =
     first_taken part done rest bytes p q line left n (Ok Legal) all
     (omega (arith, count, ap length all, length-append done rest, ap length none)) taken none
 
--- where so many were, some were
+-- if this many were, some were
 pub some_taken : (part : Part) (bytes : List ℕ) (p q : Progress) (line left : List ℕ) (n : ℕ) (r : Result Told AuditError) →
     HasTakenFirst part bytes p line q left n r → HasTakenSome part bytes p line q left
 some_taken part bytes p q line left n r first = (take n bytes, drop n bytes, take-append-drop n bytes, first.taken)
@@ -406,14 +406,14 @@ fed_audited part text p line none fed =
 pub fed_short : (part : Part) (text : List ℕ) (p : Progress) (line : List ℕ) → IsFed part text p line → HasShortLines text
 fed_short part text p line fed = (fed.ended, line, fed.all, fed.short, fed.open_line)
 
--- what the end tells where the line is empty
+-- what the end reports if the line is empty
 pub end_told : (part : Part) (p : Progress) (line : List ℕ) (r : Result Counts AuditError) → line ≡ [] → IsEnd part p r →
     IsFedEnd part p line r
 end_told part p line (Ok w) none is =
     λ text fed. (is text (fed_audited part text p line none fed), fed_short part text p line fed)
 end_told part p line (Err e) none is = λ text fed. is text (fed_audited part text p line none fed)
 
--- a line without a line feed isn't told legal
+-- a line without a line feed isn't reported as legal
 pub no_end : (line : List ℕ) → HasLineFeed line → HasNoLineFeed line → ⊥
 no_end line end none = ended line end.0 end.1 end.2 none
 

@@ -1,4 +1,4 @@
--- What an audit tells of one journal is what the check tells.
+-- What an audit reports of one journal is what the check reports.
 use Rattle.std.proofs.Common.{◌≡◌, ◌≢◌, ◌↔◌, ◌+◌, ◌≤◌, ℕ, suc, List, [], ◌∷◌, ◌++◌, length, Option, Some, None, refl, sym, ap, subst, inl, inr, ◌∙◌, append_assoc, length-append, arith}
 use Rattle.std.specs.List.{cons_option}
 use Rattle.serde_json.specs.Data.{Data}

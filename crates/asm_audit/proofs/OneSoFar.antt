@@ -25,7 +25,7 @@ use Rattle.asm_audit.proofs.Endings.{history}
 use Rattle.asm_audit.proofs.OneJournal.{events_begin}
 use Rattle.asm_audit.proofs.OneVerdict.{Stop, IsStopped, begun_some, no_line, same_place}
 
--- ---- a part that is begun
+-- ---- a part that has begun
 
 no_events : (v agents : ℕ) (es : List Event) → HasEvents v agents [] es [] → es ≡ []
 no_events v agents [] h = refl
@@ -57,7 +57,7 @@ same_begun text v w count total g h b c =
     ap (λ A. history A g.capacity g.agents g.events) parts.3 ∙ ap (λ p. history h.init p g.agents g.events) parts.1
     ∙ ap (λ a. history h.init h.capacity a g.events) parts.0 ∙ ap (history h.init h.capacity h.agents) events
 
--- ---- where the whole parts end
+-- ---- the end of the complete parts
 
 record EndsAt (part : Part) (text : List ℕ) (whole : List History) (rest : List ℕ) : Type 0 where
   told : Result Verdict AuditError
@@ -169,7 +169,7 @@ one_left part text s t p q = by_all p.all refl where
       p.left ∙ ap (λ A. state_of part A (fired_moves (all_events p.all))) first
       ∙ ap (λ (l : List History). state_of part q.first (fired_moves (all_events l))) same ∙ sym q.left
 
--- where nothing was read, no part has begun
+-- if nothing was read, no part has begun
 none_begun : (part : Part) (text : List ℕ) (A : State) (whole all : List History) (f : IsSoFar part text A whole all) →
     text ≡ [] → all ≡ []
 none_begun part text A whole all f none = by_whole whole f.has.journals f.onward where

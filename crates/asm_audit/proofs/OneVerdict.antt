@@ -1,4 +1,4 @@
--- Of a text an audit tells one thing alone.
+-- An audit reports one thing alone of a text.
 use Rattle.std.proofs.Common.{◌≡◌, ◌≢◌, ◌<◌, ◌+◌, ◌≤◌, ◌⊎◌, ℕ, List, [], ◌∷◌, ◌++◌, length, Some, None, Result, Ok, Err, refl, sym, ap, subst, ◌∙◌, inl, inr, append-nil, length-append, arith}
 use Rattle.std.proofs.lemmas.Bool.{cases_lt}
 use Rattle.asm_update.specs.Fire.{Part}
@@ -22,7 +22,7 @@ use Rattle.asm_audit.specs.Audited.{AreCounts, HasWrong, IsVerdict}
 use Rattle.asm_audit.specs.Laws.{IsOfText, OneVerdict}
 use Rattle.asm_audit.proofs.Endings.{Begins, same_opening, same_end, same_journal}
 
--- ---- what stops an audit behind whole journals
+-- ---- what stops an audit after complete journals
 
 abbrev pub Stop : Part → State → List History → List ℕ → Result Verdict AuditError → Type 0
 Stop part A hs text (Ok (Legal w)) = (text ≡ []) × (hs ≢ []) × AreCounts hs w
@@ -87,7 +87,7 @@ module _ (part : Part) (A : State) (hs : List History) (text : List ℕ) where
 
 -- ---- two stops at one place
 
--- what histories leave doesn't rest on how the first of them opens, but where there is none
+-- what histories leave doesn't depend on how the first of them opens, except if there is none
 same_last : (part : Part) (A B : State) (hs : List History) → hs ≢ [] → last_left part A hs ≡ last_left part B hs
 same_last part A B [] some = absurd (some refl)
 same_last part A B (h ∷ hs) some = refl
@@ -178,7 +178,7 @@ stops_here part hs text A B (Err Memory) s p q = absurd p
 stops_here part hs text A B r (Err LongLine) p q = absurd q
 stops_here part hs text A B r (Err Memory) p q = absurd q
 
--- ---- the whole text
+-- ---- the complete text
 
 pub record IsStopped (part : Part) (text : List ℕ) (r : Result Verdict AuditError) : Type 0 where
   pub first : State

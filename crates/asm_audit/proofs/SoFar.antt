@@ -1,4 +1,4 @@
--- What was counted so far, and the state that stands.
+-- What was counted so far, and the state then.
 use Rattle.std.proofs.Common.{◌≡◌, ◌≤◌, ◌<◌, ◌⊎◌, ℕ, List, [], ◌∷◌, ◌++◌, length, Option, Some, None, refl, sym, subst, ◌∙◌, inl, inr, append-nil}
 use Rattle.std.proofs.lemmas.Bool.{cases_lt}
 use Rattle.asm_update.specs.Fire.{Part}
@@ -19,7 +19,7 @@ use Rattle.asm_audit.proofs.Telling.{opened_is}
 
 -- ---- the numbers
 
--- between two parts they are those of whole ones
+-- between two parts they are those of complete ones
 pub counts_between : (part : Part) (text : List ℕ) (w : Counts) (o : Option Opened) → IsBetween part text w o →
     HasCounts part text w
 counts_between part text w o b = record {
@@ -34,7 +34,7 @@ counts_between part text w o b = record {
 
 module _ (part : Part) (text : List ℕ) (w : Counts) (o : Opened)
     (audited : IsAudited part text (record { before = w; opened = Some o })) where
-  -- a part was begun that lacks an event
+  -- a part has begun that lacks an event
   pub begun_so_far : o.taken < o.limits.events → IsSoFar part text audited.first audited.before (with_read part text w o audited)
   begun_so_far less = record {
     rest = audited.rest;

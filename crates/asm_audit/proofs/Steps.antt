@@ -58,7 +58,7 @@ pub legal_more : (part : Part) (A : State) (hs : List History) (text rest more :
 legal_more part A hs text rest more h =
     record { journals = journals_more hs text rest more h.journals; legal = h.legal }
 
--- what is read, where its limits are these
+-- what is being read, if its limits are these
 reading_of : (part : Part) (A : State) (text : List ℕ) (o : Opened) (limits : Limits) → limits ≡ o.limits →
     (events : List Event) →
     IsGoing part A limits.version limits.events (history_of limits A events) text [] → o.taken ≡ length events →
@@ -184,7 +184,7 @@ header_held v agents capacity count init d h = form_held init h.3 h.7 where
   form_held : (A : State) (pairs : Data) → IsStateForm A pairs → IsHeld A
   form_held A pairs form = subst IsHeld (sym form.2.1) (written_held form.0)
 
--- between two journals: the text is whole legal journals, and what was read last leaves the state
+-- between two journals: the text is complete legal journals, and what was read last leaves the state
 pub record IsLast (part : Part) (A : State) (o : Opened) : Type 0 where
   pub opening : State
   pub events : List Event
@@ -216,7 +216,7 @@ counted_more w n m k e f = omega (arith, e, f)
 same_count : (a b : ℕ) → a ≤ b → b ≤ a → a ≡ b
 same_count a b h k = omega arith
 
--- the part that is read, behind those before it
+-- the part that is being read, after those before it
 module _ (part : Part) (text : List ℕ) (w : Counts) (o : Opened)
     (audited : IsAudited part text (record { before = w; opened = Some o })) where
   abbrev pub read_of : History
@@ -294,7 +294,7 @@ ended_whole part text w o met audited =
     let b = between part text w (Some o) met audited in
     record { first = b.first; all = b.all; has = b.has; some = b.left.0; counts = b.counts }
 
--- one was begun, and isn't whole
+-- one has begun, and isn't complete
 pub ended_cut : (part : Part) (text : List ℕ) (w : Counts) (o : Opened) → o.taken < o.limits.events →
     IsAudited part text (record { before = w; opened = Some o }) →
     IsFaulty part text (told_fault w.parts journal_error.Cut)
@@ -324,7 +324,7 @@ module _ (part : Part) (text : List ℕ) (w : Counts) (o : Option Opened) (met :
   OpensOn init = (first : State) × HasLegal part first b.all text [] × (init ≡ last_left part first b.all)
 
   module _ (init : State) (held : IsHeld init) (test : Bool) where
-    -- the header goes on from what was read
+    -- the header continues what was read
     opens_on : (x : Option Opened) → IsLeft part b.first b.all x → IsOnTest x init test → test ≡ true → OpensOn init
     opens_on None none is true_is = (
       init,
@@ -364,7 +364,7 @@ module _ (part : Part) (text : List ℕ) (w : Counts) (o : Option Opened) (met :
     held : IsHeld header.init
     held = header_held _ _ _ _ header.init d form
 
-    -- a journal is begun
+    -- a journal begins
     pub header_right : (new : Opened) → IsLineBefore line [] → test ≡ true → new.limits ≡ header.limits →
         new.taken ≡ 0 → Stands part header.init new.state [] →
         IsAudited part (text ++ line) (record { before = all_with w o; opened = Some new })

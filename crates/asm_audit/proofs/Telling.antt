@@ -1,4 +1,4 @@
--- What a line tells.
+-- What a line reports.
 use Rattle.std.proofs.Common.{◌≡◌, ◌+◌, ◌≤◌, ◌<◌, ◌↔◌, ◌⊎◌, ℕ, Bool, false, List, [], ◌++◌, Option, Some, Result, Ok, Err, sym, ap, subst, ◌∙◌, inl, inr, true≢false}
 use Rattle.std.specs.Prelude.{IsTrue}
 use Rattle.std.proofs.lemmas.Bool.{cases_lt}
@@ -16,7 +16,7 @@ use Rattle.asm_audit.specs.Step.{IsKept}
 use Rattle.asm_audit.proofs.Extended.{event_fault}
 use Rattle.asm_audit.proofs.Steps.{event_wrong, event_right, event_broken}
 
--- the same, where this is what is read
+-- the same, if this is what is being read
 pub opened_is : (part : Part) (text : List ℕ) (p : Progress) (o : Option Opened) → p.opened ≡ o → IsAudited part text p →
     IsAudited part text (record { before = p.before; opened = o })
 opened_is part text p o same audited = record {
@@ -51,7 +51,7 @@ event_answer part line p old new (Err e) same is less t =
     (event_broken part text p.before old (opened_is part text p (Some old) same audited) (line ++ rest) t.0 less
     (event_fault line rest old.limits.version old.limits.agents (old.taken + 2) t.0 before t.2))
 
--- a line tells the same of what is read, written in parts
+-- a line reports the same of what is being read, written in parts
 pub answer_is : (part : Part) (line : List ℕ) (p new : Progress) (o : Option Opened) (r : Result Told AuditError) →
     p.opened ≡ o → IsLineAnswer part line (record { before = p.before; opened = o }) new r → IsLineAnswer part line p new r
 answer_is part line p new o (Ok Legal) same is = λ text audited. is text (opened_is part text p o same audited)
@@ -60,7 +60,7 @@ answer_is part line p new o (Ok (Illegal j c)) same is =
 answer_is part line p new o (Err e) same is =
     λ text rest audited before. is text rest (opened_is part text p o same audited) before
 
--- and what stays as it was
+-- and what stays unchanged
 pub kept_of : (p new : Progress) (o : Option Opened) (r : Result Told AuditError) → p.opened ≡ o →
     IsKept {T = Progress} (record { before = p.before; opened = o }) new r → IsKept p new r
 kept_of p new o (Ok Legal) same kept = tt
@@ -69,7 +69,7 @@ kept_of p new o (Ok (Illegal j c)) same kept =
 kept_of p new o (Err e) same kept =
     kept ∙ ap (λ (x : Option Opened). record { before = p.before; opened = x }) (sym same)
 
--- a part that stays as it was leaves all as it was
+-- a part that stays unchanged leaves all unchanged
 pub kept_part : (p : Progress) (old new : Opened) (r : Result Told AuditError) → p.opened ≡ Some old → IsKept old new r →
     IsKept {T = Progress} p (record { before = p.before; opened = Some new }) r
 kept_part p old new r same kept = kept_of p _ (Some old) r same (by_answer r kept) where

@@ -17,7 +17,7 @@ pub record IsReadTo (part : Part) (text : List ℕ) (p : Progress) (line : List 
   pub all : done ++ rest ≡ text
   pub fed : IsFed part done p line
 
--- a chunk was read behind what was fed, and these are left then
+-- a chunk was read after what was fed, and these are left then
 pub record IsChunk (part : Part) (text : List ℕ) (p : Progress) (line bytes : List ℕ) (left : Option (List ℕ)) : Type 0
   where
     pub done : List ℕ
@@ -43,7 +43,7 @@ read_chunk part text p line bytes old new read taken =
       fed = read.fed;
     }
 
--- what the calls tell of the whole
+-- what the calls report of the complete text
 pub told_more : (part : Part) (text : List ℕ) (p q : Progress) (line next bytes : List ℕ) (left : Option (List ℕ)) →
     IsChunk part text p line bytes left → HasTaken part bytes p line q next → IsReadTo part text q next left
 told_more part text p q line next bytes left chunk taken = record {
@@ -71,7 +71,7 @@ all_fed part text p line buffer left n none chunk end =
     ∙ ap (λ (l : List ℕ). chunk.done ++ (l ++ chunk.rest)) (sym nothing) ∙ chunk.all in
     subst (λ (t : List ℕ). IsFed part t p line) same chunk.fed
 
--- what is so where the bytes are known
+-- what holds if the bytes are known
 pub where_known : (known : Option (List ℕ)) (P Q : List ℕ → Type 0) → ((xs : List ℕ) → P xs → Q xs) → IfSome known P →
     IfSome known Q
 where_known None P Q more h = tt

@@ -1,4 +1,4 @@
--- What an audit has read, and what it tells.
+-- What an audit has read, and what it reports.
 use Rattle.std.specs.Prelude.{◌≡◌, ◌≢◌, ◌≤◌, ◌+◌, ℕ, List, [], ◌∷◌, ◌++◌, length, Option, Some, None, Result, Ok, Err}
 use Rattle.asm_update.specs.Fire.{Part}
 use Rattle.asm_update.specs.State.{State}
@@ -27,7 +27,7 @@ abbrev pub calls_of : List History → ℕ
 calls_of [] = 0
 calls_of (h ∷ hs) = length h.events + calls_of hs
 
--- how many fired moves
+-- how many fired moves they have
 abbrev pub moves_of : List History → ℕ
 moves_of [] = 0
 moves_of (h ∷ hs) = length (fired_moves h.events) + moves_of hs
@@ -37,12 +37,13 @@ abbrev pub AreCounts : List History → Counts → Type 0
 AreCounts hs w =
     (w.calls ≡ counted (calls_of hs)) × (w.moves ≡ counted (moves_of hs)) × (w.parts ≡ counted (length hs))
 
--- behind whole parts the text is the beginning of the part that is read; there is none before the first header
+-- after complete parts the text is the beginning of the part that is being read; there is none before the first
+-- header
 abbrev pub IsRead : Part → State → List History → List ℕ → Option Opened → Type 0
 IsRead part first before text None = (before ≡ []) × (text ≡ [])
 IsRead part first before text (Some o) = IsReading part (last_left part first before) text o
 
--- the text was read: it is whole legal parts that go on from one another, and the beginning of the next one
+-- the text was read: it is complete legal parts that continue one another, and the beginning of the next one
 pub record IsAudited (part : Part) (text : List ℕ) (p : Progress) : Type 0 where
   pub first : State
   pub before : List History
@@ -51,7 +52,7 @@ pub record IsAudited (part : Part) (text : List ℕ) (p : Progress) : Type 0 whe
   pub counts : AreCounts before p.before
   pub next : IsRead part first before rest p.opened
 
--- the text is whole legal parts that go on from one another, one at least, and these are their numbers
+-- the text is complete legal parts that continue one another, at least one, and these are their numbers
 pub record IsWhole (part : Part) (text : List ℕ) (w : Counts) : Type 0 where
   pub first : State
   pub all : List History
@@ -59,8 +60,8 @@ pub record IsWhole (part : Part) (text : List ℕ) (w : Counts) : Type 0 where
   pub some : all ≢ []
   pub counts : AreCounts all w
 
--- behind whole parts the text has one that goes on from there, and the event with this number is the first of it with
--- another answer than the storage of one thread gives
+-- after complete parts the text has one that continues them, and the event with this number is the first of it whose
+-- answer isn't the one that a sequential storage gives
 abbrev pub HasWrong : Part → ℕ → State → List History → List ℕ → Type 0
 HasWrong part c first before text =
     (v count : ℕ) × (h : History) × (rest : List ℕ) × IsBegun v count h text rest × (length h.events ≤ count)
@@ -70,8 +71,8 @@ HasWrong part c first before text =
 abbrev pub IsFirstIllegal : Part → List ℕ → ℕ → ℕ → Type 0
 IsFirstIllegal part text j c = IsBehind part text j (HasWrong part c)
 
--- what a line tells that is taken behind any text that was read: with it too all is legal, and was read; or, whatever
--- comes behind the line, the whole text has this first wrong answer, or this fault
+-- what a line reports that is taken after any text that was read: with it too all is legal, and was read; or,
+-- whatever comes after the line, the complete text has this first wrong answer, or this fault
 abbrev pub IsLineAnswer : Part → List ℕ → Progress → Progress → Result Told AuditError → Type 0
 IsLineAnswer part line old new (Ok Legal) = (text : List ℕ) → IsAudited part text old → IsAudited part (text ++ line) new
 IsLineAnswer part line old new (Ok (Illegal j c)) = (text rest : List ℕ) → IsAudited part text old →
@@ -79,23 +80,23 @@ IsLineAnswer part line old new (Ok (Illegal j c)) = (text rest : List ℕ) → I
 IsLineAnswer part line old new (Err e) = (text rest : List ℕ) → IsAudited part text old →
     IsLineBefore line rest → IsFaulty part (text ++ (line ++ rest)) e
 
--- what the end tells of any text that was read
+-- what the end reports of any text that was read
 abbrev pub IsEnd : Part → Progress → Result Counts AuditError → Type 0
 IsEnd part p (Ok w) = (text : List ℕ) → IsAudited part text p → IsWhole part text w
 IsEnd part p (Err e) = (text : List ℕ) → IsAudited part text p → IsFaulty part text e
 
--- the end tells no other error than that the part is cut
+-- the end reports no other error than that the part is cut
 abbrev pub IsCutEnd : Result Counts AuditError → Type 0
 IsCutEnd (Ok w) = Unit {0}
 IsCutEnd (Err e) = (j : ℕ) × (e ≡ Journal j journal_error.Cut)
 
--- what is told of a whole text; of a legal one no line is too long
+-- what is reported of a complete text; of a legal one no line is too long
 abbrev pub IsVerdict : Part → List ℕ → Result Verdict AuditError → Type 0
 IsVerdict part text (Ok (verdict.Legal w)) = IsWhole part text w × HasShortLines text
 IsVerdict part text (Ok (verdict.Illegal j c)) = IsFirstIllegal part text j c
 IsVerdict part text (Err e) = IsFaulty part text e
 
--- what is told of an input that had this text; a failed read tells nothing of it
+-- what is reported of an input that had this text; a failed read says nothing of it
 abbrev pub IsInputVerdict : Part → List ℕ → Result Verdict AuditInputError → Type 0
 IsInputVerdict part text (Ok v) = IsVerdict part text (Ok v)
 IsInputVerdict part text (Err (Audit e)) = IsVerdict part text (Err e)

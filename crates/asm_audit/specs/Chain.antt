@@ -12,7 +12,7 @@ use Rattle.asm_audit.specs.Text.{IsBegun, HasJournals}
 abbrev pub state_left : Part → History → State
 state_left part h = machine_state (machine_of part h) (fired_moves h.events)
 
--- the state that the last of the histories leaves; where there is none, the opening state
+-- the state that the last of the histories leaves; if there is none, the opening state
 abbrev pub last_left : Part → State → List History → State
 last_left part A [] = A
 last_left part A (h ∷ hs) = last_left part (state_left part h) hs
@@ -23,7 +23,8 @@ AreLegalFrom part A [] = Unit {0}
 AreLegalFrom part A (h ∷ hs) =
     (h.init ≡ A) × IsLegal (machine_of part h) h.events × AreLegalFrom part (state_left part h) hs
 
--- the text begins with the journals of these histories, which are so, and the first of which opens with this state
+-- the text begins with the journals of these histories, which are such a chain, and the first of which opens with
+-- this state
 pub record HasLegal (part : Part) (first : State) (hs : List History) (text rest : List ℕ) : Type 0 where
   pub journals : HasJournals hs text rest
   pub legal : AreLegalFrom part first hs

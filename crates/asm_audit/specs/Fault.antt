@@ -15,7 +15,7 @@ use Rattle.asm_audit.specs.Chain.{last_left, HasLegal, IsGoing}
 abbrev pub counted : ℕ → ℕ
 counted n = min n 18446744073709551615
 
--- the fault of the journal of the part with this number
+-- the error for a fault of the journal of the part with this number
 abbrev pub told_fault : ℕ → JournalError → AuditError
 told_fault j (journal_error.NotJson k) = Journal j (journal_error.NotJson k)
 told_fault j (journal_error.Shape k) = Journal j (journal_error.Shape k)
@@ -23,28 +23,28 @@ told_fault j journal_error.Version = Journal j journal_error.Version
 told_fault j journal_error.Cut = Journal j journal_error.Cut
 told_fault j journal_error.Memory = Memory
 
--- behind whole parts the text has a line at fault: that of a header, which may be missing before the first part alone, or
--- that of an event, behind a header and legal events
+-- after complete parts the text has a line at fault: that of a header, which may be missing before the first part
+-- alone, or that of an event, after a header and legal events
 abbrev pub BreaksNext : Part → State → List History → List ℕ → JournalError → Type 0
 BreaksNext part first before text fault =
     (BreaksHeader text fault × (text ≡ [] → before ≡ []))
     ⊎ ((v count : ℕ) × (h : History) × (rest : List ℕ) × IsGoing part (last_left part first before) v count h text rest
     × (length h.events < count) × BreaksEvent v h.agents (length h.events + 2) rest fault)
 
--- behind whole parts, of which there is one at least, a header opens with another state than the last one leaves
+-- after complete parts, at least one, a header opens with another state than the last one leaves
 abbrev pub OpensApart : Part → State → List History → List ℕ → Type 0
 OpensApart part first before text =
     (before ≢ []) × ((v count : ℕ) × (h : History) × (rest : List ℕ) × IsBegun v count h text rest
     × (h.events ≡ []) × (h.init ≢ last_left part first before))
 
--- behind whole parts the text has a line that is too long, as that of a header or behind a header and legal events
+-- after complete parts the text has a line that is too long, as that of a header or after a header and legal events
 abbrev pub HasLong : Part → State → List History → List ℕ → Type 0
 HasLong part first before text =
     BeginsWithLong text
     ⊎ ((v count : ℕ) × (h : History) × (rest : List ℕ) × IsGoing part (last_left part first before) v count h text rest
     × BeginsWithLong rest)
 
--- the text is whole legal parts that go on from one another, so many, and then something of which this tells
+-- the text is this many complete legal parts that continue one another, and then a rest of which `Next` holds
 pub record IsBehind (part : Part) (text : List ℕ) (number : ℕ) (Next : State → List History → List ℕ → Type 0) : Type 0
   where
     pub first : State
@@ -54,7 +54,7 @@ pub record IsBehind (part : Part) (text : List ℕ) (number : ℕ) (Next : State
     pub numbered : number ≡ counted (length before)
     pub next : Next first before rest
 
--- the text has this fault behind whole legal parts; refused memory tells nothing of the text
+-- the text has this fault after complete legal parts; refused memory says nothing of the text
 abbrev pub IsFaulty : Part → List ℕ → AuditError → Type 0
 IsFaulty part text (Journal j fault) =
     (fault ≢ journal_error.Memory) × IsBehind part text j (λ A before rest. BreaksNext part A before rest fault)

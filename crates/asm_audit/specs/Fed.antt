@@ -22,7 +22,7 @@ pub record IsFed (part : Part) (text : List ℕ) (p : Progress) (line : List ℕ
   pub open_line : IsShortLine line
   pub audited : IsAudited part ended p
 
--- these bytes were taken behind any text that was fed
+-- these bytes were taken after any text that was fed
 abbrev pub HasTaken : Part → List ℕ → Progress → List ℕ → Progress → List ℕ → Type 0
 HasTaken part bytes p line q left = (text : List ℕ) → IsFed part text p line → IsFed part (text ++ bytes) q left
 
@@ -31,7 +31,7 @@ abbrev pub HasTakenSome : Part → List ℕ → Progress → List ℕ → Progre
 HasTakenSome part bytes p line q left =
     (front behind : List ℕ) × (front ++ behind ≡ bytes) × HasTaken part front p line q left
 
--- what is told of bytes that come behind any text that was fed, whatever comes behind them
+-- what is reported of bytes that come after any text that was fed, whatever comes after them
 abbrev pub IsFedAnswer : Part → List ℕ → Progress → List ℕ → Progress → List ℕ → Result Told AuditError → Type 0
 IsFedAnswer part bytes p line q left (Ok Legal) = HasTaken part bytes p line q left
 IsFedAnswer part bytes p line q left (Ok (Illegal j c)) =
@@ -39,18 +39,18 @@ IsFedAnswer part bytes p line q left (Ok (Illegal j c)) =
 IsFedAnswer part bytes p line q left (Err e) =
     (text more : List ℕ) → IsFed part text p line → IsFaulty part (text ++ (bytes ++ more)) e
 
--- what is told of any text that was fed where no byte comes behind
+-- what is reported of any text that was fed if no byte comes after it
 abbrev pub IsFedEnd : Part → Progress → List ℕ → Result Counts AuditError → Type 0
 IsFedEnd part p line (Ok w) = (text : List ℕ) → IsFed part text p line → IsVerdict part text (Ok (verdict.Legal w))
 IsFedEnd part p line (Err e) = (text : List ℕ) → IsFed part text p line → IsVerdict part text (Err e)
 
--- a line that was told legal is let go; else it is as it was
+-- a line that was reported as legal is dropped; else it is unchanged
 abbrev pub LeavesLine : List ℕ → List ℕ → Result Told AuditError → Type 0
 LeavesLine old new (Ok Legal) = new ≡ []
 LeavesLine old new (Ok (Illegal j c)) = new ≡ old
 LeavesLine old new (Err e) = new ≡ old
 
--- what is told at the first of the bytes that are left; where all is told legal, none is left
+-- what is reported at the first of the bytes that are left; if all is reported as legal, none is left
 abbrev pub IsToldNext : Part → List ℕ → Progress → List ℕ → Result Told AuditError → Type 0
 IsToldNext part behind q left (Ok Legal) = behind ≡ []
 IsToldNext part behind q left (Ok (Illegal j c)) = (b : ℕ) × (more : List ℕ) × (behind ≡ b ∷ more)
@@ -58,7 +58,7 @@ IsToldNext part behind q left (Ok (Illegal j c)) = (b : ℕ) × (more : List ℕ
 IsToldNext part behind q left (Err e) = (b : ℕ) × (more : List ℕ) × (behind ≡ b ∷ more)
     × IsFedAnswer part (b ∷ []) q left q left (Err e)
 
--- the first so many of the bytes were taken, and no others, since this is told at the next one
+-- this many of the first bytes were taken, and no others, since this is reported at the next one
 pub record HasTakenFirst (part : Part) (bytes : List ℕ) (p : Progress) (line : List ℕ) (q : Progress) (left : List ℕ)
     (n : ℕ) (r : Result Told AuditError) : Type 0 where
   pub within : n ≤ length bytes
@@ -71,20 +71,21 @@ legal (Ok Legal) = true
 legal (Ok (Illegal j c)) = false
 legal (Err e) = false
 
--- so many of these bytes were added to the line: all, or those up to the limit, or none, since memory was refused
+-- this many of these bytes were added to the line: all, or those up to the limit, or none, since memory was refused
 abbrev pub IsExtended : List ℕ → List ℕ → List ℕ → ℕ → Result Told AuditError → Type 0
 IsExtended body old new n (Ok Legal) = (new ≡ old ++ body) × (n ≡ length body)
 IsExtended body old new n (Err LongLine) = (new ≡ old ++ take n body) × (n < length body) × (line_limit ≤ length new)
 IsExtended body old new n (Err Memory) = (new ≡ old) × (n ≡ 0)
 IsExtended body old new n r = ⊥
 
--- these bytes end in the first line feed, or no line feed is in them, and no byte is left; or this is told at the next one
+-- these bytes end in the first line feed, or no line feed is in them, and no byte is left; or this is reported at the
+-- next one
 abbrev pub IsLineEnd : Part → List ℕ → List ℕ → Progress → List ℕ → Result Told AuditError → Type 0
 IsLineEnd part front behind q left (Ok Legal) =
     (front ≢ []) × (((body : List ℕ) × EndsLine front body []) ⊎ (HasNoLineFeed front × (behind ≡ [])))
 IsLineEnd part front behind q left r = HasNoLineFeed front × IsToldNext part behind q left r
 
--- the first so many of the bytes were taken, up to the first line feed, and no others
+-- this many of the first bytes were taken, up to the first line feed, and no others
 pub record HasTakenLine (part : Part) (bytes : List ℕ) (p : Progress) (line : List ℕ) (q : Progress) (left : List ℕ)
     (n : ℕ) (r : Result Told AuditError) : Type 0 where
   pub front : List ℕ

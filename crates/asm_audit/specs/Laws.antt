@@ -18,24 +18,24 @@ use Rattle.asm_audit.specs.SoFar.{HasCounts, HasState}
 use Rattle.asm_audit.specs.declared.progress.Counts.{Counts}
 use Rattle.asm_audit.specs.Audited.{IsWhole, IsFirstIllegal, IsVerdict}
 
--- A text is one legal part with these numbers exactly where it reads as a history that the check finds legal, with the
+-- A text is one legal part with these numbers exactly if it reads as a history that the check finds legal, with the
 -- same numbers.
 abbrev pub OneLegal : Type 0
 OneLegal = (part : Part) (text : List ℕ) (calls moves : ℕ) →
     IsWhole part text (record { calls = calls; moves = moves; parts = 1 })
     ↔ ((h : History) × ReadsAs text h × IsLegality (machine_of part h) h.events (Legal calls moves))
 
--- Where a text reads as a history, a call is the first of the first part whose answer is wrong exactly where the check
--- tells it.
+-- If a text reads as a history, a call is the first of the first part whose answer is wrong exactly if the check
+-- reports it.
 abbrev pub OneIllegal : Type 0
 OneIllegal = (part : Part) (text : List ℕ) (h : History) (call : ℕ) → ReadsAs text h →
     (IsFirstIllegal part text 0 call ↔ IsLegality (machine_of part h) h.events (Illegal call))
 
--- A fault of the first part is one of the text as a journal, which `from_text` tells too.
+-- A fault of the first part is one of the text as a journal, which `from_text` reports too.
 abbrev pub FirstFault : Type 0
 FirstFault = (part : Part) (text : List ℕ) (fault : JournalError) → IsFaulty part text (Journal 0 fault) → IsRefused text fault
 
--- what is told is of the calls or of the form of the text: no memory was refused, and no line was too long
+-- the report is on the calls or on the form of the text: no memory was refused, and no line was too long
 abbrev pub IsOfText : Result Verdict AuditError → Type 0
 IsOfText (Ok v) = Unit {0}
 IsOfText (Err (Journal j fault)) = Unit {0}
@@ -43,20 +43,20 @@ IsOfText (Err (Apart j)) = Unit {0}
 IsOfText (Err LongLine) = ⊥
 IsOfText (Err Memory) = ⊥
 
--- One thing alone is told of a text.
+-- One thing alone is reported of a text.
 abbrev pub OneVerdict : Type 0
 OneVerdict = (part : Part) (text : List ℕ) (r s : Result Verdict AuditError) → IsOfText r → IsOfText s →
     IsVerdict part text r → IsVerdict part text s → r ≡ s
 
--- The moves of whole legal parts that go on from one another are one run from the state with which the first opens.
+-- The moves of complete legal parts that continue one another are one run from the state with which the first opens.
 abbrev pub OneRun : Type 0
 OneRun = (part : Part) (A : State) (hs : List History) (text rest : List ℕ) → HasLegal part A hs text rest →
     IsOneRun part A hs
 
--- Of what was read there is one number of calls, of moves and of whole parts.
+-- What was read has one number of calls, of moves and of complete parts.
 abbrev pub OneCount : Type 0
 OneCount = (part : Part) (text : List ℕ) (w x : Counts) → HasCounts part text w → HasCounts part text x → w ≡ x
 
--- And one state that all its moves leave.
+-- It also has one state that all its moves leave.
 abbrev pub OneState : Type 0
 OneState = (part : Part) (text : List ℕ) (s t : Option State) → HasState part text s → HasState part text t → s ≡ t

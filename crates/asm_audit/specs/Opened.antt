@@ -1,4 +1,4 @@
--- The part that is read.
+-- The part that is being read.
 use Rattle.std.specs.Prelude.{◌≡◌, ◌≤◌, ◌+◌, ℕ, Bool, true, false, List, [], length, Result, Ok, Err}
 use Rattle.serde_json.specs.Data.{Data}
 use Rattle.asm_update.specs.Fire.{Part}
@@ -20,12 +20,12 @@ use Rattle.asm_audit.specs.declared.progress.Told.TheVariants.{Legal, Illegal}
 use Rattle.asm_audit.specs.Chain.{IsGoing}
 use Rattle.asm_audit.specs.Fault.{told_fault}
 
--- the history of these events, behind such a header
+-- the history of these events, after such a header
 abbrev pub history_of : Limits → State → List Event → History
 history_of limits A es = record { init = A; capacity = limits.capacity; agents = limits.agents; events = es }
 
--- the text is the beginning of a journal that opens with this state: a header of these limits and the events that were
--- taken, which are legal; and the state stands for their moves
+-- the text is the beginning of a journal that opens with this state: a header of these limits and the events that
+-- were taken, which are legal; and the state has followed their moves
 pub record IsReading (part : Part) (A : State) (text : List ℕ) (o : Opened) : Type 0 where
   pub events : List Event
   pub going : IsGoing part A o.limits.version o.limits.events (history_of o.limits A events) text []
@@ -33,7 +33,7 @@ pub record IsReading (part : Part) (A : State) (text : List ℕ) (o : Opened) : 
   pub within : o.taken ≤ o.limits.events
   pub stands : Stands part A o.state (fired_moves events)
 
--- one more where the event is right
+-- one more if the event is right
 abbrev pub taken_after : Bool → ℕ → ℕ
 taken_after true n = n + 1
 taken_after false n = n
@@ -49,7 +49,7 @@ pub record IsTaken (part : Part) (line : List ℕ) (old new : Opened) (right : B
   pub limits : new.limits ≡ old.limits
   pub taken : new.taken ≡ taken_after right old.taken
 
--- what the next line of a part with this number tells
+-- what the next line of a part with this number reports
 abbrev pub IsEventAnswer : Part → ℕ → List ℕ → Opened → Opened → Result Told AuditError → Type 0
 IsEventAnswer part journal line old new (Ok Legal) = IsTaken part line old new true
 IsEventAnswer part journal line old new (Ok (Illegal j c)) =

@@ -1,4 +1,4 @@
--- The run of parts that go on from one another.
+-- The run of parts that continue one another.
 use Rattle.std.specs.Prelude.{◌≡◌, ℕ, List, [], ◌∷◌, ◌++◌, length}
 use Rattle.asm_update.specs.Fire.{Part, state_of}
 use Rattle.asm_update.specs.State.{State}

@@ -14,21 +14,21 @@ use Rattle.asm_audit.specs.Audited.{calls_of, moves_of, IsAudited}
 use Rattle.asm_audit.specs.Fed.{IsFed}
 use Rattle.asm_audit.specs.Run.{all_events}
 
--- behind these whole parts the text ends, or it is the beginning of one more, which is legal so far and lacks an event;
--- these are the histories of all
+-- after these complete parts the text ends, or it is the beginning of one more, which is legal so far and lacks an
+-- event; these are the histories of all
 abbrev pub IsOnward : Part → State → List History → List ℕ → List History → Type 0
 IsOnward part first whole rest all =
     ((rest ≡ []) × (all ≡ whole))
     ⊎ ((v count : ℕ) × (h : History) × IsGoing part (last_left part first whole) v count h rest []
     × (length h.events < count) × (all ≡ whole ++ h ∷ []))
 
--- the text is whole legal parts that go on from one another, and perhaps the beginning of one more
+-- the text is complete legal parts that continue one another, and perhaps the beginning of one more
 pub record IsSoFar (part : Part) (text : List ℕ) (first : State) (whole all : List History) : Type 0 where
   pub rest : List ℕ
   pub has : HasLegal part first whole text rest
   pub onward : IsOnward part first whole rest all
 
--- the numbers are those of all calls and moves of the text, and of its whole parts
+-- the numbers are those of all calls and moves of the text, and of its complete parts
 pub record HasCounts (part : Part) (text : List ℕ) (w : Counts) : Type 0 where
   pub first : State
   pub whole : List History
@@ -47,7 +47,7 @@ pub record HasLeft (part : Part) (text : List ℕ) (s : State) : Type 0 where
   pub some : all ≢ []
   pub left : s ≡ state_of part first (fired_moves (all_events all))
 
--- there is no state where no part has begun
+-- there is no state if no part has begun
 abbrev pub HasState : Part → List ℕ → Option State → Type 0
 HasState part text None = text ≡ []
 HasState part text (Some s) = HasLeft part text s

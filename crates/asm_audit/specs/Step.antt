@@ -10,7 +10,7 @@ use Rattle.asm_audit.specs.declared.error.AuditError.{AuditError}
 use Rattle.asm_audit.specs.declared.progress.Told.{Told}
 use Rattle.asm_audit.specs.declared.progress.Told.TheVariants.{Legal, Illegal}
 
--- the numbers with those of the part that is read
+-- the numbers with those of the part that is being read
 abbrev pub whole_with : Counts → Opened → Counts
 whole_with w o =
     record {
@@ -23,7 +23,7 @@ abbrev pub all_with : Counts → Option Opened → Counts
 all_with w None = w
 all_with w (Some o) = whole_with w o
 
--- no part is read, or all its events were taken
+-- no part is being read, or all its events were taken
 abbrev pub is_between : Option Opened → Type 0
 is_between None = Unit {0}
 is_between (Some o) = o.limits.events ≤ o.taken
@@ -32,23 +32,23 @@ is_between (Some o) = o.limits.events ≤ o.taken
 abbrev pub HasValues : StateView → State → Type 0
 HasValues s left = ((l : Place) → val left l ≡ value_at s l) × IsProper left
 
--- the test tells whether this is the state with these values
+-- the test reports whether this is the state with these values
 abbrev pub IsNextTest : StateView → State → Bool → Type 0
 IsNextTest s init b =
     (left : State) × HasValues s left × (IsTrue b ↔ (left ≡ init))
 
--- the test tells so of the part that was read; where there is none, it is met
+-- the test reports it of the part that was read; if there is none, the test is met
 abbrev pub IsOnTest : Option Opened → State → Bool → Type 0
 IsOnTest None init b = IsTrue b
 IsOnTest (Some o) init b = IsNextTest o.state init b
 
--- unless all is told legal, it is as it was
+-- unless all is reported as legal, nothing changes
 abbrev pub IsKept : {T : Type 0} → T → T → Result Told AuditError → Type 0
 IsKept old new (Ok Legal) = Unit {0}
 IsKept old new (Ok (Illegal j c)) = new ≡ old
 IsKept old new (Err e) = new ≡ old
 
--- unless the answer is true, it is as it was
+-- unless the answer is true, nothing changes
 abbrev pub StaysUnlessTrue : {T E : Type 0} → T → T → Result Bool E → Type 0
 StaysUnlessTrue old new (Ok true) = Unit {0}
 StaysUnlessTrue old new (Ok false) = new ≡ old

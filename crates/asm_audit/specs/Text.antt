@@ -1,4 +1,4 @@
--- The text of a run: journals, its parts, one behind the other, and their lines.
+-- The text of a run: journals, its parts, one after the other, and their lines.
 use Rattle.std.specs.Prelude.{◌≡◌, ◌≢◌, ◌<◌, ◌≤◌, ◌⊎◌, ℕ, List, [], ◌∷◌, ◌++◌, length, All}
 use Rattle.std.specs.List.{flat_map}
 use Rattle.serde_json.specs.Data.{Data}
@@ -6,7 +6,7 @@ use Rattle.asm_storage.specs.declared.history.History.{History}
 use Rattle.asm_journal.specs.Reading.{HasNoLineFeed, EndsLine, HasLine, IsHeader, HasEvents}
 use Rattle.asm_audit.specs.Limits.{line_limit}
 
--- a line, and what stands behind it in a text: the line ends in its line feed, or it is open and ends the text
+-- a line, and what comes after it in a text: the line ends in its line feed, or it is open and ends the text
 abbrev pub IsLineBefore : List ℕ → List ℕ → Type 0
 IsLineBefore line rest =
     ((body : List ℕ) × EndsLine line body []) ⊎ ((rest ≡ []) × (line ≢ []) × HasNoLineFeed line)
@@ -15,8 +15,8 @@ IsLineBefore line rest =
 abbrev pub HasLineFeed : List ℕ → Type 0
 HasLineFeed line = (body rest : List ℕ) × EndsLine line body rest
 
--- the text is the header line of a journal of this version and of so many events, a line for each event of the history,
--- which may have fewer, and the rest
+-- the text is the header line of a journal of this version and of this many events, a line for each event of the
+-- history, which may have fewer, and the rest
 pub record IsBegun (v count : ℕ) (h : History) (text rest : List ℕ) : Type 0 where
   pub value : Data
   pub behind : List ℕ
@@ -24,11 +24,11 @@ pub record IsBegun (v count : ℕ) (h : History) (text rest : List ℕ) : Type 0
   pub header : IsHeader v h.agents h.capacity count h.init value
   pub events : HasEvents v h.agents behind h.events rest
 
--- the text is a journal of this history, which is whole, and the rest
+-- the text is a journal of this history, which is complete, and the rest
 abbrev pub HasJournal : History → List ℕ → List ℕ → Type 0
 HasJournal h text rest = (v : ℕ) × IsBegun v (length h.events) h text rest
 
--- the text is the journals of these histories, one behind the other, and the rest
+-- the text is the journals of these histories, one after the other, and the rest
 abbrev pub HasJournals : List History → List ℕ → List ℕ → Type 0
 HasJournals [] text rest = text ≡ rest
 HasJournals (h ∷ hs) text rest = (after : List ℕ) × HasJournal h text after × HasJournals hs after rest

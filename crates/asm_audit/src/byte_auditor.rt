@@ -10,10 +10,10 @@ use crate::progress::{Counts, Told};
 use asm_update::{Aggregator, PlainState};
 use std::alloc::{AllocError, Global};
 
-/// The most bytes of a line that an audit of bytes keeps, the line feed apart.
+/// The most bytes of a line that an audit of bytes holds, without the line feed.
 pub const LINE_LIMIT: usize = 1_073_741_824;
 
-// Where the first line feed of the bytes stands.
+// Return the position of the first line feed of the bytes.
 fn line_feed_in(bytes: &[u8]) -> Option<usize>
     ensures some { IfSome result (λ end. EndsLine bytes.now (take end bytes.now) (drop (end + 1) bytes.now)) }
     ensures none { IfNone result (HasNoLineFeed bytes.now) }
@@ -21,15 +21,16 @@ fn line_feed_in(bytes: &[u8]) -> Option<usize>
     bytes.iter().position(|b| *b == b'\n')
 }
 
-// Whether each answer so far is right.
+// Return whether each answer so far is right.
 fn is_legal(told: Result<Told, AuditError>) -> bool
     ensures { result ≡ legal told }
 {
     matches!(told, Ok(Told::Legal))
 }
 
-/// Audits a run as its bytes come, in pieces that may begin and end anywhere. Beside an `Auditor` it holds the bytes of
-/// the line that hasn't ended, of which there are at most 1,073,741,824.
+/// An auditor of a run whose bytes come in pieces.
+/// They may begin and end anywhere. Beside an `Auditor` it holds the bytes of the line that hasn't ended, of which there
+/// are at most 1,073,741,824.
 #[derive(Drop)]
 pub struct ByteAuditor<A: Aggregator + Drop> {
     auditor: Auditor<A>,
@@ -46,7 +47,7 @@ impl<A: Aggregator + Drop> ByteAuditor<A> {
     ghost use Rattle.asm_audit.specs.Fed.{LeavesLine};
     ghost use Rattle.asm_audit.specs.SoFar.{AreFedSoFar, IsFedStateSoFar};
 
-    /// An auditor that has read nothing.
+    /// Return an auditor that has read nothing.
     pub fn new(alloc: Global, aggregator: A) -> ByteAuditor<A>
         ensures aggregator { result.auditor.aggregator ≡ aggregator }
         ensures fed { IsFed (A.meaning aggregator).part [] result.auditor.progress result.line.items }
@@ -57,7 +58,7 @@ impl<A: Aggregator + Drop> ByteAuditor<A> {
         }
     }
 
-    // Takes the line feed that ends the line.
+    // Take the line feed that ends the line.
     fn end_line(&mut self, alloc: Global) -> Result<Told, AuditError>
         ensures aggregator { self.new.auditor.aggregator ≡ self.old.auditor.aggregator }
         ensures told { IsLineAnswer (A.meaning self.old.auditor.aggregator).part (self.old.line.items ++ 10 ∷ [])
@@ -83,7 +84,8 @@ impl<A: Aggregator + Drop> ByteAuditor<A> {
         }
     }
 
-    // Adds bytes to the line: fewer where it would be too long, and none where memory was refused. How many.
+    // Add bytes to the line, and return how many were added: fewer if it would be too long, and none if memory is
+    // refused.
     fn keep(&mut self, body: &[u8]) -> (usize, Result<Told, AuditError>)
         requires { HasNoLineFeed body.now }
         ensures auditor { self.new.auditor ≡ self.old.auditor }
@@ -99,9 +101,8 @@ impl<A: Aggregator + Drop> ByteAuditor<A> {
         (count, Ok(Told::Legal))
     }
 
-    /// Takes the next bytes, up to the first line feed or all where there is none, and how many of them were taken.
-    ///
-    /// What is told is as `feed_some` tells it.
+    /// Take the next bytes up to the first line feed, or all if there is none.
+    /// It returns how many of them were taken, and reports as `feed_some` does.
     pub fn feed_line(&mut self, alloc: Global, bytes: &[u8]) -> (usize, Result<Told, AuditError>)
         requires { bytes.now ≢ [] }
         ensures aggregator { self.new.auditor.aggregator ≡ self.old.auditor.aggregator }
@@ -123,12 +124,15 @@ impl<A: Aggregator + Drop> ByteAuditor<A> {
         (end + 1, told)
     }
 
-    /// Takes the next bytes, and how many of them were taken.
+    /// Take the next bytes, and return how many of them were taken.
+    /// The report is that of `Auditor::line`, made at the line feed of a line; it holds whatever bytes come after
+    /// these. With `Legal` all bytes were taken. After any other answer those before the byte at which it came were
+    /// taken, and no others.
     ///
-    /// What is told is so whatever bytes come behind these, as `Auditor::line` tells it, at the line feed of the line;
-    /// `LongLine` comes at the byte that makes a line longer than 1,073,741,824 bytes. With `Legal` all bytes were taken,
-    /// and after any other answer those before the byte at which it came, and no others: where memory was refused, which
-    /// alone tells `Memory`, the rest may be passed again.
+    /// # Errors
+    /// - `AuditError::Journal` and `Apart`: as from `Auditor::line`.
+    /// - `LongLine`: at the byte that makes a line longer than 1,073,741,824 bytes.
+    /// - `Memory` only if memory is refused; the rest may be passed again.
     pub fn feed_some(&mut self, alloc: Global, bytes: &[u8]) -> (usize, Result<Told, AuditError>)
         ensures aggregator { self.new.auditor.aggregator ≡ self.old.auditor.aggregator }
         ensures told { IsFedAnswer (A.meaning self.old.auditor.aggregator).part bytes.now
@@ -148,7 +152,7 @@ impl<A: Aggregator + Drop> ByteAuditor<A> {
         (bytes.len(), Ok(Told::Legal))
     }
 
-    /// Takes the next bytes, as `feed_some` does.
+    /// Take the next bytes, and report as `feed_some` does.
     pub fn feed(&mut self, alloc: Global, bytes: &[u8]) -> Result<Told, AuditError>
         ensures aggregator { self.new.auditor.aggregator ≡ self.old.auditor.aggregator }
         ensures told { IsFedAnswer (A.meaning self.old.auditor.aggregator).part bytes.now
@@ -160,11 +164,13 @@ impl<A: Aggregator + Drop> ByteAuditor<A> {
         told
     }
 
-    /// What is told of the run if no further byte comes: how many calls, moves and parts it has, where the bytes are
-    /// whole legal parts, one at least. The auditor is as it was, and further bytes may come.
+    /// Return how many calls, moves and parts the run has, if no further byte comes.
+    /// The bytes are then complete legal parts, at least one. The auditor is unchanged, and further bytes may come.
     ///
-    /// `Journal` with `Cut` where the last part lacks an event or no byte came, and with `Cut` or `NotJson` where the
-    /// last line has no line feed. `Memory` comes only where memory was refused, for such a line.
+    /// # Errors
+    /// - `AuditError::Journal` with `Cut`: the last part lacks an event, or no byte came.
+    /// - `Journal` with `Cut` or `NotJson`: the last line has no line feed.
+    /// - `Memory` only if memory is refused, for such a line.
     pub fn finish(&mut self, alloc: Global) -> Result<Counts, AuditError>
         ensures told { IsFedEnd (A.meaning self.old.auditor.aggregator).part self.old.auditor.progress
             self.old.line.items result }
@@ -180,8 +186,8 @@ impl<A: Aggregator + Drop> ByteAuditor<A> {
         }
     }
 
-    /// How many calls were answered right in the lines that have ended, how many moves were fired, and how many parts
-    /// are whole: a part is once all its events were taken.
+    /// Return the numbers of right answers, fired moves and complete parts so far.
+    /// They are those of the lines that have ended. A part is complete once all its events were taken.
     pub fn counts(&self) -> Counts
         ensures { AreFedSoFar (A.meaning self.now.auditor.aggregator).part self.now.auditor.progress
             self.now.line.items result }
@@ -189,9 +195,11 @@ impl<A: Aggregator + Drop> ByteAuditor<A> {
         self.auditor.counts()
     }
 
-    /// The state that all moves of the lines that have ended leave; `None` where no part has begun.
+    /// Return the state that all moves of the lines that have ended leave.
+    /// It is `None` if no part has begun. It costs a copy of each value.
     ///
-    /// It costs a copy of each value. `AllocError` comes only where memory was refused.
+    /// # Errors
+    /// - `AllocError` only if memory is refused.
     pub fn state(&self, alloc: Global) -> Result<Option<PlainState>, AllocError>
         ensures { IfOk result (IsFedStateSoFar (A.meaning self.now.auditor.aggregator).part
             self.now.auditor.progress self.now.line.items) }

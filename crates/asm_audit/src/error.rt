@@ -1,4 +1,4 @@
-//! Why an audit ends without an answer on the calls.
+//! Why an audit ends without a verdict on the calls.
 ghost use Rattle.std.specs.Prelude.{◌≡◌};
 ghost use Rattle.asm_audit.specs.Fault.{told_fault};
 ghost use Rattle.asm_audit.specs.declared.error.AuditError.TheVariants as audit_error;
@@ -8,7 +8,8 @@ use asm_journal::JournalError;
 use std::alloc::{AllocError, AllocFailed};
 use thiserror::Error;
 
-/// Why an audit ends before it has judged each call. The parts of a run count from 0.
+/// Why an audit ends before it has judged each call.
+/// The parts of a run count from 0.
 #[derive(Clone, Copy, Debug, Drop, PartialEq, Eq, Error)]
 pub enum AuditError {
     /// The journal of this part has this fault, which is the first; its lines count from 1.
@@ -44,10 +45,10 @@ impl<T: Drop> From<AllocFailed<T>> for AuditError {
 /// Why an input isn't audited to its end.
 #[derive(Clone, Copy, Debug, Drop, PartialEq, Eq, Error)]
 pub enum AuditInputError {
-    /// The audit of what it gave has ended so.
+    /// The audit of its bytes ended with this error.
     #[error("{0}")]
     Audit(AuditError),
-    /// A read of it failed.
+    /// A read of it failed, or 18,446,744,073,709,551,615 reads didn't reach its end.
     #[error("the input failed")]
     Input,
 }
@@ -60,7 +61,7 @@ impl From<AuditError> for AuditInputError {
     }
 }
 
-/// The fault of the journal of the part with this number.
+/// Return the error for a fault of the journal of the part with this number.
 pub(crate) fn told_fault(number: u64, fault: JournalError) -> AuditError
     ensures { result ≡ told_fault number fault }
 {

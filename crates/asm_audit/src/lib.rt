@@ -1,4 +1,4 @@
-//! The audit of runs of any length: their parts, journals one behind the other, are checked as they come.
+//! The audit of runs of any length: their parts, journals one after the other, are checked as they come.
 #![tactic(auto)]
 
 mod auditor;

@@ -1,4 +1,4 @@
-//! The part that is read.
+//! The part that is being read.
 ghost use Rattle.std.specs.Prelude.{◌≡◌, ◌<◌, ◌≤◌, ◌+◌, ◌↔◌, [], IsTrue, IfOk, IfErr};
 ghost use Rattle.asm_update.specs.Fire.{Part};
 ghost use Rattle.asm_state.specs.Stands.{Stands};
@@ -24,7 +24,7 @@ pub(crate) struct Opened {
 }
 
 impl Opened {
-    /// A part of which the header was read.
+    /// Return a part whose header was read.
     pub(crate) fn new(alloc: Global, header: Header) -> Result<Opened, AllocError>
         ensures limits { IfOk result (λ o. o.limits ≡ header.limits) }
         ensures taken { IfOk result (λ o. o.taken ≡ 0) }
@@ -38,14 +38,14 @@ impl Opened {
         })
     }
 
-    /// Whether all its events were read.
+    /// Return whether all its events were read.
     pub(crate) fn is_whole(&self) -> bool
         ensures { IsTrue result ↔ (self.now.limits.events ≤ self.now.taken) }
     {
         self.limits.events <= self.taken
     }
 
-    /// The state that the moves of these events leave.
+    /// Return the state that the moves of these events leave.
     pub(crate) fn left(&self, alloc: Global) -> Result<PlainState, AllocError>
         ensures { IfOk result (HasValues self.now.state) }
     {
@@ -54,8 +54,8 @@ impl Opened {
         Ok(left)
     }
 
-    /// Reads the next event from its line. Whether its answer is right; if so, the state follows its move, and else all
-    /// is as it was.
+    /// Read the next event from its line, and return whether its answer is right.
+    /// If it is, the state follows its move; else nothing changes.
     pub(crate) fn take<A: Aggregator>(
         &mut self,
         alloc: Global,
@@ -68,7 +68,7 @@ impl Opened {
             (self.old.taken + 2) line.now) }
         ensures kept { StaysUnlessTrue self.old self.new result }
     {
-        // That one more event can be counted rests on the range of this number.
+        // Proof: the range of this number shows that one more event can be counted.
         let _events = self.limits.events;
         let number = u64::from(self.taken) + 2;
         let (event, _) = read_event(alloc, line, number, self.limits)?;

@@ -1,4 +1,4 @@
-//! How far an audit is.
+//! How far an audit has come.
 ghost use Rattle.std.specs.Prelude.{◌≡◌, ◌<◌, [], List, ℕ, IfOk, OnOk};
 ghost use Rattle.asm_update.specs.Fire.{Part};
 ghost use Rattle.asm_audit.specs.Text.{IsLineBefore, HasLineFeed};
@@ -14,17 +14,18 @@ use asm_journal::{Header, JournalError, read_header};
 use asm_update::{Aggregator, PlainState};
 use std::alloc::{AllocError, Global};
 
-/// What is told as lines or bytes come.
+/// What an audit reports as lines or bytes come.
 #[derive(Clone, Copy, Debug, Drop, PartialEq, Eq)]
 pub enum Told {
     /// Each answer so far is right.
     Legal,
-    /// The first answer that isn't the one of the storage of one thread is that to this call of this part, both
-    /// counted from 0.
+    /// The first wrong answer is that to this call of this part, both counted from 0.
+    /// A wrong answer is one that a sequential storage doesn't give.
     Illegal { part: u64, call: u64 },
 }
 
-/// How much legal parts have. A number stops at 18,446,744,073,709,551,615.
+/// How many calls, moves and parts a run of legal parts has.
+/// A number saturates at 18,446,744,073,709,551,615.
 #[derive(Clone, Copy, Debug, Drop, PartialEq, Eq)]
 pub struct Counts {
     /// The answered calls.
@@ -35,17 +36,17 @@ pub struct Counts {
     pub parts: u64,
 }
 
-/// How far an audit is.
+/// How far an audit has come.
 #[derive(Drop)]
 pub(crate) struct Progress {
-    /// What the parts before the one that is read have.
+    /// The counts of the parts before the one that is being read.
     pub(crate) before: Counts,
-    /// The part that is read; none before the first header.
+    /// The part that is being read; none before the first header.
     pub(crate) opened: Option<Opened>,
 }
 
 impl Counts {
-    /// With the part that is read.
+    /// Return the counts with the part that is being read.
     fn with(&self, opened: &Opened) -> Counts
         ensures { result ≡ whole_with self.now opened.now }
     {
@@ -57,14 +58,14 @@ impl Counts {
     }
 }
 
-/// Whether the part leaves the state that the header opens with.
+/// Return whether the part leaves the state with which the header opens.
 fn is_next(alloc: Global, opened: &Opened, header: &Header) -> Result<bool, AllocError>
     ensures { IfOk result (IsNextTest opened.now.state header.now.init) }
 {
     Ok(opened.left(alloc)? == header.init)
 }
 
-/// Takes the next event of the part with this number.
+/// Take the next event of the part with this number.
 fn take_event<A: Aggregator>(
     alloc: Global,
     aggregator: &A,
@@ -86,7 +87,7 @@ fn take_event<A: Aggregator>(
 }
 
 impl Progress {
-    /// Nothing was read.
+    /// Return the progress of an audit that has read nothing.
     pub(crate) fn new() -> Progress
         ensures { (part : Part) → IsAudited part [] result }
     {
@@ -100,7 +101,7 @@ impl Progress {
         }
     }
 
-    /// What all parts have, with the one that is read.
+    /// Return the counts of all parts, with the one that is being read.
     fn all(&self) -> Counts
         ensures { result ≡ all_with self.now.before self.now.opened }
     {
@@ -110,7 +111,7 @@ impl Progress {
         }
     }
 
-    /// Whether the header goes on from the part that was read; the first one does.
+    /// Return whether the header continues the part that was read; the first one does.
     fn goes_on(&self, alloc: Global, header: &Header) -> Result<bool, AllocError>
         ensures { IfOk result (IsOnTest self.now.opened header.now.init) }
     {
@@ -120,7 +121,7 @@ impl Progress {
         }
     }
 
-    /// Takes the header of the next part.
+    /// Take the header of the next part.
     fn open(&mut self, alloc: Global, line: &[u8]) -> Result<Told, AuditError>
         requires line { IsLineBefore line.now [] }
         requires between { is_between self.old.opened }
@@ -142,7 +143,7 @@ impl Progress {
         Ok(Told::Legal)
     }
 
-    /// Takes the next line.
+    /// Take the next line.
     pub(crate) fn line<A: Aggregator>(
         &mut self,
         alloc: Global,
@@ -165,7 +166,7 @@ impl Progress {
         }
     }
 
-    /// What is told of all that was read, where no line comes behind it.
+    /// Return the counts of all that was read, if no line comes after it.
     pub(crate) fn finish(&self) -> Result<Counts, AuditError>
         ensures told { (part : Part) → IsEnd part self.now result }
         ensures cut { IsCutEnd result }
@@ -181,7 +182,7 @@ impl Progress {
         }
     }
 
-    /// What all that was read has.
+    /// Return the counts of all that was read so far.
     pub(crate) fn counts(&self) -> Counts
         ensures { (part : Part) → AreSoFar part self.now result }
     {
@@ -201,7 +202,7 @@ impl Progress {
         }
     }
 
-    /// The state that all moves of what was read leave; none before the first header.
+    /// Return the state that all moves so far leave; `None` before the first header.
     pub(crate) fn state(&self, alloc: Global) -> Result<Option<PlainState>, AllocError>
         ensures { IfOk result (λ s. (part : Part) → IsStateSoFar part self.now s) }
     {

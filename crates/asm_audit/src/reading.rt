@@ -1,4 +1,4 @@
-//! The audit of a whole input.
+//! The audit of a complete input.
 ghost use Rattle.std.specs.Prelude.{IfSome, []};
 ghost use Rattle.asm_audit.specs.Audited.{IsInputVerdict};
 ghost use Rattle.asm_audit.specs.Fed.{IsFed};
@@ -10,20 +10,20 @@ use asm_update::Aggregator;
 use std::alloc::Global;
 use std::io::Read;
 
-// How many bytes are asked for at once.
+// How many bytes are requested at once.
 const CHUNK: usize = 4096;
 
-/// What an audit tells of a whole run.
+/// The verdict of an audit on a complete run.
 #[derive(Clone, Copy, Debug, Drop, PartialEq, Eq)]
 pub enum Verdict {
     /// Each answer is right.
     Legal(Counts),
-    /// The first answer that isn't the one of the storage of one thread is that to this call of this part, both
-    /// counted from 0.
+    /// The first wrong answer is that to this call of this part, both counted from 0.
+    /// A wrong answer is one that a sequential storage doesn't give.
     Illegal { part: u64, call: u64 },
 }
 
-/// Takes the bytes of an input up to its end, or to where something is told.
+/// Take the bytes of an input up to its end, or up to a wrong answer or an error.
 fn take_all<A: Aggregator + Drop, R: Read>(
     alloc: Global,
     auditor: &mut ByteAuditor<A>,
@@ -51,11 +51,12 @@ fn take_all<A: Aggregator + Drop, R: Read>(
     Err(AuditInputError::Input)
 }
 
-/// Audits the run that an input gives, up to its end or to where something is told; it reads no further than the chunk
-/// of 4,096 bytes in which that stands.
+/// Audit the run in an input, up to its end, or up to a wrong answer or an error.
+/// It reads no further than the chunk of 4,096 bytes in which that occurs. It holds the state, one line and a chunk.
 ///
-/// It holds the state, one line and a chunk. `Audit` has the error of a `ByteAuditor`. `Input` comes only where a read
-/// failed, or after 18,446,744,073,709,551,615 reads; no read is tried again.
+/// # Errors
+/// - `AuditInputError::Audit` has the error of a `ByteAuditor`.
+/// - `Input` only if a read failed, or after 18,446,744,073,709,551,615 reads; no read is repeated.
 pub fn audit<A: Aggregator + Drop, R: Read>(
     alloc: Global,
     aggregator: A,
