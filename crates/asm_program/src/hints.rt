@@ -1,11 +1,11 @@
-//! What a text that is refused seems to be.
+//! What a refused text seems to be.
 use crate::words::TextKind;
 use std::alloc::{AllocError, Global};
 
-// How many bytes are looked at.
+// How many bytes are inspected.
 const HEAD: usize = 65_536;
 
-// What the first bytes tell of another format.
+// Recognise another format by the first bytes.
 fn other_format(bytes: &[u8]) -> Option<&'static str> {
     if bytes.is_empty() {
         return Some("it is empty");
@@ -32,7 +32,7 @@ fn ends_with_one_of(line: &[u8], first: &[u8], second: &[u8]) -> bool {
     line.ends_with(first) || line.ends_with(second)
 }
 
-// What the text without blanks is, by its first line.
+// Recognise the text without blanks by its first line.
 fn of_line(kind: TextKind, line: &[u8]) -> Option<&'static str> {
     if ends_with_one_of(line, b"\"trace\":1}", b"\"trace\":2}") {
         return Some("it is a trace, which view shows");
@@ -49,7 +49,7 @@ fn of_line(kind: TextKind, line: &[u8]) -> Option<&'static str> {
     None
 }
 
-// What the text without white space is.
+// Recognise the text without white space.
 fn of_text(kind: TextKind, text: &[u8], why: &str) -> Option<&'static str> {
     if kind == TextKind::Journal {
         if text.starts_with(b"{\"init\":[") || text.starts_with(b"{\"agents\":[") {
@@ -75,7 +75,8 @@ fn without(alloc: Global, text: &[u8], blanks: &[u8]) -> Result<Vec<u8>, AllocEr
     Ok(left)
 }
 
-/// What the bytes, which are refused as such a text for this cause, seem to be.
+/// Return what the bytes seem to be, if that is known.
+/// They were refused as such a text for this cause.
 pub(crate) fn hint(
     alloc: Global,
     kind: TextKind,

@@ -22,7 +22,8 @@ pub(crate) struct Kept<I> {
 }
 
 impl<I: Read> Kept<I> {
-    /// The input, of which as many bytes are kept, or as many as a script may have and one more.
+    /// Wrap the input, and retain at most this many of its first bytes.
+    /// It retains at most 16,777,217 bytes, one more than a script may have.
     pub(crate) fn new(alloc: Global, input: I, most: usize) -> Kept<I> {
         Kept {
             input,
@@ -41,7 +42,7 @@ impl<I: Read> Kept<I> {
         }
     }
 
-    /// The first bytes that were read, if there was memory for them.
+    /// Return the first bytes that were read, if there was memory for them.
     pub(crate) fn kept(&self) -> Option<&[u8]>
         ensures { IfSome result (λ bytes. length bytes.now ≤ 16777217) }
     {
@@ -68,12 +69,12 @@ impl<I: Read> Read for Kept<I> {
     }
 }
 
-/// The segments of a run's folder, one behind the other.
+/// The segments of a run's folder, one after the other.
 #[derive(Drop)]
 pub(crate) struct Segments<'r, R: Files> {
     rt: &'r R,
     file: R::File,
-    // Those behind it, the last one first.
+    // The segments after it, the last one first.
     paths: Vec<String>,
 }
 
@@ -113,7 +114,7 @@ pub(crate) enum Opened<'r, R: Files> {
     Folder(Option<String>),
 }
 
-// The journals in the folder, the last one first.
+// Return the journals in the folder, the last one first.
 fn segments_in<R: Runtime + AllocGlobal>(
     rt: &R,
     alloc: Global,
@@ -132,14 +133,14 @@ fn segments_in<R: Runtime + AllocGlobal>(
     Ok(paths)
 }
 
-// The number at the beginning of a segment's name.
+// Return the number at the beginning of a segment's name.
 fn number_of(path: &str) -> Option<usize> {
     let name = path.rsplit('/').next()?;
     let (number, _) = name.split_once('-')?;
     number.parse::<usize>().ok()
 }
 
-// Whether they are the segments from the first up to the last, each once.
+// Return whether they are the segments from the first up to the last, each once.
 fn are_whole(paths: &[String]) -> bool {
     match paths.first().and_then(|last| number_of(last.as_str())) {
         Some(number) => number < paths.len() && paths.len() - number == 1,
@@ -147,7 +148,8 @@ fn are_whole(paths: &[String]) -> bool {
     }
 }
 
-/// Opens a file, or of a folder all segments, if they are to be read.
+/// Open a file, or all segments of a run's folder.
+/// The segments are read only if a run is asked for, and only if each is there once.
 pub(crate) fn open<'r, R: Runtime + AllocGlobal>(
     rt: &'r R,
     alloc: Global,

@@ -1,5 +1,5 @@
-//! The program: it plays scripts, and checks, rewrites and traces journals. What `asm_driver` proves of it goes to
-//! standard output; where and why something is refused goes to standard error.
+//! The program: it plays scripts, checks, rewrites and traces journals, explains texts and audits runs.
+//! What `asm_driver` proves of it goes to standard output; where and why something is refused goes to standard error.
 #![tactic(auto)]
 
 mod hints;
@@ -22,7 +22,7 @@ fn main(rt: HostRuntime) -> ExitCode {
     ExitCode::from(carry_out(&rt, alloc, words, rt.reader().is_terminal()))
 }
 
-// The words of the command line, the program's name first, by whatever name it was started.
+// Return the words of the command line. The first is the program's name, by whatever name it was started.
 fn words_given<R: Env + AllocGlobal>(rt: &R, alloc: Global) -> io::Result<Vec<String>> {
     let mut words = Vec::new(alloc);
     words.push(String::from_str(alloc, "asm_driver")?)?;

@@ -3,30 +3,30 @@ use std::alloc::Global;
 use std::io;
 use std::io::Write;
 
-// How many bytes of the last line are kept.
+// How many bytes of what was written last are retained.
 const KEPT: usize = 64;
 
-/// An output, which lets a report through and keeps the lines of terms behind it.
+/// An output, which passes a report on and retains the lines of terms after it.
 #[derive(Drop)]
 pub(crate) struct Output<W> {
     output: W,
-    // How many bytes of the report weren't written yet, once it is there.
+    // How many bytes of the report weren't written yet; `None` before it comes.
     report: Option<usize>,
-    /// Whether such lines are kept.
+    /// Whether such lines are retained.
     keeps_terms: bool,
-    /// The lines behind the report; without those that there was no memory for.
+    /// The lines after the report, without those for which there was no memory.
     pub(crate) terms: Vec<u8>,
     /// The first bytes of what was written last.
     pub(crate) last: Vec<u8>,
 }
 
-// Whether the line tells of a term: `agent 0 step 0 block ..`.
+// Return whether the line reports a term: `agent 0 step 0 block ..`.
 fn tells_of_term(line: &[u8]) -> bool {
     line.starts_with(b"agent ")
         && line.split(|byte| *byte == b' ').nth(4) == Some(b"block".as_slice())
 }
 
-// How many bytes stand before the first line that tells of a term.
+// Return how many bytes come before the first line that reports a term.
 fn report_length(text: &[u8]) -> usize {
     let mut length = 0usize;
     for line in text.split(|byte| *byte == b'\n') {
@@ -49,7 +49,7 @@ impl<W: Write> Output<W> {
         }
     }
 
-    // Keeps the beginning of what is written.
+    // Retain the beginning of what is written.
     fn note(&mut self, bytes: &[u8]) {
         self.last.clear();
         let count = bytes.len().min(KEPT);

@@ -15,13 +15,13 @@ use std::rt::Runtime;
 use std::sync::Wait;
 use std::thread::Threads;
 
-/// The most bytes that the program reads.
+/// The most bytes that the program reads of a script or a journal.
 pub(crate) const INPUT_LIMIT: usize = 16_777_216;
 
-// How many bytes of a run are kept.
+// How many bytes of a run are retained.
 const HEAD: usize = 65_536;
 
-// How many lines of terms are said.
+// How many lines of terms are written.
 const TERMS: usize = 10;
 
 const TOO_LARGE: &str = "more than 16,777,216 bytes, which are the most that the program reads";
@@ -29,17 +29,18 @@ const TOO_LARGE: &str = "more than 16,777,216 bytes, which are the most that the
 const LONG_LINE: &str =
     "a line has more than 1,073,741,824 bytes, which are the most that an audit keeps";
 
-/// Writes the text on standard error. If that fails, there is nobody to tell.
+/// Write the text on standard error.
+/// If that fails, there is nobody to report it to.
 pub(crate) fn say<R: Eprint>(rt: &R, text: &str) {
     let _said = rt.eprint(text);
 }
 
-// Says this of the input.
+// Write this about the input.
 fn say_line<R: Eprint>(rt: &R, name: &str, said: &str) {
     let _said = eprintln!(rt; "asm_driver: {name}: {said}");
 }
 
-// Why the text is refused as one of this kind.
+// Return why the text is refused as one of this kind.
 fn why_refused(alloc: Global, kind: TextKind, bytes: &[u8]) -> Result<String, AllocError> {
     if bytes.len() > INPUT_LIMIT {
         return String::from_str(alloc, TOO_LARGE);
@@ -57,7 +58,7 @@ fn why_refused(alloc: Global, kind: TextKind, bytes: &[u8]) -> Result<String, Al
     }
 }
 
-// Why a run is refused, by the line that tells it and the first bytes of the run.
+// Return why a run is refused, by the line that reports it and the first bytes of the run.
 fn why_no_run(alloc: Global, line: &[u8], head: &[u8]) -> Result<String, AllocError> {
     if line.starts_with(b"the run has ") || line.ends_with(b" calls\n") {
         return String::from_str(
@@ -75,7 +76,7 @@ fn why_no_run(alloc: Global, line: &[u8], head: &[u8]) -> Result<String, AllocEr
     }
 }
 
-// Why the status is 1.
+// Return why the status is 1.
 fn why_wrong(alloc: Global, asked: Asked<'_>, bytes: &[u8]) -> Result<String, AllocError> {
     if asked.command == "check" {
         if let Some(said) = wrong_answer(alloc, bytes)? {
@@ -90,7 +91,7 @@ fn why_wrong(alloc: Global, asked: Asked<'_>, bytes: &[u8]) -> Result<String, Al
     String::from_str(alloc, why)
 }
 
-// Why what is asked for isn't done, by the status, the line that was written and what was read. With status 0, 3 or 4
+// Return why the request wasn't met, by the status, the line that was written and what was read. With status 0, 3 or 4
 // there is nothing to say.
 fn why(
     alloc: Global,
@@ -118,7 +119,7 @@ fn why(
     Ok(Some(why))
 }
 
-// Says which terms had no value.
+// Write which terms had no value.
 fn say_terms<R: Eprint>(rt: &R, name: &str, terms: &[u8]) {
     let Ok(terms) = std::str::from_utf8(terms) else {
         return;
@@ -134,14 +135,14 @@ fn say_terms<R: Eprint>(rt: &R, name: &str, terms: &[u8]) {
     }
 }
 
-// Says why the program ended so.
+// Write why the program ended so.
 fn say_why<R: Eprint>(rt: &R, name: &str, why: Result<Option<String>, AllocError>) {
     if let Ok(Some(why)) = why {
         say_line(rt, name, why.as_str());
     }
 }
 
-// Does what is asked for with the input, which has this name. Gives the status.
+// Do what is asked for with the input, which has this name, and return the status.
 fn answer<R: Runtime + AllocGlobal + Threads + Wait + Sync, I: Read + Drop>(
     rt: &R,
     alloc: Global,
@@ -167,7 +168,7 @@ fn answer<R: Runtime + AllocGlobal + Threads + Wait + Sync, I: Read + Drop>(
     status
 }
 
-// Refuses a folder, of which nothing is read. Gives the status.
+// Refuse a folder, of which nothing is read, and return the status.
 fn refuse_folder<R: Runtime + AllocGlobal + Threads + Wait + Sync>(
     rt: &R,
     alloc: Global,
@@ -190,7 +191,7 @@ fn refuse_folder<R: Runtime + AllocGlobal + Threads + Wait + Sync>(
     run_main(rt, alloc, words, &mut Unreadable, &mut io::writer(rt))
 }
 
-// Does what is asked for with the file, or the folder, that is named.
+// Do what is asked for with the file or the folder of this name.
 fn answer_file<R: Runtime + AllocGlobal + Threads + Wait + Sync>(
     rt: &R,
     alloc: Global,
@@ -212,7 +213,7 @@ fn answer_file<R: Runtime + AllocGlobal + Threads + Wait + Sync>(
     }
 }
 
-// Does what the words ask for, if they do.
+// Do what the words ask for, if they ask for something.
 fn obey<R: Runtime + AllocGlobal + Threads + Wait + Sync>(
     rt: &R,
     alloc: Global,
@@ -239,7 +240,7 @@ fn obey<R: Runtime + AllocGlobal + Threads + Wait + Sync>(
     Ok(answer(rt, alloc, asked, words, "standard input", input))
 }
 
-// What is given to the program where the words ask for nothing that is done.
+// Return the words for the program if the given ones ask for nothing that is done.
 fn refused_words(
     rt: &impl Eprint,
     alloc: Global,
@@ -263,7 +264,7 @@ fn refused_words(
     }
 }
 
-/// Does what the words ask for, and says why where it doesn't. Gives the status.
+/// Do what the words ask for, or say why it isn't done, and return the status.
 pub(crate) fn carry_out<R: Runtime + AllocGlobal + Threads + Wait + Sync>(
     rt: &R,
     alloc: Global,

@@ -11,7 +11,7 @@ static KINDS: [&str; 2] = ["script", "journal"];
 // The options that take a number.
 const NUMBERS: [&str; 5] = ["capacity", "part", "from", "to", "every"];
 
-/// The kinds of texts that are read whole.
+/// The kinds of texts that are read completely before they are judged.
 #[derive(Clone, Copy, PartialEq, Eq)]
 pub(crate) enum TextKind {
     Script,
@@ -23,7 +23,7 @@ pub(crate) enum TextKind {
 pub(crate) struct Asked<'a> {
     /// The command.
     pub(crate) command: &'a str,
-    /// Whether a journal is written in the place of a report, or terms behind it.
+    /// Whether a journal is written in place of a report, or terms after it.
     pub(crate) has_journal: bool,
     pub(crate) has_terms: bool,
     /// Whether the calls of a window are asked for.
@@ -33,12 +33,12 @@ pub(crate) struct Asked<'a> {
 }
 
 impl Asked<'_> {
-    /// Whether the input is a run, which is read line by line.
+    /// Return whether the input is a run, which is read line by line.
     pub(crate) fn is_run(self) -> bool {
         self.is_window || self.command == "audit"
     }
 
-    /// What kind of text is read, where it isn't a run.
+    /// Return what kind of text is read, if it isn't a run.
     pub(crate) fn kind(self) -> TextKind {
         if self.command == "run" {
             TextKind::Script
@@ -47,25 +47,25 @@ impl Asked<'_> {
         }
     }
 
-    /// Whether lines of terms may be said: a report is asked for alone.
+    /// Return whether lines of terms may be written: only a report is asked for.
     pub(crate) fn says_terms(self) -> bool {
         self.command == "run" && !self.has_journal && !self.has_terms
     }
 
-    /// Whether a journal is asked for.
+    /// Return whether a journal is asked for.
     pub(crate) fn wants_journal(self) -> bool {
         self.has_journal || self.command == "rewrite"
     }
 }
 
-/// Why nothing is asked for.
+/// What is asked for instead of a command, or why there is none.
 #[derive(Drop)]
 pub(crate) enum Unasked {
-    /// Help is.
+    /// Help is asked for.
     Help,
-    /// The version is.
+    /// The version is asked for.
     Version,
-    /// The words are refused, and this is said of them.
+    /// The words are refused, with this text.
     Wrong(String),
     /// Memory was refused.
     Memory,
@@ -83,7 +83,7 @@ fn file<'a>(alloc: Global) -> Arg<'a> {
         .value_name("FILE")
 }
 
-// An option with a number in this range.
+// Return an option with a number in this range.
 fn number<'a>(alloc: Global, name: &'a str, least: i64, most: i64) -> Arg<'a> {
     Arg::new(alloc, name)
         .long(name)
@@ -120,7 +120,7 @@ fn trace<'a>(alloc: Global) -> Result<Command<'a>, AllocError> {
         .arg(file(alloc))
 }
 
-// The commands of `asm_driver`, each with a file.
+// Return the commands of `asm_driver`, each with a file.
 fn program<'a>(alloc: Global) -> Result<Command<'a>, AllocError> {
     Command::new(alloc, "asm_driver")
         .version("0")
@@ -141,7 +141,7 @@ fn program<'a>(alloc: Global) -> Result<Command<'a>, AllocError> {
         )
 }
 
-// What is said of an error.
+// Return what is said of an error.
 fn refused_by(alloc: Global, error: &Error) -> Unasked {
     match error.kind() {
         ErrorKind::OutOfMemory => Unasked::Memory,
@@ -154,7 +154,7 @@ fn refused_by(alloc: Global, error: &Error) -> Unasked {
     }
 }
 
-// Why the words are refused. What a terminal would obey in them is escaped, and long ones are cut.
+// Return why the words are refused. What a terminal would obey in them is escaped, and long ones are cut.
 fn wrong(alloc: Global, words: &[String]) -> Result<Unasked, AllocError> {
     let mut seen = Vec::new(alloc);
     for word in words {
@@ -169,7 +169,7 @@ fn wrong(alloc: Global, words: &[String]) -> Result<Unasked, AllocError> {
     }
 }
 
-// The words of the command and its options.
+// Return the words of the command and its options.
 fn words_of(
     alloc: Global,
     command: &str,
@@ -194,7 +194,7 @@ fn words_of(
     Ok(words)
 }
 
-// Whether the window would end before it begins.
+// Return whether the window would end before it begins.
 fn is_backward(options: &ArgMatches<'_>) -> bool {
     match options.get_one::<u32>("to") {
         Some(to) => options.get_one::<u32>("from").unwrap_or(0) > to,
@@ -225,7 +225,8 @@ fn asked_of<'a>(
     })
 }
 
-/// What the words ask for, and the words without the file. They begin with the program's name.
+/// Return what the words ask for, and the words without the file.
+/// The latter begin with the program's name.
 pub(crate) fn read_words<'a>(
     alloc: Global,
     words: &'a [String],

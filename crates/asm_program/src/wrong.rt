@@ -1,4 +1,4 @@
-//! The first wrong answer of a journal, beside the right one.
+//! The first wrong answer of a journal, next to the right one.
 use asm_driver::shown_text;
 use asm_element::{Location, Value};
 use asm_journal::{ToJson, from_text, judge_event, value_json};
@@ -13,7 +13,7 @@ use std::alloc::{AllocError, Global};
 // How many bytes of an answer are made, of which fewer are shown.
 const MADE: usize = 1000;
 
-// The value of a location, as JSON.
+// Return the value of a location as JSON.
 fn value_text(alloc: Global, value: Option<&Value>) -> Result<String, AllocError> {
     match value {
         Some(value) => value_json(alloc, value)?.to_string(alloc),
@@ -21,7 +21,7 @@ fn value_text(alloc: Global, value: Option<&Value>) -> Result<String, AllocError
     }
 }
 
-// The right answer to a read of these locations, or its beginning.
+// Return the right answer to a read of these locations, or its beginning.
 fn right_read(alloc: Global, state: &State, places: &[Location]) -> Result<String, AllocError> {
     let number = state.number();
     let mut text = format!(in alloc; "{{\"number\":{number},\"values\":[")?;
@@ -38,7 +38,7 @@ fn right_read(alloc: Global, state: &State, places: &[Location]) -> Result<Strin
     Ok(text)
 }
 
-// The right answer in the note of an event.
+// Return the right answer in the note of an event.
 fn right_in(alloc: Global, note: &str) -> Result<String, AllocError> {
     match Json::from_slice(alloc, note.as_bytes()) {
         Ok(json) => match json.get("right") {
@@ -49,7 +49,7 @@ fn right_in(alloc: Global, note: &str) -> Result<String, AllocError> {
     }
 }
 
-// The right answer to the call of the event with this number, behind those that the state has followed.
+// Return the right answer to the call of the event with this number, after those that the state has followed.
 fn right_answer(
     alloc: Global,
     state: &mut State,
@@ -68,7 +68,7 @@ fn right_answer(
     right_in(alloc, note.as_str())
 }
 
-// What is said of the event with this number.
+// Return what is said of the event with this number.
 fn said_of(
     alloc: Global,
     state: &mut State,
@@ -89,7 +89,8 @@ fn said_of(
     )
 }
 
-/// The call of a journal whose answer is wrong, with that answer and the right one.
+/// Describe the call of a journal whose answer is wrong, and the right answer.
+/// It returns `None` if no answer is wrong, or if the bytes don't read as a journal.
 pub(crate) fn wrong_answer(alloc: Global, bytes: &[u8]) -> Result<Option<String>, AllocError> {
     let Ok(history) = from_text(alloc, bytes) else {
         return Ok(None);
