@@ -108,9 +108,9 @@ pub extern "C" fn asm_commit_recorded(
 }
 
 /// Write `{"fire":[INSTR, ..],"reads":[NAMED, ..]}`, as a commit would fire it.
-/// It has the one move that does what the pushed moves do in turn, and each location that a commit of the step would
-/// name, with the step's number. `asm_try_fire` takes it, if these are at most 256. A commit depends on the scanned
-/// functions too, which aren't in it. The call doesn't poll and adds no receipt, and the slot is unchanged.
+/// It has the one move that does what the pushed moves do in turn. It names each location that a commit of the step
+/// would name, with the step's number. `asm_try_fire` takes it, if these are at most 256. A commit depends on the
+/// scanned functions too, which aren't in it. The call doesn't poll and adds no receipt, and the slot is unchanged.
 ///
 /// # Errors
 /// - `ASM_SMALL`: `out` is too small, and `written` is the room that is needed.

@@ -99,9 +99,9 @@ pub extern "C" fn asm_learn(alloc: Global, agent: &mut Slot, other: &mut Slot) -
 /// Take in what the other agent has seen, and take its state if that is newer.
 /// The two agents are of one storage, and exchange their states if the other's is at more moves. So agents that one
 /// thread plays by turns follow each move about once: the one that is about to act takes the state of the one that
-/// acted last. The call doesn't poll and takes no memory; the receipts and counts of both are unchanged. A step at the
-/// number of a state that was given away is `ASM_MOVED` until its agent's state is at that number again. On error, both
-/// slots are unchanged.
+/// acted last. The call doesn't poll and takes no memory; the receipts and counts of both are unchanged. A step of
+/// either agent is `ASM_MOVED` while that agent's state is at another number than the step. On error, both slots are
+/// unchanged.
 ///
 /// The caller must pass agents of one storage, as to `asm_learn`.
 ///

@@ -76,7 +76,7 @@ pub extern "C" fn asm_give(alloc: Global, store: &mut Slot, agent: &mut Slot) ->
 
 /// Make the journal of the returned agents, which the storage retains.
 /// They must have a receipt of every move that was fired before this call. If each move that they have seen has one,
-/// the call polls along the storage's row, so it also detects a move that none of them has seen. More agents may be
+/// the call polls along the storage's row. So it also detects a move that none of them has seen. More agents may be
 /// made, returned and closed afterwards. On error, the slot is unchanged. Contracts don't cover the cells of a row:
 /// that it reports no such move if there is none is tested.
 ///

@@ -17,8 +17,8 @@ use std::alloc::Global;
 /// `ASM_LONG_MOVE` all at which the move has partial updates. Each is tracked only if a get of it would track it. After
 /// any other error the step is unchanged.
 ///
-/// The call costs by the move's own instructions, not by those pushed before, and by the size of a set or a bag that
-/// they change and the earlier updates of it.
+/// The call costs by the move's own instructions, not by those pushed before. It costs also by the size of a set or a
+/// bag that they change and the earlier updates of it.
 ///
 /// # Errors
 /// - `ASM_CLASH`: the updates of the move clash on what is seen, and `{"clash":[LOC,CAUSE]}` is written.

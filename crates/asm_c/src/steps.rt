@@ -162,7 +162,7 @@ pub extern "C" fn asm_pop(alloc: Global, step: &mut Slot) -> i32
 ///
 /// A move that none extended is put unchanged, and tracks nothing. Others are put as what they compose to. They track
 /// each location where the first of them that writes has partial updates alone, judged on the state below the step, and
-/// another of them writes too: the one move may come to less there. What was tracked stays so. On error, both slots are
+/// another of them writes too. The one move may come to less there. What was tracked stays so. On error, both slots are
 /// unchanged.
 ///
 /// # Errors
