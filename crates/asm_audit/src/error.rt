@@ -12,7 +12,8 @@ use thiserror::Error;
 /// The parts of a run count from 0.
 #[derive(Clone, Copy, Debug, Drop, PartialEq, Eq, Error)]
 pub enum AuditError {
-    /// The journal of this part has this fault, which is the first; its lines count from 1.
+    /// The journal of this part has this fault, which is the first.
+    /// Its lines count from 1.
     #[error("part {part}: {fault}")]
     Journal { part: u64, fault: JournalError },
     /// This part opens with another state than the part before it leaves.
