@@ -118,7 +118,7 @@ module _ (rows : List Row) (part from to : Option ℕ) (p : AsksNumber (codes "p
 
 -- ---- the word behind explain
 
--- what is found at the word of a kind
+-- the word of a kind that was found
 module _ (f : Found) (o : Option (Bor (List ℕ))) (found : option_map (λ s. s.now) o ≡ first_value f (codes "kind")) where
   word_at : first_of (codes "kind") (rows_of f) ≡ option_map (λ s. s.now) o
   word_at = sym (found ∙ first_value-rows f (codes "kind"))
@@ -150,7 +150,7 @@ module _ (f : Found) (o : Option (Bor (List ℕ))) (found : option_map (λ s. s.
 
 -- ---- words that are refused
 
--- an error of clap that may come at these words
+-- an error that clap may return for these words
 pub refused : (words : Words) (k : ErrorKind) (e : WordsError) → (k ≡ kind.OutOfMemory) ⊎ IsAmong k (faults words) →
     IsMadeOf k e → IsRefusal words e
 refused words k (Help text) (inl memory) is = absurd (cc (memory, is))

@@ -1,4 +1,4 @@
--- Bytes that are taken one by one.
+-- Bytes that are consumed one by one.
 use Rattle.std.proofs.Common.{◌≡◌, ◌≢◌, ◌≤◌, ◌<◌, ℕ, suc, zero, Bool, false, List, [], ◌∷◌, ◌++◌, length, drop, get_or, Some, None, Result, Ok, Err, OnOk, IfErr, inl, inr, length-append, refl, sym, ap, subst, ◌∙◌, append-nil, append_assoc, arith}
 use Rattle.std.proofs.Math.Seq.{drop-cons}
 use Rattle.std.proofs.KnownBytes.{Consumes-trans, Consumes-nil}
@@ -73,14 +73,14 @@ no_feed_push line b none other =
 
 module _ (had mid left : Known) (failed : Bool) (before behind after line : List ℕ)
     (taken : Takes had mid before behind line) (open_line : HasNoLineFeed line) where
-  -- a byte isn't kept
+  -- a byte couldn't be appended
   pub unkept : (b : ℕ) (end new : List ℕ) (e : InputError) → IsNextByte mid left failed behind after (Ok (Some b)) → e ≡ Memory →
       IsLineRead had left failed before end new (Err e)
   unkept b end new e (next, noted) is =
       subst (λ x. IsLineRead had left failed before end new (Err x)) (sym is)
       ((_, Consumes-trans had mid left _ _ taken.1 next.1), noted)
 
-  -- the line feed comes
+  -- the byte is the line feed
   ended : (b : ℕ) (end new : List ℕ) (r : Result (Unit {0}) InputError) → b ≡ 10 →
       IsNextByte mid left failed behind after (Ok (Some b)) → OnOk r (new ≡ line ++ b ∷ []) →
       IfErr r (λ e. e ≡ Memory) → end ≡ after → IsLineRead had left failed before end new r
@@ -110,7 +110,7 @@ module _ (had mid left : Known) (failed : Bool) (before behind after line : List
         noted,
       )
 
-  -- another byte is kept
+  -- another byte is appended
   pub kept_on : (b : ℕ) (end here new : List ℕ) → b ≢ 10 → length here < line_limit → here ≡ line →
       IsNextByte mid left failed behind after (Ok (Some b)) → new ≡ here ++ b ∷ [] → end ≡ after →
       Takes had left before end new × HasNoLineFeed new × (length new ≤ line_limit) × (failed ≡ false)
@@ -126,7 +126,7 @@ module _ (had mid left : Known) (failed : Bool) (before behind after line : List
         noted,
       )
 
-  -- no byte comes
+  -- no byte is left
   pub line_open : (here : List ℕ) → here ≡ line → IsNextByte mid left failed behind after (Ok None) →
       IsLineRead had left failed before after here (Ok tt)
   line_open here is (next, none, end, noted) = (

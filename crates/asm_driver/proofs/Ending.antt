@@ -1,4 +1,4 @@
--- How a run ends: by an answer or a refusal, or by what is told of an audit meanwhile and in the end.
+-- How a run ends: by an answer or a refusal, or by what an audit reports meanwhile and at its end.
 use Rattle.std.proofs.Common.{◌≡◌, ◌↔◌, ℕ, Bool, true, List, ◌++◌, Result, Ok, Err, IfOk, IfErr, string_bytes, refl, sym, subst, inl, inr}
 use Rattle.std.proofs.KnownBytes.{Appends-trans}
 use Rattle.std.specs.Io.KnownBytes.{Appends}
@@ -23,7 +23,7 @@ use Rattle.asm_driver.proofs.Runs.{answered, refused}
 use Rattle.asm_driver.proofs.Runs.{answered_taken, refused_taken, watched_taken}
 use Rattle.asm_driver.proofs.Watching.{some_behind, memory_instead}
 
--- ---- words that ask for nothing that is done
+-- ---- words that ask for nothing that is carried out
 
 abbrev pub IsAnswered : Words → Input → Result Ending Refusal → Type 0
 IsAnswered words i (Ok e) = IsAnswer words i e.status (string_bytes e.text)
@@ -86,7 +86,7 @@ run_is words i o result (Err r) is writes refuses = record {
 
 -- ---- what is written of an audit
 
--- behind what was told meanwhile
+-- behind what was reported meanwhile
 writes_behind : (held mid holds : Known) (failed flushed : Bool) (told text : List ℕ) (status result : ℕ) →
     Appends held mid told → Writes (output_of mid holds failed flushed) status text result →
     Writes (output_of held holds failed flushed) status (told ++ text) result

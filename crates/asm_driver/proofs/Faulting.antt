@@ -25,7 +25,7 @@ legality_works : (l : Legality) → legality_status l ≡ 4 → ⊥
 legality_works (Legal calls moves) e = cc (e)
 legality_works (Illegal call) e = cc (e)
 
--- what is done has the status 0 or 1
+-- what is carried out has the status 0 or 1
 done_works : (bytes : List ℕ) (request : Request) (status : ℕ) (text : List ℕ) → IsDone bytes request status text →
     status ≡ 4 → ⊥
 done_works bytes Check status text (h, l, reads, is, same, written) e = legality_works l (sym same ∙ e)
@@ -46,7 +46,7 @@ answer_works words i status text (inl (bytes, request, whole, asks, done)) e = d
 answer_works words i status text (inr (inl (w, asks, same, is))) e = omega (arith, same, e)
 answer_works words i status text (inr (inr (same, asks, unread))) e = omega (arith, same, e)
 
--- where there is an answer, no read failed
+-- if there is an answer, no read failed
 answer_reads : (words : Words) (i : Input) (status : ℕ) (text : List ℕ) → IsAnswer words i status text →
     i.failed ≡ false
 answer_reads words i status text (inl (bytes, request, whole, asks, done)) = whole.whole
@@ -76,7 +76,7 @@ four (refusal.BadJournal f) e = absurd (journal_four f e)
 four (refusal.BadPart part f) e = absurd (journal_four f e)
 four r e = absurd (omega (arith, e))
 
--- a failed read is shown as it is
+-- a failed read is shown as itself
 shown_fault : (r shown : Refusal) → IsShown r shown → shown ≡ refusal.InputFault → r ≡ refusal.InputFault
 shown_fault r shown (inl is) e = sym is ∙ e
 shown_fault r shown (inr (is, number)) e = cc (is, e)
@@ -92,19 +92,19 @@ done_reads bytes (Terms capacity) is = is
 done_reads bytes (Explain t) is = cc (is)
 done_reads bytes request is = is
 
--- an audit that ended by a failed read is refused so
+-- an audit that a failed read ended is refused as a failed read
 fault_read : (r : Refusal) → is_failed_read (Err r) ≡ true → r ≡ refusal.InputFault
 fault_read refusal.InputFault is = refl
 fault_read r is = absurd (both (sym is))
 
--- a failed read is refused so
+-- what is refused as a failed read is one
 fault_failed : (words : Words) (i : Input) → IsNoAnswer words i refusal.InputFault → i.failed ≡ true
 fault_failed words i (inl (is, unread)) = absurd is
 fault_failed words i (inr (inl (taken, is))) = is.1
 fault_failed words i (inr (inr (inl (bytes, request, whole, asks, is)))) = absurd (done_reads bytes request is)
 fault_failed words i (inr (inr (inr (w, asks, told)))) = told.2.noted
 
--- and what is refused so is a failed read
+-- and a failed read is refused as one
 failed_fault : (words : Words) (i : Input) (r : Refusal) → IsNoAnswer words i r → i.failed ≡ true →
     r ≡ refusal.InputFault
 failed_fault words i r (inl (is, unread)) e = absurd (both (sym e ∙ unread.whole))
@@ -131,7 +131,7 @@ faults_refused given i o r result none (shown, is, writes) = (there writes, back
       let fault = fault_shown r shown is (failed_fault given i r none read) in
       subst (λ x. result ≡ refusal_status x) fault same
 
--- a watched audit has the status of a fault where a read failed
+-- a watched audit has the status of a fault if a read failed
 ends_four : (r : Result Verdict Refusal) (status : ℕ) (text : List ℕ) → EndsAs r status text → status ≡ 4 →
     is_failed_read r ≡ true
 ends_four (Ok v) status text ends e = absurd (verdict_works v (sym ends.0 ∙ e))

@@ -1,4 +1,4 @@
--- Texts of lines, one line at a time: the lines of outcomes, and what is told of the lines of a run.
+-- Texts of lines, one line at a time: the lines of outcomes, and the text that is due for the lines of a run.
 use Rattle.std.proofs.Common.{◌≡◌, ◌<◌, ◌+◌, ℕ, List, [], ◌∷◌, ◌++◌, length, get_or, take, sym, ap, ◌∙◌, append_assoc}
 use Rattle.std.proofs.Common.{arith, add-zero, refl, ◌≢◌, ◌⊎◌, All, subst, inl, inr, append-nil}
 use Rattle.std.specs.List.{flat_map, enumerate_from}
@@ -54,7 +54,7 @@ not_fired agent step o never = refl
 
 -- ---- one more line of a run
 
--- what is told of lines, with what is told of one more
+-- the text for lines, with the text for one more
 told_push : (every : ℕ) (ls : List (List ℕ)) (l taken told first : List ℕ) → IsToldOfLines every ls taken told →
     IsToldOfLine every (taken ++ ended_lines ls) l first → IsToldOfLines every (ls ++ l ∷ []) taken (told ++ first)
 told_push every [] l taken told first is of_line = (
@@ -89,7 +89,7 @@ lines_and : (ls : List (List ℕ)) (l : List ℕ) → ended_lines (ls ++ l ∷ [
 lines_and ls l =
     flat_map-append (λ (x : List ℕ). x ++ 10 ∷ []) ls (l ∷ []) ∙ ap (λ t. ended_lines ls ++ t) (append-nil (l ++ 10 ∷ []))
 
--- bytes behind the lines that were told of
+-- bytes behind the lines whose text is known
 module _ (every : ℕ) (text told front : List ℕ) (w : IsToldOf every text told) where
   -- none of them ends a line
   pub told_bytes : HasNoLineFeed front → IsToldOf every (text ++ front) told
@@ -138,7 +138,7 @@ module _ (every : ℕ) (text told front : List ℕ) (w : IsToldOf every text tol
           );
         }
 
-    -- nothing is due where no line ends
+    -- nothing is due if no line ends
     told_none : HasNoLineFeed front → IsToldOf every (text ++ front) (told ++ first)
     unfolding told_bytes
     told_none none =

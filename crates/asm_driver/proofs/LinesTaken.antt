@@ -1,4 +1,4 @@
--- Lines that are taken from the input, and what is told at one of them.
+-- Lines that are consumed from the input, and what is reported at one of them.
 use Rattle.std.proofs.Common.{◌≡◌, ◌≢◌, ℕ, Bool, List, [], ◌∷◌, ◌++◌, Err, refl, sym, ap, subst, ◌∙◌, inl, inr, append-nil, append_assoc}
 use Rattle.std.proofs.KnownBytes.{Consumes-trans}
 use Rattle.std.specs.Io.KnownBytes.{Consumes}
@@ -21,7 +21,7 @@ use Rattle.asm_driver.proofs.PartLines.{IsLineOf}
 none_open : HasNoLineFeed []
 none_open = All-nil (λ b. b ≢ 10)
 
--- ---- bytes behind those that were taken
+-- ---- bytes behind those that were consumed
 
 pub taken_on : (had old new : Known) (text before behind bytes : List ℕ) → IsAt had old text before →
     Takes old new before behind bytes → IsAt had new (text ++ bytes) behind
@@ -30,16 +30,16 @@ taken_on had old new text before behind bytes at (more, consumed, all) =
     (append_assoc text before more ∙ ap (λ (l : List ℕ). text ++ l) all ∙ sym (append_assoc text bytes behind))
     (Consumes-trans had old new (text ++ before) more at consumed)
 
--- all bytes that were read, whatever was told of them
+-- all bytes that were read, whatever was reported about them
 any_taken : (had old new : Known) (text before : List ℕ) → IsAt had old text before → (taken : TakesAny old new) →
     Consumes had new (text ++ (before ++ taken.0))
 any_taken had old new text before at (more, consumed) =
     subst (Consumes had new) (append_assoc text before more) (Consumes-trans had old new (text ++ before) more at consumed)
 
--- ---- what is told at a line
+-- ---- what is reported at a line
 
 module _ (had left : Known) (failed : Bool) (text : List ℕ) (Told : List ℕ → Refusal → Type 0) where
-  -- what is told wherever it is asked for
+  -- what is reported of any text
   pub told_anywhere : (r : Refusal) (behind : List ℕ) → Consumes had left (text ++ behind) →
       failed ≡ is_failed_read (Err r) → ((all : List ℕ) → Told all r) → IsToldBehind had left failed text Told r
   told_anywhere r behind consumed noted any = record {
@@ -51,7 +51,7 @@ module _ (had left : Known) (failed : Bool) (text : List ℕ) (Told : List ℕ �
     noted = noted;
   }
 
-  -- what is told of a line, whatever stands behind it
+  -- what is reported at a line, whatever follows it
   pub told_at : (r : Refusal) (line behind : List ℕ) → IsAt had left (text ++ line) behind → IsLineAt left behind line →
       failed ≡ is_failed_read (Err r) → ((rest : List ℕ) → IsLineOf line rest → Told (text ++ (line ++ rest)) r) →
       IsToldBehind had left failed text Told r

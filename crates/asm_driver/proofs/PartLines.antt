@@ -60,7 +60,7 @@ module _ (number : ℕ) (text : List ℕ) (o : audit.Opened) (A : State) (es : L
         (record { events = es; going = p.going; taken = p.taken; within = p.within; stands = p.stands });
   }
 
--- a part whose header an audit has read
+-- a segment whose header an audit has read
 opened_read : (number : ℕ) (text : List ℕ) (w : Counts) (o : audit.Opened)
     (a : IsAudited standard_part text (record { before = w; opened = Some o })) → w.parts ≡ number → number ≤ few_parts →
     o.taken ≡ 0 → IsPartRead number text o (last_left standard_part a.first a.before) []
@@ -84,7 +84,7 @@ opened_read number text w o a parts few zero =
 
 -- ---- faults
 
--- a line, and what stands behind it; or nothing at all
+-- a line, and what follows it; or nothing at all
 abbrev pub IsLineOf : List ℕ → List ℕ → Type 0
 IsLineOf line rest = IsLineBefore line rest ⊎ ((line ≡ []) × (rest ≡ []))
 
@@ -120,7 +120,7 @@ event_breaks line rest v agents k fault (inl is) h = event_fault line rest v age
 event_breaks line rest v agents k fault (inr (none, end)) h =
     nothing_of (λ t. BreaksEvent v agents k t fault) line rest none end h
 
--- ---- the first part
+-- ---- the first segment
 
 pub first_read : (line : List ℕ) (o : audit.Opened) → IsLineBefore line [] → IsOpenedFirst line o →
     (A : State) × IsPartRead 0 line o A []
@@ -155,7 +155,7 @@ first_long long more is = (
   },
 )
 
--- ---- the part that is read
+-- ---- the segment that is read
 
 module _ (number : ℕ) (text : List ℕ) (o : audit.Opened) (A : State) (es : List Event) (p : IsPartRead number text o A es)
     (few : number ≤ few_parts) where
@@ -235,13 +235,13 @@ module _ (number : ℕ) (text : List ℕ) (o : audit.Opened) (A : State) (es : L
           few = few;
         }
 
-  -- ---- the next part
+  -- ---- the next segment
 
   module _ (whole : o.limits.events ≤ o.taken) (other : number < few_parts) where
     counted_next : counted (number + 1) ≡ number + 1
     counted_next = omega (arith, other)
 
-    -- the text is one whole part more
+    -- the text is one more complete segment
     pub parts_read : AreParts (number + 1) text
     parts_read =
         let b = between standard_part text w (Some o) whole read in

@@ -1,4 +1,4 @@
--- Events and headers that are read from the input, and what is told where they aren't.
+-- Events and headers that are read from the input, and what is reported if they aren't.
 use Rattle.std.proofs.Common.{◌≡◌, ◌≢◌, ◌+◌, ◌≤◌, ◌<◌, ◌⊎◌, ℕ, Bool, false, List, [], ◌∷◌, ◌++◌, length, Result, Ok, Err, IfOk, IfErr, refl, sym, ap, subst, ◌∙◌, inl, inr, append-nil, arith}
 use Rattle.std.specs.Io.KnownBytes.{IsAtEnd}
 use Rattle.asm_update.specs.State.{State}
@@ -48,7 +48,7 @@ taken_unread number line o r (inr (is, taken)) = same_read r _ is refl
 
 -- ---- an event
 
--- what is so is so of an answer too
+-- what holds in any case holds of an answer
 pub if_ok : {T E P : Type 0} (r : Result T E) → P → IfOk r (λ _. P)
 if_ok (Ok x) p = p
 if_ok (Err e) p = tt
@@ -74,7 +74,7 @@ event_told had left failed text line behind old new A es (Err r) at here noted r
     (noted ∙ sym (taken_unread old.number line (audited old) r err))
     (λ rest is. event_refused old.number text (audited old) A es read read.few less line rest r is err)
 
--- ---- the first part
+-- ---- the first segment
 
 pub first_opened : (had left : Known) (failed : Bool) (line behind : List ℕ) (o : Opened) → IsAt had left line behind →
     IsLineAt left behind line → failed ≡ false → o.number ≡ 0 → IsOpenedFirst line (audited o) →
@@ -110,7 +110,7 @@ first_told w had left failed line behind r at here noted breaks =
     (told_at had left failed [] IsRefusedRun r line behind at here (noted ∙ sym (header_unread 0 line r breaks))
     (λ rest is. first_refused line rest r is breaks))
 
--- ---- a further part
+-- ---- a further segment
 
 module _ (had left : Known) (failed : Bool) (text line behind : List ℕ) (old : Opened) (A : State) (es : List Event)
     (at : IsAt had left (text ++ line) behind) (here : IsLineAt left behind line) (noted : failed ≡ false)
@@ -195,7 +195,7 @@ length_none (x ∷ xs) e = absurd (omega (arith, e))
 pub length_some : (xs : List ℕ) → (length xs ≡ 0 → ⊥) → xs ≢ []
 length_some xs some none = some (ap length none)
 
--- a refusal behind events that stand before the window's end
+-- a refusal behind events before the window's end
 pub event_refused_window : (w : Window) (had left : Known) (failed : Bool) (number calls : ℕ) (text behind : List ℕ) (o new : Opened)
     (A : State) (es : List Event) (r : Refusal) → IsPartRead number text (audited o) A es → IsUpTo w number calls o.limits.events →
     o.taken < calls → IsEventRead had left failed text behind new A es (Err r) → IsNoWindow w had left failed r

@@ -11,7 +11,7 @@ use Rattle.asm_journal.specs.Fault.{IsRefused}
 use Rattle.asm_journal.specs.declared.error.JournalError.{JournalError}
 use Rattle.asm_journal.specs.declared.error.JournalError.TheVariants as journal_error
 
--- a script that isn't played, told as a refusal
+-- the refusal for a script that isn't played
 pub unplayed : (bytes : List ℕ) (capacity : ℕ) (asked : Bool) (e : RunError) (plan : Plan) → IsScriptOf bytes plan →
     ((e ≡ BadCapacity) → IsNoCapacity capacity) → ((e ≡ NoThread) → 2 ≤ length plan.agents) →
     IsNoRun bytes capacity asked (refusal_of_run e)

@@ -28,7 +28,7 @@ answered given words i o status text bytes result same written answer writes = i
       written writes,
 )
 
--- an allocation failure may come wherever something is done
+-- an allocation failure is possible whenever something is carried out
 memory_done : (bytes : List ℕ) (request : Request) (r : Refusal) → IsNotDone bytes request r →
     IsNotDone bytes request refusal.Memory
 memory_done bytes (Run capacity asked) r is = tt
@@ -38,12 +38,12 @@ memory_done bytes (Audit every) r is = is
 memory_done bytes (Explain t) r is = refl
 memory_done bytes request r is = tt
 
--- a refusal with a number tells of no failed read
+-- a refusal with a number isn't that of a failed read
 number_read : (r : Refusal) → has_number r ≡ true → is_failed_read (Err r) ≡ false
 number_read refusal.InputFault number = sym number
 number_read r number = refl
 
--- and so it may where a window is asked for
+-- an allocation failure is also possible if a window is asked for
 memory_shown : (w : Window) (had left : Known) (failed : Bool) (r : Refusal) → has_number r ≡ true →
     IsNoWindow w had left failed r → IsNoWindow w had left failed refusal.Memory
 memory_shown w had left failed r number (taken, inside, told) = (
@@ -75,7 +75,7 @@ memory_told words i r number (inr (inr (inl (bytes, request, whole, asks, is))))
 memory_told words i r number (inr (inr (inr (w, asks, is)))) =
     inr (inr (inr (w, asks, memory_shown w i.had i.left i.failed r number is)))
 
--- the refusal that is shown tells why there is no answer
+-- the refusal that is shown says why there is no answer
 shown_told : (words : Words) (i : Input) (r shown : Refusal) → IsNoAnswer words i r → IsShown r shown →
     IsNoAnswer words i shown
 shown_told words i r shown none (inl is) = subst (IsNoAnswer words i) (sym is) none
@@ -110,7 +110,7 @@ pub otherwise : (b : Bool) → (b ≡ false → false ≡ true) → b ≡ true
 otherwise true h = refl
 otherwise false h = h refl
 
--- where nothing was read, no bytes were taken
+-- if nothing was read, no bytes were consumed
 none_taken : (i : Input) → IsUnread i → TakesSome i.had i.left
 none_taken i unread =
     ([], subst (λ (l : Known). Consumes i.had l []) (sym unread.same) (Consumes-nil i.had), omega arith)
@@ -126,7 +126,7 @@ answered_taken words i status text (inl (bytes, request, whole, asks, done)) = i
 answered_taken words i status text (inr (inl (w, asks, same, is))) = inr (inr (w, asks), (is.bytes, is.consumed))
 answered_taken words i status text (inr (inr (same, asks, unread))) = inl (none_taken i unread)
 
--- where there is no input, at most one byte beyond the limit was taken
+-- if there is no input, at most one byte beyond the limit was consumed
 input_taken : (i : Input) (r : Refusal) → IsNoInput i r → TakesSome i.had i.left
 input_taken i refusal.TooLarge ((bytes, consumed, count), whole) = (bytes, consumed, omega (arith, count))
 input_taken i refusal.InputFault is = is.0

@@ -17,7 +17,7 @@ moved n text done rest e =
     e ∙ ap (λ l. done ++ l) (sym (take-append-drop n rest)) ∙ sym (append_assoc done (take n rest) (drop n rest))
     ∙ ap (λ l. (done ++ take n rest) ++ l) (sym (drop_whole n rest))
 
--- nothing is left, and the flush kept what had gone out
+-- nothing is left, and the flush retained what had gone out
 pub whole_out : (a b c : Option (List ℕ)) (text done rest : List ℕ) → text ≡ done ++ rest → rest ≡ [] →
     Appends a b done → Keeps b c → Appends a c text
 whole_out a b c text done rest e nil p q =
@@ -26,14 +26,14 @@ whole_out a b c text done rest e nil p q =
 pub nothing_left : (s : List ℕ) → true ≡ (length s == 0) → s ≡ []
 nothing_left s e = grind (arith, common_steps)
 
--- what had gone out is the first part of the text
+-- what had gone out is a beginning of the text
 pub some_out : (a b c : Option (List ℕ)) (text done rest : List ℕ) → text ≡ done ++ rest → Appends a b done →
     Keeps b c → (n : ℕ) × Appends a c (take n text)
 some_out a b c text done rest e p q =
     let front : take (length done) text ≡ done = ap (take (length done)) e ∙ take-append_seam done rest in
     (length done, subst (Appends a c) (sym front) (Appends-kept a b c done p q))
 
--- what holds anyway holds where there is no error
+-- what holds in any case holds without an error
 pub on_ok : {T E P : Type 0} (r : Result T E) → P → OnOk r P
 on_ok (Ok x) p = p
 on_ok (Err e) p = tt

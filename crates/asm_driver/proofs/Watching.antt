@@ -1,4 +1,4 @@
--- What is told while an audit goes on.
+-- What is written while an audit runs.
 use Rattle.std.proofs.Common.{◌≡◌, ◌≢◌, ◌+◌, ℕ, Bool, true, false, List, [], ◌∷◌, ◌++◌, take, length, Result, Ok, Err}
 use Rattle.std.proofs.Common.{refl, sym, ap, subst, ◌∙◌, inl, inr, append-nil, append_assoc, drop, take-append-drop}
 use Rattle.std.proofs.KnownBytes.{Consumes-trans, Consumes-nil, Consumes-kept, Appends-nil, Appends-trans}
@@ -29,7 +29,7 @@ use Rattle.asm_driver.specs.declared.program.watching.Stop.{Stop}
 use Rattle.asm_driver.specs.declared.program.watching.Stop.TheVariants.{Refused, Unwritten}
 use Rattle.asm_driver.proofs.Lines.{told_bytes, told_more}
 
--- an audit's error as the refusal that is made of it
+-- an audit's error as the refusal made from it
 pub bad_run : (text : List ℕ) (e : AuditError) → IsVerdict standard_part text (Err e) → IsBadRun text (refusal_of_audit e)
 bad_run text (Journal part fault) is = is
 bad_run text (Apart part) is = is
@@ -74,13 +74,13 @@ module _ (every : ℕ) (text told rest : List ℕ) (p q : Progress) (line left :
         stopped_at t.front t.behind b more (Err (refusal_of_audit e)) t.all is none (no_read e)
         (λ after. bad_run ((text ++ t.front) ++ b ∷ after) e (answer (text ++ t.front) after (t.taken text w.fed)))
 
-    -- for the line that is due there is no memory
+    -- there is no memory for the line that is due
     pub stopped_memory : rest ≢ [] → IsStopped every text rest told (Err refusal.Memory)
     stopped_memory some =
         let (b, more, is) = some_first rest some in
         stopped_at [] rest b more (Err refusal.Memory) refl is (All-nil (λ b. b ≢ 10)) refl (λ after. tt)
 
--- a line was taken, or what is left of one
+-- a line was consumed, or what is left of one
 pub line_taken : (every : ℕ) (text before old new rest : List ℕ) (p q : Progress) (line left : List ℕ) (n : ℕ) (x y : Counts) →
     IsWatched every text p line (before ++ old) → (t : HasTakenLine standard_part rest p line q left n (Ok tells.Legal)) →
     AreFedSoFar standard_part p line x → AreFedSoFar standard_part q left y → AddsDue every x y old new →
@@ -95,7 +95,7 @@ line_taken every text before old new rest p q line left n x y w t here there (fi
           t.ends.1);
     }
 
--- where it ends within the rest of some bytes, it ends within all
+-- if the audit ends within the rest of some bytes, it ends within all of them
 pub stopped_more : (every : ℕ) (text done rest whole told : List ℕ) (r : Result Verdict Refusal) → done ++ rest ≡ whole →
     IsStopped every (text ++ done) rest told r → IsStopped every text whole told r
 stopped_more every text done rest whole told r all s =
@@ -110,9 +110,9 @@ stopped_more every text done rest whole told r all s =
       ends = λ more. subst (λ (t : List ℕ). IsAuditOf (t ++ s.next ∷ more) r) here (s.ends more);
     }
 
--- ---- what is written of some bytes
+-- ---- what is written for some bytes
 
--- what was to be told, where the output failed
+-- the text that was due, if the output failed
 cut_within : (every : ℕ) (text bytes : List ℕ) (q : Progress) (left told : List ℕ) (r : Result Told AuditError) →
     IsWatchAnswer every text bytes q left told r →
     (front behind : List ℕ) × (front ++ behind ≡ bytes) × IsToldOf every (text ++ front) told
@@ -148,9 +148,9 @@ some_behind held mid holds told more before (n, some) = (
       (Appends-trans held mid holds told (take n more) before some),
 )
 
--- ---- the whole input
+-- ---- the complete input
 
--- these bytes of the input were fed, and what is told of them went out
+-- these bytes of the input were fed, and the text that is due for them went out
 pub record IsWatchedTo (every : ℕ) (had left held holds : Known) (p : Progress) (line : List ℕ) : Type 0 where
   pub bytes : List ℕ
   pub told : List ℕ
@@ -291,7 +291,7 @@ module _ (every : ℕ) (had mid held wrote : Known) (p : Progress) (line : List 
       noted,
     )
 
--- for the line of a verdict there is no memory
+-- there is no memory for the line of a verdict
 pub memory_instead : (every : ℕ) (had left : Known) (failed : Bool) (v : Verdict) (told : List ℕ) →
     IsWatchTold every had left failed (Ok v) told → IsWatchTold every had left failed (Err refusal.Memory) told
 memory_instead every had left failed v told w = record {

@@ -38,7 +38,7 @@ use Rattle.asm_driver.proofs.LinesTaken.{told_anywhere}
 
 -- ---- refusals
 
--- why a run is refused is why no window of it is told
+-- why a run is refused is also why it has no such window
 pub bad_window : (w : Window) (text : List ℕ) (r : Refusal) → IsRefusedRun text r → IsBadWindow w text r
 bad_window w text (refusal.FewCalls part calls) is = absurd is
 bad_window w text (refusal.FewParts parts) is = absurd is
@@ -65,7 +65,7 @@ refused_window w had left failed text r inside told = (
   by_end (inl (end, nothing, is)) = inl (end, nothing, bad_window w (text ++ told.line) r is)
   by_end (inr is) = inr (λ more. bad_window w (text ++ (told.line ++ more)) r (is more))
 
--- whole parts
+-- complete segments
 pub inside_parts : (w : Window) (text : List ℕ) (number : ℕ) → AreParts number text → number ≤ w.part → IsInside w text
 inside_parts w text number are few = inl (number, are, few)
 
@@ -84,7 +84,7 @@ inside_part w number calls text o A es read up_to less = inr (number, o, A, es, 
   fewer (inl h) same = absurd (omega (arith, h, same))
   fewer (inr h) same = let most = h.1 in omega (arith, most, less)
 
--- refused memory tells nothing
+-- nothing is claimed of refused memory
 pub memory_window : (w : Window) (had left : Known) (failed : Bool) (bytes : List ℕ) → Consumes had left bytes →
     failed ≡ false → IsNoWindow w had left failed refusal.Memory
 memory_window w had left failed bytes consumed noted = (
@@ -93,7 +93,7 @@ memory_window w had left failed bytes consumed noted = (
   told_anywhere had left failed [] (IsBadWindow w) refusal.Memory bytes consumed noted (λ all. tt),
 )
 
--- the window goes beyond its part
+-- the window goes beyond its segment
 pub few_calls : (w : Window) (had left : Known) (failed : Bool) (text l behind : List ℕ) (number : ℕ) (o : audit.Opened)
     (A : State) → number ≡ w.part → AreParts number text → IsOneLine l → IsPartRead number (text ++ l) o A [] →
     IsAt had left (text ++ l) behind → failed ≡ false → ¬ LiesIn w o.limits.events →
@@ -171,7 +171,7 @@ window_shown w had left failed text behind o A es shown notes told at noted read
 
 -- ---- notes
 
--- these events were noted behind those, and the state stands for the moves of all
+-- these events were noted behind those, and the state is the one after the moves of all
 pub record AreNotedTo (capacity : ℕ) (A : State) (es shown : List Event) (s : StateView) (old new : List ℕ) : Type 0 where
   pub notes : List Note
   pub are : AreNotesOf (machine standard_part A capacity) (fired_moves es) (length es) shown notes
@@ -220,7 +220,7 @@ few_followed number n count text o A es s read stands less few =
 
 -- ---- the header
 
--- the opening state of a part holds no undef
+-- the opening state of a segment holds no undef
 pub part_held : (number : ℕ) (text : List ℕ) (o : audit.Opened) (A : State) (es : List Event) → IsPartRead number text o A es →
     IsHeld A
 part_held number text o A es read = form_held A read.going.begun.header.3 read.going.begun.header.7 where

@@ -1,4 +1,4 @@
--- What an audit of a run tells.
+-- What an audit of a run reports.
 use Rattle.std.specs.Prelude.{ℕ, Bool, true, false, List, ◌++◌, codes, Result, Ok, Err}
 use Rattle.std.specs.Fmt.{decimal}
 use Rattle.asm_audit.specs.Audited.{IsVerdict}
@@ -17,20 +17,20 @@ verdict_line (Legal w) =
     line (codes "legal " ++ decimal w.calls ++ codes " " ++ decimal w.moves ++ codes " " ++ decimal w.parts)
 verdict_line (Illegal part call) = line (codes "illegal " ++ decimal part ++ codes " " ++ decimal call)
 
--- the status
+-- the status of a verdict
 abbrev pub verdict_status : Verdict → ℕ
 verdict_status (Legal w) = 0
 verdict_status (Illegal part call) = 1
 
--- the refusal that is made of an audit's error
+-- the refusal made from an audit's error
 abbrev pub refusal_of_audit : AuditError → Refusal
 refusal_of_audit (Journal part fault) = refusal.BadPart part fault
 refusal_of_audit (Apart part) = refusal.Apart part
 refusal_of_audit LongLine = refusal.TooLarge
 refusal_of_audit Memory = refusal.Memory
 
--- why a run of this text is refused: a fault of its form, or a line that is too long; a failed read and an allocation
--- failure tell nothing
+-- why a run of this text is refused: a fault of its form, or a line that is too long; nothing is claimed of a failed
+-- read and an allocation failure
 abbrev pub IsBadRun : List ℕ → Refusal → Type 0
 IsBadRun text (refusal.BadPart part fault) = IsVerdict standard_part text (Err (Journal part fault))
 IsBadRun text (refusal.Apart part) = IsVerdict standard_part text (Err (Apart part))
@@ -39,12 +39,12 @@ IsBadRun text refusal.InputFault = Unit {0}
 IsBadRun text refusal.Memory = Unit {0}
 IsBadRun text r = ⊥
 
--- what an audit tells of a run of this text
+-- what an audit of a run of this text reports
 abbrev pub IsAuditOf : List ℕ → Result Verdict Refusal → Type 0
 IsAuditOf text (Ok v) = IsVerdict standard_part text (Ok v)
 IsAuditOf text (Err r) = IsBadRun text r
 
--- whether the audit ended by a read that failed
+-- whether a failed read ended the audit
 abbrev pub is_failed_read : Result Verdict Refusal → Bool
 is_failed_read (Err refusal.InputFault) = true
 is_failed_read _ = false

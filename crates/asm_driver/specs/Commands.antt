@@ -35,11 +35,11 @@ IsScript bytes = (plan : Plan) × IsScriptOf bytes plan
 abbrev pub IsOfSeveral : List ℕ → Type 0
 IsOfSeveral bytes = (plan : Plan) × IsScriptOf bytes plan × (2 ≤ length plan.agents)
 
--- the script of these bytes, played with this capacity, leaves this
+-- this is a play of the script of these bytes, with this capacity
 abbrev pub IsPlayed : List ℕ → ℕ → Played → Type 0
 IsPlayed bytes capacity p = (plan : Plan) × IsScriptOf bytes plan × IsPlayOf plan capacity p
 
--- what is written of a played script: its journal where that is asked for, and else its report
+-- the text of a played script: its journal if that is asked for, else its report
 abbrev pub text_of_played : Bool → Played → List ℕ
 text_of_played true p = text_of p.history
 text_of_played false p = report_of standard_part p
@@ -49,20 +49,21 @@ abbrev pub IsRunText : List ℕ → ℕ → Bool → List ℕ → Type 0
 IsRunText bytes capacity asked text =
     (p : Played) × IsPlayed bytes capacity p × (text ≡ text_of_played asked p)
 
--- the report of the script of these bytes, played with this capacity, and what is told behind it of terms without a value
+-- the report of the script of these bytes, played with this capacity, and behind it a text on terms without a value
 abbrev pub IsTermsText : List ℕ → ℕ → List ℕ → Type 0
 IsTermsText bytes capacity text =
     (p : Played) × (told : List ℕ) × IsPlayed bytes capacity p × (text ≡ report_of standard_part p ++ told)
 
 -- why nothing is written of a played script: the journal is asked for, and the history is beyond a journal's limits;
--- an allocation failure tells nothing
+-- nothing is claimed of an allocation failure
 abbrev pub IsNoText : Bool → Played → Refusal → Type 0
 IsNoText asked p refusal.Unfit = (asked ≡ true) × ¬ Fits p.history
 IsNoText asked p refusal.Memory = Unit {0}
 IsNoText asked p r = ⊥
 
 -- why these bytes aren't played: they are no script; the capacity is out of range; a thread couldn't be started for a
--- script of several agents, or a move has no receipt; what was played has no text; an allocation failure tells nothing
+-- script of several agents; a move has no receipt; what was played has no text; nothing is claimed of an allocation
+-- failure
 abbrev pub IsNoRun : List ℕ → ℕ → Bool → Refusal → Type 0
 IsNoRun bytes capacity asked (refusal.BadScript cause) = IsRefusedScript bytes (BadScript cause)
 IsNoRun bytes capacity asked refusal.Words = IsScript bytes × IsNoCapacity capacity
@@ -79,7 +80,7 @@ abbrev pub legality_line : Legality → List ℕ
 legality_line (Legal calls moves) = line (codes "legal " ++ decimal calls ++ codes " " ++ decimal moves)
 legality_line (Illegal call) = line (codes "illegal " ++ decimal call)
 
--- the status
+-- the status of a check
 abbrev pub legality_status : Legality → ℕ
 legality_status (Legal calls moves) = 0
 legality_status (Illegal call) = 1
@@ -104,7 +105,8 @@ IsTraceOf bytes text = (h : History) × journal.ReadsAs bytes h × IsTrace stand
 
 -- ---- check, rewrite and trace
 
--- why these bytes are neither checked nor rewritten nor traced: they are no journal; an allocation failure tells nothing
+-- why these bytes aren't checked, rewritten or traced: they are no journal; nothing is claimed of an allocation
+-- failure
 abbrev pub IsNoJournal : List ℕ → Refusal → Type 0
 IsNoJournal bytes (refusal.BadJournal e) = (e ≢ journal_error.Memory) × fault.IsRefused bytes e
 IsNoJournal bytes refusal.Memory = Unit {0}
@@ -112,8 +114,8 @@ IsNoJournal bytes r = ⊥
 
 -- ---- each command
 
--- what is asked is done with these bytes, which are the whole input: the status and the text; an audit and a window ask
--- for no whole input
+-- the status and the text of a request that is carried out on these bytes, which are the complete input; an audit and
+-- a window don't ask for a complete input
 abbrev pub IsDone : List ℕ → Request → ℕ → List ℕ → Type 0
 IsDone bytes (Run capacity asked) status text = (status ≡ 0) × IsRunText bytes capacity asked text
 IsDone bytes (Terms capacity) status text = (status ≡ 0) × IsTermsText bytes capacity text
@@ -124,7 +126,7 @@ IsDone bytes (Show w) status text = ⊥
 IsDone bytes (Audit every) status text = ⊥
 IsDone bytes (Explain t) status text = IsExplained bytes t status text
 
--- why it isn't done
+-- why a request isn't carried out on these bytes
 abbrev pub IsNotDone : List ℕ → Request → Refusal → Type 0
 IsNotDone bytes (Run capacity asked) r = IsNoRun bytes capacity asked r
 IsNotDone bytes (Terms capacity) r = IsNoRun bytes capacity false r

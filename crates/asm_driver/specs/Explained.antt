@@ -1,4 +1,4 @@
--- What the program tells of a text that is refused, and of one that is accepted.
+-- What the program writes about a text that is refused, and about one that is accepted.
 use Rattle.std.specs.Prelude.{◌≡◌, ◌≢◌, ◌⊎◌, ℕ, List, []}
 use Rattle.asm_storage.specs.declared.history.History.{History}
 use Rattle.asm_journal.specs.Reading as journal
@@ -15,12 +15,13 @@ abbrev pub IsAccepted : TextKind → List ℕ → Type 0
 IsAccepted Script bytes = IsOfForm form.Script bytes
 IsAccepted Journal bytes = (h : History) × journal.ReadsAs bytes h
 
--- the bytes are none, and the sentence tells something of it, in one line; of a journal, first the line of its first fault
+-- the bytes are none, and the sentence says something about that, in one line; for a journal, first the line of its
+-- first fault
 abbrev pub IsRefused : TextKind → List ℕ → List ℕ → Type 0
 IsRefused Script bytes sentence = IsOfNoForm form.Script bytes × (sentence ≢ []) × HasNoLineFeed sentence
 IsRefused Journal bytes sentence = TellsRefusal bytes sentence
 
--- nothing with status 0 where the bytes are accepted, and a line with status 1 where they are refused
+-- nothing with status 0 if the bytes are accepted, or a line with status 1 if they are refused
 abbrev pub IsExplained : List ℕ → TextKind → ℕ → List ℕ → Type 0
 IsExplained bytes t status text =
     ((status ≡ 0) × (text ≡ []) × IsAccepted t bytes)

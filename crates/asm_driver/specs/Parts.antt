@@ -1,4 +1,4 @@
--- The parts of a run that is traced, line by line.
+-- The segments of a run that is traced, line by line.
 use Rattle.std.specs.Prelude.{◌≡◌, ◌≤◌, ◌+◌, ◌⊎◌, ℕ, Bool, true, false, List, [], ◌∷◌, ◌++◌, length, Result, Ok, Err}
 use Rattle.std.specs.Io.KnownBytes.{Consumes, IsAtEnd}
 use Rattle.serde_json.specs.Data.{Data}
@@ -24,11 +24,11 @@ use Rattle.asm_driver.specs.declared.program.parts.Opened.{Opened}
 use Rattle.asm_driver.specs.declared.program.refusal.Refusal.{Refusal}
 use Rattle.asm_driver.specs.declared.program.refusal.Refusal.TheVariants as refusal
 
--- the part, as an audit holds it
+-- the segment, as an audit holds it
 abbrev pub audited : Opened → audit.Opened
 audited o = record { limits = o.limits; taken = o.taken; state = o.state }
 
--- what is told of the fault of the journal of a part
+-- the refusal for a fault in the journal of a segment
 abbrev pub refusal_of_fault : ℕ → JournalError → Refusal
 refusal_of_fault number journal_error.Memory = refusal.Memory
 refusal_of_fault number fault = refusal.BadPart number fault
@@ -40,21 +40,21 @@ abbrev pub HasHeader : List ℕ → Header → Type 0
 HasHeader line h = (d : Data) × (after : List ℕ) × HasLine line d after
     × IsHeader h.limits.version h.limits.agents h.limits.capacity h.limits.events h.init d
 
--- the line is at fault as the header of the part with this number; refused memory tells nothing
+-- the line has a fault as the header of the segment with this number; nothing is claimed of refused memory
 abbrev pub BreaksHeaderOf : ℕ → List ℕ → Refusal → Type 0
 BreaksHeaderOf number line r =
     (fault : JournalError) × (r ≡ refusal_of_fault number fault) × BreaksHeader line fault
 
--- the line is this header, and the part has no event yet
+-- the line is this header, and the segment has no event yet
 abbrev pub IsOpened : List ℕ → Header → audit.Opened → Type 0
 IsOpened line h o =
     HasHeader line h × (o.limits ≡ h.limits) × (o.taken ≡ 0) × Stands standard_part h.init o.state []
 
--- the first part was opened by its header
+-- the first segment was opened by its header
 abbrev pub IsOpenedFirst : List ℕ → audit.Opened → Type 0
 IsOpenedFirst line o = (h : Header) × IsOpened line h o
 
--- the part was opened by its header, which goes on from the state that the part before it leaves
+-- the segment was opened by its header, which has the state that the segment before it leaves
 abbrev pub IsOpenedNext : List ℕ → audit.Opened → audit.Opened → Type 0
 IsOpenedNext line before o = (h : Header) × IsOpened line h o × IsNextTest before.state h.init true
 
@@ -68,7 +68,7 @@ IsNotOpenedNext number line before r =
 abbrev pub IsTakenAs : List ℕ → audit.Opened → audit.Opened → Event → Type 0
 IsTakenAs line old new e = (t : IsTaken standard_part line old new true) × (t.event ≡ e)
 
--- the line is no event, or one with another answer; refused memory tells nothing
+-- the line is no event, or one with another answer; nothing is claimed of refused memory
 abbrev pub IsNotTaken : ℕ → List ℕ → audit.Opened → Refusal → Type 0
 IsNotTaken number line old r =
     ((fault : JournalError) × (r ≡ refusal_of_fault number fault)
@@ -77,8 +77,8 @@ IsNotTaken number line old r =
 
 -- ---- the text up to there
 
--- the text is whole legal parts, so many, and of the next part, which opens with this state, the header and these events,
--- which are legal
+-- the text is this many complete legal segments, and of the next one, which opens with this state, the header and
+-- these events, which are legal
 pub record IsPartRead (number : ℕ) (text : List ℕ) (o : audit.Opened) (A : State) (es : List Event) : Type 0 where
   pub first : State
   pub parts : List History
@@ -92,14 +92,14 @@ pub record IsPartRead (number : ℕ) (text : List ℕ) (o : audit.Opened) (A : S
   pub stands : Stands standard_part A o.state (fired_moves es)
   pub few : number ≤ 4294967295
 
--- the text is whole legal parts, so many
+-- the text is this many complete legal segments
 pub record AreParts (number : ℕ) (text : List ℕ) : Type 0 where
   pub first : State
   pub parts : List History
   pub has : HasLegal standard_part first parts text []
   pub numbered : length parts ≡ number
 
--- of the input these bytes were taken, and those behind them are pending
+-- these bytes of the input were consumed, and those behind them are pending
 abbrev pub IsAt : Known → Known → List ℕ → List ℕ → Type 0
 IsAt had left text behind = Consumes had left (text ++ behind)
 
@@ -108,11 +108,12 @@ abbrev pub IsRefusedRun : List ℕ → Refusal → Type 0
 IsRefusedRun text (refusal.Illegal part call) = IsFirstIllegal standard_part text part call
 IsRefusedRun text r = IsBadRun text r
 
--- the bytes are one line, or less
+-- the bytes are one line, or a part of one
 abbrev pub IsOneLine : List ℕ → Type 0
 IsOneLine line = HasNoLineFeed line ⊎ ((body : List ℕ) × EndsLine line body [])
 
--- behind the bytes that were taken this is told at one line: at the end of the input, or whatever stands behind the line
+-- behind the bytes that were consumed, this is reported at one line: at the end of the input, or whatever follows the
+-- line
 pub record IsToldBehind (had left : Known) (failed : Bool) (taken : List ℕ) (Told : List ℕ → Refusal → Type 0)
     (r : Refusal) : Type 0 where
   pub line : List ℕ
@@ -123,11 +124,11 @@ pub record IsToldBehind (had left : Known) (failed : Bool) (taken : List ℕ) (T
       ⊎ ((more : List ℕ) → Told (taken ++ (line ++ more)) r)
   pub noted : failed ≡ is_failed_read (Err r)
 
--- one event more of the same part was taken
+-- one more event of the same segment was taken in
 abbrev pub IsNext : Opened → Opened → Type 0
 IsNext old new = (new.number ≡ old.number) × (new.limits ≡ old.limits) × (new.taken ≡ old.taken + 1)
 
--- behind these bytes and events one event more was read; or none, since the run is refused
+-- behind these bytes and events, one more event was read; or none, as the run is refused
 abbrev pub IsEventRead : Known → Known → Bool → List ℕ → List ℕ → Opened → State → List Event → Result Event Refusal →
     Type 0
 IsEventRead had left failed text behind new A es (Ok e) =

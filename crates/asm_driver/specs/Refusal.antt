@@ -1,4 +1,4 @@
--- The line and the status of each refusal, and the refusals that are made of errors.
+-- The line and the status of each refusal, and the refusals made from errors.
 use Rattle.std.specs.Prelude.{ℕ, Bool, true, false, List, ◌++◌, codes, string_bytes}
 use Rattle.std.specs.Fmt.{decimal}
 use Rattle.asm_journal.specs.declared.error.JournalError.{JournalError}
@@ -18,7 +18,7 @@ use Rattle.asm_script.specs.declared.script.ScriptCause.TheVariants.{Reads}
 use Rattle.asm_script.specs.declared.script.ScriptError.{ScriptError}
 use Rattle.asm_script.specs.declared.script.ScriptError.TheVariants.{BadScript, Memory}
 
--- ---- each error, and the refusal that is made of it
+-- ---- each error, and the refusal made from it
 
 -- of the input
 abbrev pub refusal_of_input : InputError → Refusal
@@ -71,11 +71,11 @@ journal_line journal.Version = line (codes "journal version")
 journal_line journal.Cut = line (codes "journal cut")
 journal_line journal.Memory = memory_line
 
--- why the journal of this part of a run is refused
+-- why the journal of this segment of a run is refused
 abbrev pub part_line : ℕ → JournalError → List ℕ
 part_line part fault = codes "part " ++ decimal part ++ codes " " ++ journal_line fault
 
--- the line for a window that goes beyond the calls of this part
+-- the line for a window that goes beyond the calls of this segment
 abbrev pub few_calls_line : ℕ → ℕ → List ℕ
 few_calls_line part calls = line (codes "part " ++ decimal part ++ codes " has " ++ decimal calls ++ codes " calls")
 
@@ -96,13 +96,13 @@ refusal_line refusal.InputFault = line (codes "input fault")
 refusal_line refusal.NoThread = line (codes "no thread")
 refusal_line refusal.Memory = memory_line
 
--- whether a number stands in the line of a journal's fault
+-- whether the line of a journal's fault has a number
 abbrev pub journal_has_number : JournalError → Bool
 journal_has_number (journal.NotJson n) = true
 journal_has_number (journal.Shape n) = true
 journal_has_number _ = false
 
--- whether a number stands in the line, so that memory is needed for it
+-- whether the line has a number, so that it needs memory
 abbrev pub has_number : Refusal → Bool
 has_number (refusal.BadJournal e) = journal_has_number e
 has_number (refusal.BadPart part fault) = true
@@ -120,7 +120,7 @@ abbrev pub journal_status : JournalError → ℕ
 journal_status journal.Memory = 3
 journal_status _ = 2
 
--- the status
+-- the status of a refusal
 abbrev pub refusal_status : Refusal → ℕ
 refusal_status refusal.Words = 2
 refusal_status refusal.TooLarge = 2

@@ -47,7 +47,7 @@ reason (Large l) = codes " large " ++ compact_text (location_json_of l)
 reason Many = codes " many"
 reason GaveUp = codes " gave up"
 
--- the line of a step that didn't fire; of one that fired nothing
+-- the line of a step that didn't fire, or no text for one that fired
 abbrev pub outcome_line : ℕ → ℕ → Outcome → List ℕ
 outcome_line agent step (Fired k) = []
 outcome_line agent step o = line (step_name agent step ++ reason o)
@@ -60,14 +60,16 @@ agent_lines a = flat_map (λ s. outcome_line a.0 s.0 s.1) (enumerate_from 0 a.1)
 abbrev pub outcome_lines : List (List Outcome) → List ℕ
 outcome_lines outcomes = flat_map agent_lines (enumerate_from 0 outcomes)
 
--- with this meaning of partial updates: the final state, the number of moves, and the steps that didn't fire
+-- the report with this meaning of partial updates: the final state, the number of moves, and the steps that didn't
+-- fire
 abbrev pub report_of : Part → Played → List ℕ
 report_of part p =
     state_lines (state_of part p.history.init (fired_moves p.history.events))
     ++ moves_line (min (length (fired_moves p.history.events)) 4294967295)
     ++ outcome_lines p.outcomes
 
--- a line was appended, which says that a step of the agent ended since a term of this instruction had no value, and why
+-- a line was appended, which says that a step of the agent ended because a term of this instruction had no value, and
+-- why
 abbrev pub IsTermLine : ℕ → StepTerm → List ℕ → List ℕ → Type 0
 IsTermLine agent t old new =
     (why : List ℕ) × (new ≡ old ++ (step_name agent t.step ++ codes " block " ++ decimal t.term.block

@@ -22,7 +22,7 @@ use Rattle.asm_driver.specs.declared.program.words.Window.{Window}
 use Rattle.asm_driver.specs.declared.program.words.WordsError.{WordsError}
 use Rattle.asm_driver.specs.declared.program.words.WordsError.TheVariants as words
 
--- ---- what a run takes
+-- ---- the input of a run
 
 -- the input of a run: what it had and has left, and whether a read of it failed
 pub record Input : Type 0 where
@@ -30,7 +30,7 @@ pub record Input : Type 0 where
   pub left : Known
   pub failed : Bool
 
--- the input with these parts
+-- the input with these fields
 abbrev pub input_of : Known → Known → Bool → Input
 input_of had left failed = record { had = had; left = left; failed = failed }
 
@@ -44,27 +44,27 @@ pub record IsWhole (i : Input) (bytes : List ℕ) : Type 0 where
   pub all : ReadsAll i.had i.left bytes
   pub whole : i.failed ≡ false
 
--- ---- what is answered
+-- ---- answers
 
--- what the words ask for, done with all of the input
+-- the words' request, carried out on all of the input
 abbrev pub IsAsked : Words → Input → ℕ → List ℕ → Type 0
 IsAsked words i status text =
     (bytes : List ℕ) × (request : Request) × IsWhole i bytes × AsksFor words request × IsDone bytes request status text
 
--- the trace of the window that the words ask for, of the run that the input gives
+-- the trace of the window that the words ask for, from the run on the input
 abbrev pub IsShownOf : Words → Input → ℕ → List ℕ → Type 0
 IsShownOf words i status text =
     (w : Window) × AsksFor words (Show w) × (status ≡ 0) × IsWindow w i.had i.left i.failed text
 
--- the line that tells the version
+-- the line with the version
 abbrev pub version_line : List ℕ
 version_line = line (codes "asm_driver 0.2.0")
 
--- the text is help that the words ask for, or the line of the version that they ask for
+-- the text is the help, if the words ask for that, or the line with the version, if they ask for that
 abbrev pub IsToldOf : Words → List ℕ → Type 0
 IsToldOf words text = AsksForHelp words ⊎ (AsksForVersion words × (text ≡ version_line))
 
--- what the words ask for; or help or the version that is asked for, before anything is read
+-- the answer to the words: their request carried out; or help or the version, before anything is read
 abbrev pub IsAnswer : Words → Input → ℕ → List ℕ → Type 0
 IsAnswer words i status text =
     IsAsked words i status text ⊎ IsShownOf words i status text
@@ -76,21 +76,21 @@ IsWordsRefusal words refusal.Words = HasMistake words
 IsWordsRefusal words refusal.Memory = Unit {0}
 IsWordsRefusal words r = ⊥
 
--- why there is no input: it is too large, a read failed, or there was no memory
+-- why there is no input: it is too large, a read failed, or memory was refused
 abbrev pub IsNoInput : Input → Refusal → Type 0
 IsNoInput i refusal.TooLarge = TakesTooMany i.had i.left × (i.failed ≡ false)
 IsNoInput i refusal.InputFault = TakesSome i.had i.left × (i.failed ≡ true)
 IsNoInput i refusal.Memory = TakesSome i.had i.left × (i.failed ≡ false)
 IsNoInput i r = ⊥
 
--- the words ask for something that is done with the whole input
+-- the words ask for something that needs the complete input
 abbrev pub AsksForWhole : Words → Type 0
 AsksForWhole words =
     (request : Request) × AsksFor words request × ((w : Window) → request ≢ Show w)
     × ((every : ℕ) → request ≢ Audit every)
 
--- why there is no answer: the words, before anything is read; then the input, where all of it is asked for; then what it
--- holds; or why there is no trace of a window
+-- why there is no answer: the words, before anything is read; then the input, if all of it is asked for; then its
+-- content; or why there is no trace of a window
 abbrev pub IsNoAnswer : Words → Input → Refusal → Type 0
 IsNoAnswer words i r =
     (IsWordsRefusal words r × IsUnread i)
@@ -103,23 +103,23 @@ abbrev pub AsksForRun : Words → Type 0
 AsksForRun words =
     ((every : ℕ) × AsksFor words (Audit every)) ⊎ ((w : Window) × AsksFor words (Show w))
 
--- bytes of the input were taken: as many as an audit or a window wants, else at most one beyond the limit
+-- bytes of the input were consumed: as many as an audit or a window needs, else at most one beyond the limit
 abbrev pub Takes : Words → Known → Known → Type 0
 Takes words had left = TakesSome had left ⊎ (AsksForRun words × TakesAny had left)
 
--- the line of the version is answered, for which there has to be memory
+-- the answer is the line with the version, or a refusal because there was no memory for it
 abbrev pub IsVersion : Result Ending Refusal → Type 0
 IsVersion (Ok e) = (e.status ≡ 0) × (string_bytes e.text ≡ version_line)
 IsVersion (Err r) = r ≡ refusal.Memory
 
--- what is made of an error of the words: help and the version that are asked for are answers
+-- what an error of the words becomes: help and the version, if asked for, are answers
 abbrev pub IsAnswerTo : WordsError → Result Ending Refusal → Type 0
 IsAnswerTo (words.Help text) r = r ≡ Ok (record { status = 0; text = text })
 IsAnswerTo words.Version r = IsVersion r
 IsAnswerTo words.Bad r = r ≡ Err refusal.Words
 IsAnswerTo words.Memory r = r ≡ Err refusal.Memory
 
--- the refusal of words that the system couldn't give: one isn't UTF-8, or there was no memory
+-- the refusal of words that the system couldn't provide: one isn't UTF-8, or memory was refused
 abbrev pub IsRefusalOfKind : ErrorKind → Refusal → Type 0
 IsRefusalOfKind k refusal.Words = k ≡ InvalidData
 IsRefusalOfKind k refusal.Memory = ¬ (k ≡ InvalidData)
@@ -134,26 +134,26 @@ pub record Output : Type 0 where
   pub failed : Bool
   pub flushed : Bool
 
--- the output with these parts
+-- the output with these fields
 abbrev pub output_of : Known → Known → Bool → Bool → Output
 output_of held holds failed flushed = record { held = held; holds = holds; failed = failed; flushed = flushed }
 
--- the whole text went out and is flushed
+-- the complete text went out and is flushed
 pub record WentOut (o : Output) (text : List ℕ) : Type 0 where
   pub all : Appends o.held o.holds text
   pub whole : o.failed ≡ false
   pub flushed : o.flushed ≡ true
 
--- the output failed, and some first bytes of the text went out
+-- the output failed, and the first bytes of the text went out, any number of them
 pub record IsCut (o : Output) (text : List ℕ) : Type 0 where
   pub some : AppendsSome o.held o.holds text
   pub failed : o.failed ≡ true
 
--- the text went out, or the output failed: then the status is 4
+-- the text went out, or the output failed and the status is 4
 abbrev pub Writes : Output → ℕ → List ℕ → ℕ → Type 0
 Writes o status text result = ((result ≡ status) × WentOut o text) ⊎ ((result ≡ 4) × IsCut o text)
 
--- the refusal that is shown: where there is no memory for the number in its line, an allocation failure is shown
+-- the refusal that is shown: this one, or an allocation failure if the number in its line needs memory
 abbrev pub IsShown : Refusal → Refusal → Type 0
 IsShown r shown = (shown ≡ r) ⊎ ((shown ≡ refusal.Memory) × (has_number r ≡ true))
 
@@ -168,7 +168,7 @@ Ends words i status text =
     IsAnswer words i status text
     ⊎ ((r : Refusal) × IsNoAnswer words i r × (status ≡ refusal_status r) × (text ≡ refusal_line r))
 
--- what an audit tells in the end, with its status: a verdict, or a refusal that is shown
+-- what an audit reports at its end, with its status: a verdict, or a refusal that is shown
 abbrev pub EndsAs : Result Verdict Refusal → ℕ → List ℕ → Type 0
 EndsAs (Ok v) status text = (status ≡ verdict_status v) × (text ≡ verdict_line v)
 EndsAs (Err r) status text =
@@ -180,7 +180,7 @@ TellsVerdict v o result =
     Writes o (verdict_status v) (verdict_line v) result
     ⊎ Writes o (refusal_status refusal.Memory) (refusal_line refusal.Memory) result
 
--- an audit, which tells after each so many calls how far it is, and then how it ends
+-- an audit, which writes its progress after each so many calls, and then how it ends
 abbrev pub TellsAll : ℕ → Input → Output → ℕ → Type 0
 TellsAll every i o result =
     (r : Result Verdict Refusal) × (told text : List ℕ) × (status : ℕ) × IsWatchTold every i.had i.left i.failed r told
@@ -198,19 +198,19 @@ Runs words i o result =
     ((status : ℕ) × (text : List ℕ) × Ends words i status text × Writes o status text result)
     ⊎ ((every : ℕ) × AsksFor words (Audit every) × Watches every i o result)
 
--- a read of the input failed, or a call of the output
+-- a read of the input or a call of the output failed
 abbrev pub HasFailed : Input → Output → Type 0
 HasFailed i o = (i.failed ≡ true) ⊎ (o.failed ≡ true)
 
--- ---- over a reader and a writer that don't tell whether a call failed
+-- ---- over a reader and a writer that don't record whether a call failed
 
--- a run, by what the reader had and has left and by what the writer held and holds, whatever failed
+-- a run, by what the reader had and has left and what the writer held and holds, whatever failed
 abbrev pub RunsOver : Words → Known → Known → Known → Known → ℕ → Type 0
 RunsOver words had left held holds result =
     (read write flushed : Bool)
     × Runs words (input_of had left read) (output_of held holds write flushed) result
 
--- the refusal of words that the system couldn't give, by what the writer held and holds
+-- the refusal of words that the system couldn't provide, by what the writer held and holds
 abbrev pub RefusesKind : ErrorKind → Known → Known → ℕ → Type 0
 RefusesKind k held holds result =
     (r : Refusal) × IsRefusalOfKind k r

@@ -1,4 +1,4 @@
--- What the program tells while it audits a run.
+-- What the program writes while it audits a run.
 use Rattle.std.specs.Prelude.{◌≡◌, ◌<◌, ◌%◌, ◌⊎◌, ℕ, Bool, true, false, List, [], ◌∷◌, ◌++◌, All, codes, Result, Ok, Err}
 use Rattle.std.specs.Fmt.{decimal}
 use Rattle.std.specs.Io.KnownBytes.{Consumes, IsAtEnd, Appends}
@@ -28,29 +28,31 @@ abbrev pub so_far_line : Counts → List ℕ
 so_far_line w =
     with_feed (codes "so far " ++ decimal w.calls ++ codes " " ++ decimal w.moves ++ codes " " ++ decimal w.parts)
 
--- there is a call more than before, and the number divides how many there are
+-- a line is due: there is a call more than before, and the number isn't 0 and divides the number of calls
 abbrev pub IsDue : ℕ → ℕ → ℕ → Type 0
 IsDue every before calls = (0 < every) × (before < calls) × (calls % every ≡ 0)
 
--- what is told behind a line of the run, which led from the first numbers to the second: these, where it is due
+-- the text that is due behind a line of the run, which led from the first counts to the second: the line of the
+-- latter, if it is due
 abbrev pub IsDueText : ℕ → Counts → Counts → List ℕ → Type 0
 IsDueText every w x text =
     (IsDue every w.calls x.calls × (text ≡ so_far_line x)) ⊎ (¬ IsDue every w.calls x.calls × (text ≡ []))
 
--- what is told of this line of the run, behind those that were taken: what is due by the numbers before it and behind it
+-- the text for this line of the run, behind those that were consumed: what is due by the counts before it and behind
+-- it
 abbrev pub IsToldOfLine : ℕ → List ℕ → List ℕ → List ℕ → Type 0
 IsToldOfLine every taken l text =
     (w x : Counts) × HasCounts standard_part taken w × HasCounts standard_part (taken ++ (l ++ 10 ∷ [])) x
     × IsDueText every w x text
 
--- what is told of these lines of the run in turn, behind those that were taken
+-- the texts for these lines of the run in turn, behind those that were consumed
 abbrev pub IsToldOfLines : ℕ → List (List ℕ) → List ℕ → List ℕ → Type 0
 IsToldOfLines every [] taken told = told ≡ []
 IsToldOfLines every (l ∷ ls) taken told =
     (first rest : List ℕ) × IsToldOfLine every taken l first × (told ≡ first ++ rest)
     × IsToldOfLines every ls (taken ++ (l ++ 10 ∷ [])) rest
 
--- what is told while these bytes of a run are taken: of each line that ends in them
+-- the text for these bytes of a run: that for each line that ends in them
 pub record IsToldOf (every : ℕ) (taken told : List ℕ) : Type 0 where
   pub lines : List (List ℕ)
   pub line : List ℕ
@@ -59,13 +61,14 @@ pub record IsToldOf (every : ℕ) (taken told : List ℕ) : Type 0 where
   pub open_line : HasNoLineFeed line
   pub of_lines : IsToldOfLines every lines [] told
 
--- how the audit ends behind the bytes that were taken: there is no further one, or a read failed, or it tells so at the
--- next one, whatever stands behind that
+-- how the audit ends behind the bytes that were consumed: there is no further one, or a read failed, or the audit
+-- reports it at the next one, whatever follows that
 abbrev pub IsToldBehind : Known → List ℕ → List ℕ → Result Verdict Refusal → Type 0
 IsToldBehind left taken [] r = (IsAtEnd left × IsAuditOf taken r) ⊎ (r ≡ Err refusal.InputFault)
 IsToldBehind left taken (b ∷ bs) r = (is_failed_read r ≡ false) × ((more : List ℕ) → IsAuditOf (taken ++ b ∷ more) r)
 
--- an audit of the input, with what is told meanwhile: some bytes of it were read, and the first of these were taken
+-- an audit of the input, with the text that is written meanwhile: some bytes of it were read, and the first of these
+-- were consumed
 pub record IsWatchTold (every : ℕ) (had left : Known) (failed : Bool) (r : Result Verdict Refusal) (told : List ℕ) : Type 0
   where
     pub taken : List ℕ
@@ -75,7 +78,7 @@ pub record IsWatchTold (every : ℕ) (had left : Known) (failed : Bool) (r : Res
     pub ends : IsToldBehind left taken behind r
     pub noted : failed ≡ is_failed_read r
 
--- an audit that ends within, with what was to be told up to there
+-- an audit that ends within the input, with the text that was due up to there
 pub record IsWatchCut (every : ℕ) (had left : Known) (told : List ℕ) : Type 0 where
   pub taken : List ℕ
   pub behind : List ℕ
@@ -84,12 +87,13 @@ pub record IsWatchCut (every : ℕ) (had left : Known) (told : List ℕ) : Type 
 
 -- ---- on the way
 
--- these bytes were fed, and this was told meanwhile
+-- these bytes were fed, and this text was due meanwhile
 pub record IsWatched (every : ℕ) (text : List ℕ) (p : Progress) (line told : List ℕ) : Type 0 where
   pub fed : IsFed standard_part text p line
   pub watched : IsToldOf every text told
 
--- of the bytes behind a text the first were taken, this was told, and the audit ends so at the next one
+-- of the bytes behind a text the first were consumed, this text was due, and the audit ends in this way at the next
+-- one
 pub record IsStopped (every : ℕ) (text bytes told : List ℕ) (r : Result Verdict Refusal) : Type 0 where
   pub front : List ℕ
   pub next : ℕ
@@ -99,13 +103,13 @@ pub record IsStopped (every : ℕ) (text bytes told : List ℕ) (r : Result Verd
   pub noted : is_failed_read r ≡ false
   pub ends : (more : List ℕ) → IsAuditOf ((text ++ front) ++ next ∷ more) r
 
--- what an audit has come to behind further bytes
+-- what an audit reports behind further bytes
 abbrev pub IsWatchAnswer : ℕ → List ℕ → List ℕ → Progress → List ℕ → List ℕ → Result Told AuditError → Type 0
 IsWatchAnswer every text bytes q left told (Ok tells.Legal) = IsWatched every (text ++ bytes) q left told
 IsWatchAnswer every text bytes q left told (Ok (tells.Illegal j c)) = IsStopped every text bytes told (Ok (Illegal j c))
 IsWatchAnswer every text bytes q left told (Err e) = IsStopped every text bytes told (Err (refusal_of_audit e))
 
--- the bytes are those before with the text that is due
+-- the bytes are the previous ones with the text that is due
 abbrev pub AddsDue : ℕ → Counts → Counts → List ℕ → List ℕ → Type 0
 AddsDue every w x old new = (text : List ℕ) × IsDueText every w x text × (new ≡ old ++ text)
 
@@ -114,7 +118,8 @@ abbrev pub is_unwritten : {T : Type 0} → Result T Stop → Bool
 is_unwritten (Err Unwritten) = true
 is_unwritten _ = false
 
--- of what is told, this stands before; a part of it was cut off where the output failed
+-- the answer to further bytes, with the text that went out behind this one; if the output failed, these are the first
+-- bytes of that text, any number of them
 abbrev pub IsWrittenAnswer : ℕ → List ℕ → List ℕ → Progress → List ℕ → List ℕ → Known → Known → Result Told Stop → Type 0
 IsWrittenAnswer every text bytes q left before held holds (Ok tells.Legal) =
     (more : List ℕ) × Appends held holds more × IsWatched every (text ++ bytes) q left (before ++ more)

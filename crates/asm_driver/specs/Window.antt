@@ -1,4 +1,4 @@
--- What is told of a window of a run.
+-- The trace of a window of a run.
 use Rattle.std.specs.Prelude.{◌≡◌, ◌<◌, ◌≤◌, ◌⊎◌, ℕ, Bool, false, List, [], ◌++◌, length, codes, unwrap_or}
 use Rattle.std.specs.Prelude.{Result, Ok, Err}
 use Rattle.std.specs.Io.KnownBytes.{Consumes}
@@ -27,11 +27,11 @@ use Rattle.asm_driver.specs.declared.program.words.Window.{Window}
 
 -- ---- a window
 
--- the number of the call behind the window's last one, in a part of so many calls
+-- the number of the call behind the window's last one, in a segment of this many calls
 abbrev pub end_in : Window → ℕ → ℕ
 end_in w count = unwrap_or w.to count
 
--- a part of so many calls has all calls of the window
+-- a segment of this many calls has all calls of the window
 abbrev pub LiesIn : Window → ℕ → Type 0
 LiesIn w count = (w.from ≤ end_in w count) × (end_in w count ≤ count)
 
@@ -45,24 +45,24 @@ window_header_with agents capacity events from init moves part =
     (member (codes "init") (state_json_of init) (member (codes "moves") (number_json_of moves)
     (member (codes "part") (number_json_of part) (member (codes "trace") (number_json_of 2) no_members))))))))
 
--- the header of a window of so many events of the part, which come after these: the state that the moves of these leave,
--- and how many moves that are
+-- the header of a window of this many events of the segment, which come after these: with the state that the moves of
+-- these leave, and how many moves that are
 abbrev pub window_header : ℕ → History → List Event → ℕ → Data
 window_header part h before count =
     let q = fired_moves before in
     window_header_with h.agents h.capacity count (length before) (machine_state (machine_of standard_part h) q) (length q) part
 
--- the header of a window of the part, and a line for each of its events, which come after these
+-- the header of a window of the segment, and a line for each of its events, which come after these
 abbrev pub IsWindowText : ℕ → History → List Event → List Event → List ℕ → Type 0
 IsWindowText part h before shown text =
     (notes : List Note)
     × AreNotesOf (machine_of standard_part h) (fired_moves before) (length before) shown notes
     × (text ≡ line (window_header part h before (length shown)) ++ notes_text notes)
 
--- ---- what is told of a run
+-- ---- the window of a run
 
--- the text is whole legal parts that go on from one another, as many as the window's number, and one more that is legal
--- up to the window's end; and this is told of the window
+-- the text is complete legal segments that continue each other, as many as the window's number, and one more that is
+-- legal up to the window's end; and this is the window's text
 pub record IsShown (w : Window) (text told : List ℕ) : Type 0 where
   pub first : State
   pub parts : List History
@@ -82,7 +82,7 @@ pub record IsShown (w : Window) (text told : List ℕ) : Type 0 where
   pub end : length h.events ≡ end_in w count
   pub is : IsWindowText w.part h before shown told
 
--- the text is such parts, and the window's one has so many calls, beyond which the window goes
+-- the text is such segments, and the window's one has this many calls, beyond which the window goes
 pub record HasFewCalls (w : Window) (text : List ℕ) (count : ℕ) : Type 0 where
   pub first : State
   pub parts : List History
@@ -95,51 +95,52 @@ pub record HasFewCalls (w : Window) (text : List ℕ) (count : ℕ) : Type 0 whe
   pub going : IsGoing standard_part (last_left standard_part first parts) v count h rest behind
   pub beyond : ¬ LiesIn w count
 
--- the text is whole legal parts, so many, and none has the window's number
+-- the text is this many complete legal segments, and none has the window's number
 abbrev pub HasFewParts : Window → List ℕ → ℕ → Type 0
 HasFewParts w text count =
     (count ≤ w.part) × ((found : Counts) × IsWhole standard_part text found × (found.parts ≡ count))
 
--- why no window is told of a run of this text
+-- why a run of this text has no such window
 abbrev pub IsBadWindow : Window → List ℕ → Refusal → Type 0
 IsBadWindow w text (refusal.FewCalls part calls) = (part ≡ w.part) × HasFewCalls w text calls
 IsBadWindow w text (refusal.FewParts parts) = HasFewParts w text parts
 IsBadWindow w text r = IsRefusedRun text r
 
--- the text is whole legal parts, at most as many as the window's number, and perhaps the header and the first events of one
--- more: of the window's one fewer than the window goes on to
+-- the text is complete legal segments, at most as many as the window's number, and perhaps the header and the first
+-- events of one more: in the window's own segment, fewer than up to the window's end
 abbrev pub IsInside : Window → List ℕ → Type 0
 IsInside w text =
     ((number : ℕ) × AreParts number text × (number ≤ w.part))
     ⊎ ((number : ℕ) × (o : audit.Opened) × (A : State) × (es : List Event) × IsPartRead number text o A es
     × (number ≤ w.part) × (number ≡ w.part → length es < end_in w o.limits.events))
 
--- some bytes of the input were taken, and this is told of the window, whatever stands behind them
+-- some bytes of the input were consumed, and this is the window's text, whatever follows them
 pub record IsWindow (w : Window) (had left : Known) (failed : Bool) (told : List ℕ) : Type 0 where
   pub bytes : List ℕ
   pub consumed : Consumes had left bytes
   pub shown : (more : List ℕ) → IsShown w (bytes ++ more) told
   pub noted : failed ≡ false
 
--- some bytes of the input were taken, and no window is told: at a line that stands before the window's end
+-- some bytes of the input were consumed, and there is no such window: this is reported at a line before the window's
+-- end
 abbrev pub IsNoWindow : Window → Known → Known → Bool → Refusal → Type 0
 IsNoWindow w had left failed r =
     (taken : List ℕ) × IsInside w taken × IsToldBehind had left failed taken (IsBadWindow w) r
 
 -- ---- on the way
 
--- so many events of the part with this number are no more than the window goes on to, in a part of so many calls
+-- this many events of the segment with this number don't go beyond the window, in a segment of this many calls
 abbrev pub IsUpTo : Window → ℕ → ℕ → ℕ → Type 0
 IsUpTo w number calls count = (number < w.part) ⊎ ((number ≡ w.part) × (calls ≤ end_in w count))
 
--- so many events were read of the part; or the run is refused
+-- this many events of the segment were read; or the run is refused
 abbrev pub IsPassed : Window → Known → Known → Bool → ℕ → List ℕ → Opened → State → Result (Unit {0}) Refusal → Type 0
 IsPassed w had left failed calls behind o A (Ok u) =
     (failed ≡ false) × ((text : List ℕ) × (es : List Event) × IsAt had left text behind
     × IsPartRead o.number text (audited o) A es × (length es ≡ calls))
 IsPassed w had left failed calls behind o A (Err r) = IsNoWindow w had left failed r
 
--- the header of the part was read, behind whole parts
+-- the header of the segment was read, behind complete segments
 abbrev pub IsPartOpened : Known → Known → Bool → List ℕ → Opened → Type 0
 IsPartOpened had left failed behind o =
     (failed ≡ false) × (o.taken ≡ 0) × ((text line : List ℕ) × (A : State) × IsAt had left (text ++ line) behind

@@ -1,4 +1,4 @@
--- The words that the program takes, what they ask for, and how others are refused.
+-- The words that the program accepts, what they ask for, and how others are refused.
 use Rattle.std.specs.Prelude.{◌≡◌, ◌<◌, ◌≤◌, ◌^◌, ◌⊎◌, ℕ, Bool, pos, true, false, List, [], ◌∷◌, Option, Some, None}
 use Rattle.std.specs.Prelude.{IfSome, unwrap_or, codes}
 use Rattle.std.specs.Str.Parse.{IsNumeral, digits_value, without_leading_plus}
@@ -18,7 +18,7 @@ use Rattle.asm_driver.specs.declared.program.words.TextKind.TheVariants.{Script,
 use Rattle.asm_driver.specs.declared.program.words.WordsError.{WordsError}
 use Rattle.asm_driver.specs.declared.program.words.WordsError.TheVariants.{Help, Version, Bad, Memory}
 
--- --capacity N, with N from 1 to 1,048,576, and 4,096 where it isn't given
+-- --capacity N, with N from 1 to 1,048,576; 4,096 if it isn't given
 abbrev pub capacity : Rule
 capacity = record (new_rule (codes "capacity")) {
   long = Some (codes "capacity");
@@ -100,8 +100,8 @@ with_audit a = with_subcommand a audit.top
 abbrev pub with_explain : App → App
 with_explain a = with_subcommand a explain.top
 
--- the commands run, check, rewrite, trace, explain and audit, of which one must be given unless help or the version is
--- asked for
+-- the commands run, check, rewrite, trace, explain and audit, of which one must be given unless help or the version
+-- is asked for
 abbrev pub program : App
 program =
     let named = new_app (codes "asm_driver") in
@@ -112,23 +112,23 @@ program =
 abbrev pub Words : Type 0
 Words = List Text
 
--- what clap may find: the kinds of fault, help and the version that are asked for among them; none where it takes the
+-- what clap may find: the kinds of fault, including help and the version that are asked for; none if it accepts the
 -- words
 unfoldable pub faults : Words → Kinds
 faults words = fault_of program words
 
--- the number is the one that stands at the option
+-- the number is the value of the option
 abbrev pub AsksCapacity : List Row → ℕ → Type 0
 AsksCapacity rows number = (t : Text) → one_of (codes "capacity") rows ≡ Some t →
     IsNumeral 10 (without_leading_plus t) → digits_value 10 (without_leading_plus t) < 2 ^ 32 →
     number ≡ digits_value 10 (without_leading_plus t)
 
--- true where the option with this name stands there, and else false
+-- true if the option with this name is given, and else false
 abbrev pub AsksFlag : Text → List Row → Bool → Type 0
 AsksFlag name rows asked =
     (one_of name rows ≡ Some (codes "true") → asked ≡ true) × (one_of name rows ≡ Some (codes "false") → asked ≡ false)
 
--- what the options of run ask for; where the journal is, --terms asks for nothing more
+-- what the options of run ask for; with --journal, --terms asks for nothing more
 abbrev pub AsksRun : List Row → Request → Type 0
 AsksRun rows (Run number asked) =
     AsksCapacity rows number × AsksFlag (codes "journal") rows asked
@@ -141,14 +141,14 @@ AsksRun rows r = ⊥
 abbrev pub IsNumber : Text → Type 0
 IsNumber t = IsNumeral 10 (without_leading_plus t) × (digits_value 10 (without_leading_plus t) < 2 ^ 32)
 
--- the number that stands at the option, if one does
+-- the number that the option has, if it has one
 abbrev pub AsksNumber : Text → List Row → Option ℕ → Type 0
 AsksNumber name rows None = (t : Text) → one_of name rows ≡ Some t → ¬ IsNumber t
 AsksNumber name rows (Some n) =
     (t : Text) × (one_of name rows ≡ Some t) × IsNumber t × (n ≡ digits_value 10 (without_leading_plus t))
 
--- what the option of audit asks for: where a number stands at --every, to tell how far the audit is after each so many
--- calls; and else 0, for never
+-- what the option of audit asks for: if --every has a number, to write the progress after each so many calls; else 0,
+-- for never
 abbrev pub AsksAudit : List Row → Request → Type 0
 AsksAudit rows (Audit n) = (asked : Option ℕ) × AsksNumber (codes "every") rows asked × (n ≡ unwrap_or asked 0)
 AsksAudit rows r = ⊥
@@ -161,8 +161,8 @@ IsForward w = IfSome w.to (λ to. w.from ≤ to)
 abbrev pub AsksNone : Option ℕ → Option ℕ → Option ℕ → Type 0
 AsksNone part from to = (part ≡ None) × (from ≡ None) × (to ≡ None)
 
--- what the options of trace ask for: where one of them has a number, a window, which begins with the first part and its
--- first call where these have none
+-- what the options of trace ask for: a window if one of them has a number, which begins with the first segment and
+-- its first call if these have none
 abbrev pub AsksTrace : List Row → Request → Type 0
 AsksTrace rows Trace =
     AsksNumber (codes "part") rows None × AsksNumber (codes "from") rows None × AsksNumber (codes "to") rows None
@@ -177,7 +177,7 @@ abbrev pub kind_word : TextKind → Text
 kind_word Script = codes "script"
 kind_word Journal = codes "journal"
 
--- the words behind explain are that of this kind
+-- the word behind explain is that of this kind
 abbrev pub AsksKind : List Row → TextKind → Type 0
 AsksKind rows t = first_of (codes "kind") rows ≡ Some (kind_word t)
 
@@ -193,7 +193,7 @@ Asks (Some p) (Show w) = (p.0 ≡ codes "trace") × AsksTrace p.1 (Show w)
 Asks (Some p) (Audit n) = (p.0 ≡ codes "audit") × AsksAudit p.1 (Audit n)
 Asks (Some p) (Explain t) = (p.0 ≡ codes "explain") × AsksKind p.1 t
 
--- the words are taken, and ask for this
+-- clap accepts the words, and they ask for this
 abbrev pub AsksFor : Words → Request → Type 0
 AsksFor words r = (faults words ≡ []) × Asks (subcommand_of program words) r
 
@@ -205,7 +205,7 @@ AsksForHelp words = IsAmong kind.DisplayHelp (faults words)
 abbrev pub AsksForVersion : Words → Type 0
 AsksForVersion words = IsAmong kind.DisplayVersion (faults words)
 
--- what clap found is no mistake: help or the version is told
+-- what clap found is no mistake: help or the version is written
 abbrev pub IsTold : ErrorKind → Type 0
 IsTold k = (k ≡ kind.DisplayHelp) ⊎ (k ≡ kind.DisplayVersion)
 
@@ -217,21 +217,20 @@ IsNoCommand (Some p) =
     × ((r : Request) → p.0 ≡ codes "trace" → ¬ AsksTrace p.1 r) × ¬ (p.0 ≡ codes "audit")
     × ((t : TextKind) → ¬ Asks (Some p) (Explain t))
 
--- the words have a mistake: one that clap may find, or clap takes them and there is no command of the program's
+-- the words have a mistake: one that clap may find, or clap accepts them and they are no command of the program's
 abbrev pub HasMistake : Words → Type 0
 HasMistake words =
     ((k : ErrorKind) × IsAmong k (faults words) × ¬ IsTold k)
     ⊎ ((faults words ≡ []) × IsNoCommand (subcommand_of program words))
 
--- why the words are refused; an allocation failure tells nothing
+-- why the words are refused; nothing is claimed of an allocation failure
 abbrev pub IsRefusal : Words → WordsError → Type 0
 IsRefusal words (Help text) = AsksForHelp words
 IsRefusal words Version = AsksForVersion words
 IsRefusal words Bad = HasMistake words
 IsRefusal words Memory = Unit {0}
 
--- what is made of an error of clap: its text where help was asked for, for which there has to be memory; the version
--- takes none
+-- what an error of clap becomes: its text if help was asked for, which needs memory; the version needs none
 abbrev pub IsMadeOf : ErrorKind → WordsError → Type 0
 IsMadeOf k (Help text) = k ≡ kind.DisplayHelp
 IsMadeOf k Version = k ≡ kind.DisplayVersion

@@ -1,5 +1,6 @@
-//! The driver of an abstract state machine's agents: it reports on what was played, and it runs the whole program over
-//! any input and output.
+//! The driver of an abstract state machine's agents.
+//!
+//! It reports on played scripts, and runs the complete program over any input and output.
 #![tactic(auto)]
 
 mod ports;

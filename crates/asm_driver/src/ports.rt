@@ -1,4 +1,4 @@
-//! The program's input and output, each with whether a call of it failed.
+//! The program's input and output, each of which records whether a call of it failed.
 
 pub(crate) mod input;
 pub(crate) mod line_reader;
@@ -6,6 +6,6 @@ pub(crate) mod output;
 pub(crate) mod sink;
 pub(crate) mod source;
 
-/// A call of a port failed: a read, a write, a write that took nothing, or the flush.
+/// Failure of a call: a read, a write, a write that took no byte, or the flush.
 #[derive(Clone, Copy, Debug, PartialEq, Eq)]
 pub struct PortFailed;

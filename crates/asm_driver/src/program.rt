@@ -32,14 +32,14 @@ use std::io::{ErrorKind, Read, Write};
 use std::sync::Wait;
 use std::thread::Threads;
 
-// The line that tells the version.
+// Return the line with the version.
 fn version_text(alloc: Global) -> Result<String, AllocError>
     ensures { IfOk result (λ text. string_bytes text ≡ version_line) }
 {
     format!(in alloc; "asm_driver 0.2.0\n")
 }
 
-// A request for help or the version is not a refusal.
+// Return the answer to an error of the words: help and the version are answers, not refusals.
 fn answer_to(alloc: Global, error: WordsError) -> Result<Ending, Refusal>
     ensures { IsAnswerTo error result }
 {
@@ -54,7 +54,7 @@ fn answer_to(alloc: Global, error: WordsError) -> Result<Ending, Refusal>
     }
 }
 
-/// Does with the input what is asked for.
+/// Carry out the request on the input.
 fn answer<T: Threads + Wait + Sync, S: Source>(
     rt: &T,
     alloc: Global,
@@ -79,7 +79,7 @@ fn answer<T: Threads + Wait + Sync, S: Source>(
     }
 }
 
-// Writes the text. Gives the wanted status, or 4 where the output failed.
+// Write the text; return the given status, or 4 if the output failed.
 fn write_out<K: Sink>(output: &mut K, text: &[u8], status: u8) -> u8
     requires { K.failed output.old ≡ false }
     ensures same_reference { K.lender output.new ≡ K.lender output.old }
@@ -93,7 +93,8 @@ fn write_out<K: Sink>(output: &mut K, text: &[u8], status: u8) -> u8
     }
 }
 
-// Writes the refusal's line, or the line for an allocation failure where there is no memory for it. Gives the status.
+// Write the refusal's line; return its status, or 4 if the output failed.
+// If there is no memory for the line, it writes the line of an allocation failure, with the status of that.
 fn refuse<K: Sink>(alloc: Global, output: &mut K, refusal: Refusal) -> u8
     requires { K.failed output.old ≡ false }
     ensures same_reference { K.lender output.new ≡ K.lender output.old }
@@ -107,7 +108,7 @@ fn refuse<K: Sink>(alloc: Global, output: &mut K, refusal: Refusal) -> u8
     }
 }
 
-// Writes the answer with its status, or the refusal's line with its status.
+// Write the answer, or the refusal's line; return its status, or 4 if the output failed.
 fn write_answer<K: Sink>(alloc: Global, output: &mut K, answer: Result<Ending, Refusal>) -> u8
     requires { K.failed output.old ≡ false }
     ensures same_reference { K.lender output.new ≡ K.lender output.old }
@@ -124,7 +125,7 @@ fn write_answer<K: Sink>(alloc: Global, output: &mut K, answer: Result<Ending, R
     }
 }
 
-// Writes the line of a verdict, or that for an allocation failure. Gives the status.
+// Write the line of a verdict, or that of an allocation failure; return its status, or 4 if the output failed.
 fn write_verdict<K: Sink>(alloc: Global, output: &mut K, verdict: Verdict) -> u8
     requires { K.failed output.old ≡ false }
     ensures same_reference { K.lender output.new ≡ K.lender output.old }
@@ -137,8 +138,10 @@ fn write_verdict<K: Sink>(alloc: Global, output: &mut K, verdict: Verdict) -> u8
     }
 }
 
-/// Audits the run that the input gives, and tells how far that is after each so many calls, or never for 0. Gives the
-/// status.
+/// Audit the run on the input, and return the program's status.
+///
+/// It writes its progress after each `every` calls, or never if `every` is 0, and then the line of the verdict or of
+/// the refusal.
 fn watch<T: Wait, S: Source, K: Sink>(
     rt: &T,
     alloc: Global,
@@ -163,11 +166,10 @@ fn watch<T: Wait, S: Source, K: Sink>(
     }
 }
 
-/// Does what the words ask for, and gives the program's status.
+/// Do what the words ask for, and return the program's status.
 ///
-/// As `run_main`, over an input and an output that keep whether a call failed: status 4 comes exactly
-/// where a read of the input or a call of the output failed. Nothing is read unless the words are
-/// taken.
+/// It works as `run_main`, over an input and an output that record whether a call failed. The status is 4 exactly if a
+/// read of the input or a call of the output failed. It reads nothing unless the words are accepted.
 pub fn run_noted<T: Threads + Wait + Sync, S: Source, K: Sink>(
     rt: &T,
     alloc: Global,
@@ -201,26 +203,36 @@ pub fn run_noted<T: Threads + Wait + Sync, S: Source, K: Sink>(
     }
 }
 
-/// Does what the words ask for, and gives the program's status.
+/// Do what the words ask for, and return the program's status.
 ///
-/// The words begin with the program's name, and are `run` with its options, `check`, `rewrite`, `trace`, `explain` with
-/// the kind of text, or `audit`. But with `audit`, or with `trace` of a window, the input is read to its end, at most
-/// 16,777,216 bytes. With `run` it is a script, which is played, and the report is written with status 0, or with `--journal` the journal of the calls.
-/// With `check` it is a journal, and `legal CALLS MOVES` is written with status 0, or `illegal CALL` with status 1. With
-/// `rewrite` it is a journal too, whether legal or not, and the journal of the same history is written with status 0; so
-/// is its trace with `trace`. With `explain script` or `explain journal` nothing is written, with status 0, where `run`
-/// or `check` would take the input, and else a line that says where and why not, with status 1. With `audit` it is a run
-/// of any length, whose parts are journals, of which no line may have more than 1,073,741,824 bytes; it is read to its end
-/// or to where something is told, and `legal CALLS MOVES PARTS` is written with status 0, or `illegal PART CALL` with
-/// status 1; with `--every N` also `so far CALLS MOVES PARTS` after each N calls, before more is read. With `trace` and a
-/// part, a first call or one behind the last, it is such a run too, which is read to the window's end, and the trace of
-/// the window is written with status 0, or `illegal PART CALL` with status 1. Help that is asked for has status 0, and so
-/// has the line `asm_driver 0.2.0` where the words ask for the version.
+/// The words begin with the program's name; then they are a command with its options. Each command reads the input to
+/// its end, at most 16,777,216 bytes, except `audit`, and `trace` of a window. The input and the text that is written:
+/// - `run`: the input is a script, which is played. The text is the report, or with `--journal` the journal of the
+///   calls, with status 0.
+/// - `check`: the input is a journal. The text is `legal CALLS MOVES` with status 0, or `illegal CALL` with status 1.
+/// - `rewrite`: the input is a journal, whether legal or not. The text is the journal of the same history, with status
+///   0.
+/// - `trace`: the input is a journal, whether legal or not. The text is its trace, with status 0.
+/// - `explain script` and `explain journal`: if `run` or `check` would accept the input, the text is empty, with status
+///   0. Else it is a line that says where and why not, with status 1.
+/// - `audit`: the input is a run of any length, whose segments are journals. No line of it may have more than
+///   1,073,741,824 bytes. It is read to its end, or up to its first fault or wrong answer. The text is
+///   `legal CALLS MOVES PARTS` with status 0, or `illegal PART CALL` with status 1. With `--every N`, it also writes
+///   `so far CALLS MOVES PARTS` after each N calls, before it reads more.
+/// - `trace` with `--part`, `--from` or `--to`: the input is such a run too, which is read up to the window's end. The
+///   text is the trace of the window with status 0, or `illegal PART CALL` with status 1.
 ///
-/// Otherwise one line tells why: status 1 for a fired move without a receipt, 2 for words, a size, a script,
-/// a journal or a run that is refused, 3 for an allocation failure or a thread that couldn't be started, 4 for a failed
-/// read. Where a write or the flush fails the status is 4, and what went out is the first part of the
-/// text. Faults are found in this order: words, input, script or journal, the command, output.
+/// If the words ask for help, the text is the help, with status 0. If they ask for the version, it is
+/// `asm_driver 0.2.0`, with status 0.
+///
+/// Otherwise the text is one line with the cause, and the status is:
+/// - 1 if a fired move has no receipt,
+/// - 2 if the words, a size, a script, a journal or a run is refused,
+/// - 3 if an allocation failed, or a thread couldn't be started,
+/// - 4 if a read failed.
+///
+/// If a write or the flush fails, the status is 4, and the first bytes of the text went out, any number of them. Faults
+/// are found in this order: words, input, script or journal, the command, output.
 pub fn run_main<T: Threads + Wait + Sync, R: Read, W: Write>(
     rt: &T,
     alloc: Global,
@@ -237,7 +249,7 @@ pub fn run_main<T: Threads + Wait + Sync, R: Read, W: Write>(
     run_noted(rt, alloc, words, &mut source, &mut sink)
 }
 
-// The refusal for words that the system couldn't give.
+// Return the refusal for words that the system couldn't provide.
 fn refusal_of_kind(kind: ErrorKind) -> Refusal
     ensures kind { IsRefusalOfKind kind result }
     ensures known { has_number result ≡ false }
@@ -248,8 +260,11 @@ fn refusal_of_kind(kind: ErrorKind) -> Refusal
     }
 }
 
-/// As `run_main`, with the words as the system gives them: where one of them isn't UTF-8 they are
-/// refused as words, and for an allocation failure as that.
+/// Do what the system's words ask for, and return the program's status.
+///
+/// It works as `run_main`, except for words that the system couldn't provide:
+/// - If a word isn't UTF-8, they are refused as words.
+/// - After an allocation failure, they are refused as that.
 pub fn run_given<T: Threads + Wait + Sync, R: Read, W: Write>(
     rt: &T,
     alloc: Global,

@@ -16,7 +16,7 @@ use asm_update::PlainState;
 use serde_json::Value as Json;
 use std::alloc::{AllocError, Global};
 
-/// Appends the compact text of the JSON.
+/// Append the compact text of the JSON.
 fn push_json(alloc: Global, text: &mut String, json: &Json) -> Result<(), AllocError>
     requires { has_float (view json.now) ≡ false }
     ensures { OnOk result (string_bytes text.new ≡ string_bytes text.old ++ compact_text (view json.now)) }
@@ -33,7 +33,7 @@ fn push_location(alloc: Global, text: &mut String, location: &Location) -> Resul
     push_json(alloc, text, &location_json(alloc, location)?)
 }
 
-/// One line for each location of the state.
+/// Append one line for each location of the state.
 fn push_state(alloc: Global, text: &mut String, state: &PlainState) -> Result<(), AllocError>
     ensures { OnOk result (string_bytes text.new ≡ string_bytes text.old ++ state_lines state.now) }
 {
@@ -44,7 +44,7 @@ fn push_state(alloc: Global, text: &mut String, state: &PlainState) -> Result<()
     Ok(())
 }
 
-/// The line of a step that didn't fire.
+/// Append the line of a step, or nothing if it fired.
 fn push_outcome(
     alloc: Global,
     text: &mut String,
@@ -64,7 +64,7 @@ fn push_outcome(
     Ok(())
 }
 
-/// Why the step didn't fire.
+/// Append why the step didn't fire.
 fn push_reason(alloc: Global, text: &mut String, outcome: &Outcome) -> Result<(), AllocError>
     ensures { OnOk result (string_bytes text.new ≡ string_bytes text.old ++ reason outcome.now) }
 {
@@ -117,11 +117,19 @@ fn push_outcomes(
     Ok(())
 }
 
-/// The report of a played script: a line for each location of the final state, in ascending order; the
-/// number of fired moves; and a line for each step that didn't fire, agent by agent and step by step.
+/// Return the report of a played script.
 ///
-/// The final state is that of the history's opening state and moves. `AllocError` comes only where
-/// memory was refused. It costs one replay of the history and one pass over the text.
+/// It has, in this order:
+/// - a line for each location of the final state, in ascending order,
+/// - a line with the number of fired moves,
+/// - a line for each step that didn't fire, agent by agent and step by step.
+///
+/// The final state is that of the history's opening state and moves. The call costs one replay of the history and one
+/// pass over the text.
+///
+/// # Errors
+///
+/// - `AllocError` only if memory is refused.
 pub fn report(alloc: Global, played: &Played) -> Result<String, AllocError>
     ensures { IfOk result (λ text. string_bytes text ≡ report_of standard_part played.now) }
 {
@@ -130,7 +138,7 @@ pub fn report(alloc: Global, played: &Played) -> Result<String, AllocError>
     lines_of(alloc, &state, moves, played.outcomes.as_slice())
 }
 
-/// As `report`, of a play that moves in, so that its opening state isn't copied.
+/// Return the report of an owned play, without copying its opening state.
 pub(crate) fn report_of_owned(alloc: Global, played: Played) -> Result<String, AllocError>
     ensures { IfOk result (λ text. string_bytes text ≡ report_of standard_part played) }
 {
@@ -145,7 +153,7 @@ pub(crate) fn report_of_owned(alloc: Global, played: Played) -> Result<String, A
     lines_of(alloc, &state, moves, outcomes.as_slice())
 }
 
-// The lines of a report, for a final state.
+// Return the lines of a report with this final state.
 fn lines_of(
     alloc: Global,
     state: &PlainState,

@@ -1,16 +1,16 @@
-//! Texts of the input in a line that a terminal shows.
+//! Texts of the input for a line on a terminal.
 use std::alloc::{AllocError, Global};
 
-// How many bytes of a text are shown.
+// Number of bytes after which a text is cut.
 const SHOWN: usize = 200;
 
-// Whether a terminal obeys the character or changes the direction for it, in place of showing it.
+// Return whether a terminal obeys the character, or changes the direction for it, instead of showing it.
 fn is_obeyed(character: char) -> bool {
     matches!(u32::from(character),
         0..=0x1f | 0x7f..=0x9f | 0x61c | 0x200e | 0x200f | 0x2028..=0x202e | 0x2066..=0x2069)
 }
 
-// The character as JSON escapes it, if a terminal obeys it.
+// Append the character, escaped as in JSON if a terminal obeys it.
 fn push_shown(alloc: Global, text: &mut String, character: char) -> Result<(), AllocError> {
     if !is_obeyed(character) {
         return text.push(character);
@@ -20,9 +20,14 @@ fn push_shown(alloc: Global, text: &mut String, character: char) -> Result<(), A
     text.push_str(escaped.as_str())
 }
 
-/// The first 200 bytes of the text, with `...` behind them where it goes on.
+/// Return the text as a terminal may show it, cut after 200 bytes.
 ///
-/// What a terminal would obey is escaped. `AllocError` comes only where memory was refused.
+/// Characters that a terminal would obey are escaped. The text is cut after the first character with which at least 200
+/// bytes are shown, and `...` follows if there are more.
+///
+/// # Errors
+///
+/// - `AllocError` only if memory is refused.
 pub fn shown_text(alloc: Global, text: &str) -> Result<String, AllocError> {
     let mut shown = String::new(alloc);
     for character in text.chars() {

@@ -1,4 +1,4 @@
-//! Where terms of a played script had no value, and why: a line for each step that ended so.
+//! The lines for steps that ended because a term had no value: where this was, and why.
 ghost use Rattle.std.specs.Prelude.{◌≡◌, ◌++◌, OnOk, string_bytes};
 ghost use Rattle.asm_driver.specs.Report.{IsTermLine};
 
@@ -10,12 +10,12 @@ use asm_script::{Found, NoValue};
 use serde_json::Value as Json;
 use std::alloc::{AllocError, Global};
 
-// The JSON as it is shown.
+// Return the JSON's text, as `shown_text` shows it.
 fn shown_json(alloc: Global, json: &Json) -> Result<String, AllocError> {
     shown_text(alloc, json.to_string(alloc)?.as_str())
 }
 
-// The value in words: `LOC holds VALUE, which` where a location holds it, and else the value alone.
+// Return the value in words: `LOC holds VALUE, which` if a location holds it, else the value alone.
 fn found(alloc: Global, found: &Found) -> Result<String, AllocError> {
     let value = shown_json(alloc, &value_json(alloc, &found.value)?)?;
     let Some(at) = &found.at else {
@@ -25,7 +25,7 @@ fn found(alloc: Global, found: &Found) -> Result<String, AllocError> {
     format!(in alloc; "{at} holds {value}, which")
 }
 
-// Why a term has no value.
+// Return why a term has no value.
 fn why(alloc: Global, why: &NoValue) -> Result<String, AllocError> {
     match why {
         NoValue::NoNumber(value) => {
@@ -42,7 +42,7 @@ fn why(alloc: Global, why: &NoValue) -> Result<String, AllocError> {
     }
 }
 
-// Appends the line of one step.
+// Append the line of one step.
 fn push_line(
     alloc: Global,
     text: &mut String,
@@ -62,9 +62,13 @@ fn push_line(
     Ok(())
 }
 
-/// For each step that ended since a term had no value, a line that says where in the step this was, and why.
+/// Return a line for each step that ended because a term had no value.
 ///
-/// Agents, steps, blocks and instructions count from 0. `AllocError` comes only where memory was refused.
+/// The line says where in the step this was, and why. Agents, steps, blocks and instructions count from 0.
+///
+/// # Errors
+///
+/// - `AllocError` only if memory is refused.
 pub(crate) fn terms_text(alloc: Global, terms: &[Items<StepTerm>]) -> Result<String, AllocError> {
     let mut text = String::new(alloc);
     for (agent, steps) in terms.iter().enumerate() {

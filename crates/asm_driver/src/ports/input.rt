@@ -6,10 +6,10 @@ use crate::ports::PortFailed;
 use crate::ports::source::Source;
 use std::alloc::{AllocError, Global};
 
-/// The most bytes that are read.
+/// Limit of the input's size, in bytes.
 pub const INPUT_LIMIT: usize = 16_777_216;
 
-// How many bytes are asked for at once.
+// Number of bytes that a read asks for.
 const CHUNK: usize = 4096;
 
 /// Why there is no input.
@@ -45,7 +45,15 @@ impl From<AllocError> for InputError {
     }
 }
 
-/// Reads to the end of the input, or one byte beyond the limit. No read is tried again.
+/// Read the input to its end, or one byte beyond the limit.
+///
+/// No read is retried.
+///
+/// # Errors
+///
+/// - `TooLarge` if the input has more than 16,777,216 bytes.
+/// - `Fault` exactly if a read failed.
+/// - `Memory` only if memory is refused.
 pub fn read_input<S: Source>(alloc: Global, input: &mut S) -> Result<Vec<u8>, InputError>
     requires { S.failed input.old ≡ false }
     ensures same_reference { S.lender input.new ≡ S.lender input.old }

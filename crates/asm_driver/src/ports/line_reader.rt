@@ -7,17 +7,19 @@ use asm_audit::LINE_LIMIT;
 use std::alloc::Global;
 use std::sync::Wait;
 
-// How many bytes are asked for at once.
+// Number of bytes that a read asks for.
 const CHUNK: usize = 4096;
 
-/// The lines of an input: the one that was read last, and the bytes behind it that came in with it.
+/// A reader of an input's lines.
+///
+/// It holds the last line that was read, and the bytes behind it that came with it.
 #[derive(Drop)]
 pub(crate) struct LineReader {
-    /// The bytes that were asked for last.
+    /// The bytes of the last read.
     chunk: Vec<u8>,
-    /// How many of these were taken.
+    /// How many of these were consumed.
     taken: usize,
-    /// The line that was read last, with its line feed.
+    /// The last line that was read, with its line feed.
     line: Vec<u8>,
     ghost within: { taken ≤ length chunk.items },
 }
@@ -27,7 +29,7 @@ impl LineReader {
     ghost use Rattle.asm_driver.specs.Lines.{IsFilled, IsToppedUp, IsNextByte, IsLineRead, pending};
     ghost use Rattle.asm_driver.specs.declared.ports.input.InputError.TheVariants as errors;
 
-    /// The lines of an input of which nothing was read.
+    /// Return a reader for an input of which nothing was read.
     pub(crate) fn new(alloc: Global) -> LineReader
         ensures pending { pending result ≡ [] }
     {
@@ -38,15 +40,17 @@ impl LineReader {
         }
     }
 
-    /// The line that was read last. It has a line feed at its end, and nowhere else, unless the input ended without one;
-    /// where no byte was left it is empty.
+    /// Return the last line that was read.
+    ///
+    /// It has a line feed at its end and nowhere else, unless the input ended without one. It is empty if no byte was
+    /// left.
     pub(crate) fn line(&self) -> &[u8]
         ensures { result.now ≡ self.now.line.items }
     {
         self.line.as_slice()
     }
 
-    // Asks for more bytes, once all were taken.
+    // Read more bytes, once all are consumed.
     fn fill<S: Source>(&mut self, input: &mut S) -> Result<(), InputError>
         requires unread { S.failed input.old ≡ false }
         ensures same_reference { S.lender input.new ≡ S.lender input.old }
@@ -62,7 +66,7 @@ impl LineReader {
         Ok(())
     }
 
-    // Asks for more bytes where all were taken.
+    // Read more bytes if all are consumed.
     fn top_up<S: Source>(&mut self, input: &mut S) -> Result<(), InputError>
         requires unread { S.failed input.old ≡ false }
         ensures same_reference { S.lender input.new ≡ S.lender input.old }
@@ -76,7 +80,7 @@ impl LineReader {
         Ok(())
     }
 
-    // Takes the next byte; there is none at the end of the input.
+    // Consume the next byte and return it, or `None` at the end of the input.
     fn next_byte<S: Source>(&mut self, input: &mut S) -> Result<Option<u8>, InputError>
         requires unread { S.failed input.old ≡ false }
         ensures same_reference { S.lender input.new ≡ S.lender input.old }
@@ -93,7 +97,7 @@ impl LineReader {
         Ok(Some(byte))
     }
 
-    // Takes a byte into the line.
+    // Append a byte to the line.
     fn keep(&mut self, byte: u8) -> Result<(), InputError>
         ensures kept { OnOk result (self.new.line.items ≡ self.old.line.items ++ byte ∷ []) }
         ensures err { IfErr result (λ e. e ≡ errors.Memory) }
@@ -105,10 +109,15 @@ impl LineReader {
         }
     }
 
-    /// Reads the next line. No read is tried again.
+    /// Read the next line.
     ///
-    /// `TooLarge`: it has more than 1,073,741,824 bytes, the line feed apart. `Fault`: a read failed. `Memory` comes only
-    /// where memory was refused.
+    /// No read is retried.
+    ///
+    /// # Errors
+    ///
+    /// - `TooLarge` if the line has more than 1,073,741,824 bytes, not counting the line feed.
+    /// - `Fault` if a read failed.
+    /// - `Memory` only if memory is refused.
     pub(crate) fn read<T: Wait, S: Source>(
         &mut self,
         rt: &T,

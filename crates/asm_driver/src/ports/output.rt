@@ -6,9 +6,13 @@ ghost use Rattle.asm_driver.specs.Ports.{AppendsSome};
 use crate::ports::PortFailed;
 use crate::ports::sink::Sink;
 
-/// Writes the whole text and flushes it. No call is tried again.
+/// Write the complete text and flush it.
 ///
-/// After a failed call the first bytes of the text may have gone out.
+/// No call is retried.
+///
+/// # Errors
+///
+/// - `PortFailed` if a call failed; the first bytes of the text may then have gone out.
 pub fn write_whole<K: Sink>(output: &mut K, text: &[u8]) -> Result<(), PortFailed>
     requires { K.failed output.old ≡ false }
     ensures same_reference { K.lender output.new ≡ K.lender output.old }

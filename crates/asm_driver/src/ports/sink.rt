@@ -1,14 +1,14 @@
-//! Outputs that keep whether a call failed, and whether what was written is flushed.
+//! Outputs that record whether a call failed, and whether what was written is flushed.
 
 use crate::ports::PortFailed;
 use std::io::Write;
 
-/// What the output is written to. No call comes after one that failed.
+/// What the output is written to. No call follows one that failed.
 pub trait Sink {
     ghost use Rattle.std.specs.Prelude.{◌≡◌, ◌<◌, ◌≤◌, ℕ, Bool, false, is_ok, is_err, length, List, Option, IfOk};
     ghost use Rattle.std.specs.Io.KnownBytes.{Keeps, WriteAppends};
 
-    // The bytes that it holds, where they are known.
+    // The bytes that it holds, if they are known.
     ghost contents: { Self → Option (List ℕ) };
     // Whether a call failed.
     ghost failed: { Self → Bool };
@@ -17,7 +17,9 @@ pub trait Sink {
     // Which reference it writes through.
     ghost lender: { Self → ℕ };
 
-    /// Writes the first bytes, at least one, and gives how many. A write that takes none has failed.
+    /// Write the first bytes, at least one; return how many.
+    ///
+    /// A write that takes no byte has failed.
     fn write(&mut self, bytes: &[u8]) -> Result<usize, PortFailed>
         requires { failed self.old ≡ false }
         ensures same_reference { lender self.new ≡ lender self.old }
@@ -26,7 +28,7 @@ pub trait Sink {
         ensures noted { failed self.new ≡ is_err result }
         ensures unflushed { flushed self.new ≡ false };
 
-    /// Flushes what was written.
+    /// Flush what was written.
     fn flush(&mut self) -> Result<(), PortFailed>
         requires { failed self.old ≡ false }
         ensures same_reference { lender self.new ≡ lender self.old }
@@ -35,7 +37,9 @@ pub trait Sink {
         ensures flushed { flushed self.new ≡ is_ok result };
 }
 
-/// A writer, with whether a call of it failed and whether what was written is flushed.
+/// A writer that records failed calls.
+///
+/// It also records whether what was written is flushed.
 #[derive(Drop)]
 pub struct NotedWriter<'a, W> {
     writer: &'a mut W,
@@ -46,7 +50,7 @@ pub struct NotedWriter<'a, W> {
 impl<'a, W> NotedWriter<'a, W> {
     ghost use Rattle.std.specs.Prelude.{◌≡◌, false};
 
-    /// The writer, before anything is written to it.
+    /// Wrap the writer, with no failed call recorded.
     pub fn new(writer: &'a mut W) -> NotedWriter<'a, W>
         ensures same_reference { result.writer.ghost_name ≡ writer.entry.ghost_name }
         ensures writer { result.writer.now ≡ writer.old }

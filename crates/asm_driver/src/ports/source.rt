@@ -1,22 +1,24 @@
-//! Inputs that keep whether a read failed.
+//! Inputs that record whether a read failed.
 
 use crate::ports::PortFailed;
 use std::io::Read;
 
-/// What the input is read from. No read comes after one that failed.
+/// What the input is read from. No read follows one that failed.
 pub trait Source {
     ghost use Rattle.std.specs.Prelude.{◌≡◌, ℕ, Bool, false, is_err, List, Option};
     ghost use Rattle.std.specs.Io.{ReadsAtMost};
     ghost use Rattle.std.specs.Io.KnownBytes.{ReadConsumes};
 
-    // The bytes that reads will give from here on, where they are known.
+    // The bytes that reads will return from here on, if they are known.
     ghost remaining: { Self → Option (List ℕ) };
     // Whether a read failed.
     ghost failed: { Self → Bool };
     // Which reference it reads through.
     ghost lender: { Self → ℕ };
 
-    /// Reads into the buffer. Gives how many bytes it read, and 0 only at the end of the input.
+    /// Read into the buffer, and return how many bytes were read.
+    ///
+    /// That is 0 only at the end of the input.
     fn read(&mut self, buffer: &mut [u8]) -> Result<usize, PortFailed>
         requires { failed self.old ≡ false }
         ensures same_reference { lender self.new ≡ lender self.old }
@@ -25,7 +27,7 @@ pub trait Source {
         ensures noted { failed self.new ≡ is_err result };
 }
 
-/// A reader, with whether a read of it failed.
+/// A reader that records whether a read of it failed.
 #[derive(Drop)]
 pub struct NotedReader<'a, R> {
     reader: &'a mut R,
@@ -35,7 +37,7 @@ pub struct NotedReader<'a, R> {
 impl<'a, R> NotedReader<'a, R> {
     ghost use Rattle.std.specs.Prelude.{◌≡◌, false};
 
-    /// The reader, before any read of it.
+    /// Wrap the reader, with no failed read recorded.
     pub fn new(reader: &'a mut R) -> NotedReader<'a, R>
         ensures same_reference { result.reader.ghost_name ≡ reader.entry.ghost_name }
         ensures reader { result.reader.now ≡ reader.old }

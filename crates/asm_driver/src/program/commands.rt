@@ -27,7 +27,7 @@ pub(crate) struct Ending {
     pub(crate) text: String,
 }
 
-/// The text for a played script: its journal if that was asked for, and otherwise its report.
+/// Return the text of a played script: its journal if asked for, else its report.
 fn played_text(alloc: Global, played: Played, journal: bool) -> Result<String, Refusal>
     ensures ok { IfOk result (λ text. string_bytes text ≡ text_of_played journal played) }
     ensures err { IfErr result (IsNoText journal played) }
@@ -41,7 +41,7 @@ fn played_text(alloc: Global, played: Played, journal: bool) -> Result<String, R
     Ok(to_text(alloc, &played.history)?)
 }
 
-/// Reads the bytes as a script, and plays it.
+/// Read the bytes as a script, and play it.
 fn run<T: Threads + Wait + Sync>(
     rt: &T,
     alloc: Global,
@@ -57,7 +57,9 @@ fn run<T: Threads + Wait + Sync>(
     played_text(alloc, played, journal)
 }
 
-/// Reads the bytes as a script, and plays it: the report, and behind it where terms had no value, and why.
+/// Read the bytes as a script, play it, and return the report with its terms.
+///
+/// Behind the report are lines that say where terms had no value, and why.
 fn run_with_terms<T: Threads + Wait + Sync>(
     rt: &T,
     alloc: Global,
@@ -75,7 +77,7 @@ fn run_with_terms<T: Threads + Wait + Sync>(
     Ok(text)
 }
 
-/// The line and the status of a check.
+/// Return the line and the status of a check.
 fn legality_ending(alloc: Global, legality: Legality) -> Result<Ending, AllocError>
     ensures status { IfOk result (λ e. e.status ≡ legality_status legality) }
     ensures text { IfOk result (λ e. string_bytes e.text ≡ legality_line legality) }
@@ -92,7 +94,7 @@ fn legality_ending(alloc: Global, legality: Legality) -> Result<Ending, AllocErr
     })
 }
 
-/// Reads the bytes as a journal, and checks it.
+/// Read the bytes as a journal, and check it.
 fn check_journal(alloc: Global, bytes: &[u8]) -> Result<Ending, Refusal>
     ensures ok { IfOk result (λ e. IsCheck bytes.now e.status (string_bytes e.text)) }
     ensures err { IfErr result (IsNoJournal bytes.now) }
@@ -102,7 +104,9 @@ fn check_journal(alloc: Global, bytes: &[u8]) -> Result<Ending, Refusal>
     Ok(legality_ending(alloc, legality)?)
 }
 
-/// Reads the bytes as a journal, legal or not, and writes it anew. What was read always fits a journal.
+/// Read the bytes as a journal, legal or not, and write it again.
+///
+/// What was read always fits a journal.
 fn rewrite(alloc: Global, bytes: &[u8]) -> Result<String, Refusal>
     ensures ok { IfOk result (λ text. IsRewrite bytes.now (string_bytes text)) }
     ensures err { IfErr result (IsNoJournal bytes.now) }
@@ -111,7 +115,9 @@ fn rewrite(alloc: Global, bytes: &[u8]) -> Result<String, Refusal>
     Ok(to_text(alloc, &history)?)
 }
 
-/// Reads the bytes as a journal, legal or not, and writes its trace. What was read always fits a journal.
+/// Read the bytes as a journal, legal or not, and write its trace.
+///
+/// What was read always fits a journal.
 fn trace(alloc: Global, bytes: &[u8]) -> Result<String, Refusal>
     ensures ok { IfOk result (λ text. IsTraceOf bytes.now (string_bytes text)) }
     ensures err { IfErr result (IsNoJournal bytes.now) }
@@ -120,7 +126,7 @@ fn trace(alloc: Global, bytes: &[u8]) -> Result<String, Refusal>
     Ok(standard_trace_text(alloc, &history)?)
 }
 
-/// Does what is asked with the bytes of the whole input.
+/// Carry out the request on the bytes of the complete input.
 pub(crate) fn carry_out<T: Threads + Wait + Sync>(
     rt: &T,
     alloc: Global,

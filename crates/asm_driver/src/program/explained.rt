@@ -7,7 +7,7 @@ use crate::program::words::TextKind;
 use asm_explain::{Form, explain, explain_journal};
 use std::alloc::{AllocError, Global};
 
-/// What is told of the bytes as a text of this kind, if it is refused.
+/// Return why the bytes are refused as a text of this kind, or `None` if accepted.
 fn told(alloc: Global, kind: TextKind, bytes: &[u8]) -> Result<Option<String>, AllocError>
     ensures accepted { IfOk result (λ said. IfNone said (IsAccepted kind bytes.now)) }
     ensures refused { IfOk result (λ said. IfSome said (λ s. IsRefused kind bytes.now (string_bytes s))) }
@@ -18,7 +18,9 @@ fn told(alloc: Global, kind: TextKind, bytes: &[u8]) -> Result<Option<String>, A
     }
 }
 
-/// The line that tells where and why the bytes are refused as a text of this kind; none where they are accepted.
+/// Return the line that says where and why the bytes are refused.
+///
+/// They are read as a text of this kind. If they are accepted, the text is empty.
 pub(crate) fn explained(alloc: Global, kind: TextKind, bytes: &[u8]) -> Result<Ending, AllocError>
     ensures { IfOk result (λ e. IsExplained bytes.now kind e.status (string_bytes e.text)) }
 {

@@ -1,4 +1,4 @@
-//! The parts of a run that is traced, line by line.
+//! The segments of a run that is traced, line by line.
 ghost use Rattle.std.specs.Prelude.{◌≡◌, ◌<◌, ◌+◌, [], IfOk, IfErr};
 ghost use Rattle.asm_aggregate.specs.Standard.{standard_part};
 ghost use Rattle.asm_state.specs.Stands.{Stands};
@@ -14,20 +14,20 @@ use asm_storage::Event;
 use asm_update::PlainState;
 use std::alloc::{AllocError, Global};
 
-/// A part of a run whose header was read, and some of its events.
+/// A segment of a run whose header was read, and some of its events.
 #[derive(Drop)]
 pub(crate) struct Opened {
     /// Its number, counted from 0.
     pub(crate) number: u32,
-    /// What its header says.
+    /// The numbers in its header.
     pub(crate) limits: Limits,
     /// How many of its events were read.
     pub(crate) taken: u32,
-    /// The state that the moves of these leave.
+    /// The state after the moves of these.
     pub(crate) state: State,
 }
 
-// What is told of the fault of the journal of a part.
+// Return the refusal for a fault in the journal of a segment.
 fn fault_of(number: u32, fault: JournalError) -> Refusal
     ensures { result ≡ refusal_of_fault number fault }
 {
@@ -40,7 +40,7 @@ fn fault_of(number: u32, fault: JournalError) -> Refusal
     }
 }
 
-// Reads the header of the part with this number.
+// Read the header of the segment with this number.
 fn header_of(alloc: Global, number: u32, line: &[u8]) -> Result<Header, Refusal>
     ensures ok { IfOk result (HasHeader line.now) }
     ensures err { IfErr result (BreaksHeaderOf number line.now) }
@@ -52,7 +52,7 @@ fn header_of(alloc: Global, number: u32, line: &[u8]) -> Result<Header, Refusal>
 }
 
 impl Opened {
-    // The part with this number, of which the header was read.
+    // Return the segment with this number, whose header was read.
     fn new(alloc: Global, number: u32, header: Header) -> Result<Opened, AllocError>
         ensures number { IfOk result (λ o. o.number ≡ number) }
         ensures limits { IfOk result (λ o. o.limits ≡ header.limits) }
@@ -68,9 +68,13 @@ impl Opened {
         })
     }
 
-    /// The state that the moves of these events leave.
+    /// Return the state after the moves of these events.
     ///
-    /// It costs a copy of each value. `AllocError` comes only where memory was refused.
+    /// It costs a copy of each value.
+    ///
+    /// # Errors
+    ///
+    /// - `AllocError` only if memory is refused.
     pub(crate) fn left(&self, alloc: Global) -> Result<PlainState, AllocError>
         ensures { IfOk result (HasValues self.now.state) }
     {
@@ -79,16 +83,19 @@ impl Opened {
         Ok(left)
     }
 
-    // Whether the header opens with that state.
+    // Return whether the header opens with that state.
     fn leads_to(&self, alloc: Global, header: &Header) -> Result<bool, AllocError>
         ensures { IfOk result (IsNextTest self.now.state header.now.init) }
     {
         Ok(self.left(alloc)? == header.init)
     }
 
-    /// Opens the first part of a run by its header's line.
+    /// Open the first segment of a run, from the line of its header.
     ///
-    /// `BadPart` where this is none. `Memory` comes only where memory was refused.
+    /// # Errors
+    ///
+    /// - `BadPart` if the line is no header.
+    /// - `Memory` only if memory is refused.
     pub(crate) fn first(alloc: Global, line: &[u8]) -> Result<Opened, Refusal>
         ensures number { IfOk result (λ o. o.number ≡ 0) }
         ensures ok { IfOk result (λ o. IsOpenedFirst line.now (audited o)) }
@@ -98,10 +105,13 @@ impl Opened {
         Ok(Opened::new(alloc, 0, header)?)
     }
 
-    /// Opens the part behind this one, which is whole, by its header's line.
+    /// Open the segment behind this complete one, from the line of its header.
     ///
-    /// `BadPart` where this is none; `Apart` where it opens with another state than this part leaves. `Memory` comes only
-    /// where memory was refused.
+    /// # Errors
+    ///
+    /// - `BadPart` if the line is no header.
+    /// - `Apart` if it doesn't open with the state that this segment leaves.
+    /// - `Memory` only if memory is refused.
     pub(crate) fn next(&self, alloc: Global, line: &[u8]) -> Result<Opened, Refusal>
         requires few { self.now.number < 4294967295 }
         ensures number { IfOk result (λ o. o.number ≡ self.now.number + 1) }
@@ -116,17 +126,22 @@ impl Opened {
         Ok(Opened::new(alloc, number, header)?)
     }
 
-    /// Takes the next event by its line. The state follows its move.
+    /// Take in the next event, from its line.
     ///
-    /// `BadPart` where the line is no event; `Illegal` where its answer isn't that of the storage of one thread. `Memory`
-    /// comes only where memory was refused.
+    /// The state follows its move.
+    ///
+    /// # Errors
+    ///
+    /// - `BadPart` if the line is no event.
+    /// - `Illegal` if its answer isn't that of the sequential storage.
+    /// - `Memory` only if memory is refused.
     pub(crate) fn take(&mut self, alloc: Global, line: &[u8]) -> Result<Event, Refusal>
         requires { self.old.taken < self.old.limits.events }
         ensures number { self.new.number ≡ self.old.number }
         ensures ok { IfOk result (IsTakenAs line.now (audited self.old) (audited self.new)) }
         ensures err { IfErr result (IsNotTaken self.old.number line.now (audited self.old)) }
     {
-        // That one more event can be counted rests on the range of this number.
+        // Proof: that one more event can be counted depends on the range of this number.
         let _events = self.limits.events;
         let place = u64::from(self.taken) + 2;
         let (event, _) = match read_event(alloc, line, place, self.limits) {

@@ -1,4 +1,4 @@
-//! Why the program doesn't do what is asked, with the line and the status of each cause.
+//! Why the program refuses what is asked, with the line and the status of each cause.
 ghost use Rattle.std.specs.Prelude.{◌≡◌, false, IfOk, IsOk, string_bytes};
 ghost use Rattle.asm_driver.specs.Audit.{refusal_of_audit};
 ghost use Rattle.asm_driver.specs.Refusal.{refusal_line, refusal_status, has_number, cause_line as line_of_cause};
@@ -15,28 +15,32 @@ use asm_play::RunError;
 use asm_script::{ScriptCause, ScriptError};
 use std::alloc::{AllocError, Global};
 
-/// Why the program doesn't do what is asked. Each cause has a line and a status.
+/// Why the program refuses what is asked. Each cause has a line and a status.
 #[derive(Clone, Copy, Debug, PartialEq, Eq)]
 pub enum Refusal {
-    /// The program does not take these words.
+    /// The program doesn't accept these words.
     Words,
-    /// The input has more than 16,777,216 bytes, or a line of a run more than 1,073,741,824.
+    /// The input has more than 16,777,216 bytes.
+    ///
+    /// In a run: a line has more than 1,073,741,824 bytes.
     TooLarge,
     /// The input is not a script.
     BadScript(ScriptCause),
     /// The input is not a journal.
     BadJournal(JournalError),
-    /// This part of a run is not a journal.
+    /// This segment of a run is not a journal.
     BadPart { part: u64, fault: JournalError },
-    /// This part of a run opens with another state than the part before it leaves.
+    /// This segment of a run doesn't open with the state that the one before leaves.
     Apart(u64),
-    /// Of a run that is traced, this call of this part is the first whose answer isn't that of the storage of one thread.
+    /// In a traced run, this is the first call with a wrong answer.
+    ///
+    /// That is an answer other than that of the sequential storage.
     Illegal { part: u32, call: u32 },
-    /// The part of a run has so many calls, which a window goes beyond.
+    /// The segment of a run has this many calls, and a window goes beyond them.
     FewCalls { part: u32, calls: u32 },
-    /// A run has so many parts, and none with the number of a window's.
+    /// A run has this many segments, and none with the number of a window's.
     FewParts(u32),
-    /// The history of the script's calls is too long for a journal.
+    /// The history of the script's calls is beyond a journal's limits.
     Unfit,
     /// The fired move with this number has no receipt.
     Missing(u32),
@@ -116,7 +120,9 @@ impl From<AuditError> for Refusal {
     }
 }
 
-/// A line with its line feed: a fixed one, which needs no memory, or one that was put together.
+/// A line with its line feed.
+///
+/// It is either fixed, and needs no memory, or was built.
 #[derive(Drop)]
 pub(crate) enum Line {
     Known(&'static [u8]),
@@ -196,7 +202,11 @@ fn journal_status(error: JournalError) -> u8
 }
 
 impl Refusal {
-    /// The line that is written. Only a line with a number needs memory.
+    /// Return the line that is written.
+    ///
+    /// # Errors
+    ///
+    /// - `AllocError` only for a line with a number, and only if memory is refused.
     pub(crate) fn line(self, alloc: Global) -> Result<Line, AllocError>
         ensures line { IfOk result (λ l. line_bytes l ≡ refusal_line self) }
         ensures known { (has_number self ≡ false) → IsOk result }
@@ -225,7 +235,7 @@ impl Refusal {
         })
     }
 
-    /// The program's status.
+    /// Return the program's status.
     pub(crate) fn status(self) -> u8
         ensures { result ≡ refusal_status self }
     {

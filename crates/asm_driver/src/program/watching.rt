@@ -1,4 +1,4 @@
-//! The audit of a run, as the input gives it, which may tell how far it is.
+//! The audit of the run on the input, which may report its progress.
 ghost use Rattle.std.specs.Prelude.{◌≡◌, ◌↔◌, ◌∷◌, ◌++◌, false, [], List, ℕ, IfOk, IsTrue, OnOk, OnErr, is_err, string_bytes};
 ghost use Rattle.asm_aggregate.specs.Standard.{standard_meaning, standard_part};
 ghost use Rattle.asm_audit.specs.Fed.{IsFed};
@@ -21,13 +21,13 @@ use asm_update::Aggregator;
 use std::alloc::{AllocError, Global};
 use std::sync::Wait;
 
-// How many bytes are asked for at once.
+// Number of bytes that a read asks for.
 const CHUNK: usize = 4096;
 
 /// Why a watched audit has no verdict.
 #[derive(Clone, Copy, Debug, PartialEq, Eq)]
 pub enum Stop {
-    /// What is refused.
+    /// What is asked for is refused.
     Refused(Refusal),
     /// A call of the output failed.
     Unwritten,
@@ -49,7 +49,7 @@ impl From<AuditError> for Stop {
     }
 }
 
-/// The line and the status of a verdict.
+/// Return the line and the status of a verdict.
 pub(crate) fn verdict_ending(alloc: Global, verdict: Verdict) -> Result<Ending, AllocError>
     ensures status { IfOk result (λ e. e.status ≡ verdict_status verdict) }
     ensures text { IfOk result (λ e. string_bytes e.text ≡ verdict_line verdict) }
@@ -72,7 +72,7 @@ pub(crate) fn verdict_ending(alloc: Global, verdict: Verdict) -> Result<Ending, 
     })
 }
 
-/// The line that tells how far an audit is.
+/// Return the line with the progress of an audit.
 fn so_far_line(alloc: Global, counts: Counts) -> Result<String, AllocError>
     ensures { IfOk result (λ text. string_bytes text ≡ line_of_counts counts) }
 {
@@ -84,14 +84,16 @@ fn so_far_line(alloc: Global, counts: Counts) -> Result<String, AllocError>
     Ok(format!(in alloc; "so far {calls} {moves} {parts}\n")?)
 }
 
-/// Whether a line is to be told: there is a call more than before, and the number divides how many there are.
+/// Return whether a line with the progress is due.
+///
+/// It is due if there is a call more than before, and `every` isn't 0 and divides the number of calls.
 fn is_due(every: u32, before: u64, calls: u64) -> bool
     ensures { IsTrue result ↔ IsDue every before calls }
 {
     0 < every && before < calls && calls % u64::from(every) == 0
 }
 
-/// Adds the line that is due, if one is.
+/// Append the line that is due, if one is.
 fn add_due(
     alloc: Global,
     every: u32,
@@ -109,7 +111,7 @@ fn add_due(
     lines.push_str(line.as_str())
 }
 
-/// Takes the bytes, line by line, and adds the line that is due behind each.
+/// Feed the bytes line by line, and append the line that is due after each.
 fn take_bytes<A: Aggregator + Drop>(
     alloc: Global,
     every: u32,
@@ -138,7 +140,7 @@ fn take_bytes<A: Aggregator + Drop>(
     Ok(Told::Legal)
 }
 
-/// Writes the lines and flushes them, if there are any.
+/// Write the lines and flush them, if there are any.
 fn write_lines<K: Sink>(output: &mut K, lines: &str) -> Result<(), PortFailed>
     requires { K.failed output.old ≡ false }
     ensures same_reference { K.lender output.new ≡ K.lender output.old }
@@ -152,7 +154,7 @@ fn write_lines<K: Sink>(output: &mut K, lines: &str) -> Result<(), PortFailed>
     write_whole(output, lines.as_bytes())
 }
 
-/// Takes the bytes, and writes the lines that are due meanwhile.
+/// Feed the bytes, and write the lines that become due.
 fn watch_bytes<A: Aggregator + Drop, K: Sink>(
     alloc: Global,
     every: u32,
@@ -176,8 +178,9 @@ fn watch_bytes<A: Aggregator + Drop, K: Sink>(
     Ok(told?)
 }
 
-/// Feeds the input to the auditor, up to its end or to where something is told, and writes the lines that are due. No call
-/// is tried again.
+/// Feed the input to the auditor, and write the lines that are due.
+///
+/// It stops at the input's end, or at the first fault or wrong answer. No call is retried.
 fn watch_all<T: Wait, A: Aggregator + Drop, S: Source, K: Sink>(
     rt: &T,
     alloc: Global,
@@ -213,8 +216,10 @@ fn watch_all<T: Wait, A: Aggregator + Drop, S: Source, K: Sink>(
     unreachable!()
 }
 
-/// Audits the run that the input gives, up to its end or to where something is told, and writes how far that is after each
-/// so many calls, or never for 0. It holds one state and one line.
+/// Audit the run on the input, and write its progress.
+///
+/// It stops at the input's end, or at the first fault or wrong answer. It writes its progress after each `every` calls,
+/// or never if `every` is 0. It holds one state and one line.
 pub(crate) fn watched<T: Wait, S: Source, K: Sink>(
     rt: &T,
     alloc: Global,

@@ -1,4 +1,4 @@
-//! The trace of a window of a run, as the input gives it.
+//! The trace of a window of the run on the input.
 ghost use Rattle.std.specs.Prelude.{◌≡◌, ◌≤◌, ◌<◌, ◌+◌, ℕ, false, List, [], length, IfOk, IfErr, IfSome, IfNone, string_bytes};
 ghost use Rattle.serde_json.specs.View.{view};
 ghost use Rattle.asm_aggregate.specs.Standard.{standard_part};
@@ -29,7 +29,8 @@ use serde_json::{Map, Value as Json};
 use std::alloc::{AllocError, Global};
 use std::sync::Wait;
 
-// The number of the call behind the window's last one in a part of so many calls; none where the window goes beyond.
+// Return the number of the call behind the window's last one, in a segment of this many calls.
+// `None` if the window isn't within these calls.
 fn end_of(window: Window, calls: u32) -> Option<u32>
     ensures some { IfSome result (λ end. (end ≡ end_in window calls) × LiesIn window calls) }
     ensures none { IfNone result (¬ LiesIn window calls) }
@@ -42,7 +43,7 @@ fn end_of(window: Window, calls: u32) -> Option<u32>
     }
 }
 
-/// Reads the next event of the part.
+/// Read the next event of the segment.
 fn next_event<T: Wait, S: Source>(
     rt: &T,
     alloc: Global,
@@ -64,7 +65,7 @@ fn next_event<T: Wait, S: Source>(
     opened.take(alloc, lines.line())
 }
 
-/// Reads the first events of the part, so many.
+/// Read the first `calls` events of the segment.
 fn pass<T: Wait, S: Source>(
     rt: &T,
     alloc: Global,
@@ -93,7 +94,7 @@ fn pass<T: Wait, S: Source>(
     Ok(())
 }
 
-/// Opens the part behind a whole one.
+/// Open the segment behind a complete one.
 fn next_part<T: Wait, S: Source>(
     rt: &T,
     alloc: Global,
@@ -122,7 +123,7 @@ fn next_part<T: Wait, S: Source>(
     before.next(alloc, lines.line())
 }
 
-/// Opens the first part of a run.
+/// Open the first segment of a run.
 fn first_part<T: Wait, S: Source>(
     rt: &T,
     alloc: Global,
@@ -142,7 +143,7 @@ fn first_part<T: Wait, S: Source>(
     Opened::first(alloc, lines.line())
 }
 
-/// Reads whole parts, so many, and opens the next one.
+/// Read `wanted` complete segments, and open the next one.
 fn open_part<T: Wait, S: Source>(
     rt: &T,
     alloc: Global,
@@ -168,7 +169,9 @@ fn open_part<T: Wait, S: Source>(
     Ok(opened)
 }
 
-/// The JSON of the header of a window of so many calls behind what was read of its part, which leaves this state.
+/// Return the JSON header of a window, which begins behind what was read.
+///
+/// The window has this many calls, and what was read of its segment leaves this state.
 fn header_with(
     alloc: Global,
     opened: &Opened,
@@ -205,7 +208,9 @@ fn header_with(
     Ok(Json::Object(header))
 }
 
-/// The JSON of the header of a window of so many calls, which begins behind what was read of its part.
+/// Return the JSON header of a window, which begins behind what was read.
+///
+/// The window has this many calls.
 fn header_json(alloc: Global, opened: &Opened, calls: u32) -> Result<Json, AllocError>
     ensures { IfOk result (λ json. (A : Plain) (es all : List Item) → IsHeld A → opened.now.taken ≡ length es →
         Stands standard_part A opened.now.state (fired_moves es) →
@@ -215,7 +220,7 @@ fn header_json(alloc: Global, opened: &Opened, calls: u32) -> Result<Json, Alloc
     header_with(alloc, opened, &init, calls)
 }
 
-/// Reads the events of the window's part up to before the call `end`, and appends the line of each.
+/// Read the segment's events before the call `end`, and append a line for each.
 fn note_calls<T: Wait, S: Source>(
     rt: &T,
     alloc: Global,
@@ -239,7 +244,7 @@ fn note_calls<T: Wait, S: Source>(
         AreNoted w had (S.remaining input.new) (S.failed input.new) end (pending lines.new) opened.new A es
         (string_bytes text.old) (string_bytes text.new) result }
 {
-    // The events are judged on a state of their own, since a note tells of the state before its event.
+    // Events are judged on one state and noted on another: a note is about the state before its event.
     let mut noted = opened.state.copy(alloc)?;
     let capacity = opened.limits.capacity;
     for call in opened.taken..end {
@@ -249,7 +254,7 @@ fn note_calls<T: Wait, S: Source>(
     Ok(())
 }
 
-/// Reads the run up to the window's end: the text of its trace.
+/// Read the run up to the window's end, and return the trace of the window.
 fn window_text<T: Wait, S: Source>(
     rt: &T,
     alloc: Global,
@@ -279,10 +284,10 @@ fn window_text<T: Wait, S: Source>(
     Ok(text)
 }
 
-/// Traces a window of the run that the input gives: the text of its trace, and status 0. It reads no further than the
-/// chunk of bytes in which the window ends, and judges nothing behind its end.
+/// Trace a window of the run on the input; return its trace, with status 0.
 ///
-/// It holds one line, the state, within the window once more, and the window's text.
+/// It reads no further than the chunk of bytes in which the window ends, and judges nothing behind its end. It holds
+/// one line, the state, which it holds twice within the window, and the window's text.
 pub(crate) fn window_input<T: Wait, S: Source>(
     rt: &T,
     alloc: Global,

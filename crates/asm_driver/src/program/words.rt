@@ -12,43 +12,49 @@ use clap::error::ErrorKind;
 use clap::{Arg, ArgAction, ArgMatches, Command, Error, value_parser};
 use std::alloc::{AllocError, Global};
 
-// The capacity where none is given, as the option's default says it in digits.
+// The capacity if none is given; the option's default has the same digits.
 const DEFAULT_CAPACITY: u32 = 4096;
 
 /// What the words ask for.
 #[derive(Clone, Copy, Debug, PartialEq, Eq)]
 pub enum Request {
-    /// To play a script with at most so many moves, and to write the report, or the journal.
+    /// Play a script with a limit of moves, and write the report or the journal.
     Run { capacity: u32, journal: bool },
-    /// To play a script in the same way, and to write the report and, behind it, which terms had no value.
+    /// Play a script in the same way, and write the report with its terms.
+    ///
+    /// Behind the report are lines that say which terms had no value.
     Terms { capacity: u32 },
-    /// To check a journal.
+    /// Check a journal.
     Check,
-    /// To write a journal again.
+    /// Write a journal again.
     Rewrite,
-    /// To write the trace of a journal.
+    /// Write the trace of a journal.
     Trace,
-    /// To write the trace of these calls of a run, whose parts are journals.
+    /// Write the trace of these calls of a run, whose segments are journals.
     Show(Window),
-    /// To audit a run, whose parts are journals, and to write how far that is after each so many calls; never with 0.
+    /// Audit a run, whose segments are journals.
+    ///
+    /// It writes its progress after each `every` calls, or never if `every` is 0.
     Audit { every: u32 },
-    /// To write where and why a text of this kind is refused.
+    /// Write where and why a text of this kind is refused.
     Explain(TextKind),
 }
 
-/// Some calls of a run that follow one another.
+/// Consecutive calls of a run.
 #[derive(Clone, Copy, Debug, PartialEq, Eq)]
 pub struct Window {
-    /// The number of the part that they are in. Parts count from 0.
+    /// The number of the segment that they are in. Segments count from 0.
     pub part: u32,
-    /// The number of the first of them. Calls of a part count from 0.
+    /// The number of the first of them. Calls of a segment count from 0.
     pub from: u32,
-    /// The number of the call behind the last of them; where there is none, they go on to the part's end.
+    /// The number of the call behind the last of them.
+    ///
+    /// `None` if they go on to the segment's end.
     pub to: Option<u32>,
 }
 
 impl Window {
-    /// Whether it doesn't end before it begins.
+    /// Return whether the window doesn't end before it begins.
     fn is_forward(self) -> bool
         ensures { IsTrue result ↔ IsForward self }
     {
@@ -75,7 +81,7 @@ pub enum WordsError {
     Help(String),
     /// The version was asked for.
     Version,
-    /// The program does not take these words.
+    /// The program doesn't accept these words.
     Bad,
     /// Memory was refused.
     Memory,
@@ -114,7 +120,7 @@ fn terms_option<'a>(alloc: Global) -> Arg<'a>
         .help("Writes behind the report where terms had no value, and why")
 }
 
-// An option with a number of 32 bits.
+// Return an option with a number of 32 bits.
 fn number_option<'a>(alloc: Global, name: &'a str, help: &'a str) -> Arg<'a>
     ensures rule { rule_of result ≡ number_rule name.now }
     ensures local { result.global ≡ false }
@@ -127,7 +133,7 @@ fn number_option<'a>(alloc: Global, name: &'a str, help: &'a str) -> Arg<'a>
         .help(help)
 }
 
-/// Adds the commands that read a journal and have no option.
+/// Add the commands that read a journal and have no option.
 fn with_journals<'a>(alloc: Global, command: Command<'a>) -> Result<Command<'a>, AllocError>
     ensures app { IfOk result (λ c. app_of c ≡ with_journals (app_of command.entry)) }
 {
@@ -140,7 +146,7 @@ fn with_journals<'a>(alloc: Global, command: Command<'a>) -> Result<Command<'a>,
     command.subcommand(check)?.subcommand(rewrite)
 }
 
-/// Adds the command that traces a journal, or a window of a run.
+/// Add the command that traces a journal, or a window of a run.
 fn with_trace<'a>(alloc: Global, command: Command<'a>) -> Result<Command<'a>, AllocError>
     ensures app { IfOk result (λ c. app_of c ≡ with_trace (app_of command.entry)) }
 {
@@ -178,7 +184,7 @@ fn every_option<'a>(alloc: Global) -> Arg<'a>
         .help("Writes so far CALLS MOVES PARTS after each N calls, from 1 to 4294967295")
 }
 
-/// Adds the command that audits a run.
+/// Add the command that audits a run.
 fn with_audit<'a>(alloc: Global, command: Command<'a>) -> Result<Command<'a>, AllocError>
     ensures app { IfOk result (λ c. app_of c ≡ with_audit (app_of command.entry)) }
 {
@@ -201,7 +207,7 @@ fn kind_word<'a>(alloc: Global) -> Arg<'a>
         .help("What the text should be")
 }
 
-/// Adds the command that explains a text.
+/// Add the command that explains a text.
 fn with_explain<'a>(alloc: Global, command: Command<'a>) -> Result<Command<'a>, AllocError>
     ensures app { IfOk result (λ c. app_of c ≡ with_explain (app_of command.entry)) }
 {
@@ -240,7 +246,7 @@ fn parse<'a>(alloc: Global, words: &'a [String]) -> Result<ArgMatches<'a>, Error
     command.try_get_matches_from(words)
 }
 
-/// What the options of `run` ask for.
+/// Return what the options of `run` ask for.
 fn run_asked(options: &ArgMatches<'_>) -> Request
     ensures { AsksRun (rows_of (found_of options.now)) result }
 {
@@ -262,7 +268,7 @@ fn run_asked(options: &ArgMatches<'_>) -> Request
     }
 }
 
-/// What the options of `audit` ask for.
+/// Return what the options of `audit` ask for.
 fn audit_asked(options: &ArgMatches<'_>) -> Request
     ensures { AsksAudit (rows_of (found_of options.now)) result }
 {
@@ -271,7 +277,9 @@ fn audit_asked(options: &ArgMatches<'_>) -> Request
     }
 }
 
-/// What the options of `trace` ask for; nothing where a window would end before it begins.
+/// Return what the options of `trace` ask for.
+///
+/// `None` if a window would end before it begins.
 fn trace_asked(options: &ArgMatches<'_>) -> Option<Request>
     ensures some { IfSome result (AsksTrace (rows_of (found_of options.now))) }
     ensures none { IfNone result ((r : Request) → ¬ AsksTrace (rows_of (found_of options.now)) r) }
@@ -294,7 +302,7 @@ fn trace_asked(options: &ArgMatches<'_>) -> Option<Request>
     }
 }
 
-/// The kind of text that the word behind `explain` names.
+/// Return the kind of text that the word behind `explain` names, if it is one.
 fn kind_asked(options: &ArgMatches<'_>) -> Option<TextKind>
     ensures some { IfSome result (AsksKind (rows_of (found_of options.now))) }
     ensures none { IfNone result ((t : TextKind) → ¬ AsksKind (rows_of (found_of options.now)) t) }
@@ -312,7 +320,10 @@ fn kind_asked(options: &ArgMatches<'_>) -> Option<TextKind>
     }
 }
 
-/// What the command asks for, if the program has this command.
+/// Return what the command asks for.
+///
+/// `None` if there is no command or an unknown one, if `explain` names another kind of text, or if a window of `trace`
+/// would end before it begins.
 fn asked(matches: &ArgMatches<'_>) -> Option<Request>
     ensures some { IfSome result (Asks (subcommand_rows_of matches.now)) }
     ensures none { IfNone result (IsNoCommand (subcommand_rows_of matches.now)) }
@@ -340,7 +351,7 @@ fn asked(matches: &ArgMatches<'_>) -> Option<Request>
     }
 }
 
-// To ask for help or the version is no mistake.
+// Return the error for one of `clap`: to ask for help or the version is no mistake.
 fn refusal(alloc: Global, error: &Error) -> WordsError
     ensures { IsMadeOf (kind_of error.now) result }
 {
@@ -355,10 +366,17 @@ fn refusal(alloc: Global, error: &Error) -> WordsError
     }
 }
 
-/// What the words ask for. They begin with the program's name.
+/// Return what the words ask for.
 ///
-/// `Help` is returned where they ask for help, `Version` where they ask for the version, and `Bad` where they are not
-/// the program's name, a command and its options. Words that `clap` takes are refused only if memory was refused.
+/// They begin with the program's name.
+///
+/// # Errors
+///
+/// - `Help` if they ask for help.
+/// - `Version` if they ask for the version.
+/// - `Bad` if they are not the program's name, a command and its options, or if a window of `trace` would end before it
+///   begins.
+/// - `Memory` only if memory is refused.
 pub fn read_words(alloc: Global, words: &[String]) -> Result<Request, WordsError>
     ensures asked { IfOk result (AsksFor (map string_bytes words.now)) }
     ensures refused { IfErr result (IsRefusal (map string_bytes words.now)) }
