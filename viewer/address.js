@@ -1,10 +1,10 @@
-// The address, which says what is shown; each jump is an entry of the browser's history.
+// The page's address, which names what is shown. Each jump adds an entry to the browser's history.
 import { filter } from "./filter.js";
 import { shown } from "./run.js";
 import { conditionText } from "./watch.js";
 
 const REST = 200, TOGETHER = 100; // milliseconds
-// What the address says, by its names there.
+// Return what the address names, by its keys there.
 export function addressed(run) {
   const told = new URLSearchParams(location.hash.slice(1)), number = name => told.has(name) ? Number.parseInt(told.get(name), 10) - run.from : NaN;
   return {
@@ -35,14 +35,14 @@ function write(way) {
   try {
     history[way](null, "", now);
   } catch {
-    // some browsers keep no address for a file
+    // some browsers store no address for a file
   }
 }
-// What is shown is about to change: steps since no jump are kept in the present entry.
+// Call this before a change of what is shown: the present history entry takes the steps since the last jump.
 export function beforeChange() {
   if (due) write("replaceState");
 }
-// What is shown has changed, by a jump or else by a step; jumps in a hurry are one.
+// Call this after what is shown has changed, by a jump or by a step. Jumps in quick succession count as one.
 export function changed(isJump, isNow = false) {
   if (isJump && performance.now() - since > TOGETHER) write("pushState");
   else if (isJump || isNow) write("replaceState");
@@ -52,7 +52,7 @@ export function changed(isJump, isNow = false) {
   }
   if (isJump) since = performance.now();
 }
-// Where the address was changed by something else, by Back for one, it is followed.
+// If something else changes the address, such as the Back button, follow it.
 export function onAddress(follow) {
   addEventListener("hashchange", () => {
     if (!shown.run || location.hash === standing) return;

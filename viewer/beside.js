@@ -1,4 +1,5 @@
-// Another run beside the one that is shown: whether it goes on with it, where they part, and what their states differ in there.
+// Compare the run that is shown with another one: whether one continues the other, where they diverge, and how their states
+// differ.
 import { eventLink, eventText } from "./event.js";
 import { Fault } from "./exact.js";
 import { $, button, make, span, valueNode } from "./nodes.js";
@@ -9,25 +10,25 @@ const MOST_APART_PLACES = 8;
 const askedOf = event => event.read ? event.read.map(it => it.at) : [event.fire, event.named.map(it => [it.location.at, it.number])];
 const isSameEvent = (a, b) => a.agent === b.agent && !a.read === !b.read && isSame(a.reply, b.reply) && isSame(askedOf(a), askedOf(b));
 const openingOf = run => run.sorted.filter(it => it.opening !== null).map(it => [it.at, it.opening]);
-// Whether both begin in one state, at one place of a part.
+// Whether both begin in the same state, at the same place of a segment.
 const isSameBeginning = (a, b) => a.part === b.part && a.from === b.from && isSame(openingOf(a), openingOf(b));
-// The number of the first event in which two runs differ, where one may have no more.
+// Return the number of the first event in which two runs differ. One of them may have no event there.
 function firstApart(a, b) {
   const least = Math.min(a.events.length, b.events.length);
   let i = 0;
   while (i < least && isSameEvent(a.events[i], b.events[i])) i++;
   return i;
 }
-// Whether a run is another one that goes on.
+// Whether a run continues another one.
 export const goesOn = (run, old) => run.agents >= old.agents && isSameBeginning(run, old) && run.events.length >= old.events.length && firstApart(run, old) === old.events.length;
 
 const valueIn = (run, key, count) => run.locations.has(key) ? run.valueAt(run.locations.get(key), count) : null;
-// The locations that hold another value after so many events of each.
+// Return the locations whose values differ after the given number of events of each run.
 function placesApart(a, b, countA, countB) {
   const keys = new Set([...a.sorted, ...b.sorted].map(it => it.key));
   return [...keys].filter(key => !isSame(valueIn(a, key, countA), valueIn(b, key, countB)));
 }
-// The first number of moves, from one on, after which the states differ, and where; null where they differ nowhere.
+// Return the first number of moves, from `from` on, after which the states differ, with the locations; null if they never differ.
 function firstStates(a, b, from) {
   const last = Math.max(a.movesIn(a.events.length), b.movesIn(b.events.length)), most = Math.min(a.movesIn(a.events.length), b.movesIn(b.events.length));
   for (let move = from; move <= most; move++) {
@@ -38,7 +39,7 @@ function firstStates(a, b, from) {
   return last > most ? { move: most + 1, keys: placesApart(a, b, a.eventsTo(most + 1), b.eventsTo(most + 1)) } : null;
 }
 
-// ---- what is said
+// ---- texts
 function partingNodes(other, name) {
   const { run } = shown, at = firstApart(run, other), isSameStart = isSameBeginning(run, other);
   if (isSameStart && at === run.events.length && at === other.events.length) return [`${name} is the same run: all ${plural(at, "event")} are the same.`];
@@ -79,7 +80,7 @@ $("beside-file").addEventListener("change", () => {
   $("beside-file").value = "";
 });
 
-// What is kept where a run goes on: all that is shown, and where the last event was chosen the last one again.
+// Return what is retained when a run grows: all that is shown. If the last event was chosen, the new last one will be.
 export function whereItWas(old) {
   const { count, location, mark, range } = shown;
   return { count: count && count === old.events.length ? Infinity : count, mark, at: location?.key ?? null, range };

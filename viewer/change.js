@@ -1,9 +1,9 @@
-// Nodes and texts for what a write made of its location.
+// Nodes and texts for how a write changed its location.
 import { elementNode, itemNode, MORE, restNode, sizeNode, span, times, valueNode } from "./nodes.js";
 import { itemsOf } from "./shape.js";
 import { byElement, grouped, isBag, isList, isNumber, isSame, isSet, itemKey, plural, sharedLength, shortText } from "./terms.js";
 
-// What a write made of its location: the items of a set, a bag or a list that changed, else the old value and the new.
+// Return a node for a write's change: the changed items of a set, a bag or a list, else the old value and the new one.
 export function changeNode(write, most = Infinity, isInRow = false) {
   if (!write.items) return replacedNode(write.old, write.value, most);
   const out = span("value", sizeNode(write.isBag, write.size), " "), more = () => changeNode(write, most + MORE);
@@ -19,8 +19,8 @@ export function changeNode(write, most = Infinity, isInRow = false) {
   if (!write.items.length) out.append(span("same", " unchanged"));
   return out;
 }
-// Every item that the location holds before or after the write, with its counts before and after; in a row, which may be cut off,
-// those that changed come first.
+// Return every item that the location holds before or after the write, with its counts before and after. In a row, which may be
+// cut off, the changed ones come first.
 function allItems(write, isInRow) {
   const changed = new Set(write.items.map(it => itemKey(it[0])));
   const same = itemsOf(write.location.after(write.index)).filter(it => !changed.has(itemKey(it[0])));
@@ -45,7 +45,7 @@ function replacedNode(old, value, most) {
 
 // ---- lists
 const FEW_ITEMS = 6, MOST_PARTS = 24;
-// Where two long lists differ: how many items are the same before and behind, and what is between in each.
+// Compare two long lists: how many items are the same at the front and at the back, and what is between in each.
 export function listsApart(old, value) {
   if (!isList(old) || !isList(value) || Math.max(old.list.length, value.list.length) <= FEW_ITEMS) return null;
   const a = old.list, b = value.list, least = Math.min(a.length, b.length);
@@ -54,7 +54,7 @@ export function listsApart(old, value) {
   while (behind < least - before && isSame(a[a.length - 1 - behind], b[b.length - 1 - behind])) behind++;
   return before + behind ? { before, behind, old: a.slice(before, a.length - behind), now: b.slice(before, b.length - behind), size: b.length } : null;
 }
-// The items between: those at one place are a change, where they are as many in both.
+// Show the items between. If both lists have equally many, each pair of items is a change.
 function listChangeNode({ before, behind, old, now, size }, most) {
   const out = span("value", span("kind", `list of ${grouped(size)}`), " "), same = count => count ? [span("same", `${grouped(count)} same`), " "] : [];
   const isInPlace = old.length === now.length, count = Math.max(old.length, now.length);
@@ -69,14 +69,14 @@ function listChangeNode({ before, behind, old, now, size }, most) {
   out.append(...same(behind));
   return out;
 }
-// What a list has where it differs from another one.
+// Return a node for what differs in a list from another one.
 export function ownPartNode({ before, behind, now, size }) {
   const items = now.slice(0, FEW_ITEMS), left = now.length - items.length;
   return span("value", span("kind", `list of ${grouped(size)}`), " ", span("same", `${grouped(before)} same`), " ",
     items.flatMap((it, i) => [span("mark", `[${before + i}]: `), elementNode(it), " "]), left > 0 ? span("same", `${grouped(left)} more`) : null, span("same", `${grouped(behind)} same`));
 }
 
-// What a write did, in a few letters.
+// Return in a few letters what a write did.
 export function changeText(write) {
   if (!write.items) return replacedText(write.old, write.value);
   const size = `${write.isBag ? "bag" : "set"} of ${grouped(write.size)}`, added = write.items.filter(it => it[1] === 0), removed = write.items.filter(it => it[2] === 0);

@@ -1,4 +1,4 @@
-// A condition on the state, or an expression with a number, as it is written: what it is about, and what it asks.
+// Conditions on the state, and expressions with a number, as they are written: what they are about, and what they ask.
 import { Fault, readJson } from "./exact.js";
 import { elementText, isNumber, itemKey, shortText } from "./terms.js";
 
@@ -13,8 +13,8 @@ export const ANY = Symbol("any");
 const MOST_LETTERS = 1000, MOST_DEPTH = 40;
 const EXAMPLES = "write it as stock(\"rice\") < 0, door = \"open\" and not open has 3, open size > 9, sum(account(*)) != 500 or stock(*) changes";
 
-// Reads a condition, or an operand alone. A condition is {or}, {and}, {not}, or {left, order, right}; an operand {value}, {pattern},
-// with `part` {size} or {count} of an element, or {total, pattern}. A pattern of null is the chosen location.
+// Parse a condition, or a single operand. A condition is {or}, {and}, {not}, or {left, order, right}. An operand is {value},
+// {pattern}, with `part` {size} or {count} of an element, or {total, pattern}. A pattern of null is the chosen location.
 export function readCondition(text) {
   if (text.length > MOST_LETTERS) throw new Fault(`a condition has at most ${MOST_LETTERS} letters`);
   const reading = new Tokens(text), found = reading.any();
@@ -22,12 +22,12 @@ export function readCondition(text) {
   return found;
 }
 export const isOperand = it => !("order" in it || "or" in it || "and" in it || "not" in it);
-// The comparisons of a condition.
+// Return the comparisons of a condition.
 export const comparisonsOf = it => it.or ?? it.and ? (it.or ?? it.and).flatMap(comparisonsOf) : it.not ? comparisonsOf(it.not) : "order" in it ? [it] : [];
 export const operandsOf = it => isOperand(it) ? [it] : comparisonsOf(it).flatMap(({ left, right }) => right ? [left, right] : [left]);
 export const isAny = operand => !operand.total && !!operand.pattern?.includes(ANY);
 
-// A location's pattern, and an operand, as they are written.
+// The texts of a location's pattern and of an operand.
 export const patternText = ([name, ...rest]) => rest.length ? `${name}(${rest.map(it => it === ANY ? "*" : elementText(it)).join(", ")})` : name;
 export function operandText({ pattern, part, element, total }, here) {
   const place = pattern ? patternText(pattern) : here?.label ?? "";
@@ -69,7 +69,7 @@ class Tokens {
     this.depth--;
     return found;
   }
-  // What is between an opening token, which is taken, and this one.
+  // Parse what is between an opening token, which is already read, and `close`.
   items(close, item) {
     const out = [];
     if (this.take(close)) return out;
@@ -108,7 +108,8 @@ class Tokens {
     if (!["has", "lacks", "=", "!="].includes(order) && "value" in right && !isNumber(right.value)) throw new Fault(`a number must follow ${order}; ${EXAMPLES}`);
     return isAny(right) ? this.fail("a * belongs on the left side only") : { left, order, right };
   }
-  // Whether a location begins here: a name that is no word of a condition, or one with arguments, or with such a word behind it.
+  // Return whether a location begins here: a name that is no word of a condition, or one with arguments or followed by such a
+  // word.
   isPlace() {
     const it = this.list[this.at], after = this.after(1);
     if (!it?.isWord || Object.hasOwn(NAMED, it.text) || this.isTotal()) return false;

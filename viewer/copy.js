@@ -1,4 +1,4 @@
-// What is copied: a link to what is shown, a value, a state.
+// Copying: a link to what is shown, a value, a state.
 import { $ } from "./nodes.js";
 import { act, shown } from "./run.js";
 import { keyOf } from "./terms.js";
@@ -11,7 +11,7 @@ async function written(text) {
     await navigator.clipboard.writeText(text);
     return true;
   } catch {
-    return writtenOld(text); // where a page in a file has no clipboard of its own
+    return writtenOld(text); // a page in a file may have no clipboard of its own
   }
 }
 function writtenOld(text) {
@@ -25,14 +25,14 @@ function writtenOld(text) {
   return isCopied;
 }
 
-// The address of what is shown now.
+// Return the address of what is shown now.
 function linkTo() {
   act.changed(false, true);
   return location.href;
 }
-// The value of the chosen location, as a script or a journal has it.
+// The value of the chosen location, as scripts and journals write it.
 const valueOf = place => keyOf(shown.run.valueAt(place, shown.count));
-// The state as the `init` of a script: its pairs in ascending order, one in a line.
+// Return the state as the `init` of a script: its pairs in ascending order, one per line.
 function initOf() {
   const { run, count } = shown, pairs = run.sorted.map(it => [it.at, run.valueAt(it, count)]).filter(it => it[1] !== null);
   return `[${pairs.map(it => `\n  ${keyOf(it)}`).join(",")}${pairs.length ? "\n" : ""}]`;

@@ -1,5 +1,5 @@
-// The chosen event: what was asked and answered, what changed, what it depended on, which others it is related to, and why a
-// move wasn't fired.
+// The chosen event: the call and its answer, what changed, what it depended on, which events it is related to, and why a move
+// didn't fire.
 import { chainOf, chainText, madeStale, nearFire, ownRead, ownReads, retryOf, staledBy, tryBefore } from "./chains.js";
 import { changeNode } from "./change.js";
 import { answerText, button, elementNode, glyph, locationNode, make, moveLink, runName, span, valueNode, writerNodes } from "./nodes.js";
@@ -35,7 +35,7 @@ function table(name, heads, rows) {
 }
 export const eventLink = (event, ...text) => button("link", `Go to event ${event.ordinal}`, () => act.choose(event.number + 1), ...text.length ? text : [`event ${event.ordinal}`]);
 
-// Why a move isn't fired, by the right answer to it.
+// Return a note that says why a move isn't fired, from the right answer.
 function whyNote(event, answer) {
   const kind = kindOf(answer);
   if (kind === "full") return note(kind, make("p", {}, make("b", {}, "Full: "), `as many moves were fired as the capacity, ${grouped(shown.run.capacity)}.`));
@@ -44,7 +44,7 @@ function whyNote(event, answer) {
   return null;
 }
 const note = (kind, ...children) => make("div", { class: `note ${kind}` }, ...children);
-// What the fire names at that number: a read of the agent's own, or what no read of the run has.
+// Return what the fire declares at that number: a read of the agent's own, or one that the run doesn't have.
 function seenNodes(event, named) {
   const read = ownRead(ownReads(event), named);
   return read ? [" was read ", afterMoves(named.number), ", in ", eventLink(read), "."] : [` is named as it was ${afterMoves(named.number)}; the ${runName()} has no read of it by agent ${event.agent}.`];
@@ -66,7 +66,7 @@ function whyClash(event, location, cause) {
   ];
 }
 
-// The tries of a fire, and what its move made stale.
+// Return the tries of a fire, and what its move made stale.
 function chain(event) {
   const before = tryBefore(event), next = retryOf(event), later = event.kind === "stale" && !next ? nearFire(event, 1) : null, staled = madeStale(event), left = staled.length - MOST_STALED;
   const outcome = it => it.kind === "fired" ? `fired as move ${it.move}` : answerText(it.reply);
@@ -97,12 +97,13 @@ function readings(event) {
   ])));
 }
 
-// What the read of the step was answered for the location, where the run has that read.
+// Return the value that the step's read returned for the location, if the run has that read.
 const readValue = (read, location) => read?.reply.values[read.read.indexOf(location)] ?? null;
 const readNode = (read, location) => read && valueNode(readValue(read, location), 8);
-// Whether a read at that number may be before the window, of which the page knows nothing.
+// Return whether a read at that number may be before the window, which the page doesn't know.
 const mayBeBefore = number => shown.run.from > 0 && number <= shown.run.movesBefore;
-// What a fire names, each with the value there was at its number, the agent's own read, and the move that wrote it since.
+// Return what a fire declares, each with its value at the declared number, the agent's own read, and the move that has written it
+// since.
 function grounds(event) {
   const { run } = shown, reads = ownReads(event);
   if (!event.named.length) return block("What it depends on", make("p", { class: "soft" }, "Nothing: the move names no read."));
@@ -130,7 +131,7 @@ function instructions(event, answer) {
 }
 
 export const faultText = event => `${event.isWrong ? ". The answer is wrong" : ""}${event.doubt ? ". It doesn't agree with the trace" : ""}`;
-// The event in a line, for the list's and the lanes' help and for readers of the screen.
+// Return the event in one line, for tooltips of the list and the lanes, and for screen readers.
 export function eventText(event) {
   const names = list => list.length ? list.slice(0, 6).map(it => it.label).join(", ") + (list.length > 6 ? ", …" : "") : "nothing";
   const what = {

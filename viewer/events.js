@@ -1,4 +1,4 @@
-// The list of events, and what is asked of it.
+// The list of events, and its search.
 import { changeText } from "./change.js";
 import { faultText } from "./event.js";
 import { filter, forgetTexts, isFiltered, isListed, LABELS, listIndex, listItem, listLength, nextListed, ofKind, setFilter } from "./filter.js";
@@ -9,7 +9,7 @@ import { grouped, isSame, locationText, shortText } from "./terms.js";
 
 const MOST_TOLD = 4;
 
-// What the event did, with values: in a row of the list.
+// Return what the event did, with values, for a row of the list.
 function whatNodes(event) {
   const { run } = shown, told = (list, text) => list.slice(0, MOST_TOLD).flatMap((it, i) => [i ? ", " : " ", span("name", it.label), " ", text(it, i)]).concat(list.length > MOST_TOLD ? ", …" : "");
   if (event.kind === "fired") return [make("b", {}, `move ${event.move}`), span("names", told(event.writes.map(it => it.location), (_, i) => changeText(event.writes[i])))];
@@ -17,7 +17,8 @@ function whatNodes(event) {
   if (event.kind === "stale") return ["stale", span("names", staleNodes(event, run.location(event.reply.stale)))];
   return event.kind === "clash" ? [`clash ${event.reply.clash[1]}`, span("names", " ", span("name", locationText(event.reply.clash[0])))] : "full";
 }
-// The value that a stale fire depends on, and the one that is there now; not of sets and bags, which would have to be made.
+// Return the value that a stale fire depends on, and the present one. Omit it for sets and bags, whose values would have to be
+// computed.
 function staleNodes(event, location) {
   const { run } = shown;
   if (run.lastWrite(location, event.number)?.items) return [" ", span("name", location.label)];
@@ -39,7 +40,7 @@ export const events = new List($("events"), ROW, {
   make: eventRow,
   empty: () => shown.run.events.length ? "No event is as asked for." : "This run has no event.",
 });
-// The row of the chosen event, or of the next one that is listed.
+// The row of the chosen event, or of the next one in the list.
 const eventIndex = () => Math.min(isFiltered() ? listIndex(shown.count - 1) : shown.count - 1, listLength() - 1);
 export function showEvents() {
   events.show(eventIndex());
@@ -47,7 +48,7 @@ export function showEvents() {
   $("events-off").hidden = !shown.count || isListed(shown.count - 1);
 }
 
-// ---- what is asked
+// ---- search
 export function relist(asked) {
   setFilter(asked);
   $("events-agent").value = filter.agent;
@@ -77,7 +78,7 @@ function showKinds() {
     return chip("", title, filter.kind === kind, press(kind), kind === "all" ? "All" : kind === "wrong" ? "Wrong" : kind === "doubt" ? "Doubtful" : kind === "unput" ? "On nothing put" : [glyph(kind), span("word-of", LABELS[kind])], make("b", {}, grouped(countOf(kind))));
   }), filter.cause ? off(filter.cause, { cause: null }) : "", place ? off(place.label, { place: null }) : "");
 }
-// The chosen location, to the values of which the search can be limited.
+// Show the option that limits the search to the values of the chosen location.
 export function showHere() {
   const { location } = shown, isOffered = !!location && filter.place !== location.key;
   $("events-here").hidden = !isOffered;

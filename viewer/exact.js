@@ -1,9 +1,9 @@
-// JSON texts, read so that no whole number loses a digit: one beyond 2^53 becomes a BigInt, any other a number.
+// A JSON parser that loses no digit of a whole number: one beyond 2^53 becomes a BigInt, any other a number.
 
-// Why a text isn't JSON, or no trace.
+// Why a text isn't JSON, or isn't a trace.
 export class Fault extends Error {}
 
-// A line in which a digit might be lost, or which might have a number that is no whole one; all others go to JSON.parse.
+// Matches lines that may lose a digit, or may have a number that isn't whole. All other lines go to JSON.parse.
 const DELICATE = /\d{16}|\d[.eE]|-0/;
 const NUMBER = /-?(?:0|[1-9]\d*)(?![\d.eE])/y;
 const WORDS = { n: ["null", null], t: ["true", true], f: ["false", false] };
@@ -14,13 +14,13 @@ export function readJson(text) {
     try {
       return JSON.parse(text);
     } catch {
-      // read again below, which says where the fault is
+      // parsed again below, to find where the fault is
     }
   }
   return new Reader(text).whole();
 }
 
-// Whether an odd number of backslashes is before the place.
+// Return whether an odd number of backslashes precedes the position.
 function isEscaped(text, at) {
   let from = at;
   while (text[from - 1] === "\\") from--;
@@ -83,7 +83,7 @@ class Reader {
       return this.fail("a text with a wrong escape");
     }
   }
-  // Reads what is between brackets, item by item.
+  // Parse what is between brackets, item by item.
   items(depth, close, item) {
     if (depth > MOST_NESTING) this.fail("nested too deeply");
     this.at++;

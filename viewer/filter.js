@@ -4,16 +4,16 @@ import { answerText } from "./nodes.js";
 import { isBad, shown } from "./run.js";
 import { elementText, firstFrom, keyOf, valueText, withoutIsolates } from "./terms.js";
 
-// `unput` are the fired moves that depend on what was not yet put.
+// `unput` are the fired moves that depend on a location into which nothing was put yet.
 export const LABELS = { all: "All events", fired: "Moves", read: "Reads", stale: "Stale fires", clash: "Clashes", full: "Full", wrong: "Wrong answers", doubt: "Events that don't agree with the trace", unput: "Moves that depend on what was not yet put" };
 const NONE = { kind: "all", agent: "all", place: null, cause: null, text: "" };
 export const filter = { ...NONE };
-let listed = null, mask = null, version = 0; // the numbers of the events in the list, and for each event whether it is there; null for all
-let texts = null, textsOf = null; // what is searched of each event, and at which location
+let listed = null, mask = null, version = 0; // the numbers of the listed events, and for each event whether it is listed; null if all are
+let texts = null, textsOf = null; // the searched text of each event, and the location that it is for
 const CAUSE = /^(Two|Mixed|Kind|Both|Against|Short|Large)$/;
 
-// What is asked for in words: each has to be there, a number as a whole one, what is between quotes as a phrase, and `agent 3`,
-// `event 3` and `move 3` of the event itself.
+// A search term. Each must occur: a number as a whole one, a quoted text as a phrase, and `agent 3`, `event 3` and `move 3` as
+// properties of the event.
 const TERM = /"([^"]*)"?|(agent|event|move)\s+(\d+)(?!\S)|(\S+)/g;
 const MARKS = /[.*+?^${}()|[\]\\]/g;
 const wholly = text => new RegExp(`(?<![\\p{L}\\p{N}_${/^-?\d/.test(text) ? "-" : ""}])${text.replace(MARKS, "\\$&")}(?![\\p{L}\\p{N}_])`, "u");
@@ -33,18 +33,18 @@ export const hasAll = (text, terms, event = null) => terms.every(it => isMet(it,
 export const isFiltered = () => listed !== null;
 export const listLength = () => listed ? listed.length : shown.run.events.length;
 export const listItem = i => listed ? listed[i] : i;
-// The index in the list of the event, or of the next one that is there.
+// The index in the list of the event, or of the next one that is listed.
 export const listIndex = number => listed ? firstFrom(listed, number) : number;
 export const isListed = number => number >= 0 && (!mask || mask[number] === 1);
 export const listVersion = () => version;
-// The events of an ascending list that are listed, from this one on, or before it: the first of them.
+// Return the nearest listed event in an ascending list after this one, or before it; null if there is none.
 export function nextOf(list, number, by) {
   for (let i = by > 0 ? firstFrom(list, number + 1) : firstFrom(list, number) - 1; list[i] !== undefined; i += by) if (isListed(list[i])) return list[i];
   return null;
 }
 export const nextListed = (number, by) => by > 0 ? listItem(listIndex(number + 1)) ?? null : listItem(listIndex(number) - 1) ?? null;
 
-// Lists what is asked for, and all else as `asked` has it; what makes no sense there is left out.
+// Filter the list as `asked` says, and by nothing else. What makes no sense in the run is left out.
 export function setFilter(asked) {
   const { run } = shown, merged = { ...NONE, ...asked };
   filter.kind = Object.hasOwn(LABELS, merged.kind) ? merged.kind : "all";
@@ -54,11 +54,11 @@ export function setFilter(asked) {
   filter.text = merged.text ?? "";
   listEvents();
 }
-// Another run is shown.
+// Forget the texts of the previous run.
 export function forgetTexts() {
   texts = textsOf = null;
 }
-// The events of a kind, in ascending order; null for all.
+// Return the events of a kind in ascending order, or null for all.
 export function ofKind(kind) {
   const { run } = shown;
   if (kind === "all") return null;
@@ -86,13 +86,13 @@ function listEvents() {
   mask = list && new Uint8Array(run.events.length);
   for (const it of list ?? []) mask[it] = 1;
 }
-// Whether the event is one of that location: where its kind names one, it is that one.
+// Return whether the event is about the location. If its kind names a location, only that one counts.
 function isAbout(event, place) {
   const answer = event.right ?? event.reply;
   if (filter.kind === "stale" || filter.kind === "clash") return keyOf(answer.stale ?? answer.clash?.[0] ?? null) === place.key;
   return filter.kind === "unput" ? unputIn(event).includes(place) : shown.run.howTouched(event, place) !== null;
 }
-// All that is asked, answered and changed, in small letters; of one location its values alone.
+// Return the call, the answer and the changes in lower case; for one location, only its values.
 function searchText(event, place) {
   const parts = place ? [] : [event.kind, `agent ${event.agent}`], isOf = it => !place || it === place;
   const tell = (location, ...values) => isOf(location) && parts.push(...place ? [] : [location.label], ...values);

@@ -1,31 +1,32 @@
-// What a sequential storage answers to each call of a trace: a trace is redundant, and the page believes it in nothing that it can check.
+// The answers of a sequential storage to each call of a trace. A trace is redundant, and the page trusts nothing that it can
+// check.
 import { byLocation, isBag, isNumber, isSame, isSet, itemKey, keyOf } from "./terms.js";
 
 export const MOST_COUNT = 2 ** 32 - 1;
 const LEAST_SUM = -(2n ** 63n), MOST_SUM = 2n ** 63n - 1n, SAFE = BigInt(Number.MAX_SAFE_INTEGER);
 const FAMILY = { add: ofSet, remove: ofSet, bagadd: ofBag, bagremove: ofBag, inc: ofNumber };
 
-// What a fire makes of each location that it writes: the cause of a clash, or whether a change of it is the one that the instructions
-// make. Null where that decides nothing.
+// Compute what a fire makes of each location that it writes: the cause of a clash, or whether a change is the one that the
+// instructions make. Null if the answer doesn't depend on that.
 export const effectsFor = (event, run) => event.fire && (event.kind === "fired" || !isStaleRight(event, run)) ? effectsOf(event) : null;
-// What doesn't agree in an event, before its updates are taken in: null, or the answer that a storage gives there.
+// Return what doesn't match in an event, before its updates are applied: null, or the answer of a storage.
 export function doubtOf(event, effects, run) {
   const answer = event.right ?? event.reply, right = event.read ? rightRead(event, answer) : rightFire(event, effects, answer, run);
   if (right !== null) return { right };
   return event.isWrong && isRepeated(event) ? { isRepeated: true } : null;
 }
-// Whether the answer that is called right is the given one, also at one of the positions where it says that they differ.
+// Return whether the answer that is called right equals the given one, also at one of the positions that it lists as different.
 function isRepeated({ read, reply, right }) {
   if (!read) return isSame(right, reply);
   return right.number === reply.number && !right.differs.length || right.differs.some(i => isSame(right.values[i], reply.values[i]));
 }
-// Whether the updates that were taken in are those of the instructions.
+// Return whether the applied updates are those of the instructions.
 export function isDone({ writes }, effects) {
   if (effects.isClash) return writes.length === 0;
   return writes.length === effects.size && writes.every(write => effects.has(write.location) && effects.get(write.location).fits(write));
 }
 
-// Null where the answer is right, and else the right one.
+// Return null if the answer is right, else the right answer.
 function rightRead(event, answer) {
   if (answer.number === event.before && event.read.every((it, i) => it.content.equals(answer.values[i]))) return null;
   return { number: event.before, values: event.read.map(it => it.content.whole()) };
@@ -43,7 +44,7 @@ function rightFire(event, effects, answer, run) {
 const leastOf = places => places.reduce((least, it) => least && byLocation(least.at, it.at) <= 0 ? least : it, null);
 const lastMove = location => location.writes.at(-1)?.move ?? 0;
 const knownStale = event => leastOf(event.named.filter(it => lastMove(it.location) > it.number).map(it => it.location));
-// Whether the location that is answered stale is the smallest that a move has written since. Of moves before a window none is known,
+// Return whether the location in a stale answer is the smallest that a move has written since. Moves before a window are unknown,
 // so what was read before it may be stale.
 function isStaleRight(event, run) {
   const at = (event.right ?? event.reply).stale;
@@ -71,13 +72,13 @@ function effectsOf(event) {
   }
   return effects;
 }
-// Where a location has several instructions: all of each location.
+// Collect all instructions of each location, if a location has several.
 function gather({ fire, targets }, effects) {
   for (const location of effects.keys()) effects.set(location, []);
   fire.forEach((it, i) => effects.get(targets[i]).push(it));
 }
 
-// What the instructions of one location make of what it holds: the cause of a clash, or an effect, which says whether a write fits.
+// Compute the effect of a location's instructions on its content: the cause of a clash, or a test of whether a write matches.
 function effectOf(content, group) {
   if (group.length === 1 && group[0][0] === "put") return new Put(group[0][2]);
   const puts = group.filter(it => it[0] === "put"), partials = puts.length ? group.filter(it => it[0] !== "put") : group;
@@ -94,7 +95,7 @@ class Put {
     return location.content.equals(this.value);
   }
 }
-// The counts of elements, by their keys, each before and after; so many of them change.
+// The counts of elements by their keys, each before and after, and how many of them change.
 class Counts {
   constructor(counts) {
     this.counts = counts;

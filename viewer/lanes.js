@@ -1,4 +1,4 @@
-// A lane for each agent over the events.
+// The lanes: one for each agent, along the events.
 import { chainOf, madeStale } from "./chains.js";
 import { isFiltered, isListed } from "./filter.js";
 import { $ } from "./nodes.js";
@@ -7,7 +7,7 @@ import { AXIS, AXIS_ROW, clamp, colors, Columns, DIM, drawShares, GUTTER, lanesH
 import { drawStretches, drawStrip, drawTrack } from "./strip.js";
 import { firstFrom, grouped } from "./terms.js";
 
-// From this width of an event on each is drawn; below it several share a column, this wide.
+// From this width of an event on, in pixels, each event is drawn. Below it, several events share a column of width COLUMN.
 export const ENOUGH = 6;
 const COLUMN = 3, MOST_ARCS = 40;
 let hovered = -1;
@@ -51,7 +51,7 @@ function drawLanes() {
   const high = lanesHigh();
   paintLanes(...prepared($("lanes"), high), high, $("lanes-box").scrollTop);
 }
-// Draws the lanes with a pen, of a canvas or of a picture that is kept; `top` is where the axis is.
+// Draw the lanes with a pen, of a canvas or of a picture that is retained. `top` is the position of the axis.
 export function paintLanes(pen, wide, high, top) {
   const { run, mark } = shown;
   const from = Math.max(0, Math.floor(view.from)), to = Math.min(run.events.length, Math.ceil(view.from + seen()) + 1);
@@ -87,7 +87,8 @@ function drawAgents(pen, wide) {
     pen.fillText(`agent ${agent}`, 12, yOf(agent));
   }
 }
-// The numbers of events and of moves, and where the chosen location is written; they stay at the top where the lanes are scrolled.
+// Draw the numbers of events and of moves, and where the chosen location is written. They stay at the top when the lanes are
+// scrolled.
 function drawAxis(pen, from, to, wide, top) {
   const { location, count } = shown;
   pen.fillStyle = colors.raised;
@@ -103,7 +104,7 @@ function drawAxis(pen, from, to, wide, top) {
   pen.fillStyle = colors.accent;
   if (count && xOf(count - 1) >= GUTTER) pen.fillRect(xOf(count - 1) - 0.75, top + AXIS - 6, 1.5, 6);
 }
-// A row of the axis: round numbers, as many as there is room for.
+// Draw a row of the axis: round numbers, as many as fit.
 function drawNumbers(pen, top, name, first, end, eventOf, textOf, offset = 0) {
   pen.font = `11px ${view.font}`;
   pen.textBaseline = "middle";
@@ -121,7 +122,7 @@ function drawNumbers(pen, top, name, first, end, eventOf, textOf, offset = 0) {
     last = x;
   }
 }
-// The range that is measured.
+// Draw the range that is measured.
 function drawRange(pen, high) {
   if (!shown.range) return;
   const [from, to] = shown.range;
@@ -130,7 +131,7 @@ function drawRange(pen, high) {
   pen.fillRect(xOf(from - 0.5), 0, (to - from) * view.scale, high);
   pen.globalAlpha = 1;
 }
-// The tries of the chosen fire, along its agent's lane.
+// Draw the tries of the chosen fire, along its agent's lane.
 function drawChain(pen, event) {
   const chain = chainOf(event);
   if (!chain) return;
@@ -170,7 +171,7 @@ function drawMark(pen, kind, x, y, r) {
   }
   pen.fill();
 }
-// A fired move with its number, where there is room.
+// Draw a fired move, with its number if it fits.
 function drawMove(pen, event, x, y, r) {
   const text = String(event.move), half = Math.max(r, (text.length + 1) * 3.1);
   if (r < 6.5 || half * 2 > view.scale - 2) return drawMark(pen, "fired", x, y, r);
@@ -213,11 +214,11 @@ function ring(pen, x, y, r, color, wide) {
   pen.arc(x, y, r, 0, 7);
   pen.stroke();
 }
-// The shares of what several events in a column did, lane by lane; those that aren't listed are dim.
+// Draw the shares of what the events of each column did, lane by lane. Events that aren't listed are dim.
 function drawDense(pen, from, to, room) {
   const { run } = shown, count = Math.ceil(room / COLUMN) + 1, all = new Columns(count * run.agents), listed = isFiltered() ? new Columns(count * run.agents) : all;
   const high = Math.max(2, view.lane - Math.min(6, view.lane / 4));
-  // columns begin at a whole number of their widths, so that they stay as they are when the view moves
+  // columns begin at a multiple of their width, so that they don't change when the view moves
   const shift = Math.floor(view.from * view.scale / COLUMN), apart = shift * COLUMN - view.from * view.scale;
   for (let number = from; number < to; number++) {
     const column = Math.floor((number + 0.5) * view.scale / COLUMN) - shift, event = run.events[number];
@@ -228,7 +229,8 @@ function drawDense(pen, from, to, room) {
   const wide = view.scale >= COLUMN ? COLUMN - 0.5 : COLUMN;
   for (let i = 0; i < count * run.agents; i++) drawShares(pen, all, listed, i, GUTTER + i % count * COLUMN + apart, yOf(Math.floor(i / count)) - high / 2, wide, high);
 }
-// From the last writes of what the event read or depends on, from those that made it stale, and to what it made stale.
+// Return the arcs of an event: from the last writes of what it read or depends on, from those that made it stale, and to what it
+// made stale.
 function arcsOf(event) {
   const { run } = shown, out = new Map(), put = (write, isStale) => write && out.set(write.event, [write, event, isStale]);
   const at = write => ({ ...write, number: write.event });
@@ -252,7 +254,7 @@ function drawArc(pen, from, to, isStale) {
   pen.stroke();
   pen.setLineDash([]);
 }
-// The stretches in sight in which the condition holds; a stretch begins with the event that leads to it.
+// Draw the visible stretches in which the condition holds. A stretch begins with the event that leads to it.
 function drawHolds(pen, from, to, high) {
   const { holds } = shown, first = firstFrom(holds, from, it => it[1]), last = firstFrom(holds, to + 2, it => it[0]);
   const x = it => it ? xOf(it - 1) - (view.scale < ENOUGH ? 0 : radius()) : GUTTER;

@@ -1,9 +1,10 @@
-// Lists of many rows, of which only those in sight are there.
+// Long lists, of which only the visible rows exist.
 import { make } from "./nodes.js";
 
 export const ROW = 26; // the height of a row, in pixels
 
-// `rows` has `count()`, `sign(i)`, which differs wherever a row would look otherwise, `make(i)`, and `empty`, a text or a call.
+// `rows` has `count()`, `sign(i)`, which differs whenever a row would look different, `make(i)`, and `empty`, a text or a
+// function.
 export class List {
   constructor(box, height, rows) {
     Object.assign(this, { box, height, rows, made: new Map(), top: 0 });
@@ -12,13 +13,13 @@ export class List {
       if (Math.abs(box.scrollTop - this.top) >= 1) this.show();
     }, { passive: true });
   }
-  // Forgets the rows of another run.
+  // Forget the rows of the previous run.
   clear() {
     this.made.clear();
     this.holder.replaceChildren();
     this.box.scrollTop = this.top = 0;
   }
-  // Shows the rows in sight, and the row with this index among them where one is given.
+  // Show the visible rows; if an index is given, scroll to its row.
   show(index = -1) {
     const whole = top => Math.ceil(top / this.height) * this.height; // so that no row is cut off at the top
     const { box, height } = this, room = box.clientHeight - this.holder.offsetTop, count = this.rows.count();
@@ -52,12 +53,12 @@ export class List {
       else this.holder.insertBefore(row, next);
     }
   }
-  // Tells readers of the screen which row is the current one, where it is there; each row has an id of its own.
+  // Report the current row to screen readers, if it exists. Each row has its own id.
   tell(id) {
     if (id && document.getElementById(id)) this.box.setAttribute("aria-activedescendant", id);
     else this.box.removeAttribute("aria-activedescendant");
   }
-  // Whether the row with this index is in sight.
+  // Return whether the row with this index is visible.
   sees(index) {
     const top = this.box.scrollTop, room = this.box.clientHeight - this.holder.offsetTop;
     return index * this.height >= top && (index + 1) * this.height <= top + room;

@@ -1,4 +1,4 @@
-// Puts the page together: what is shown, what is chosen, and the run that takes the place of another.
+// Put the page together: what is shown, what is chosen, and the change from one run to another.
 import { addressed, beforeChange, changed, onAddress } from "./address.js";
 import { goesOn, tellGrowth, whereItWas } from "./beside.js";
 import { eventNode, eventText } from "./event.js";
@@ -56,7 +56,7 @@ act.list = (filter, isStep = false) => {
   if (!isStep) bring($("events-pane"));
   changed(!isStep);
 };
-// Keeps a moment, with which the state is compared.
+// Store a moment, with which the state is compared.
 act.mark = count => {
   beforeChange();
   shown.mark = count;
@@ -64,7 +64,7 @@ act.mark = count => {
   act.show();
   changed(true);
 };
-// Where the page is longer than the window, what was asked for is brought into sight; `way` is from where and to where.
+// If the page is longer than the window, bring what was asked for into sight. `way` is from where and to where.
 let way = null;
 function bring(pane) {
   const box = pane.getBoundingClientRect(), from = scrollY;
@@ -107,7 +107,7 @@ function showNow() {
 function tell(text) {
   $("spoken").textContent = text;
 }
-// Says what would else not be noticed: to readers of the screen, and for a moment to those who see.
+// Announce what would otherwise go unnoticed: to screen readers, and for a moment on the page.
 act.speak = text => {
   tell(text);
   clearTimeout(resting);
@@ -148,14 +148,14 @@ act.showRun = run => {
   else goTo(start);
   changed(false, true);
 };
-// A run that goes on is shown where it was.
+// Show a run that has grown as the previous one was shown.
 function goOn({ count, mark, at, range }, old) {
   goTo({ count, mark, at, condition: conditionText(), filter: { ...filter } });
   shown.range = range;
   showRange();
   tellGrowth(shown.run, old);
 }
-// Shows what an address names.
+// Show what an address names.
 function goTo({ count, mark, at, condition, filter }) {
   const { run } = shown;
   Object.assign(shown, { count: within(count), mark: mark === null ? null : within(mark), location: run.locations.get(at) ?? null });
@@ -171,7 +171,7 @@ function showFacts() {
   const place = run.part === null ? "" : span("fact", `part ${grouped(run.part)} from event ${grouped(run.from)} on`);
   $("facts").replaceChildren(place, fact(run.agents, "agent", "Agents that call the storage, counted from 0"), fact(run.events.length, "event", "Answered calls: reads and fires, in the order of their answers"), fact(run.moves.length, "move", "Fires that were fired, and so changed the state"), fact(run.sorted.length, "location", "Locations that the run reads, writes or begins with"), ...verdict(run));
 }
-// Whether the run is legal, and who has checked that; the page has checked every trace.
+// Return nodes on whether the run is legal, and who has checked that. The page itself has checked every trace.
 const CHECKERS = ["asm_driver", "libfolugben"];
 function verdict(run) {
   const to = (list, text, title) => make("button", { class: "fact illegal", type: "button", title, onclick: () => act.choose(list[0] + 1) }, `${text}, the first at event ${run.events[list[0]].ordinal}`);
@@ -193,7 +193,7 @@ paint();
 const embedded = $("trace").textContent;
 if (embedded.trim()) openTrace(embedded.replace(/^\n/, ""), $("trace").dataset.name || "a run", $("trace").dataset.by);
 
-// A run that grows: where ./view --follow serves the page, it asks again and again for what the run has gained.
+// Runs that grow: if ./view --follow serves the page, it polls for what the run has gained.
 
 const EACH = 1000;
 let served = "";

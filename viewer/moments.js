@@ -1,4 +1,4 @@
-// Where a condition holds along a run, at which locations it comes to hold, and the values of an expression.
+// When a condition holds in a run, at which locations it starts to hold, and the values of an expression.
 import { ANY, comparisonsOf, isAny, operandsOf } from "./condition.js";
 import { Content } from "./shape.js";
 import { isNumber, isSame, keyOf } from "./terms.js";
@@ -7,16 +7,16 @@ const COMPARED = {
   "<": (a, b) => a < b, "<=": (a, b) => a <= b, ">": (a, b) => a > b, ">=": (a, b) => a >= b,
 };
 
-// The locations of the run that a pattern is about; `here` is the chosen one.
+// Return the locations of the run that a pattern matches. `here` is the chosen one.
 export function placesOf(run, pattern, here) {
   if (!pattern) return here ? [here] : [];
   if (!pattern.includes(ANY)) return [run.locations.get(keyOf(pattern))].filter(Boolean);
   return run.sorted.filter(({ at }) => at.length === pattern.length && pattern.every((it, i) => it === ANY || isSame(it, at[i])));
 }
-// Whether a condition is one comparison at locations, which comes to hold at each of them for itself.
+// Whether a condition is a single comparison at locations, which starts to hold at each of them separately.
 export const isByPlace = ({ order, left }) => !!order && !left.total && !("value" in left);
 
-// What follows the state of some locations along the run.
+// Follows the state of some locations along the run.
 class Follower {
   constructor(run, operands, here) {
     this.run = run;
@@ -25,7 +25,7 @@ class Follower {
     for (const { places } of this.operands.values()) for (const it of places) if (!this.contents.has(it)) this.contents.set(it, new Content(it.opening));
     for (const it of this.operands.values()) it.begin();
   }
-  // Calls back for the opening state, and then for each event that writes one of the locations, with these writes.
+  // Call back for the opening state, and then for each event that writes one of the locations, with these writes.
   walk(visit) {
     visit(0, []);
     const places = [...this.contents.keys()], writes = places.length === 1 ? places[0].writes : places.flatMap(it => it.writes).sort((a, b) => a.event - b.event);
@@ -43,7 +43,7 @@ class Follower {
   }
 }
 
-// An operand along the run: of one location its content, or a number that is made of several.
+// An operand along the run: the content of one location, or a number that is computed from several.
 class Operand {
   constructor(told, places, contents) {
     Object.assign(this, { told, places, contents, of: new Set(places), numbers: new Map(), held: new Set(), sum: 0n, end: null });
@@ -59,13 +59,13 @@ class Operand {
     this.sum += (now ?? 0n) - (old ?? 0n);
     if (now === null) this.numbers.delete(place);
     else this.numbers.set(place, now);
-    if (old !== null && old === this.end) this.end = null; // it is looked for when it is asked for
+    if (old !== null && old === this.end) this.end = null; // computed when it is needed
     else if (now !== null && this.end !== null && this.isBeyond(now, this.end)) this.end = now;
   }
   isBeyond(a, b) {
     return this.told.total === "min" ? a < b : a > b;
   }
-  // A number, or null where there is none.
+  // Return a number, or null if there is none.
   total() {
     const { total } = this.told;
     if (total === "sum") return plainNumber(this.sum);
@@ -74,7 +74,7 @@ class Operand {
     if (this.end === null) for (const it of this.numbers.values()) if (this.end === null || this.isBeyond(it, this.end)) this.end = it;
     return plainNumber(this.end);
   }
-  // The number of a part or a total, or of a location of which it is given; undefined where the location's content is meant itself.
+  // Return the present number of the operand, at `place` or else at its first location; null if there is none.
   numberAt(place) {
     const { told } = this;
     if ("value" in told) return isNumber(told.value) ? told.value : null;
@@ -94,7 +94,7 @@ class Operand {
 }
 const plainNumber = big => big >= -9007199254740991n && big <= 9007199254740991n ? Number(big) : big;
 
-// Whether a comparison holds now, of one of the locations of its left side.
+// Return whether a comparison holds now at `place`, one of the locations of its left side, or else at the first of these.
 function holdsAt({ left, order, right }, operands, place, changed) {
   const a = operands.get(left), b = operands.get(right);
   if (order === "changes") return changed.some(it => it.location === (place ?? a.places[0]) && isChange(it));
@@ -115,7 +115,7 @@ function isEqual(a, b, place) {
 }
 const isNumberIn = (content, number) => number !== null && content?.kind === "element" && content.value === number;
 
-// Whether a condition holds now, of which `many` has how often each comparison over many locations does.
+// Return whether a condition holds now. `many` has for each comparison over many locations where it holds.
 function holds(condition, operands, many, changed) {
   if (condition.or) return condition.or.some(it => holds(it, operands, many, changed));
   if (condition.and) return condition.and.every(it => holds(it, operands, many, changed));
@@ -123,8 +123,8 @@ function holds(condition, operands, many, changed) {
   return many.has(condition) ? many.get(condition).size > 0 : holdsAt(condition, operands, null, changed);
 }
 
-// The stretches in which the condition holds, as pairs of counts of events, from the one on and before the other; and the moments
-// at which it comes to hold, each with the location where it does: of a condition on many locations for each of these its own.
+// Return the stretches in which the condition holds, as pairs of counts of events, from the first count on and before the second.
+// Also return the moments at which it starts to hold, each with its location; a condition on many locations has moments of each.
 export function momentsOf(run, condition, here) {
   const follower = new Follower(run, operandsOf(condition), here), { operands } = follower, stretches = [], onsets = [];
   const all = comparisonsOf(condition), many = new Map(all.filter(it => isAny(it.left) || (it === condition && isByPlace(it))).map(it => [it, new Set()])), hasChange = all.some(it => it.order === "changes");
@@ -156,7 +156,7 @@ export function momentsOf(run, condition, here) {
   if (since >= 0) stretches.push([since, run.events.length + 1]);
   return { stretches, onsets };
 }
-// Finds again at which of many locations a comparison holds, those that were written or all where its right side has changed.
+// Find again at which of many locations a comparison holds: those that were written, or all if its right side has changed.
 function renewMany(comparison, places, operands, count, writes, onsets) {
   const left = operands.get(comparison.left), right = operands.get(comparison.right), isFresh = count === 0 || comparison.order === "changes" || writes.some(it => right?.of.has(it.location));
   if (comparison.order === "changes") places.clear();
@@ -169,7 +169,7 @@ function renewMany(comparison, places, operands, count, writes, onsets) {
   }
 }
 
-// The values of an operand along the run: pairs of a count of events and the number from there on, null where there is none.
+// Return the values of an operand along the run: pairs of a count of events and the number from there on, null if there is none.
 export function seriesOf(run, operand, here) {
   const follower = new Follower(run, [operand], here), it = follower.operands.get(operand), out = [];
   follower.walk(count => {
@@ -178,9 +178,9 @@ export function seriesOf(run, operand, here) {
   });
   return out;
 }
-// What the picture of a condition shows: its first operand that is one number.
+// The operand that the picture of a condition shows: the first one that is a single number.
 export const plotted = condition => operandsOf(condition).find(it => !isAny(it) && !("value" in it)) ?? null;
-// From which number to which an operand goes, of all its locations; null where it is none.
+// Return the smallest and the greatest number of an operand, over all its locations; null if it has none.
 export function rangeOf(run, operand, here) {
   const numbers = isAny(operand) && !operand.part ? placesOf(run, operand.pattern, here).flatMap(it => [it.opening, ...it.writes.map(at => at.items ? null : at.value)]).filter(isNumber)
     : isAny(operand) ? [] : seriesOf(run, operand, here).map(it => it[1]).filter(it => it !== null);

@@ -1,11 +1,11 @@
-// Nodes of the page for values, locations and changes. Whatever a trace holds is put in as text, never as markup.
+// Nodes of the page for values, locations and changes. Whatever a trace contains is inserted as text, never as markup.
 import { act, shown } from "./run.js";
 import { itemsOf } from "./shape.js";
 import { afterMoves, cut, elementText, grouped, isBag, isNumber, isSet, locationText, plural } from "./terms.js";
 
 export const $ = id => document.getElementById(id);
 
-// A node with these properties, of which those that begin with `on` are called on that event.
+// Return a node with these properties. Those that begin with `on` are event listeners.
 export function make(tag, properties, ...children) {
   const node = document.createElement(tag);
   for (const name in properties) {
@@ -45,7 +45,7 @@ export function glyph(kind, isWrong = false) {
   return out;
 }
 
-// An element, of which a long text or list shows its beginning; `from` is the letter at which a text begins to matter.
+// Return a node for an element; of a long text or list it shows the beginning. `from` is the first letter of a text that matters.
 const MOST_TEXT = 160, MOST_LIST = 40;
 export function elementNode(x, from = 0, room = { left: MOST_LIST }) {
   if (x === null) return span("undef", "undef");
@@ -59,7 +59,7 @@ function longText(text, start, most) {
   const rest = left ? restNode("long", `${grouped(left)} more letters`, () => longText(text, 0, start + most + MORE)) : null;
   return span("long text", start ? "…" : "", elementText(piece), left ? [start + most < text.length ? "… " : " ", rest] : null);
 }
-// A list with the lists in it shows as many elements as there is room for.
+// Return a node for a list with its inner lists. It shows as many elements as there is room for.
 function listNode(list, room) {
   const items = [], most = room.left;
   for (const it of list) {
@@ -75,17 +75,17 @@ export function locationNode(location) {
 }
 export const itemNode = (kind, element, count) => [span(`item ${kind}`, span("", elementNode(element)), count), " "];
 export const times = n => span("count", ` ×${n}`);
-// Stands for what is left out; a press shows more in the place of what holds it.
+// A button for what is left out. A press replaces the node that contains it with one that shows more.
 export const MORE = 2000;
 export function restNode(kind, text, more) {
   return button("item rest", "Show more", event => event.currentTarget.closest(`.${kind}`).replaceWith(more()), text);
 }
-// What a set or a bag is and how large, in a tag.
+// Return a tag that says what kind of set or bag it is, and how large.
 export function sizeNode(isBags, size, all = 0) {
   return make("span", { class: "kind", title: `${isBags ? "bag" : "set"} of ${plural(size, "element")}${all ? `, ${grouped(all)} in all` : ""}` }, `${isBags ? "bag" : "set"} of ${grouped(size)}`);
 }
 
-// A value, of a set or a bag at most so many items.
+// Return a node for a value. Of a set or a bag it shows at most `most` items.
 export function valueNode(value, most = Infinity, from = 0) {
   const out = span("value");
   if (!isSet(value) && !isBag(value)) {
@@ -100,12 +100,12 @@ export function valueNode(value, most = Infinity, from = 0) {
   return out;
 }
 
-// What a trace has: a run, or a window of a part.
+// What a trace has: a run, or a window of a segment.
 export const runName = () => shown.run.part === null ? "run" : "window";
-// What is before the first event: the opening state of a part, or what the events before a window leave.
+// What is before the first event: the opening state of a segment, or the state that the events before a window leave.
 export const beginningText = () => shown.run.from ? `Before event ${grouped(shown.run.from)}` : "Opening state";
 
-// The way to a move.
+// The link to a move.
 export const moveLink = write => button("link", `Go to move ${write.move}`, () => act.choose(write.event + 1), `move ${write.move}`);
 export const writerNodes = write => write ? [moveLink(write), ` by agent ${write.agent}`] : [beginningText().toLowerCase()];
 

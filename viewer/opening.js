@@ -1,4 +1,4 @@
-// Opening a trace: by the page itself, by a file that is chosen, or by one that is dropped.
+// Opening a trace: by the page itself, by a chosen file, or by a dropped one.
 import { Fault } from "./exact.js";
 import { $ } from "./nodes.js";
 import { play } from "./play.js";
@@ -6,7 +6,7 @@ import { act, readRun } from "./run.js";
 import { plainText } from "./terms.js";
 
 let opening = 0;
-// Reads a trace and shows its run. Until that is read, and where it is refused, the run that was shown before stays.
+// Read a trace and show its run. Until it is read, and if it is refused, the previous run stays on the page.
 export async function openTrace(source, fileName, by = "", ends = []) {
   const turn = ++opening, name = plainText(fileName);
   play(false);

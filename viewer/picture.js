@@ -1,4 +1,4 @@
-// The pictures of time as they are shown, as a file: an image of dots, or one of lines.
+// The pictures of time, as they are shown, as a file: a PNG or an SVG image.
 import { paintLanes } from "./lanes.js";
 import { $, make } from "./nodes.js";
 import { act, shown } from "./run.js";
@@ -6,7 +6,7 @@ import { colors, lanesHigh, view } from "./sight.js";
 import { paintStrip, paintTrack, STRIP, TRACK } from "./strip.js";
 
 const GAP = 6, RATIO = 2;
-// What is in sight: for each picture where it begins, how high it is, and what draws it with a pen.
+// Return what is in sight: for each picture its position, its height, and the function that draws it with a pen.
 function picturesOf(wide) {
   const all = [...$("lanes-box").hidden ? [] : [[lanesHigh(), pen => paintLanes(pen, wide, lanesHigh(), 0)]], ...$("track").hidden ? [] : [[TRACK, pen => paintTrack(pen, wide)]], [STRIP, pen => paintStrip(pen, wide)]];
   let top = 0;
@@ -42,7 +42,7 @@ export function svgText() {
   return `<svg xmlns="http://www.w3.org/2000/svg" width="${wide}" height="${high}" viewBox="0 0 ${wide} ${high}" font-family="${view.font.replaceAll('"', "'")}"><rect width="${wide}" height="${high}" fill="${colors.raised}"/>${parts.join("")}</svg>\n`;
 }
 
-// A pen that has what a canvas draws as lines of SVG.
+// A pen that turns the calls of a canvas into SVG.
 const escapes = { "&": "&amp;", "<": "&lt;", ">": "&gt;", '"': "&quot;" };
 const round = number => Math.round(number * 100) / 100;
 class SvgPen {

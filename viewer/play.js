@@ -1,9 +1,9 @@
-// Playing: a step after another, at a speed.
+// Playing: one step after another, at a chosen speed.
 import { $ } from "./nodes.js";
 
 let playing = 0;
 export const isPlaying = () => playing !== 0;
-// `step` goes on by one event, and returns whether there was one.
+// `step` advances by one event, and returns whether there was one.
 export function play(isOn, step = () => false) {
   clearInterval(playing);
   playing = 0;

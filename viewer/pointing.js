@@ -1,4 +1,4 @@
-// What a person does in the lanes: points at an event, chooses it, moves along, zooms, and measures a range.
+// What a person does in the lanes: point at an event, choose it, move along, zoom, and measure a range.
 import { eventText } from "./event.js";
 import { draw, ENOUGH, hover, resized, zoom } from "./lanes.js";
 import { $, button, glyph, make, span } from "./nodes.js";
@@ -20,7 +20,7 @@ function eventAt(pointer) {
 }
 const isOnAxis = pointer => pointer.clientY - $("lanes-box").getBoundingClientRect().top < AXIS - 4;
 
-// ---- a range, with what is in it
+// ---- a range, and what is in it
 function setRange(first, last) {
   const most = shown.run.events.length, within = it => Math.max(0, Math.min(most, it));
   shown.range = first === null ? null : [within(Math.floor(Math.min(first, last))), within(Math.floor(Math.max(first, last)) + 1)];

@@ -1,4 +1,4 @@
-// The room of the lanes, which fold and are dragged.
+// The height of the lanes, which can be folded and dragged.
 import { draw } from "./lanes.js";
 import { $ } from "./nodes.js";
 import { shown } from "./run.js";
@@ -6,25 +6,26 @@ import { AXIS, LANES_REST, reveal, setHeight, USUAL_LANE } from "./sight.js";
 import { showTrack } from "./strip.js";
 
 const LEAST_HIGH = AXIS + 24, MOST_HIGH = 640, STEP = 24, MOST_PART = 0.35, KEPT = "folugben-lanes";
-// What the person chose: a height, 0 where the lanes are folded; null is the usual height.
-let wanted = null, unfolded = null; // and what it is when they are unfolded
+// What the person chose: a height, 0 if the lanes are folded, or null for the usual height.
+let wanted = null, unfolded = null; // and the height after unfolding
 try {
   const found = Number.parseInt(localStorage.getItem(KEPT) ?? "", 10);
   if (found >= 0) wanted = Math.min(MOST_HIGH, found);
 } catch {
-  // some browsers keep nothing for a file
+  // some browsers store nothing for a file
 }
 
-// What eight rows of events take, and seven of the state beside four writes of a location.
+// The height of eight rows of events, and that of seven rows of the state beside four writes of a location.
 const LEAST_PANES = 326, LEAST_WITH_WRITES = 398;
-// What the lanes can have of the height that they share with the panes; where the page is longer than the window, they share none.
+// Return the height that the lanes can take from what they share with the panes. If the page is longer than the window, they
+// share none.
 function left() {
   if (getComputedStyle($("main")).display !== "grid") return Infinity;
   return $("lanes-box").offsetHeight + document.querySelector(".panes").offsetHeight - (shown.location ? LEAST_WITH_WRITES : LEAST_PANES);
 }
-// Each agent has a lane in which its name can be read, up to a part of the window, and as long as the panes have room.
+// The usual height: each agent has a lane high enough for its name, up to a share of the window, if the panes still have room.
 const usual = () => Math.max(LANES_REST + 2 * USUAL_LANE, Math.min(Math.round(innerHeight * MOST_PART), LANES_REST + Math.max(3, shown.run.agents) * USUAL_LANE, left()));
-// Gives the lanes their height; true where it is another one than before.
+// Set the height of the lanes; return whether it has changed.
 export function fitLanes() {
   const high = wanted ?? usual(), isFolded = high === 0, box = $("lanes-box"), before = `${box.hidden} ${box.style.maxHeight}`;
   box.hidden = isFolded;
@@ -35,7 +36,7 @@ export function fitLanes() {
   $("fold").classList.toggle("folded", isFolded);
   return before !== `${box.hidden} ${box.style.maxHeight}`;
 }
-// What shares the height has come or gone.
+// What shares the height was shown or hidden.
 let shared = "";
 export function refit() {
   showTrack();

@@ -7,10 +7,10 @@ import { byElement, byLocation, firstFrom, isSame, keyOf, locationText } from ".
 export const KINDS = ["read", "fired", "stale", "clash", "full"];
 export const kindOf = reply => reply === "full" ? "full" : KINDS.find(it => it in reply) ?? "read";
 
-// Whether the event's answer is wrong, or something in it doesn't agree with the trace.
+// Whether the event's answer is wrong, or something in it doesn't match the trace.
 export const isBad = event => event.isWrong || !!event.doubt;
 
-// The right answer to a read, with its values: those of the state where the trace says that they differ.
+// Return the right answer to a read, with its values: if the trace lists positions that differ, those of the state.
 function rightValues({ read, reply }, { differs, number }) {
   const values = [...reply.values], made = new Map();
   for (const i of differs) {
@@ -20,7 +20,7 @@ function rightValues({ read, reply }, { differs, number }) {
   return { number, values, differs };
 }
 
-// So many items may be given as changes after a whole value, however small that is.
+// This many items may follow a complete value as changes, however small that value is.
 const FEW = 64;
 
 class Place {
@@ -30,14 +30,14 @@ class Place {
     this.opening = null;
     this.times = []; // the events that write it, and what each of them writes
     this.writes = [];
-    this.content = new Content(null); // while the trace is read
+    this.content = new Content(null); // only while the trace is read
     this.debt = 0;
-    this.last = { index: -1, value: null }; // the value that was made last
+    this.last = { index: -1, value: null }; // the value that was computed last
   }
   get label() {
     return this.text ??= locationText(this.at);
   }
-  // Takes in a change of the trace; false where it isn't one of what the location holds.
+  // Apply a change of the trace; return false if it isn't one of what the location holds.
   take(write, told) {
     const fits = told.length === 2 ? this.replace(write, told) : this.alter(write, told[0]);
     this.times.push(write.event);
@@ -59,7 +59,7 @@ class Place {
     if (!fits) return false;
     this.content.follow(write.items);
     write.size = this.content.size;
-    // A whole value is kept wherever as many changes were given as it has items, so all these take no more room than the changes.
+    // A complete value is stored after as many changes as it has items, so all these values take no more room than the changes.
     this.debt += write.items.length + 1;
     if (this.debt >= Math.max(FEW, write.size)) {
       write.kept = this.content.whole();
@@ -67,7 +67,7 @@ class Place {
     }
     return true;
   }
-  // The value that its write with this index leaves; of -1 the opening one.
+  // Return the value that its write with this index leaves; -1 is the opening value.
   after(index) {
     if (index < 0) return this.opening;
     const write = this.writes[index];
@@ -81,7 +81,7 @@ class Place {
     this.last = { index, value: content.whole() };
     return this.last.value;
   }
-  // Calls back with what it holds first, and then with each write and what that leaves.
+  // Call back with what it holds first, and then with each write and the value after it.
   walk(visit) {
     let content = new Content(this.opening);
     visit(content, null);
@@ -91,24 +91,24 @@ class Place {
       visit(content, write);
     }
   }
-  // Whether it holds something from the beginning on, or is written in the first events, so many.
+  // Return whether it has an opening value, or is written in the first `count` events.
   isPutIn(count) {
     return this.opening !== null || this.times[0] < count;
   }
-  // The index of its last write in the first events, so many; -1 where there is none.
+  // Return the index of its last write in the first `count` events, or -1 if there is none.
   indexBefore(count) {
     return firstFrom(this.times, count) - 1;
   }
 }
 
 export class Run {
-  // `ends` are the numbers of moves at which a segment was full, of a run that goes on.
+  // `ends` are the numbers of moves at which a segment was full, in a run that continues.
   constructor(header, ends = []) {
     checkHeader(header);
     this.ends = new Set(ends);
     const { agents, capacity, events, part = null, from = 0, moves = 0 } = header;
-    // Of a window of a part, `from` events with `moves` moves are before it, of which nothing is known; its events are counted from
-    // 0 here, and shown with the numbers that they have in the part, as its moves are.
+    // In a window of a segment, `from` events with `moves` moves precede it, of which nothing is known. Its events count from 0
+    // here, and are shown with their numbers in the segment; so are its moves.
     Object.assign(this, { agents, capacity, told: events, part, from, movesBefore: moves });
     this.events = [];
     this.locations = new Map();
@@ -146,7 +146,7 @@ export class Run {
     this.judge(event, line.updates);
     this.events.push(event);
   }
-  // Takes in what the event changes; `doubt` is what doesn't agree with what the trace has so far.
+  // Apply what the event changes. `doubt` is what doesn't match what the trace has so far.
   judge(event, updates) {
     const effects = effectsFor(event, this), doubt = doubtOf(event, effects, this);
     if (event.kind === "fired") this.fire(event, updates);
@@ -177,16 +177,16 @@ export class Run {
     }
     return this;
   }
-  // How many moves were fired behind the first events, so many of them.
+  // Return how many moves have fired once the first `count` events are done, including those before a window.
   movesIn(count) {
     return this.movesBefore + firstFrom(this.moves, count);
   }
-  // How many events there are up to that move, it among them.
+  // Return how many events there are up to that move, including it.
   eventsTo(move) {
     const index = move - this.movesBefore;
     return index <= 0 ? 0 : index > this.moves.length ? this.events.length : this.moves[index - 1] + 1;
   }
-  // Whether the state after so many moves is known: not that before a window.
+  // Return whether the state after this many moves is known. Before a window it isn't.
   isTold(moves) {
     return moves >= this.movesBefore;
   }
@@ -200,13 +200,13 @@ export class Run {
     const write = this.lastWrite(location, count);
     return (write ? write.items ? 0 : write.value : location.opening) === null;
   }
-  // The writes of the location by moves above that number, before the event. Nothing is known of those before a window.
+  // Return the writes of the location by moves above that number, before the event. Those before a window are unknown.
   writesSince(location, number, event) {
     if (!this.isTold(number)) return null;
     const from = firstFrom(location.writes, number + 1, it => it.move), to = firstFrom(location.times, event.number);
     return from < to ? { first: location.writes[from], count: to - from } : null;
   }
-  // What the event has to do with the location, or null.
+  // Return what the event has to do with the location, or null.
   howTouched(event, location) {
     if (event.writes?.some(it => it.location === location)) return "wrote";
     const at = event.reply.stale ?? event.reply.clash?.[0];
@@ -217,12 +217,12 @@ export class Run {
   }
 }
 
-// The bytes of a file, which gzip may have made smaller.
+// Return the bytes of a file, which may be compressed with gzip.
 async function bytesOf(file) {
   const [first, second] = new Uint8Array(await file.slice(0, 2).arrayBuffer());
   return first === 0x1f && second === 0x8b ? file.stream().pipeThrough(new DecompressionStream("gzip")) : file.stream();
 }
-// Reads a trace from a text or a file, line by line and in turns, so that the page stays alive.
+// Read a trace from a text or a file, line by line and in turns, so that the page stays responsive.
 export async function readRun(source, progress, ends = []) {
   const reading = new Lines(ends), isText = typeof source === "string";
   const reader = isText ? null : (await bytesOf(source)).getReader(), decoder = new TextDecoder("utf-8", { fatal: true });
@@ -250,7 +250,8 @@ export async function readRun(source, progress, ends = []) {
   return reading.finish();
 }
 
-// No line of a trace is longer: one event of a journal has at most 16 MiB, and its trace has each value at most twice more.
+// The limit of a trace's line, in characters: an event of a journal has at most 16 MiB, and its trace has each value at most
+// twice more.
 const MOST_LINE = 2 ** 27;
 class Lines {
   constructor(ends) {
@@ -259,7 +260,7 @@ class Lines {
     this.number = 0;
     this.run = null;
   }
-  // The lines that end within the text; what is behind them begins the next one.
+  // Return the lines that end within the text. What is behind them begins the next line.
   of(text) {
     const lines = (this.rest + text).split("\n");
     this.rest = lines.pop();
@@ -282,7 +283,7 @@ class Lines {
       throw new Fault(fault.message.startsWith("This ") ? fault.message : `Line ${this.number} doesn't fit a trace: ${fault.message}.`);
     }
   }
-  // A trace that was cut off is one with fewer events than its header counts; half a line at its end is left out.
+  // A trace that was cut off has fewer events than its header counts. Half a line at its end is left out.
   finish() {
     if (!this.run && !this.rest) throw new Fault("This file is empty.");
     if (!this.run) this.take(this.rest);
@@ -300,13 +301,13 @@ class Lines {
 
 // What the page shows now, and what its parts ask of each other.
 
-// `count` events are done, so the chosen one is the last of these; none is chosen in the opening state. `mark` is another such
-// count, with which the state is compared; `holds` are the stretches of counts in which the condition holds, `onsets` the moments at
-// which it comes to hold, with their locations, `onset` the location of the one that was gone to, `plot` the
-// numbers that are drawn, and `range` the events that are measured, from one on and before another.
+// `count` events are done, so the chosen event is the last of these; in the opening state none is chosen. `mark` is another such
+// count, with which the state is compared. `holds` are the stretches of counts in which the condition holds. `onsets` are the
+// moments at which it starts to hold, with their locations, and `onset` is the location of the moment that was visited. `plot`
+// has the numbers that are drawn, and `range` the events that are measured, from the first one on and before the second.
 export const shown = { run: null, count: 0, location: null, mark: null, holds: [], onsets: [], onset: null, plot: null, range: null };
 export const chosen = () => shown.count ? shown.run.events[shown.count - 1] : null;
 
-// Set where the page is put together: `choose(count, how)`, `chooseLocation(location)`, `list(asked)`, which lists the events that
-// are asked for, `mark(count)`, `speak(text)`, `show()`, and `changed(isJump)`, which keeps the address.
+// Set where the page is put together: `choose(count, how)`, `chooseLocation(location)`, `list(asked)`, which lists the events
+// that are asked for, `mark(count)`, `speak(text)`, `show()`, and `changed(isJump)`, which updates the address.
 export const act = {};

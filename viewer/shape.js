@@ -1,4 +1,4 @@
-// The forms of a trace, by the page on formats: what a line has to be, and in words why it isn't.
+// The forms of a trace's lines, after the page on formats, and in words why a line doesn't have its form.
 import { Fault } from "./exact.js";
 import { byElement, byLocation, isBag, isSame, isSet, itemKey, shortText } from "./terms.js";
 
@@ -6,7 +6,7 @@ const NAME = /^[A-Za-z_][A-Za-z0-9_]{0,63}$/;
 const MOST = { agents: 256, capacity: 2 ** 20, number: 2 ** 32 - 1, reads: 256, fire: 4096, arguments: 8, items: 4096, depth: 8 };
 const LEAST_NUMBER = -(2n ** 63n), MOST_NUMBER = 2n ** 63n - 1n;
 const CAUSES = ["Two", "Mixed", "Kind", "Both", "Against", "Short", "Large"];
-// How many members the instruction has, and what reads the third.
+// How many members an instruction has, and what checks the third.
 const INSTRUCTIONS = { put: [3, checkValue], add: [3, checkElement], remove: [3, checkElement], bagadd: [4, checkElement], bagremove: [4, checkElement], inc: [3, checkNumber] };
 
 function need(holds, what) {
@@ -30,7 +30,7 @@ export function checkHeader(header) {
   ascending(header.init.map(it => it[0]), byLocation, "the locations of `init`");
   if (header.trace === 2) checkWindow(header);
 }
-// The numbers of a window of a part: which part it is, how many of its events are before, and how many moves these fired.
+// Check the numbers of a window of a segment: the segment's number, how many events precede it, and how many moves these fired.
 function checkWindow({ from, moves, part, events }) {
   need(isWithin(part, 0, MOST.number), "`part` isn't a whole number from 0 to 4,294,967,295");
   need(isWithin(from, 0, MOST.number - events), "`from` and `events` aren't whole numbers whose sum is at most 4,294,967,295");
@@ -82,7 +82,7 @@ function checkCall(call) {
     need(isWithin(named[1], 0, MOST.number), "one of its `reads` has no number");
   }, "`reads`");
 }
-// The right answer to a read has the positions of the values that differ, and no values.
+// Check the right answer to a read: it has the positions of the values that differ, and no values.
 function checkRight({ call, right }) {
   if (!("read" in call)) return checkReply(call, right, "`right`");
   need(isObject(right), "`right` isn't one of a read");
@@ -175,12 +175,12 @@ function checkCount(x, least) {
   need(isWithin(x, least, MOST.number), "a count is out of its range");
 }
 
-// What a location holds, and what two values of sets or of bags hold a different number of times.
+// ---- the contents of locations, and how sets and bags differ
 
 export const formOf = value => isSet(value) ? "set" : isBag(value) ? "bag" : "element";
 export const itemsOf = value => isSet(value) ? value.set.map(it => [it, 1]) : value.bag;
 
-// A set or a bag is a map from keys to an element with its count.
+// The content of a location. A set or a bag is a map from keys to an element with its count.
 export class Content {
   constructor(value) {
     this.kind = formOf(value);
@@ -210,13 +210,14 @@ export class Content {
     if (items.length !== this.items.size) return false;
     return this.kind === "set" ? items.every(it => this.items.has(itemKey(it))) : items.every(([element, count]) => this.countOf(element) === count);
   }
-  // Makes a change, each item of which is an element with its counts before and after.
+  // Apply a change, each item of which is an element with its counts before and after.
   follow(items) {
     for (const [element, , now] of items) this.put(element, now);
   }
 }
 
-// What two values of sets or of bags hold a different number of times, each with its count in both; null where they are no such two.
+// Return what two sets or bags contain a different number of times, each with its count in both; null if they aren't two sets or
+// two bags.
 export function itemsApart(a, b) {
   if (formOf(a) === "element" || formOf(a) !== formOf(b)) return null;
   const was = new Content(a), now = new Content(b), out = [];

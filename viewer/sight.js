@@ -1,4 +1,4 @@
-// What of a run is in sight in the pictures of time, and how they are drawn: sizes, colors, shares.
+// What is in sight of a run in the pictures of time, and how they are drawn: sizes, colors, shares.
 import { $ } from "./nodes.js";
 import { chosen, isBad, KINDS, shown } from "./run.js";
 
@@ -17,7 +17,7 @@ export function readColors() {
   view.painted++;
 }
 
-// (Lanes that are folded have no width of their own.)
+// (Folded lanes have no width of their own.)
 export const width = () => Math.max(1, ($("lanes").clientWidth || $("strip").clientWidth) - GUTTER);
 export const seen = () => width() / view.scale;
 export const xOf = number => GUTTER + (number - view.from + 0.5) * view.scale;
@@ -27,18 +27,18 @@ export function clamp() {
   view.scale = Math.min(MOST_SCALE, Math.max(least, view.scale));
   view.from = Math.max(0, Math.min(view.from, run.events.length - seen()));
 }
-// Shows the whole of a short run, and the beginning of a long one.
+// Show all of a short run, or the beginning of a long one.
 export function renewSight() {
   Object.assign(view, { from: 0, scale: Math.max(14, width() / Math.max(1, shown.run.events.length)) });
   clamp();
 }
-// The lanes share that height as far as they can.
+// Share that height among the lanes, as far as possible.
 export function setHeight(high) {
   view.lane = Math.max(USUAL_LANE, Math.min(MOST_LANE, Math.floor((high - LANES_REST) / Math.max(1, shown.run.agents))));
   $("lanes").style.height = `${lanesHigh()}px`; // at once, so that the lanes can be scrolled to the chosen event
 }
 export const lanesHigh = () => AXIS + Math.max(1, shown.run.agents) * view.lane + 6;
-// Moves the view so that the chosen event is in sight.
+// Move the view so that the chosen event is in sight.
 export function reveal() {
   const number = shown.count - 1;
   if (number < view.from + 1) view.from = number - seen() * 0.25;
@@ -47,7 +47,7 @@ export function reveal() {
   const box = $("lanes-box"), y = number >= 0 ? yOf(chosen().agent) : 0;
   if (y < box.scrollTop + AXIS || y > box.scrollTop + box.clientHeight - 10) box.scrollTop = y - box.clientHeight / 2;
 }
-// Zooms about a place, or where none is given about the chosen event, which so stays in sight.
+// Zoom about a position, or without one about the chosen event, which then stays in sight.
 export function zoomAbout(by, x = null) {
   if (x === null && shown.count) reveal();
   const at = x ?? (shown.count ? xOf(shown.count - 1) : GUTTER + width() / 2), number = view.from + (at - GUTTER) / view.scale;
@@ -72,7 +72,7 @@ export function prepared(canvas, high) {
 // ---- columns that several events share
 const STACK = ["fired", "read", "full", "stale", "clash"], LEAST_SHARE = 1.5;
 const SLOT = Object.fromEntries(KINDS.map(it => [it, STACK.indexOf(it)])), WRONG = STACK.length;
-// How many events of each kind, and with a wrong answer, are in each column.
+// How many events of each kind, and with a wrong answer, each column has.
 export class Columns {
   constructor(count) {
     this.counts = new Uint32Array(count * (WRONG + 1));
@@ -87,7 +87,7 @@ export class Columns {
     for (let i = 0; i < WRONG; i++) out += this.counts[column * (WRONG + 1) + i];
     return out;
   }
-  // Draws the shares of the kinds upon each other; a small one is still seen.
+  // Draw the shares of the kinds in a stack. Even a small one is visible.
   draw(pen, column, x, top, wide, high) {
     const at = column * (WRONG + 1);
     let all = 0, small = 0;
@@ -98,7 +98,7 @@ export class Columns {
     for (let i = 0; i < WRONG; i++) {
       const count = this.counts[at + i], part = count / all * high;
       if (!count) continue;
-      // what small shares gain, the largest one gives
+      // the largest share loses what small ones gain
       const tall = part < LEAST_SHARE ? LEAST_SHARE : part > high / 2 ? Math.max(LEAST_SHARE, part - small) : part;
       pen.fillStyle = colors[STACK[i]];
       pen.fillRect(x, bottom - tall, wide, tall);
@@ -110,7 +110,7 @@ export class Columns {
   }
 }
 export const DIM = 0.2;
-// Draws a column's shares: where only some of its events are listed these in full, and all of them dim.
+// Draw a column's shares. If only some of its events are listed, those are in full color, and all others dim.
 export function drawShares(pen, all, listed, column, x, top, wide, high) {
   if (listed === all) return all.draw(pen, column, x, top, wide, high);
   pen.globalAlpha = DIM;

@@ -1,4 +1,4 @@
-// The state after the chosen event, or what differs from it at another moment.
+// The state after the chosen event, or how it differs from the state at another moment.
 import { changeNode } from "./change.js";
 import { hasAll, termsOf } from "./filter.js";
 import { List, ROW } from "./lists.js";
@@ -8,7 +8,7 @@ import { itemsApart } from "./shape.js";
 import { firstFrom, grouped, keyOf, plural, valueText, withoutIsolates } from "./terms.js";
 
 let rows = []; // the locations in the list
-let marks = new Map(); // those with which the chosen event has to do
+let marks = new Map(); // those that the chosen event touches
 let countShown = -1;
 const isComparing = () => shown.mark !== null;
 // The counts of events that are compared, the earlier one first.
@@ -37,7 +37,7 @@ function isDifferent(location) {
   if (location.indexBefore(from) === location.indexBefore(to)) return false;
   return keyOf(shown.run.valueAt(location, from)) !== keyOf(shown.run.valueAt(location, to));
 }
-// The difference of the location between both moments, in the form of a write.
+// Return how the location differs between both moments, in the form of a write.
 function differenceAt(location) {
   const { run } = shown, [from, to] = ends(), old = run.valueAt(location, from), value = run.valueAt(location, to), items = itemsApart(old, value);
   if (!items) return { location, old, value };
@@ -82,16 +82,16 @@ export function showState() {
   state.show(isSeen ? -1 : first);
   state.tell(location ? `place-${rows.indexOf(location)}` : null);
 }
-// Brings a location into sight, where it is listed.
+// Bring a location into sight, if it is listed.
 export function revealAt(place) {
   if (!place) return;
   showState();
   state.show(rows.indexOf(place));
 }
-// Brings the chosen location into sight, where it is listed.
+// Bring the chosen location into sight, if it is listed.
 export const revealPlace = () => revealAt(shown.location);
 $("state-find").addEventListener("input", showState);
-// Enter goes along what is found.
+// Enter moves along the results.
 $("state-find").addEventListener("keydown", event => {
   if (event.key !== "Enter" || !rows.length) return;
   event.preventDefault();
@@ -116,10 +116,10 @@ export function renewState() {
   state.clear();
 }
 
-// The writes of one location.
+// ---- the writes of one location
 
 const HOW = { read: "read", named: "rested on by a fire", target: "an update wasn't fired", stale: "stale", clash: "clash", wrote: "written" };
-let items = []; // of the chosen location: each write, or each event that has to do with it
+let items = []; // of the chosen location: each write, or each event that touches it
 function findItems() {
   const { run, location } = shown;
   if (!$("writes-reads").checked) items = location.writes.map(write => ({ event: write.event, write }));
@@ -128,7 +128,7 @@ function findItems() {
     items = run.events.map(it => ({ event: it.number, write: writes.get(it.number), how: run.howTouched(it, location) })).filter(it => it.how);
   }
 }
-// The row of the last item up to the chosen event; the opening value has row 0.
+// The row of the last item up to the chosen event. The opening value has row 0.
 const itemIndex = () => firstFrom(items, shown.count, it => it.event);
 function writeRow(i) {
   const now = itemIndex(), item = items[i - 1], isNow = i === now, event = i ? shown.run.events[item.event] : null;

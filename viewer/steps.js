@@ -1,4 +1,4 @@
-// The ways from the chosen event to another one, and the keys for them. Those along events keep to the events that are listed.
+// The ways from the chosen event to another one, and their keys. Ways along events visit only listed events.
 import { ownReads, retryOf, tryBefore } from "./chains.js";
 import { isFiltered, listItem, listLength, nextListed, nextOf, ofKind } from "./filter.js";
 import { fit, zoom } from "./lanes.js";
@@ -12,7 +12,7 @@ import { goToHold } from "./watch.js";
 
 const amongListed = () => isFiltered() ? " among those listed" : "";
 const none = (by, what) => act.speak(`No ${by > 0 ? "later" : "earlier"} ${what}`);
-// Goes to the next event, or to the one before; false where there is none.
+// Go to the next event or to the one before; return false if there is none.
 function step(by) {
   const to = isFiltered() ? nextListed(shown.count - 1, by) : shown.count - 1 + by;
   if (to === null || to < -1 || to >= shown.run.events.length) {
@@ -22,7 +22,7 @@ function step(by) {
   act.choose(to + 1, { isStep: true });
   return true;
 }
-// Goes to the next event of an ascending list, or to the one before.
+// Go to the next event of an ascending list, or to the one before.
 function jump(list, by, what) {
   const to = nextOf(list, shown.count - 1, by);
   if (to === null) none(by, what + amongListed());
@@ -47,13 +47,13 @@ function jumpOfAgent(by) {
   if (to === undefined) none(by, `event of agent ${event.agent}`);
   else act.choose(to + 1);
 }
-// Goes to the last event of the chosen one's agent, or to its first.
+// Go to the last event of the chosen event's agent, or to its first.
 function jumpToEndOfAgent(by) {
   const event = chosen(), list = event && shown.run.byAgent[event.agent];
   if (list) act.choose((by > 0 ? list.at(-1) : list[0]) + 1);
   else act.speak("No event is chosen");
 }
-// Goes to an event that belongs to the chosen one.
+// Go to an event that is related to the chosen one.
 function follow(find, what) {
   const event = chosen(), to = event && find(event);
   if (to) act.choose(to.number + 1);
@@ -119,7 +119,7 @@ document.addEventListener("keydown", event => {
     target.blur();
     return;
   }
-  if (key === " " && target.matches("button, input")) return; // it presses that
+  if (key === " " && target.matches("button, input")) return; // the key presses that
   const does = keys[key] ?? keys[key.toLowerCase()];
   if (!does) return;
   event.preventDefault();

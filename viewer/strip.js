@@ -1,4 +1,4 @@
-// The whole run in a strip: the shares of its answers, where the chosen location is written, and where the condition holds.
+// The complete run in a strip: the shares of its answers, where the chosen location is written, and where the condition holds.
 import { isFiltered, isListed, listVersion } from "./filter.js";
 import { $, runName } from "./nodes.js";
 import { act, shown } from "./run.js";
@@ -40,12 +40,12 @@ export function drawStrip() {
   pen.drawImage(picture(wide), 0, 0, wide, STRIP);
   paintPlaces(pen, wide);
 }
-// Draws the strip with a pen of a picture that is kept.
+// Draw the strip with a pen, of a picture that is retained.
 export function paintStrip(pen, wide) {
   paintShares(pen, wide);
   paintPlaces(pen, wide);
 }
-// What is in sight, where the condition holds and the location is written, the moment that is kept, and the chosen one.
+// Draw what is in sight, where the condition holds and the location is written, the stored moment, and the chosen one.
 function paintPlaces(pen, wide) {
   const { run, location, count, mark, holds } = shown, from = stripX(view.from, wide), to = stripX(Math.min(run.events.length, view.from + seen()), wide);
   pen.globalAlpha = 0.1;
@@ -70,7 +70,7 @@ function paintPlaces(pen, wide) {
   pen.fillStyle = colors.accent;
   if (count) pen.fillRect(stripX(count - 0.5, wide) - 1, 0, 2, STRIP);
 }
-// The stretches in which the condition holds, as bars; those that would lie upon each other are one.
+// Draw the stretches in which the condition holds, as bars. Those that would overlap are one bar.
 export function drawStretches(pen, stretches, xOfCount, top, high, first = 0, last = stretches.length) {
   pen.fillStyle = colors.holds;
   let from = null, to = null;
@@ -100,7 +100,7 @@ $("strip").addEventListener("pointermove", pointer => {
   if ($("strip").hasPointerCapture(pointer.pointerId)) goAlong(pointer);
 });
 
-// The numbers of a location or of an expression over time, as a line below the lanes.
+// ---- the numbers of a location or of an expression over time, as a line below the lanes
 
 export const TRACK = 56;
 const EDGE = 7;
@@ -120,7 +120,7 @@ export function drawTrack() {
   if ($("track").hidden) return;
   paintTrack(...prepared($("track"), TRACK));
 }
-// Draws the line with a pen, of a canvas or of a picture that is kept.
+// Draw the line with a pen, of a canvas or of a picture that is retained.
 export function paintTrack(pen, wide) {
   const from = Math.max(0, Math.floor(view.from)), to = Math.min(shown.run.events.length, Math.ceil(view.from + seen()) + 1);
   pen.save();
@@ -141,7 +141,7 @@ function drawZero(pen, wide) {
   pen.fillStyle = colors.line;
   if (least < 0 && most > 0) pen.fillRect(GUTTER, Math.round(yOfNumber(0)), wide - GUTTER, 1);
 }
-// A step at each change; of those that share a pixel the least and the most are drawn.
+// Draw a step at each change. Of those that share a pixel, draw the smallest and the greatest.
 function drawLine(pen, from, to, wide) {
   const { series } = shown.plot;
   pen.strokeStyle = pen.fillStyle = colors.accent;
@@ -169,7 +169,7 @@ function drawScale(pen) {
   pen.fillStyle = colors.soft;
   pen.fillText(label, GUTTER + 6, TRACK - EDGE - 1);
 }
-// The number below the pointer, or else at the chosen moment.
+// Draw the number below the pointer, or else at the chosen moment.
 function drawValue(pen, wide) {
   const count = pointed ?? shown.count, number = numberAt(count), x = count ? xOf(count - 1) : GUTTER;
   if (x < GUTTER || x > wide) return;

@@ -1,4 +1,4 @@
-// The summary of a run, beside its opening state: what to look at first, each line of which lists the events it counts.
+// The summary of a run, beside its opening state: what to look at first. Each line lists the events that it counts.
 import { chainsOf, unputIn } from "./chains.js";
 import { block } from "./event.js";
 import { ofKind } from "./filter.js";
@@ -31,7 +31,7 @@ function shares() {
   return linesBlock("Answers", lines.filter(it => it.count), all);
 }
 
-// The fire that was tried most often.
+// Return the block about the fire with the most tries.
 function longestChain(run) {
   const { longest } = chainsOf(run);
   if (!longest) return null;
@@ -39,7 +39,7 @@ function longestChain(run) {
   return block("Longest chain of tries", make("p", {}, button("link", "Go to its first try", () => act.choose(first.number + 1), `${plural(longest.length, "try", "tries")} of agent ${first.agent}`), ` from event ${first.ordinal} on, ${end}.`));
 }
 
-// ---- what is counted, once for each run
+// ---- counts, computed once for each run
 function blocksOf(run) {
   run.counted ??= counted(run);
   return run.counted.map(({ title, note, lines, all }) => linesBlock(title, lines, all, note));
@@ -58,7 +58,7 @@ function counted(run) {
       lines: byPlace(unput, it => unputIn(it).map(place => place.at), { kind: "unput" }) },
   ].filter(it => it.lines.length);
 }
-// A line for each different item, with how often it is there; the most frequent first.
+// Return a line for each different item, with how often it occurs, the most frequent first.
 function lined(items, line, keyed = it => it) {
   const counts = new Map();
   for (const it of items) {
@@ -70,7 +70,7 @@ function lined(items, line, keyed = it => it) {
 }
 const byPlace = (events, placesOf, asked) => lined(events.flatMap(placesOf).filter(Boolean), at => ({ label: span("at", locationText(at)), asked: { ...asked, place: keyOf(at) } }), keyOf);
 const byAgent = (events, asked) => lined(events.map(it => it.agent), agent => ({ label: `agent ${agent}`, asked: { ...asked, agent } }));
-// Of each agent with a stale fire: these, the most of them in a row, and all its fires.
+// Return for each agent with a stale fire: these, the longest series of them, and all its fires.
 function retries(run) {
   const out = [];
   run.byAgent.forEach((list, agent) => {
@@ -88,7 +88,7 @@ function retries(run) {
   return out.sort((a, b) => b.count - a.count);
 }
 
-// ---- how it is shown
+// ---- nodes
 function linesBlock(title, lines, all, note = null, most = MOST_LINES) {
   const left = lines.length - most, shownLines = left > 1 ? lines.slice(0, most) : lines;
   const out = block(title, note ? make("p", { class: "soft small" }, note) : null, make("ul", { class: "lines" }, shownLines.map(it => lineNode(it, it.all ?? all))),
@@ -101,7 +101,7 @@ function lineNode({ count, label, more = null, asked }, all) {
   return make("li", {}, button("tally", "List these events", () => act.list(asked),
     span("tally-name", label), span(`share ${asked.kind}`, bar), span("tally-count", make("b", {}, grouped(count)), more)));
 }
-// What the marks in the lanes are.
+// Return the legend of the marks in the lanes.
 export function marksNode() {
   const { run } = shown, names = { fired: "fired move", read: "read", stale: "stale fire", clash: "clash", full: "full" };
   const kinds = Object.keys(names).filter(it => run.byKind[it].length).map(it => span("", glyph(it), names[it]));

@@ -1,6 +1,6 @@
 // Elements, values and locations: their keys, their order, and how they are written for a person.
 
-// The compact text of an element or a location, under which it is kept.
+// Return the compact text of an element or a location, which is its key.
 export function keyOf(x) {
   try {
     return JSON.stringify(x);
@@ -17,7 +17,7 @@ function exactKey(x) {
 
 // The key of an element in a map: a number is its own.
 export const itemKey = x => typeof x === "number" ? x : keyOf(x);
-// Whether two elements, values, locations or answers are one.
+// Return whether two elements, values, locations or answers are equal.
 export function isSame(a, b) {
   if (a === b) return true;
   if (typeof a !== "object" || typeof b !== "object" || !a || !b) return false;
@@ -48,7 +48,7 @@ export function byElement(a, b) {
   if (rank === 3) return a < b ? -1 : a > b ? 1 : 0;
   return rank === 4 ? byText(a, b) : byItems(a.list, b.list, 0);
 }
-// The order of the bytes in UTF-8, which is that of code points: surrogates are above the rest of 16 bits.
+// Compare by the bytes in UTF-8, which is the order of code points: surrogates are above the rest of 16 bits.
 function byText(a, b) {
   const least = Math.min(a.length, b.length);
   for (let i = 0; i < least; i++) {
@@ -68,12 +68,12 @@ function byItems(a, b, from) {
 }
 export const byLocation = (a, b) => byText(a[0], b[0]) || byItems(a, b, 1);
 
-// What can't be seen, looks like a space, or turns the direction of writing is written as JSON escapes it.
+// Characters that are invisible, look like a space, or change the direction of writing. They are written as JSON escapes them.
 const UNSEEN = /(?! )[\p{Cc}\p{Cf}\p{Cs}\p{Z}\p{Default_Ignorable_Code_Point}\u2800]/gu;
-// Letters that are written from right to left, with their digits and marks.
+// Letters of scripts from right to left, with their digits and marks.
 const FROM_RIGHT = /[\u0590-\u08ff\ufb1d-\ufdff\ufe70-\ufeff\u{10800}-\u{10fff}\u{1e800}-\u{1efff}]/u;
 const escaped = it => Array.from({ length: it.length }, (_, i) => `\\u${it.charCodeAt(i).toString(16).padStart(4, "0")}`).join("");
-// A text that others are beside: a first strong isolate keeps its direction within it.
+// A text next to others: a first strong isolate keeps its direction inside.
 const alone = text => FROM_RIGHT.test(text) ? `\u2068${text}\u2069` : text;
 export const withoutIsolates = text => text.replace(/[\u2068\u2069]/g, "");
 const PLAIN = /^[ -~]*$/;
@@ -81,7 +81,7 @@ function quoted(text) {
   const told = JSON.stringify(text);
   return PLAIN.test(told) ? told : alone(told.replace(UNSEEN, escaped));
 }
-// A text that comes from outside and is no value, such as a file's name.
+// A text from outside that is no value, such as a file's name.
 export const plainText = text => alone(text.replace(UNSEEN, escaped));
 export function elementText(x) {
   if (x === null) return "undef";
@@ -90,32 +90,32 @@ export function elementText(x) {
   return String(x);
 }
 export const locationText = at => at.length > 1 ? `${at[0]}(${at.slice(1).map(elementText).join(", ")})` : at[0];
-// A value in one line, of which a long one shows its size alone.
+// Return a value in one line; of a long one only its size.
 export function valueText(v, most = 40) {
   const items = isSet(v) ? v.set : isBag(v) ? v.bag : null;
   if (!items) return elementText(v);
   if (items.length > most) return `${isSet(v) ? "set" : "bag"} of ${plural(items.length, "element")}`;
   return `{${items.map(it => isSet(v) ? elementText(it) : `${elementText(it[0])} ×${it[1]}`).join(", ")}}`;
 }
-// A value in a few letters, for a row that shows several.
+// Return a value in a few letters, for a row that shows several.
 export function shortText(v) {
   const text = valueText(v, 3);
   return text.length > MOST_SHORT ? `${cut(text, 0, MOST_SHORT)}…` : text;
 }
 const MOST_SHORT = 24;
-// A part of a text, which begins and ends with whole characters.
+// Return a piece of a text that begins and ends with complete characters.
 export function cut(text, from, to) {
   const isWithin = at => at > 0 && at < text.length && /[\udc00-\udfff]/.test(text[at]) && /[\ud800-\udbff]/.test(text[at - 1]);
   return text.slice(isWithin(from) ? from - 1 : from, isWithin(to) ? to - 1 : to);
 }
-// How many of the first letters two texts share.
+// Return how many first letters two texts share.
 export function sharedLength(a, b) {
   let i = 0;
   while (i < a.length && i < b.length && a[i] === b[i]) i++;
   return i;
 }
 
-// Of some words the one that is nearest to a text, where few letters of it are others.
+// Return the word that is nearest to a text, if few of its letters differ.
 export function nearestOf(text, words) {
   const least = Math.max(2, Math.floor(text.length / 3)) + 1;
   return [...words].map(it => [lettersApart(text.toLowerCase(), it.toLowerCase()), it]).filter(it => it[0] < least).sort((a, b) => a[0] - b[0])[0]?.[1] ?? null;
@@ -135,7 +135,7 @@ export const plural = (n, one, many = `${one}s`) => `${grouped(n)} ${n === 1 ? o
 // After how many moves something was read.
 export const afterMoves = n => n ? `after ${plural(n, "move")}` : "in the opening state";
 
-// The index of the first item of an ascending list that isn't below the limit.
+// Return the index of the first item of an ascending list that isn't below the limit.
 export function firstFrom(list, limit, of = it => it) {
   let low = 0, high = list.length;
   while (low < high) {

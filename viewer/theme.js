@@ -1,4 +1,4 @@
-// Light and dark, by the system until the person chooses.
+// Light or dark: the system's choice, until the person chooses.
 import { $ } from "./nodes.js";
 import { act } from "./run.js";
 import { readColors } from "./sight.js";
@@ -8,7 +8,7 @@ let theme = null;
 try {
   theme = localStorage.getItem("folugben-theme");
 } catch {
-  // some browsers keep nothing for a file
+  // some browsers store nothing for a file
 }
 export function paint() {
   document.documentElement.dataset.theme = theme ?? (system.matches ? "dark" : "light");

@@ -1,4 +1,4 @@
-// The condition or the expression that is asked for: where it holds, what it is, and the way to these moments.
+// The condition or the expression that is asked for: when it holds, its values, and the ways to these moments.
 import { isOperand, KEYWORDS, operandsOf, operandText, patternText, readCondition } from "./condition.js";
 import { Fault } from "./exact.js";
 import { isByPlace, momentsOf, placesOf, plotted, rangeOf, seriesOf } from "./moments.js";
@@ -7,12 +7,12 @@ import { act, shown } from "./run.js";
 import { revealAt } from "./state.js";
 import { firstFrom, grouped, isNumber, nearestOf, plural, shortText, withoutIsolates } from "./terms.js";
 
-let condition = null; // the present condition, with its text and the chosen location at that time
+let condition = null; // the present condition, with its text and the location that was chosen then
 let fault = "", isTold = true; // what is wrong with it, and whether that is shown yet
-let range = null, at = -1; // from where to where its numbers go, and the moment of it that was gone to
+let range = null, at = -1; // the smallest and greatest number of its first operand, and the moment of it that was visited
 
 export const conditionText = () => condition?.text ?? "";
-// Takes in what is asked for, and finds where it holds.
+// Take in a condition or an expression, and find when it holds.
 export function watch(text) {
   condition = null;
   fault = "";
@@ -52,7 +52,7 @@ function plot(operand) {
   if (numbers.length) shown.plot = { text: operandText(operand, shown.location), series, least: Math.min(...extremes(numbers)), most: Math.max(...extremes(numbers)) };
 }
 const extremes = numbers => numbers.reduce(([least, most], it) => [Math.min(least, it), Math.max(most, it)], [Infinity, -Infinity]);
-// What a condition names that isn't there, in words.
+// Return in words what a condition names that the run doesn't have.
 function lackOf(told) {
   for (const operand of operandsOf(told)) {
     if ("value" in operand || placesOf(shown.run, operand.pattern, shown.location).length) continue;
@@ -62,12 +62,12 @@ function lackOf(told) {
   }
   return "";
 }
-// A condition that names no location is about the chosen one, and so is the picture where no condition has one.
+// A condition that names no location is about the chosen one. So is the picture if the condition yields none.
 export function followLocation() {
   findMoments();
 }
 
-// ---- what is said
+// ---- texts
 export function showWatch() {
   const told = fault && !isTold ? "" : toldText(), isWrong = !!fault && isTold;
   $("watch-told").textContent = told;
@@ -91,7 +91,7 @@ function toldText() {
     return isByPlace(condition.told) && places > 1 ? `${which}, at ${plural(places, "location")}` : which;
   }
 }
-// What came to hold at the chosen moment, where that is one.
+// Return what starts to hold at the chosen moment, if anything.
 function hereText() {
   const { onsets, count } = shown;
   if (onsets[at]?.count !== count) at = firstFrom(onsets, count, it => it.count);
@@ -101,11 +101,11 @@ function hereText() {
   if (!here.place || !isByPlace(condition.told)) return "Comes to hold here";
   return `${here.place.label} ${condition.told.order === "changes" ? "changes to" : count ? "becomes" : "is"} ${shortText(shown.run.valueAt(here.place, count))}`;
 }
-// (The opening state is a moment and no event.)
+// (The opening state is a moment, but no event.)
 const lengthOf = holds => holds.reduce((all, [from, to]) => all + to - Math.max(1, from), 0);
 
-// ---- the way
-// Goes to the next moment at which the condition comes to hold, or to the one before; several of one event are several moments.
+// ---- moving along
+// Go to the next moment at which the condition starts to hold, or to the one before. Several moments may belong to one event.
 export function goToHold(by) {
   const { onsets, count } = shown, isHere = onsets[at]?.count === count;
   const to = isHere ? at + by : by > 0 ? firstFrom(onsets, count + 1, it => it.count) : firstFrom(onsets, count, it => it.count) - 1;
@@ -148,7 +148,7 @@ $("watch").addEventListener("blur", () => {
 $("watch-back").addEventListener("click", () => goToHold(-1));
 $("watch-on").addEventListener("click", () => goToHold(1));
 
-// Another run is shown, or another address.
+// Take in the condition of another run or of another address.
 export function renewWatch(text) {
   clearTimeout(waiting);
   $("watch").value = text;
@@ -156,11 +156,11 @@ export function renewWatch(text) {
   watch(text);
 }
 
-// What may be written next in a condition: its words, and the functions and locations of the run.
+// ---- completion: the words of conditions, and the functions and locations of the run
 
 const MOST_OFFERED = 8;
 let offered = [], chosenAt = -1, from = 0;
-// The names of the run: its functions, as patterns where they have arguments, and its locations.
+// Return the names of the run: its functions, as patterns if they have arguments, and its locations.
 function namesOf(run) {
   return run.names ??= [...new Set([...run.sorted.map(({ at }) => at.length > 1 ? `${at[0]}(${at.slice(1).map(() => "*").join(", ")})` : at[0]), ...run.sorted.map(it => withoutIsolates(it.label)), ...KEYWORDS])];
 }
@@ -192,7 +192,7 @@ function close() {
   offered = [];
   choose(-1);
 }
-// Before the condition's own keys: Enter takes what is chosen here.
+// This listener runs before the condition's own: Enter takes what is chosen here.
 $("watch").addEventListener("keydown", event => {
   const by = { ArrowDown: 1, ArrowUp: -1 }[event.key];
   if (!offered.length) return;

@@ -16,7 +16,7 @@ const REASONS = {
 };
 const TOO_LARGE = { count: "the new count is above 4,294,967,295", number: "the new number is outside the range of 64 bits" };
 
-// The cause in words, and what it is about where that can be shown: nodes and texts.
+// Return the cause in words, and if possible what it is about: nodes and texts.
 export function clashNodes(cause, instructions, old) {
   const tell = { Two: tellTwo, Both: tellBoth, Against: tellAgainst, Short: tellCounts, Large: isNumber(old) ? tellNumber : tellCounts }[cause];
   const told = tell?.(new Group(instructions), old) ?? [];
@@ -54,7 +54,7 @@ function tellAgainst(group) {
   if (lacking.length) return ["The set that is put lacks ", elementNode(lacking[0]), ", which is added."];
   return kept.length ? ["The set that is put has ", elementNode(kept[0]), ", which is removed."] : [];
 }
-// The first element of which the bag has too few for what is removed, or comes to have too many.
+// Return the first element of which the bag has too few for what is removed, or would get too many.
 function tellCounts(group, old) {
   if (!isBag(old)) return [];
   const counts = new Map();
@@ -76,7 +76,7 @@ function tellNumber(group, old) {
   return [`It would be ${sum}.`];
 }
 
-// A wrong answer beside the right one, and in what they differ.
+// ---- a wrong answer beside the right one, and how they differ
 
 const MOST_APART = 12, MOST_PLACES = 8;
 
@@ -97,7 +97,7 @@ function side(kind, title, event, answer, other) {
     places.slice(0, MOST_PLACES).map(i => make("p", {}, locationNode(event.read[i]), " ", apartNode(answer.values[i], other.values[i]))),
     left > 0 ? make("p", { class: "soft" }, `and at ${left} more locations`) : null);
 }
-// What of the event doesn't agree with the rest of the trace, whatever that says of it.
+// Return a note on what in the event doesn't match the rest of the trace, whatever the trace says about it.
 export function doubtNote(event) {
   const { right, isRepeated } = event.doubt;
   const why = isRepeated ? "The trace calls this answer wrong, and gives the same one as the right one."
@@ -106,10 +106,10 @@ export function doubtNote(event) {
     make("p", {}, make("b", {}, "This event doesn't agree with the trace that it is in."), " The trace is made up or damaged, so nothing behind this event can be relied on."),
     why ? make("p", {}, why) : make("div", { class: "sides" }, side("told", "In the trace", event, event.right ?? event.reply, right), side("right", "By its own state", event, right, event.right ?? event.reply)));
 }
-// Whether the right value of the location with this index is another one than that of the journal.
+// Whether the right value of the location with this index differs from the journal's.
 export const isOther = (event, i) => event.isWrong && !isSame(event.reply.values[i], event.right.values[i]);
 
-// What one of two values has and the other hasn't: of sets and bags the items, else the value.
+// Return a node for what the first of two values has and the second hasn't: items of sets and bags, else the value.
 export function apartNode(value, other) {
   const items = itemsApart(other, value);
   const lists = listsApart(other, value);
