@@ -1,4 +1,4 @@
-"""What tools/cases, tools/sizes and ../test share: cases of the program, and how they are run."""
+"""Cases of the program, and how they are run: shared by tools/cases, tools/sizes and ../test."""
 
 import os
 import re
@@ -19,7 +19,7 @@ KEYS = {"words", "status", "input", "output"}
 
 @dataclass(frozen=True)
 class Case:
-    """An input and words, and what the program then writes, and its status."""
+    """Words and an input, with the text and the status that the program must return."""
 
     name: str
     words: tuple[str, ...]
@@ -28,7 +28,7 @@ class Case:
     status: int = 0
 
     def fault(self, program: str) -> str | None:
-        """How the program ends otherwise, or None."""
+        """Return how the program's end differs from the case, or None."""
         status, written = ended(program, self.words, self.given)
         if (status, written) == (self.status, self.wanted):
             return None
@@ -46,7 +46,7 @@ def shown(text: bytes, at: int) -> str:
 
 
 def ended(program: str, words: tuple[str, ...], given: bytes) -> tuple[int, bytes]:
-    """The program's status, -1 where it doesn't end, and what it writes."""
+    """Return the program's status, -1 if it doesn't end, and what it writes."""
     try:
         ran = subprocess.run([program, *words], input=given, stdout=subprocess.PIPE, stderr=subprocess.DEVNULL, timeout=LIMIT)
     except subprocess.TimeoutExpired:
@@ -55,7 +55,7 @@ def ended(program: str, words: tuple[str, ...], given: bytes) -> tuple[int, byte
 
 
 def cases_of(folder: Path) -> list[Case]:
-    """The cases of the folder's tables; a file that is no table, or a case that lacks something, ends the tool."""
+    """Return the cases of the folder's tables. Exit if a file is no table, or if a case lacks something."""
     files = sorted(folder.iterdir())
     strange = [it.name for it in files if it.suffix != ".toml"]
     if strange or not files:
@@ -70,18 +70,18 @@ def case_of(file: Path, name: str, row: dict[str, Any]) -> Case:
 
 
 def raw(text: str | dict[str, str]) -> bytes:
-    """The bytes of a text, or those of {hex = ".."}."""
+    """Return the bytes of a text, or those of {hex = ".."}."""
     return bytes.fromhex(text["hex"]) if isinstance(text, dict) else text.encode()
 
 
 def examples() -> list[Case]:
-    """The examples, each a script with its report."""
+    """Return the examples, each a script with its report."""
     scripts = sorted(EXAMPLES.glob("*.json"))
     return [Case(it.stem, ("run",), it.read_bytes(), it.with_suffix(".report").read_bytes()) for it in scripts]
 
 
 def write(cases: list[Case], folder: Path, status: bool = True) -> None:
-    """Writes each case as files, as `rt try --cases` reads them, which takes no status."""
+    """Write each case as files for `rt try --cases`, which accepts no status."""
     for it in cases:
         (folder / it.name).write_bytes(it.given)
         (folder / f"{it.name}.args").write_text("".join(f"{word}\n" for word in it.words), encoding="utf-8")
@@ -95,8 +95,8 @@ def is_played(case: Case) -> bool:
 
 
 def journal_fault(program: str, case: Case) -> str | None:
-    """What is wrong with the journal that the played script leaves, or None: it is legal, its own rewriting, and its trace
-    has a line for each of its own and has no other answer."""
+    """Return what is wrong with the journal of the played script, or None. It must be legal and equal to its own rewriting, and
+    its trace must have a line for each of its lines and no other answer."""
     status, journal = ended(program, (*case.words, "--journal"), case.given)
     if status != 0:
         return f"no journal: status {status}"
@@ -113,8 +113,7 @@ def journal_fault(program: str, case: Case) -> str | None:
 
 
 def run_all(program: str, cases: list[Case], jobs: int) -> int:
-    """Runs all cases, and checks the journals of those that play a script; prints what failed and the sum, and answers the
-    status."""
+    """Run all cases, and check the journals of those that play a script. Print what failed and the total; return the status."""
     if not os.access(program, os.X_OK):
         sys.exit(f"{program} is no program")
     works = [(it.name, it.fault, (program,)) for it in cases]

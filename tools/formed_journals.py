@@ -1,4 +1,5 @@
-"""Cases of what a journal may have, for `tools/cases`: each row is a part that is read and written again, or has a fault."""
+"""Cases of what a journal may contain, for `tools/cases`. Each row is a piece that is read and written again, or has a
+fault."""
 
 import json
 from collections.abc import Iterable, Iterator
@@ -79,7 +80,7 @@ NO_VALUES = (
     *('{"list":[' * depth + "]}" * depth for depth in (9, 60)),
     *('{"list":[' + ",".join("0" * count) + "]}" for count in (4097, 4098)),
 )
-# Values whose elements are in another order than the one in which they are written.
+# Values whose elements aren't in the order in which they are written.
 TURNED_VALUES = (
     (' { "set" : [10,"a",true,null,"",-1,"B",false,0] } ', '{"set":[null,false,true,-1,0,10,"","B","a"]}'),
     ('{"bag":[["e",2],[1,3],[null,1]]}', '{"bag":[[null,1],[1,3],["e",2]]}'),
@@ -152,7 +153,7 @@ def not_json(line: int) -> str:
     return f"line {line}: not JSON"
 
 
-# A journal of one event, with its header in the place of `@`, and what each header comes to.
+# A journal of one event, with its header in the place of `@`, and the result for each header.
 UNDER_HEADER = '@\n{"agent":1,"call":{"read":[["x"]]},"reply":{"number":0,"values":[1]}}\n'
 HEADERS = {
     None: (
@@ -166,7 +167,7 @@ HEADERS = {
         '{"agents":2,"capacity":8,"events":1,"init":[],"version":3}',
         '{"agents":2,"capacity":8,"events":1,"init":[],"version":0}',
         '{"version":-1}',
-        # The version is told before the shape.
+        # The version is reported before the shape.
         '{"version":9223372036854775808}',
         '{"capacity":0,"version":18446744073709551615}',
         '{"version":3}',
@@ -201,12 +202,12 @@ HEADERS = {
         r'["\ud800"]',
         *(open * 128 + inner + close * 128 for open, inner, close in (("[", "", "]"), ('{"a":', "1", "}"))),
     ),
-    # The event is of an agent that the header doesn't have, or of one event too many.
+    # The event has an agent that the header doesn't have, or is one event too many.
     shape(2): (
         '{"agents":0,"capacity":8,"events":1,"init":[],"version":2}',
         '{"agents":2,"capacity":8,"events":0,"init":[],"version":2}',
     ),
-    # More events than follow.
+    # The header counts more events than follow.
     CUT: (
         '{"agents":2,"capacity":8,"events":2,"init":[],"version":2}',
         '{"agents":2,"capacity":8,"events":4294967295,"init":[],"version":2}',
@@ -284,29 +285,29 @@ EVENTS = {
         '{"agent":1,"call":{"fire":[],"reads":[]},"reply":"full"}\n{"agent":1,"call":{"fire":[],"reads":[]},"reply":"full"}',
     ),
 }
-# A journal of two events, with more behind it in the place of `@`.
+# A journal of two events, with further text in the place of `@`.
 MORE = """{"agents":1,"capacity":4096,"events":2,"init":[[["s"],{"set":[]}]],"version":2}
 {"agent":0,"call":{"read":[["s"]]},"reply":{"number":0,"values":[{"set":[]}]}}
 {"agent":0,"call":{"fire":[],"reads":[[["s"],0]]},"reply":{"fired":1}}
 @"""
 FURTHER = {None: ("",), shape(4): ("\n", " ", "{", '{"agent":0,"call":{"fire":[],"reads":[]},"reply":{"fired":2}}')}
-# An event of version 1 that nests; the search for lists goes once through it.
+# An event of version 1 that nests. The search for lists passes over it once.
 NESTED = '{"agents":2,"capacity":8,"events":1,"init":[],"version":1}\n@\n'
 NESTS = {
     fault: tuple(open * depth + inner + close * depth for open, inner, close in (("[", "", "]"), ('{"a":', "1", "}")))
     for depth, fault in ((100, shape(2)), (128, not_json(2)))
 }
-# A journal of version 1 with the keys of every line in the opposite order.
+# A journal of version 1 with the keys of every line in reverse order.
 TURNED = """{"version":1,"init":[[["s"],{"set":[]}]],"events":2,"capacity":4096,"agents":1}
 {"reply":{"values":[{"set":[]}],"number":0},"call":{"read":[["s"]]},"agent":0}
 {"reply":{"fired":1},"call":{"reads":[[["s"],0]],"fire":[["add",["s"],1],["put",["y"],{"set":[1]}]]},"agent":0}
 """
 SPACES = ((",", ","), (",", " ,\t"), (":", "\t\r: "), ("[", " [\r"), ("]", "\t] "), ("{", " { "), ("}", "\r}\t"))
-# The word of lists is where a text may be, and in a name.
+# The word of lists, where a text may be, and in a name.
 WORDS = """{"agents":1,"capacity":8,"events":1,"init":[[["list"],{"set":["list"]}]],"version":#}
 {"agent":0,"call":{"fire":[["put",["list","list"],"list"]],"reads":[]},"reply":{"fired":1}}
 """
-# A list behind others of its kind, or in a list; no version 1 has one.
+# A list after others of its kind, or in a list. Version 1 has none.
 LISTED = """{"agents":1,"capacity":8,"events":2,"init":@,"version":#}
 {"agent":0,"call":{"fire":[],"reads":[[["x"],0],[["x",1],0]]},"reply":{"fired":1}}
 {"agent":0,"call":{"read":[["x"],["x",1]]},"reply":{"number":1,"values":[1,1]}}
@@ -325,7 +326,7 @@ LISTED_IN = {
 
 
 def written(journal: str) -> str:
-    """The journal as it is written: in version 2, with its keys in order, and no location that holds nothing."""
+    """Return the journal as it is written: in version 2, with its keys in order, and without locations that hold nothing."""
     head, *events = map(json.loads, journal.removesuffix("\n").split("\n"))
     head |= {"version": 2, "init": [it for it in head["init"] if it[1] is not None]}
     lines = (json.dumps(it, ensure_ascii=False, separators=(",", ":"), sort_keys=True) for it in (head, *events))
@@ -333,7 +334,7 @@ def written(journal: str) -> str:
 
 
 def rewritten(name: str, journal: str, wanted: str | None = None) -> Case:
-    """The journal is written as the one that is wanted, or as `written` has it."""
+    """The journal is written as `wanted`, or else as `written` returns it."""
     return Case(f"rewrite_{name}", ("rewrite",), journal.encode(), (wanted or written(journal)).encode())
 
 
@@ -342,7 +343,7 @@ def refused(name: str, journal: str, fault: str) -> Case:
 
 
 def table(name: str, journal: str, rows: dict[str | None, Iterable[str]]) -> Iterator[Case]:
-    """The journal with each part in the place of `@` has this fault, or none."""
+    """The journal with each piece in the place of `@` has this fault, or none."""
     for fault, parts in rows.items():
         for at, part in enumerate(parts):
             given = journal.replace("@", part)
@@ -373,7 +374,7 @@ def kept() -> Iterator[Case]:
 
 
 def listed() -> Iterator[Case]:
-    """A list is taken in version 2 alone, and the word of lists is none."""
+    """Only version 2 accepts a list, and the word of lists is none."""
     for version in "12":
         yield rewritten(f"words_of_lists_in_version_{version}", WORDS.replace("#", version), WORDS.replace("#", "2"))
     for name, (line, init, old, new) in LISTED_IN.items():

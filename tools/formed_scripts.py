@@ -8,8 +8,8 @@ from casing import Case
 
 # The state of the rows below: `n` is 41, and `t` a set of 1.
 STATE = '[[["n"],41],[["t"],{"set":[1]}]]'
-# Instructions of a block, their move where it differs, and the location and the cause where that clashes. The first four rows
-# have no term that needs the state.
+# Instructions of a block; their move, if it differs; and the location and the cause, if that clashes. The first four rows have no
+# term that needs the state.
 BLOCKS = (
     ("", "", ""),
     ('["put",["x"],{"set":[1]}],["put",["x"],null]', "", '["x"],"Two"'),
@@ -44,7 +44,7 @@ FAULTY = (
 # Steps of several blocks: the opening state, the step, and the calls that it makes, each with its answer.
 FIRED = '{"fired":1}'
 STEPS = (
-    # A ready block reads its targets alone, and the last block none.
+    # A ready block reads only its targets, and the last block reads none.
     (
         "[]",
         '[["put",["x"],1],["add",["s"],1],["inc",["n"],1]]',
@@ -71,7 +71,7 @@ STEPS = (
         '[["add",["s"],{"val":["u"]}]],[["put",["y"],{"val":["s"]}]],[["remove",["z"],1]]',
         [('{"read":[["s"],["u"]]}', '{"number":0,"values":[null,null]}')],
     ),
-    # Each location is there once, in ascending order, wherever the step names it.
+    # Each location occurs once, in ascending order, wherever the step names it.
     (
         '[[["b"],3],[["a",1],2],[["a"],1]]',
         '[["put",["x"],{"sum":[{"val":["b"]},{"sum":[{"val":["a",1]},{"val":["a"]}]}]}]]',
@@ -106,7 +106,7 @@ STEPS = (
         ],
     ),
 )
-# Steps whose first fault is in one of several blocks: the opening state, the step, and what is told of it.
+# Steps whose first fault is in one of several blocks: the opening state, the step, and the report on it.
 STOPPED = (
     ("[]", '[["put",["x"],1]],[["add",["s"],{"set":[1]}]]', "term"),
     ("[]", '[["add",["s"],{"set":[1]}]],[["put",["x"],1]]', "term"),
@@ -141,7 +141,7 @@ def stopped(name: str, init: str, step: str, fault: str) -> Case:
 
 
 def fires(name: str, block: str, move: str, clash: str) -> Case:
-    """A block reads what it has a `val` of, and fires the move."""
+    """A block reads every location of which it has a `val`, and fires the move."""
     held = {place: value for (place,), value in json.loads(STATE)}
     places = sorted(it for it in "ntux" if f'{{"val":["{it}"]}}' in block)
     values = [held.get(it) for it in places]

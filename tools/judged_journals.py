@@ -1,14 +1,14 @@
-"""Cases of journals that are judged, for `tools/cases`: legal ones, and such with a wrong answer. Each is written as it was
-read, and told as legal, or with the first call that has another answer."""
+"""Cases of journals that are judged, for `tools/cases`: legal ones, and others with a wrong answer. Each is written as it was
+read; the check reports it as legal, or names the first call with a wrong answer."""
 
 from collections.abc import Iterator
 
 from casing import CASES, Case, cases_of
 from formed_journals import rewritten
 
-# Cases of legal journals, each of which is written as it was read, too: moves of two agents, a read that is stale after a
-# write of the same value, increments with each cause of a clash that these have, lists in each place, and a clash of each
-# cause before a move that fires, one that is stale and would clash too, and one on the full storage.
+# Cases of legal journals, each of which is also written as it was read: moves of two agents; a read that is stale after a write
+# of the same value; increments, with each cause of a clash that they can have; lists in each place; and a clash of each cause,
+# before a move that fires, a stale one that would also clash, and one on the full storage.
 CHECKED = {it.name: it.given.decode() for it in cases_of(CASES)}
 AGENTS, SAME, INCREMENTS, LISTS, CLASHES = (
     CHECKED[f"check_legal_{name}"]
@@ -22,7 +22,7 @@ AGENTS, SAME, INCREMENTS, LISTS, CLASHES = (
 )
 # The causes, in the order in which the clashes have them.
 CAUSES = ('"Two"', '"Mixed"', '"Kind"', '"Both"', '"Against"', '"Short"', '"Large"')
-# The first call of the journal of clashes with a wrong answer, the right text, and a wrong one.
+# The number of the first call with a wrong answer in the journal of clashes, the right text, and a wrong one.
 WRONG = (
     (0, '["u"],"Two"', '["w"],"Two"'),
     (2, '{"clash":[["n"],"Kind"]}', '{"fired":1}'),
@@ -38,8 +38,8 @@ WRONG = (
     (9, '"full"', '{"stale":["x"]}'),
     (9, '"full"', '{"fired":2}'),
 )
-# Events of a journal that opens with 7 at x and has the capacity 2: reads; puts of agent 1 that name x at a number, or the
-# two puts that clash; and what the check says.
+# Events of a journal that opens with 7 at x and has the capacity 2: reads; puts of agent 1 that declare x at a number, or the two
+# puts that clash; and the result of the check.
 READS = {"read": (0, 7), "read_other": (0, 6), "read_early": (1, 7), "read_last": (2, 2)}
 FIRES = {"same": ("7", "0"), "put": ("1", "0"), "named_1": ("2", "1"), "named_2": ("3", "2")}
 REPLIES = {"fired": '{"fired":1}', "fired_2": '{"fired":2}', "stale": '{"stale":["x"]}', "full": '"full"'}
@@ -59,13 +59,13 @@ HISTORIES = (
 
 
 def both_ways(name: str, journal: str, line: str) -> Iterator[Case]:
-    """The journal is judged so, and is its own rewriting."""
+    """The check reports this line for the journal, and its rewriting is the journal itself."""
     yield Case(f"check_{name}", ("check",), journal.encode(), f"{line}\n".encode(), int(line.startswith("illegal")))
     yield rewritten(name, journal, journal)
 
 
 def event_of(name: str) -> str:
-    """The event of this name, as the histories have it."""
+    """Return the event of this name, as the histories use it."""
     what, _, reply = name.partition(":")
     if what in READS:
         number, value = READS[what]
@@ -77,7 +77,7 @@ def event_of(name: str) -> str:
 
 
 def legal() -> Iterator[Case]:
-    """What is legal is its own rewriting, and that of the same journal in version 1 where it has no list."""
+    """A legal journal is its own rewriting. It is also the rewriting of the same journal in version 1, if it has no list."""
     for name, journal in (("moves", AGENTS), ("a_stale_move", SAME), ("increments", INCREMENTS), ("clashes", CLASHES)):
         yield rewritten(name, journal, journal)
         yield rewritten(f"{name}_of_version_1", journal.replace('"version":2', '"version":1'), journal)
@@ -85,7 +85,7 @@ def legal() -> Iterator[Case]:
 
 
 def wrong() -> Iterator[Case]:
-    """Each other cause in the place of the right one, and other answers."""
+    """The right cause is replaced by each other one, and other answers by wrong ones."""
     for at, right in enumerate(CAUSES):
         for other in (it for it in CAUSES if it != right):
             name = f"{other}_where_{right}_is_right".replace('"', "").lower()

@@ -1,4 +1,4 @@
-"""Cases of the program at each size of a table, for `tools/sizes`. What is wanted follows from the size alone."""
+"""Cases of the program at each size of a table, for `tools/sizes`. The wanted result follows from the size alone."""
 
 import json
 from collections.abc import Iterator
@@ -15,7 +15,7 @@ def text(value) -> str:
 
 
 def script(init: list, *agents: list) -> bytes:
-    """The script of agents, each a list of steps, each a list of blocks."""
+    """Return the script of agents, each a list of steps, each a list of blocks."""
     return text({"init": init, "agents": agents}).encode()
 
 
@@ -24,7 +24,7 @@ def report(pairs: list, moves: int, *faults: str) -> bytes:
 
 
 def played(name: str, init: list, blocks: list, pairs: list, *faults: str) -> Case:
-    """One agent takes one step of these blocks, which leaves the pairs, or one of these faults."""
+    """One agent makes one step of these blocks, which leaves the pairs, or ends with these faults."""
     return Case(name, ("run",), script(init, [blocks]), report(pairs, 0 if faults else 1, *faults))
 
 
@@ -49,7 +49,7 @@ def bag_of(n: int, count: int = 1) -> dict:
 
 
 def held(pairs: list) -> list:
-    """The pairs without those that hold nothing."""
+    """Return the pairs without those that hold nothing."""
     return [it for it in pairs if it[1] is not None]
 
 
@@ -106,7 +106,7 @@ def composed() -> Iterator[Case]:
 
 
 def values(n: int) -> Iterator[Case]:
-    """A value of n items, which is put, read and held from the beginning."""
+    """A value of n items, which is put, read, and held from the beginning."""
     items = {"list": [None] * n}
     for name, value in (("set", set_of(n)), ("bag", bag_of(n, 7)), ("list", items)):
         step = [["put", X, value], ["put", ["y"], {"val": ["o"]}]]
@@ -126,7 +126,8 @@ def texts(n: int) -> Iterator[Case]:
 
 
 def reads(n: int) -> Iterator[Case]:
-    """A step that reads n locations: under `val`, one of them twice, or as those of partial updates before its last block."""
+    """A step that reads n locations: by `val`, one of them twice, or as the targets of partial updates before its last
+    block."""
     init = [[it, it[1]] for it in places(n)]
     step = [["put", ["b", i], {"val": ["a", i]}] for i in range(n)] + [["put", ["b", 0], {"val": ["a", 0]}]] * min(n, 1)
     sets, adds = [[it, set_of(1)] for it in places(n)], [["add", it, 1] for it in places(n)]
@@ -157,7 +158,7 @@ def blocks_of(n: int) -> Iterator[Case]:
 
 
 def agents(n: int) -> Iterator[Case]:
-    """Agents that raise one counter and write a location of their own, and agents without a step."""
+    """Agents that increment one counter and write a location of their own, and agents without a step."""
     given = script([[N, 0]], *([[[["inc", N, 1], ["put", ["a", i], i]]]] for i in range(n)))
     cases = [
         Case(f"{n}_agents", ("run",), given, report([[["a", i], i] for i in range(n)] + [[N, n]], n)),
@@ -169,7 +170,7 @@ def agents(n: int) -> Iterator[Case]:
 
 
 def causes() -> Iterator[Case]:
-    """Scripts with a block of one instruction too many, and another fault before or behind it: the first is told."""
+    """Scripts with a block of one instruction too many, and another fault before or behind it. The first one is reported."""
     block = ",".join(['["add",["s"],1]'] * 4097)
     for place, before, behind, cause in (
         ("before_a_step_without_blocks", "[[[", "]],[]]", "instructions"),
@@ -184,7 +185,7 @@ def causes() -> Iterator[Case]:
 
 
 def nested() -> Iterator[Case]:
-    """Lists and sums that nest as deep as they may, and deeper by one."""
+    """Lists and sums that nest as deep as they may, and one level deeper."""
     for depth in range(1, 10):
         value = json.loads('{"list":[' * depth + "]}" * depth)
         if depth < 9:

@@ -1,4 +1,4 @@
-"""Cases of long journals, of runs of many parts, of journals that are cut at each byte, and of journals with a list in each
+"""Cases of long journals, of runs of many segments, of journals that are cut at each byte, and of journals with a list in each
 place."""
 
 from collections.abc import Iterator
@@ -20,7 +20,7 @@ def event(call: str, told: str) -> str:
 
 
 def raises(n: int) -> Iterator[Case]:
-    """One agent fires n moves, and a storage is full after as many as its capacity."""
+    """One agent fires n moves; a storage is full after as many moves as its capacity."""
     init, step = [[N, 0]], [[["inc", N, 1]]]
     yield Case(f"{n}_moves", ("run", *CAPACITY), script(init, [step] * n), report([[N, n]], n))
     lines = [event('{"fire":[["inc",["n"],1]],"reads":[]}', f'{{"fired":{k + 1}}}') for k in range(n)]
@@ -31,19 +31,19 @@ def raises(n: int) -> Iterator[Case]:
 
 
 def default() -> Iterator[Case]:
-    """Where no capacity is given, 4,096 moves are fired."""
+    """If no capacity is given, 4,096 moves are fired."""
     full = [f"agent 0 step {k} full" for k in (4096, 4097)]
     yield Case("the_default_capacity", ("run",), script([], [[[["put", X, 1]]]] * 4098), report([[X, 1]], 4096, *full))
 
 
 def plain(n: int) -> Iterator[Case]:
-    """Moves that need no state are read once they are many."""
+    """Many moves that need no state, and then a read of them."""
     steps = [[[["put", X, k]]] for k in range(n - 1)] + [[[["put", ["y"], {"val": X}]]]]
     yield Case(f"a_read_after_{n - 1}_puts", ("run", *CAPACITY), script([], steps), report([[X, n - 2], [["y"], n - 2]], n))
 
 
 def long(pairs: int) -> Iterator[Case]:
-    """A journal of so many reads, each with a fire that names it: legal, and with a wrong answer in its last line."""
+    """A journal of this many reads, each with a fire that declares it: legal, and with a wrong answer in its last line."""
     init = [[N, 0]]
     reads = [event('{"read":[["n"]]}', f'{{"number":{k},"values":[{k}]}}') for k in range(pairs)]
     calls = [f'{{"fire":[["put",["n"],{k + 1}]],"reads":[[["n"],{k}]]}}' for k in range(pairs)]
@@ -67,7 +67,7 @@ def long(pairs: int) -> Iterator[Case]:
 
 
 def growing(n: int) -> Iterator[Case]:
-    """A set or a bag that grows n times by one element: the trace has no more of a move than what it adds."""
+    """A set or a bag that grows n times by one element. For each move, the trace has only what it adds."""
     for name, at, init, call, changed in (
         ("set", S, {"set": []}, '["add",["s"],%d]', '{"added":[%d],"removed":[]}'),
         ("bag", B, {"bag": []}, '["bagadd",["b"],%d,3]', '{"counts":[[%d,0,3]]}'),
@@ -81,7 +81,7 @@ def growing(n: int) -> Iterator[Case]:
 
 
 def misread(n: int) -> Iterator[Case]:
-    """A location that holds a text of n bytes is read 256 times at once, wrongly: the trace doesn't repeat what it holds."""
+    """A location that holds a text of n bytes is read 256 times at once, wrongly. The trace doesn't repeat what it holds."""
     init = [[X, "x" * n]]
     told = event(text({"read": [X] * 256}), text({"number": 1, "values": [None] * 256}))
     head = text({"agents": 1, "capacity": 1048576, "events": 1, "init": init, "trace": 1}) + "\n"
@@ -90,7 +90,7 @@ def misread(n: int) -> Iterator[Case]:
 
 
 def calls_of(n: int) -> Iterator[Case]:
-    """A read of n locations, and fires of n named reads and of n instructions: they are written as they are read, or too
+    """A read of n locations, and fires of n declared reads and of n instructions. They are written as they are read, or are too
     long."""
     places, undef = ",".join(['["x"]'] * n), ",".join(["null"] * n)
     named, raised = ",".join(['[["n"],0]'] * n), ",".join(['["inc",["n"],1]'] * n)
@@ -105,14 +105,14 @@ def calls_of(n: int) -> Iterator[Case]:
 
 
 def run_of(n: int) -> str:
-    """A run of so many parts, each of one move, which raises a number."""
+    """Return a run of this many segments, each of one move, which increments a number."""
     fired = event('{"fire":[["inc",["n"],1]],"reads":[]}', '{"fired":1}')
     return "".join(header(1, init=[[N, k]]) + fired for k in range(n))
 
 
 def parts(n: int) -> Iterator[Case]:
-    """A run of so many parts, longer than any other input: legal, and with a last part that opens with another state or has
-    a wrong answer."""
+    """A run of this many segments, longer than any other input: legal, and with a last segment that opens with another state or
+    has a wrong answer."""
     run, legal = run_of(n), f"legal {n} {n} {n}\n"
     yield Case(f"audit_{n}_parts", ("audit",), run.encode(), legal.encode())
     told = "".join(f"so far {k} {k} {k}\n" for k in range(4096, n + 1, 4096))
@@ -124,13 +124,14 @@ def parts(n: int) -> Iterator[Case]:
 
 
 def window(n: int, before: int, calls: list[str], **part: int) -> str:
-    """The trace of a window of these calls, which begins where the number is n and so many moves of its part were fired."""
+    """Return the trace of a window of these calls, which begins when the number is n and this many moves of its segment have
+    fired."""
     head = {"agents": 1, "capacity": 1048576, "events": len(calls), "init": [[N, n]], "moves": before, "trace": 2, **part}
     return text(dict(sorted(head.items()))) + "\n" + "".join(calls)
 
 
 def windows(n: int) -> Iterator[Case]:
-    """The last of so many parts, and one behind it, which isn't there."""
+    """The last of this many segments, and one behind it, which doesn't exist."""
     call = event('{"fire":[["inc",["n"],1]],"reads":[]},"event":0', f'{{"fired":1}},"updates":[[["n"],{n - 1},{n}]]')
     told = window(n - 1, 0, [call], **{"from": 0, "part": n - 1})
     yield Case(f"trace_the_last_of_{n}_parts", ("trace", "--part", f"{n - 1}"), run_of(n).encode(), told.encode())
@@ -139,7 +140,7 @@ def windows(n: int) -> Iterator[Case]:
 
 
 def lines() -> Iterator[Case]:
-    """Lines of a run that are longer than a whole script or journal may be, with their line feed and without."""
+    """Lines of a run that are longer than a complete script or journal may be, with their line feed and without."""
     most = 16_777_216
     for name, end in (("", b""), ("_and_its_line_feed", b"\n")):
         name = f"audit_a_line_of_{most + 1}_bytes{name}"
@@ -149,8 +150,8 @@ def lines() -> Iterator[Case]:
 
 
 def cut() -> Iterator[Case]:
-    """A journal that ends before each of its bytes: at the end of a line, before its line feed or after it, it is cut, and
-    inside a line the line is no JSON."""
+    """A journal that ends before each of its bytes. At the end of a line, before or after its line feed, it is cut; inside a
+    line, that line isn't JSON."""
     lines = event('{"read":[["s"]]}', '{"number":0,"values":[{"set":[]}]}')
     lines += event('{"fire":[["add",["s"],1],["put",["y"],{"set":[1]}]],"reads":[[["s"],0]]}', '{"fired":1}')
     for word, version in (("check", 2), ("rewrite", 1)):
@@ -163,14 +164,14 @@ def cut() -> Iterator[Case]:
 
 EMPTY_SET, EMPTY_BAG = [[["a"], {"set": []}]], [[["a"], {"bag": []}]]
 FIRED, CLASH = '{"fired":1}', '{"clash":[["a"],"Short"]}'
-# Where an element is in a header.
+# The place of an element in a header.
 OPENINGS = {
     "an_opening_argument": '[[["a",@],1]]',
     "an_opening_value": '[[["a"],@]]',
     "an_opening_set": '[[["a"],{"set":[@]}]]',
     "an_opening_bag": '[[["a"],{"bag":[[@,1]]}]]',
 }
-# Where an element is in an event: the opening state, the call, the answer, and whether that is right.
+# The place of an element in an event: the opening state, the call, the answer, and whether that is right.
 PLACES = {
     "a_read_location": ([], '{"read":[["a",@]]}', '{"number":0,"values":[null]}', True),
     "a_read_value": ([], '{"read":[["a"]]}', '{"number":0,"values":[@]}', False),
@@ -200,7 +201,7 @@ def placed() -> Iterator[Case]:
 
 
 def judged(name: str, journal: str, line: str, at: int) -> Iterator[Case]:
-    """A journal of version 2 may have a list in the place, as deep as a list may be, and one of version 1 a number, but no
+    """A journal of version 2 may have a list in the place, as deep as a list may be. One of version 1 may have a number, but no
     list."""
     deep, deeper = ('{"list":[' * depth + "]}" * depth for depth in (8, 9))
 
