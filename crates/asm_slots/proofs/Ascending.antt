@@ -10,12 +10,12 @@ use Rattle.asm_storage.proofs.Rounds.{rises_tail}
 use Rattle.asm_storage.specs.declared.part.AgentPart.{AgentPart}
 use Rattle.asm_slots.specs.InsertPoint.{IsAmong, IsInsertPoint}
 
--- a number below all of those that ascend, in front of them
+-- a number below all of ascending numbers, in front of them
 pub rises_from : (x : ℕ) (xs : List ℕ) → All (λ y. x < y) xs → IsStrictlyIncreasing xs → IsStrictlyIncreasing (x ∷ xs)
 rises_from x xs below rises zero lt = below 0 0 (omega (arith, lt))
 rises_from x xs below rises (suc k) lt = rw add-one (rw add-one at (rises k (omega (arith, lt))))
 
--- of numbers that ascend each later one is above the first
+-- of ascending numbers each later one is above the first
 pub rises_over : (x : ℕ) (xs : List ℕ) → IsStrictlyIncreasing (x ∷ xs) → All (λ y. x < y) xs
 rises_over x [] rises = All-nil (λ y. x < y)
 rises_over x (y ∷ xs) rises =
@@ -30,7 +30,7 @@ pub all_after : {X : Type 0} (P : X → Type 0) (xs ys : List X) → All P (xs +
 all_after P [] ys each = each
 all_after P (x ∷ xs) ys each = all_after P xs ys (All-tail P x (xs ++ ys) each)
 
--- one more among numbers that ascend, above those before it and below those after it
+-- one more among ascending numbers, above those before it and below those after it
 pub rises_among : (xs ys : List ℕ) (n : ℕ) → IsStrictlyIncreasing (xs ++ ys) → All (λ x. x < n) xs → All (λ y. n < y) ys → IsStrictlyIncreasing (xs ++ n ∷ ys)
 rises_among [] ys n rises before after = rises_from n ys after rises
 rises_among (x ∷ xs) ys n rises before after =
@@ -54,11 +54,11 @@ above_from (p ∷ parts) zero id rises first =
     (All-weaker (λ q. p.id < q.id) (λ q. id < q.id) (λ q lt. omega (arith, lt, here)) parts (all_unmap (λ n. p.id < n) (λ q. q.id) parts (rises_over p.id (map (λ q. q.id) parts) rises)))
 above_from (p ∷ parts) (suc at) id rises first = above_from parts at id (rises_tail p.id (map (λ q. q.id) parts) rises) first
 
--- an item that stands at a place
+-- the item at a place
 pub got : {X : Type 0} (xs : List X) (k : ℕ) (x : X) → k < length xs → x ≡ get_or xs k x → slice_get xs k ≡ Some x
 got xs k x lt e = slice_get-get_or xs k x lt ∙ ap Some (sym e)
 
--- the same, where the part at that place is known
+-- the same, if the part at that place is known
 pub above_at : (parts : List AgentPart) (at id : ℕ) (p : AgentPart) → IsStrictlyIncreasing (map (λ q. q.id) parts) → at < length parts → p ≡ get_or parts at p → ((q : AgentPart) → slice_get parts at ≡ Some q → id ≤ q.id) → ¬ (p.id ≡ id) → All (λ q. id < q.id) (drop at parts)
 above_at parts at id p rises lt is next ne =
     let here = got parts at p lt is in
@@ -84,12 +84,12 @@ rises_in parts p at rises point =
     (subst IsStrictlyIncreasing (ap (map f) (sym (take-append-drop at parts)) ∙ map-append f (take at parts) (drop at parts)) rises)
     (All-map (λ n. n < p.id) f (take at parts) point.before) (All-map (λ n. p.id < n) f (drop at parts) point.after))
 
--- what is so of all parts and of one more is so of all with it
+-- what holds of all parts and of one more holds of all with it
 pub all_in : {X : Type 0} (P : X → Type 0) (xs : List X) (x : X) (at : ℕ) → All P xs → P x → All P (take at xs ++ x ∷ drop at xs)
 all_in P xs x at each p =
     All-append P (take at xs) (x ∷ drop at xs) (All-take P at xs each) (All-cons P x (drop at xs) p (All-drop P at xs each))
 
--- numbers that ascend, without one of them
+-- ascending numbers without one of them
 pub rises_without : (xs ys : List ℕ) (n : ℕ) → IsStrictlyIncreasing (xs ++ n ∷ ys) → IsStrictlyIncreasing (xs ++ ys)
 rises_without [] ys n rises = rises_tail n ys rises
 rises_without (x ∷ xs) ys n rises =
@@ -131,6 +131,6 @@ rises_out parts p at is rises =
     (rises_without (map f (take at parts)) (map f (drop (at + 1) parts)) p.id
     (subst IsStrictlyIncreasing (ap (map f) is ∙ map-append f (take at parts) (p ∷ drop (at + 1) parts)) rises))
 
--- what is so of all is so of all but one
+-- what holds of all holds of all except one
 pub all_out : {X : Type 0} (P : X → Type 0) (xs : List X) (at : ℕ) → All P xs → All P (take at xs ++ drop (at + 1) xs)
 all_out P xs at each = All-append P (take at xs) (drop (at + 1) xs) (All-take P at xs each) (All-drop P (at + 1) xs each)

@@ -1,4 +1,4 @@
--- Where the one move of a step fires, the pushed moves fire in turn there.
+-- If the one move of a step fires, the pushed moves fire in turn there.
 use Rattle.std.proofs.Common.{IsTrue, string_bytes, Option, Some, None, Result, IfOk, OnErr, IfErr, IsErrOf, unwrap_or, ℤ, ◌≡◌, ◌≤◌, ◌<◌, ◌↔◌, ◌+◌, ◌-◌, ◌⊎◌, ⊎_elim, inl, inr, ℕ, zero, suc, List, [], ◌∷◌, All, Ok, Err, Contains, length, map, take, get_or, arith, ap, refl, subst, sym, ◌∙◌}
 use Rattle.std.proofs.lemmas.List.{length-map, length-take}
 use Rattle.std.proofs.lemmas.List.Elements.{All-contains, All-map, Contains-append_left, Contains-append_right}
@@ -48,7 +48,7 @@ use Rattle.asm_slots.specs.StepView.{StepView, names_of}
 use Rattle.asm_slots.specs.StepCalls.{IsOfScanned, IsStepOn, below}
 use Rattle.asm_slots.proofs.WholeScans.{kept_whole, take_all_seen}
 
--- each named location stands as at the number under which it is named, so as at the step's number
+-- each declared location has what it had at the number at which it is declared, so what it had at the step's version
 named_stand : (state : ℕ → Old) (n before : ℕ) (reads : List Named) → n ≤ before → All (λ r. r.number ≡ n) reads →
     All (λ r. r.number ≤ before → state r.number r.at ≡ state before r.at) reads →
     All (λ l. state n l ≡ state before l) (map (λ r. r.at) reads)
@@ -98,7 +98,7 @@ module _ (a new : AgentAt Standard) (s : StepView) (reads : List Named) (scans :
   same_storage : new.storage ≡ a.storage
   same_storage = ap (λ (x : AgentAt Standard). x.storage) answered.agent
 
-  -- the step's number is among the moves before the fired one
+  -- the step's version is among the moves before the fired one
   within : s.number ≤ length a.account.seen → s.number ≤ k - 1
   within le =
       let longer = length-prefix a.account.seen (take (k - 1) new.account.seen) answered.begins in
@@ -114,7 +114,7 @@ module _ (a new : AgentAt Standard) (s : StepView) (reads : List Named) (scans :
   before_is : after (k - 1) ≡ val (state_at new (k - 1))
   before_is = ap (λ (q : List Move). val (state_of part new.storage.init q)) (take_twice (k - 1) new.account.seen)
 
-  -- what is named stands on the state before the fired move
+  -- in the state before the fired move, a declared location has what it had below the step
   stands_at : s.number ≤ length a.account.seen → (l : Place) → Contains (map (λ r. r.at) reads) l →
       val (state_at new (k - 1)) l ≡ below a s l
   stands_at le l named =
@@ -123,7 +123,7 @@ module _ (a new : AgentAt Standard) (s : StepView) (reads : List Named) (scans :
       All-contains (λ l. after s.number l ≡ after (k - 1) l) (map (λ r. r.at) reads) l stand named in
       sym (ap (λ (o : Old). o l) before_is) ∙ sym here ∙ ap (λ (o : Old). o l) (below_is le)
 
-  -- and so does each function that was scanned
+  -- and so has each location of a scanned function
   abbrev IsWhole : List ℕ → Type 0
   IsWhole name = (l : Place) → IsTrue (has_name name l) → val (state_at new (k - 1)) l ≡ below a s l
 
@@ -141,7 +141,7 @@ module _ (a new : AgentAt Standard) (s : StepView) (reads : List Named) (scans :
   whole le l (name, has, named) =
       All-contains IsWhole s.scanned name (subst (All IsWhole) scanned.names (scans_whole le)) has l named
 
-  -- what was got or scanned stands there
+  -- so have tracked locations and those of scanned functions
   rested_stands : s.number ≤ length a.account.seen → (l : Place) → Contains s.got l ⊎ IsOfScanned l s →
       val (state_at new (k - 1)) l ≡ below a s l
   rested_stands le l rested =
@@ -154,7 +154,7 @@ module _ (a new : AgentAt Standard) (s : StepView) (reads : List Named) (scans :
       stands_at is.0 l ((names.locations.same l).1 (Contains-append_right s.got (resting_of s.layers) l
       (((resting_those part (below a s) s.layers groups is.1).same l).1 rested)))
 
-  -- the fired move has a state there
+  -- the fired move leaves a state there
   fired_there : (D : State) × (fire part (state_at new (k - 1)) M ≡ Ok D)
   fired_there =
       let had = has_state (machine_of meaning a.storage) moves reads M k answered.reply in
@@ -181,13 +181,13 @@ module _ (a new : AgentAt Standard) (s : StepView) (reads : List Named) (scans :
       (λ sees. rested_stands le l (named (sees_there part (below a then) then.layers groups is.1 l ∙ sees))
       ∙ ap (λ n. val (state_at a n) l) (sym same)) fired
 
--- the scans of a step's box, which are lent as a slice
+-- the scans of a step's box, which are borrowed as a slice
 pub scans_all : (s : StepView) (lent own : List Scanned) → lent ≡ own → names_of own ≡ s.scanned → All (λ x. x.number ≡ s.number) own →
     ScansAll s lent
 scans_all s lent own same names numbers =
     subst (ScansAll s) (sym same) (record { names = names; numbers = numbers })
 
--- where it fired over the scans, nothing was found, so it fired as it does that names the reads alone
+-- if it fired over the scans, nothing was found, so it fired as one does that declares the reads only
 module _ (a new : AgentAt Standard) (s : StepView) (reads : List Named) (scans : List Scanned) (M : Move) (k : ℕ)
     (names : NamesAll s reads) (scanned : ScansAll s scans) (over : IsRepliedOver a new reads scans M (Fired k)) where
   replied : IsReplied meaning a new reads M (Fired k)
@@ -232,7 +232,7 @@ step_fired s code fired from to a new reads scans M answer names scanned one fir
   over : (k : ℕ) → answer ≡ Ok (Fired k) → IsRepliedOver a new reads scans M (Fired k)
   over k is = subst (λ (r : Result Reply FireError). IfOk r (IsRepliedOver a new reads scans M)) is answered
 
--- no reply has the code of a fire that names too much
+-- no reply has the code of a fire that declares too many reads
 reply_not_many : (r : Reply) → code_of r ≡ ASM_MANY → ⊥
 reply_not_many (Fired k) e = cc
 reply_not_many (Stale l) e = cc
@@ -246,7 +246,7 @@ many_told (Err ManyReads) code fired from to told is = refl
 many_told (Err (Busy f t)) code fired from to told is = absurd (let e = sym told.0 ∙ is in cc)
 many_told (Err Memory) code fired from to told is = absurd (let e = sym told.0 ∙ is in cc)
 
--- only a fire that names too much is answered so
+-- only a fire that declares too many reads is answered so
 pub many_named : (s : StepView) (answer : Result Reply FireError) (code : ℤ) (fired from to : ℕ) (reads : List Named) (scans : List Scanned) →
     ScansAll s scans → TellsFire answer code fired from to →
     (IsErrOf answer ManyReads ↔ (reads_limit < length reads + length scans)) → code ≡ ASM_MANY → NamesMany s reads
@@ -259,7 +259,7 @@ many_named s answer code fired from to reads scans scanned told many is =
 pub does_all : (a : AgentAt Standard) (s : StepView) → OneDoesAll a s
 does_all a s groups is = one_does part (below a s) s.layers groups (unwrap_or (one_move s.layers) []) is.1 refl
 
--- a fire that doesn't name too much has another code
+-- a fire that doesn't declare too many reads has another code
 without_many : (code : ℤ) → (code ≡ ASM_MANY → ⊥) →
     IsOneOf (ASM_DONE ∷ ASM_STALE ∷ ASM_CLASH ∷ ASM_MEMORY ∷ ASM_FULL ∷ ASM_BUSY ∷ ASM_MANY ∷ []) code →
     IsOneOf (ASM_DONE ∷ ASM_STALE ∷ ASM_CLASH ∷ ASM_MEMORY ∷ ASM_FULL ∷ ASM_BUSY ∷ []) code
@@ -272,13 +272,13 @@ without_many code other (inr (inr (inr (inr (inr (inl is)))))) = inr (inr (inr (
 without_many code other (inr (inr (inr (inr (inr (inr (inl is))))))) = absurd (other is)
 without_many code other (inr (inr (inr (inr (inr (inr (inr none))))))) = absurd none
 
--- the agent that has the receipt of the read has the step on the same groups of moves
+-- the agent with the receipt of the read has the step on the same groups of moves
 step_between : (s : StepView) (reads : List Named) (old between : AgentAt Standard) → HasRecorded s reads old between →
     (groups : List (List Move)) → IsStepOn old s groups → IsStepOn between s groups
 step_between s reads old between recorded groups on =
     subst (λ (a : AgentAt Standard). IsStepOn a s groups) (sym recorded.1.agent) on
 
--- a fire of the agent that has the receipt of the read, of the same reads
+-- a fire of the agent with the receipt of the read, of the same reads
 pub recorded_step : (s : StepView) (code : ℤ) (fired from to : ℕ) (old between new : AgentAt Standard) (lent reads : List Named) →
     lent ≡ reads → NamesAll s reads → ¬ NamesMany s lent → ¬ HasMoved old s → HasRecorded s lent old between →
     (code ≡ ASM_MANY → NamesMany s reads) →

@@ -1,4 +1,4 @@
--- What is told of a text that was copied into a buffer, or is too long for it.
+-- What holds of a text that was copied into a buffer, or is too long for it.
 use Rattle.std.proofs.Common.{◌≡◌, ◌∙◌, ℕ, ℤ, List, [], ◌∷◌, length, inl, inr, refl, sym, subst, w32, of_z, to_z}
 use Rattle.std.specs.Prelude.{slice_range}
 use Rattle.asm_slots.specs.Codes.{IsOneOf, ASM_DONE, ASM_SMALL}
@@ -27,13 +27,13 @@ module _ (first : List ℤ) (P Q : ℤ → List ℕ → Type 0) (out after : Lis
     by_long : IsTextTooLong K (length out) written → IsTextTooLong L (length out) written
     by_long (text, is, same, less) = (text, longs text is, same, less)
 
-  -- the same, where the kind goes with the code
+  -- the same, if the kind is that for the code
   pub tells_one_too : TellsOneOf first P out after written code → TellsOneOf first Q out after written code
   tells_one_too = tells_too (λ text. (c : ℤ) × P c text) (λ text. (c : ℤ) × Q c text) by_code where
     by_code : (text : List ℕ) → ((c : ℤ) × P c text) → (c : ℤ) × Q c text
     by_code text (c, is) = (c, kinds c text is)
 
--- where these bytes are told, a text of a kind that they are of is told; the code as an i32
+-- if these bytes are written, a text of a kind that they are of is written; the code as an i32
 pub retold : (IsText : List ℕ → Type 0) (bytes text out after : List ℕ) (written : ℕ) (code : ℤ) → bytes ≡ text → IsText text →
     IsOneOf (ASM_DONE ∷ ASM_SMALL ∷ []) code → TellsText (λ t. t ≡ bytes) out after written code →
     TellsText IsText out after written (to_z w32 (of_z w32 code))
@@ -45,7 +45,7 @@ retold IsText bytes text out after written code same is codes told =
     kind : (t : List ℕ) → t ≡ bytes → IsText t
     kind t e = subst IsText (sym (e ∙ same)) is
 
--- where these bytes are told by a code that is one of the first, a text of the kind that goes with it is told
+-- if these bytes are written with a code that is one of the first, a text of the kind for that code is written
 pub told_by : (first : List ℤ) (P : ℤ → List ℕ → Type 0) (c : ℤ) (bytes out after : List ℕ) (written : ℕ) (code : ℤ) →
     IsOneOf first c → ¬ IsOneOf first ASM_SMALL → P c bytes → IsOneOf (c ∷ ASM_SMALL ∷ []) code →
     Tells (c ∷ []) (λ k t. t ≡ bytes) (λ t. t ≡ bytes) out after written code → TellsOneOf first P out after written code

@@ -1,4 +1,4 @@
--- What lies in a slot may go to another thread.
+-- The content of a slot may be sent to another thread.
 use denote.Param.Send.{IsSend, IsSync, sendable}
 use denote.Hole.{as_row}
 use denote.Param.SendFields.{as_row_send, as_row_sync, declared_send, declared_sync}

@@ -1,4 +1,4 @@
--- What is told of audits in slots.
+-- What audits in slots report.
 use Rattle.std.proofs.Common.{◌≡◌, [], ℕ, ℤ, List, Option, None, Some, Result, Ok, ◌↔◌, inl, refl, ap, subst, sym, ◌∙◌}
 use Rattle.asm_audit.specs.declared.error.AuditError.{AuditError}
 use Rattle.asm_audit.specs.declared.progress.Counts.{Counts}
@@ -31,7 +31,7 @@ all_legal bytes taken n w old new r f ok legal told first counts same = record {
   counts = λ _. subst (AreFedSoFar part new.progress new.line) (sym same) counts;
 }
 
--- what an audit is fed that has read nothing is fed to an empty slot
+-- what is fed to an audit that has read nothing is fed to an empty slot
 pub from_begun : (held : Content) (a : AuditView) (bytes : List ℕ) (after : Option Content) (taken : ℕ) (n : AuditNumbers)
     (code : ℤ) → held ≡ content.Audit a → WasFed [] a → HoldsAudit after (HasAudited bytes taken n code a) →
     Audits bytes (Some held) after taken n code → Audits bytes None after taken n code

@@ -1,4 +1,4 @@
--- An agent that is given is put among those that were given before, and one that is taken was one of them.
+-- An agent that is returned is added to the returned ones, and one that is checked out was one of them.
 use Rattle.std.proofs.Common.{◌≡◌, ◌≢◌, ◌+◌, ◌<◌, None, Some, ℕ, List, length, ◌∷◌, ◌++◌, All, map, take, drop, take-append-drop, subst, sym, ap, ◌∙◌}
 use Rattle.std.proofs.lemmas.List.{map-append}
 use Rattle.std.proofs.lemmas.List.Elements.{All-head, All-map}
@@ -28,7 +28,7 @@ put_in s old new p at a agents whole is are = (
   agents_among s new (take at old) (drop at old) p whole ∙ ap (λ (b : AgentAt Standard). map (agent_of s) (take at old) ++ b ∷ map (agent_of s) (drop at old)) is,
 )
 
--- where no part has the number, no agent has it
+-- if no part has the number, no agent has it
 pub no_number : (s : StorageView Standard) (parts : List AgentPart) (id : ℕ) (v : StoreView) → v.agents ≡ map (agent_of s) parts →
     All (λ p. p.id ≢ id) parts → HasNumber v id → ⊥
 no_number s parts id v are none (before, after, b, is, e) =
@@ -54,7 +54,7 @@ number_at s parts at id v are lt is =
     let part = part_at parts at id lt is in
     has_number s parts at id v part.0 are part.1 part.2
 
--- a part that is taken out of parts is an agent that is taken out of theirs
+-- a part that is removed from parts is an agent that is removed from theirs
 pub put_out : (s : StorageView Standard) (old new : List AgentPart) (p : AgentPart) (at : ℕ) (agents : List (AgentAt Standard)) →
     new ≡ take at old ++ drop (at + 1) old → old ≡ take at old ++ p ∷ drop (at + 1) old → agents ≡ map (agent_of s) old →
     IsPutIn (agent_of s p) (map (agent_of s) new) agents

@@ -1,4 +1,4 @@
--- Storages that are opened, and that go on where others ended.
+-- Storages that are opened, and that continue where others ended.
 use Rattle.std.proofs.Common.{◌≡◌, ◌∙◌, ◌⊎◌, ℕ, ℤ, List, length, Option, Some, None, Result, Ok, Err, IfOk, inl, inr, refl, ap, subst, sym, w32, to_z, of_z}
 use Rattle.asm_element.specs.Place.{Place}
 use Rattle.asm_update.specs.Fire.{Old, state_of}
@@ -32,7 +32,7 @@ leaves text S h same reads left = record {
   left = left;
 }
 
--- a storage that opens with what is kept
+-- a storage that opens with what is retained
 pub has_opened : (r : Result (StorageView Standard) StorageError) (bytes text : List ℕ) (S T : State) (most : ℕ) → text ≡ bytes →
     T ≡ S → Leaves text S → IfOk r (λ s. s.init ≡ T) → IfOk r (λ s. length s.row ≡ most) → IfOk r (HasOpened bytes most)
 has_opened (Ok s) bytes text S T most same kept leaves init room = record {
@@ -41,7 +41,7 @@ has_opened (Ok s) bytes text S T most same kept leaves init room = record {
 }
 has_opened (Err e) bytes text S T most same kept leaves init room = tt
 
--- what is so of a storage in a slot is so in other words
+-- what follows from a property of a storage in a slot holds of it
 holds_too : (o : Option Content) (P Q : StoreView → Type 0) → ((s : StoreView) → P s → Q s) → HoldsStore o P → HoldsStore o Q
 holds_too (Some (content.Store n)) P Q so h = so n h
 holds_too (Some (content.Agent a)) P Q so h = absurd h
@@ -63,7 +63,7 @@ opens o n bytes S most reads init room =
       is.1,
     ))
 
--- one that opens with what the kept journal leaves
+-- one that opens with what the retained journal leaves
 pub goes_on : (o : Option Content) (n : StorageView Standard) (s : StoreView) (text : List ℕ) (most : ℕ) →
     s.journal ≡ Some text → HasOpened text most n → HoldsStore o (IsNew n) → HoldsStore o (GoesOn most s)
 goes_on o n s text most keeps has =

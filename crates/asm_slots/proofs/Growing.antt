@@ -28,13 +28,14 @@ use Rattle.asm_slots.specs.declared.owned_step.Way.TheVariants as ways
 use Rattle.asm_slots.proofs.CopiedTexts.{tells_one_too}
 use Rattle.asm_slots.proofs.OwnStates.{IsOwn, below_is}
 
--- what a push or an extension owes to proper states that have what is below the step where partial updates are
+-- the answer of a push or an extension on well-formed states that have what is below the step where partial updates
+-- are
 abbrev AnswersOn : Old → List Layer → List Layer → Move → Result (Unit {0}) StepError → Type 0
 AnswersOn o layers new M r =
     (groups : List (List Move)) (B : State) → IsStepOf part o layers groups → IsProper B →
     Agrees B o (all_moves groups ++ M ∷ []) → IsPushAnswerOn part B layers new M r
 
--- so to the state below the step
+-- and so its answer on the state below the step
 below_answers : (a : AgentAt Standard) (s : StateView) (t : StepView) (new : List Layer) (M : Move)
     (r : Result (Unit {0}) StepError) → IsOwn a s → s.number ≡ t.number → AnswersOn (value_at s) t.layers new M r →
     IsPushAnswerBelow M a t new r
@@ -43,7 +44,7 @@ below_answers a s t new M r own same on groups is proper =
     on groups (state_at a t.number) (subst (λ (o : Old). IsStepOf part o t.layers groups) (sym at) is.1) proper
     (λ l there. sym (ap (λ (o : Old). o l) at))
 
--- what a push or an extension tells over a look-up is so over what is below the step
+-- what a push or an extension reports over a look-up holds over what is below the step
 pub is_grown : (way : Way) (a : AgentAt Standard) (s : StateView) (old : StepView) (ls : List Layer) (M : Move) →
     IsOwn a s → s.number ≡ old.number → IsLayered way old.layers ls →
     IsPushAnswer standard (value_at s) old.layers ls M (Ok tt) → AnswersOn (value_at s) old.layers ls M (Ok tt) →
@@ -67,7 +68,7 @@ is_grown way a s old ls M own same layers answer on step =
           subst (λ (o : Old). IsStepOf part o ls (grown way groups M)) at
           (step groups (subst (λ (o : Old). IsStepOf part o old.layers groups) (sym at) is))
 
--- why a move isn't taken, over what is below the step
+-- why a move isn't accepted, over what is below the step
 pub is_push_error : (way : Way) (a : AgentAt Standard) (s : StateView) (t : StepView) (M : Move) (e : StepError) →
     IsOwn a s → s.number ≡ t.number → (way ≡ ways.Extend → ¬ (e ≡ Deep)) →
     IsPushAnswer standard (value_at s) t.layers t.layers M (Err e) → AnswersOn (value_at s) t.layers t.layers M (Err e) →
@@ -97,7 +98,7 @@ is_grown_of way a s t inside ls M view own same layers answer on step =
     subst (λ (x : StepView). IsGrown way M a x (record inside { layers = ls })) view
     (is_grown way a s inside ls M own same layers answer on step)
 
--- a move that wasn't taken changes no layer, and is told by its text
+-- a move that wasn't accepted changes no layer, and its refusal is reported
 module _ (way : Way) (a : AgentAt Standard) (s : StateView) (t inside : StepView) (ls : List Layer) (M : Move) (e : StepError) where
   told_of : (after : StepView) (code : ℤ) (text : List ℕ) → inside ≡ t → IsOwn a s → s.number ≡ inside.number →
       (way ≡ ways.Extend → ¬ (e ≡ Deep)) → ls ≡ inside.layers →
@@ -122,7 +123,7 @@ module _ (way : Way) (a : AgentAt Standard) (s : StateView) (t inside : StepView
       tells_one_too refusals (TellsTracked M (record inside { layers = ls }) new e) (IsRefused way M a t new)
       out after written code (λ c text told. told_of new c text view own same deep kept answer on told)
 
--- the same of a move that the bytes are JSON of
+-- the same of a move whose JSON the bytes are
 pub not_grown : (way : Way) (bytes : List ℕ) (M : Move) (a : AgentAt Standard) (t new : StepView) → ReadAsMove bytes M →
     (out after : List ℕ) (written : ℕ) (code : ℤ) → TellsOneOf refusals (IsRefused way M a t new) out after written code →
     TellsOneOf refusals (IsNotGrown way bytes a t new) out after written code
@@ -139,7 +140,7 @@ not_small (inr (inr (inr (inl e)))) = cc
 not_small (inr (inr (inr (inr (inl e))))) = cc
 not_small (inr (inr (inr (inr (inr h))))) = h
 
--- the locations are got, in a step whose contents were these
+-- the locations are tracked, in a step whose contents were these
 pub got_with : (locations : List Place) (inside old : StepView) (got : List Place) → inside ≡ old →
     AreEach (old.got ++ from_below old locations) got → length got + length old.scanned ≤ reads_limit →
     HasGotEach locations old (record inside { got = got })
@@ -151,7 +152,7 @@ pub pushes : (way : Way) → ¬ (way ≡ ways.Extend) → way ≡ ways.Push
 pushes ways.Push other = refl
 pushes ways.Extend other = absurd (other refl)
 
--- the topmost layer is gone, and the step is of the groups before the last one
+-- the topmost layer is removed, and the step has the groups before the last one
 pub is_popped : (popped : Option (List Move)) (old : StepView) (ls : List Layer) →
     IfSome popped (λ Ms. (y : Layer) × (old.layers ≡ ls ++ y ∷ []) × (Ms ≡ y.moves)) →
     ((part : Part) (o : Old) (groups : List (List Move)) (group : List Move) →
@@ -164,7 +165,7 @@ is_popped (Some Ms) old ls less step = record {
 }
 is_popped None old ls less step = tt
 
--- and what is handed back is that one
+-- and the returned moves are that one
 pub are_last : (popped : Option (List Move)) (old : StepView) (ls : List Layer) →
     ((part : Part) (o : Old) (groups : List (List Move)) (group : List Move) →
     IsStepOf part o old.layers (groups ++ group ∷ []) → (popped ≡ Some group) × IsStepOf part o ls groups) →
@@ -173,7 +174,7 @@ are_last (Some Ms) old ls step = λ a groups group is.
     ap (λ o. unwrap_or o Ms) (step part (below a old) groups group is.1).0
 are_last None old ls step = tt
 
--- no layer is on top where there is none alone
+-- if no layer is on top, there is none
 pub no_top : (layers : List Layer) → None ≡ option_map (λ (y : Layer). y.moves) (top_of layers) → layers ≡ []
 no_top [] is = refl
 no_top (y ∷ []) is = cc

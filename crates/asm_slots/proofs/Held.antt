@@ -1,4 +1,4 @@
--- What is so of the agent that a slot holds, of the step that another does, and of an audit.
+-- What holds of the agent in a slot, of the step in another, and of an audit.
 use Rattle.std.proofs.Common.{◌≡◌, ℕ, ℤ, List, [], ◌∷◌, Option, Some, subst, sym, w32, of_z, to_z}
 use Rattle.asm_update.specs.Move.{Move}
 use Rattle.asm_storage.specs.Storage.{AgentAt}
@@ -16,7 +16,7 @@ pub holds : (o : Option Content) (a : AgentAt Standard) (P : AgentAt Standard �
     Holds o P
 holds o a P is p = subst (λ (x : Option Content). Holds x P) (sym is) p
 
--- where these bytes are told, a text is told that is so of the agent
+-- if these bytes are written, a text is written that has the property for the agent
 pub holds_told : (o : Option Content) (a : AgentAt Standard) (P : AgentAt Standard → List ℕ → Type 0)
     (bytes text out after : List ℕ) (written : ℕ) (code : ℤ) → o ≡ Some (content.Agent a) → bytes ≡ text → P a text →
     IsOneOf (ASM_DONE ∷ ASM_SMALL ∷ []) code → TellsText (λ t. t ≡ bytes) out after written code →
@@ -24,7 +24,7 @@ pub holds_told : (o : Option Content) (a : AgentAt Standard) (P : AgentAt Standa
 holds_told o a P bytes text out after written code is same so =
     retold (λ t. Holds o (λ b. P b t)) bytes text out after written code same (holds o a (λ b. P b text) is so)
 
--- where these bytes are told, a text is told that is so of the audit
+-- if these bytes are written, a text is written that has the property for the audit
 pub audit_told : (o : Option Content) (a : AuditView) (P : AuditView → List ℕ → Type 0)
     (bytes text out after : List ℕ) (written : ℕ) (code : ℤ) → o ≡ Some (content.Audit a) → bytes ≡ text → P a text →
     IsOneOf (ASM_DONE ∷ ASM_SMALL ∷ []) code → TellsText (λ t. t ≡ bytes) out after written code →
@@ -38,7 +38,7 @@ hold_both : (agent step : Option Content) (a : AgentAt Standard) (s : StepView) 
 hold_both agent step a s P e f p =
     subst (λ (x : Option Content). HoldBoth x step P) (sym e) (subst (λ (x : Option Content). HoldsStep x (P a)) (sym f) p)
 
--- what is so of an agent and a step, before and after, is so of the slots
+-- what holds of an agent and a step, before and after, holds of the slots
 pub hold_three : (agent step after : Option Content) (a : AgentAt Standard) (s t : StepView)
     (P : AgentAt Standard → StepView → StepView → Type 0) → agent ≡ Some (content.Agent a) → step ≡ Some (content.Step s) →
     after ≡ Some (content.Step t) → P a s t → HoldBoth agent step (λ b r. HoldsStep after (P b r))
@@ -48,7 +48,7 @@ hold_three agent step after a s t P e f g p =
 module _ (first : List ℤ) (agent step after_step : Option Content) (a : AgentAt Standard) (s t : StepView) (out after : List ℕ)
     (written : ℕ) (code : ℤ) (e : agent ≡ Some (content.Agent a)) (f : step ≡ Some (content.Step s))
     (g : after_step ≡ Some (content.Step t)) where
-  -- what is told of an agent and a step, before and after, is told of their slots
+  -- what is reported of an agent and a step, before and after, is reported of their slots
   pub both_told : (P : AgentAt Standard → StepView → StepView → ℤ → List ℕ → Type 0) →
       TellsOneOf first (P a s t) out after written code →
       TellsOneOf first (λ c text. HoldBoth agent step (λ b r. HoldsStep after_step (λ q. P b r q c text))) out after written code

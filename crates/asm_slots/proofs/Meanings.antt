@@ -19,7 +19,7 @@ use Rattle.asm_slots.specs.declared.operands.Verb.TheVariants as verbs
 
 -- ---- kinds
 
--- what bytes tell as JSON is nothing that kind and number tell, nor a text
+-- a kind whose bytes are JSON is not that of undef, a truth value, a number or a text
 told_apart : (k : ℤ) → IsByJson k →
     (k ≢ ASM_KIND_UNDEF) × (k ≢ ASM_KIND_BOOL) × (k ≢ ASM_KIND_NUM) × (k ≢ ASM_KIND_TEXT)
 told_apart k (inl is) = (λ other. cc, λ other. cc, λ other. cc, λ other. cc)
@@ -44,7 +44,7 @@ no_element k (Num m) is = (λ other. cc, λ other. cc)
 no_element k (Text s) is = (λ other. cc, λ other. cc)
 no_element k (Inner ds) is = (λ other. cc, λ other. cc)
 
--- ---- what is told
+-- ---- elements
 
 pub told_means : (k n : ℤ) (bs : List ℕ) (e : Element) → IsTextOrPlain k n bs e → IsOperand k n bs (Plain e)
 told_means k n bs Undef h = h.0
@@ -53,7 +53,7 @@ told_means k n bs (Num m) h = h.0
 told_means k n bs (Text s) h = h.0
 told_means k n bs (Inner ds) h = absurd (h.1 h.0.0)
 
--- where no element is told and the kind isn't one of JSON, nothing is meant
+-- if these are no element and the kind isn't one of JSON, nothing is meant
 pub none_means : (k n : ℤ) (bs : List ℕ) → ¬ IsByJson k → ((e : Element) → ¬ IsTextOrPlain k n bs e) → (v : Value) → ¬ IsOperand k n bs v
 none_means k n bs other none (Plain Undef) h = none Undef (h, λ is. other (inl is))
 none_means k n bs other none (Plain (Truth b)) h = none (Truth b) (h, λ is. other (inl is))
@@ -63,20 +63,20 @@ none_means k n bs other none (Plain (Inner ds)) h = other (inl h.1.2.0)
 none_means k n bs other none (Set s) h = other (inr (inl h.1.2.0))
 none_means k n bs other none (Bag b) h = other (inr (inr h.1.2.0))
 
--- a kind is none of JSON where its word is none
+-- a kind is none of JSON if its word is none
 pub not_by : (k : ℤ) → (of_z w32 k ≡ 4 → ⊥) → (of_z w32 k ≡ 5 → ⊥) → (of_z w32 k ≡ 6 → ⊥) → ¬ IsByJson k
 not_by k list set bag (inl is) = list (ap (of_z w32) is)
 not_by k list set bag (inr (inl is)) = set (ap (of_z w32) is)
 not_by k list set bag (inr (inr is)) = bag (ap (of_z w32) is)
 
--- these codes are what their words tell
+-- the word of one of these codes means that code
 pub coded : (code : ℤ) → (code ≡ ASM_MEMORY) ⊎ ((code ≡ ASM_OPERAND) ⊎ ((code ≡ ASM_SHAPE) ⊎ ⊥)) → to_z w32 (of_z w32 code) ≡ code
 coded code (inl e) = subst (λ (z : ℤ). to_z w32 (of_z w32 z) ≡ z) (sym e) refl
 coded code (inr (inl e)) = subst (λ (z : ℤ). to_z w32 (of_z w32 z) ≡ z) (sym e) refl
 coded code (inr (inr (inl e))) = subst (λ (z : ℤ). to_z w32 (of_z w32 z) ≡ z) (sym e) refl
 coded code (inr (inr (inr none))) = elim none [ ]
 
--- ---- what is read
+-- ---- JSON
 
 pub read_means : (k n : ℤ) (bs : List ℕ) (v : Value) → IsByJson k → k ≡ kind_of v → n ≡ pos 0 → ReadAs IsValueForm bs v → IsOperand k n bs v
 read_means k n bs (Plain Undef) by is zero read = absurd ((told_apart k by).0 is)
@@ -148,7 +148,7 @@ no_plain verbs.Remove k (Plain x) none is e told = absurd none
 no_plain (verbs.BagAdd m) k (Plain x) none is e told = absurd none
 no_plain (verbs.BagRemove m) k (Plain x) none is e told = absurd none
 
--- what can't be taken makes no action
+-- a value that the verb can't take makes no action
 pub untaken : (verb : Verb) (n k number : ℤ) (bs : List ℕ) (amount : ℕ) (v : Value) → IsVerb n amount verb → CannotTake verb v →
     IsOperand k number bs v → IsNoAction n k number bs amount
 untaken verb n k number bs amount v is none meant (Regular w) h = no_put verb n amount v is none h.0
@@ -165,7 +165,7 @@ untaken verb n k number bs amount v is none meant (Increment m) h =
 
 -- ---- with the words of numbers
 
--- an operand, as words tell its kind and its number
+-- an operand, with words for its kind and its number
 operand_of : (k k' m m' : ℤ) (bs : List ℕ) (v : Value) → k' ≡ k → m' ≡ m → IsOperand k' m' bs v → IsOperand k m bs v
 operand_of k k' m m' bs v kind number meant =
     subst (λ (x : ℤ). IsOperand k x bs v) number (subst (λ (x : ℤ). IsOperand x m' bs v) kind meant)

@@ -1,4 +1,4 @@
--- A location that is got besides others.
+-- A location that is tracked besides others.
 use Rattle.std.proofs.Common.{◌≡◌, ◌≤◌, ◌<◌, ◌∙◌, ℕ, Bool, true, false, cond, filter, append-nil, List, [], ◌∷◌, ◌++◌, Contains, Option, length, get_or, arith, ⊎_elim, subst, sym, ap}
 use Rattle.std.specs.List.{HoldsAt, AllWithin}
 use Rattle.std.specs.List.Retain.{IsFiltered, DiffersFromLast}
@@ -17,14 +17,14 @@ either xs ys l has =
     ⊎_elim (λ first. Contains-append_right ys xs l first) (λ second. Contains-append_left ys xs l second)
     (Contains-append_cases xs ys l has)
 
--- each of two lists, whichever stands first
+-- each of two lists, whichever is first
 pub each_swapped : (xs ys ls : List Place) → AreEach (xs ++ ys) ls → AreEach (ys ++ xs) ls
 each_swapped xs ys ls each = record {
   ascending = each.ascending;
   same = λ l. (λ has. either xs ys l ((each.same l).0 has), λ has. (each.same l).1 (either ys xs l has));
 }
 
--- nothing is got in ascending order
+-- the empty list of locations is in ascending order
 pub none_ascend : IsStrictlySortedBy location_cmp []
 unfolding IsStrictlySortedBy
 none_ascend = tt
@@ -51,7 +51,7 @@ noted old put ordered new l copy same items moved sorted kept =
     subst (λ (ls : List Place). AreEach ls new) (items ∙ ap (λ (x : Place). old ++ x ∷ []) same)
     (each_from put ordered new moved sorted kept)
 
--- what is noted in a list, to which room was added meanwhile
+-- what is tracked in a list, to which room was added meanwhile
 pub noted_in : (limit : ℕ) (old mid new : List Place) (l : Place) (copy : Option Place) → length old ≤ limit → mid ≡ old →
     IsCopyFor limit old l copy → ((n : ℕ) (k : Place) → IsCopyFor n mid k copy → AreEach (mid ++ k ∷ []) new) →
     ((n : ℕ) (k : Place) → length mid ≤ n → IsCopyFor n mid k copy → length new ≤ n) →
@@ -61,7 +61,7 @@ noted_in limit old mid new l copy less same is each few =
     let fits : length mid ≤ limit = subst (λ (ls : List Place). length ls ≤ limit) (sym same) less in
     (subst (λ (ls : List Place). AreEach (ls ++ l ∷ []) new) same (each limit l here), few limit l fits here)
 
--- a location that passes the test is got, and another isn't
+-- a location that passes the test is tracked, and another isn't
 pub kept_one : (t : Place → Bool) (old new : List Place) (l : Place) → t l ≡ true → AreEach (old ++ l ∷ []) new →
     AreEach (old ++ filter t (l ∷ [])) new
 kept_one t old new l is each = subst (λ b. AreEach (old ++ cond b (l ∷ []) []) new) (sym is) each

@@ -1,4 +1,4 @@
--- What the calls of an agent's part do is done by the agent of its owner.
+-- The calls of an agent's part have the effects of the calls of its owner's agent.
 use Rattle.std.proofs.Common.{◌≡◌, [], List, Result, Ok, Err, IfOk, subst, sym, ap, ◌∙◌}
 use Rattle.asm_update.specs.Move.{Move}
 use Rattle.asm_state.specs.declared.named.Named.{Named}
@@ -14,7 +14,7 @@ use Rattle.asm_slots.specs.AgentCalls.{IsRepliedOver}
 use Rattle.asm_slots.specs.Standard.{Standard, meaning}
 use Rattle.asm_slots.specs.declared.shared.Shared.{Shared}
 
--- a part of what is shared is one of what is lent of it
+-- a part of the shared storage is one of the borrowed storage
 pub lent : (x y : Shared) (p : AgentPart) → y ≡ x → IsPartOf meaning x.storage p → IsPartOf meaning y.storage p
 lent x y p same is = subst (λ (z : Shared). IsPartOf meaning z.storage p) (sym same) is
 
@@ -34,7 +34,7 @@ part_fires_over s t old new a reads scans M r same is over =
     subst (λ (x : AgentAt Standard). IsFireOver meaning x (agent_of s new) reads scans M r) is
     (subst (λ (x : StorageView Standard). IsFireOver meaning (agent_of x old) (agent_of x new) reads scans M r) same over)
 
--- and one that rests on no scan
+-- and one that depends on no scan
 pub part_fires : (s t : StorageView Standard) (old new : AgentPart) (a : AgentAt Standard) (reads : List Named) (M : Move)
     (r : Result Reply FireError) → t ≡ s → agent_of s old ≡ a →
     IsFireOver meaning (agent_of t old) (agent_of t new) reads [] M r → IsFire meaning a (agent_of s new) reads M r

@@ -51,7 +51,7 @@ own_of_name a s S name n text own stands same proper values is =
     subst (λ (k : ℕ). IsOwnOfName name a k text) (sym same)
     ((stands, own.within), (S, proper, (λ l. values l ∙ ap (λ (o : Old). of_name name o l) (own_values a s own)), is))
 
--- the state stands at the step's number, so what is below the step is what it has
+-- the state is at the step's version, so what is below the step is what it has
 pub below_is : (a : AgentAt Standard) (s : StateView) (t : StepView) → IsOwn a s → s.number ≡ t.number →
     value_at s ≡ below a t
 below_is a s t own same = own_values a s own ∙ ap (λ n. val (state_at a n)) same
@@ -60,7 +60,7 @@ pub seen_is : (a : AgentAt Standard) (s : StateView) (t : StepView) → IsOwn a 
     seen_through (frames_of t.layers) (value_at s) ≡ seen a t
 seen_is a s t own same = ap (λ (o : Old). seen_through (frames_of t.layers) o) (below_is a s t own same)
 
--- what is seen through a step, whose contents are these, over the state at its number
+-- what is seen through a step, whose contents are these, over the state at its version
 pub own_got : (a : AgentAt Standard) (s : StateView) (t inside : StepView) (n : ℕ) (o : OverView StateView)
     (locations : List Place) (text : List ℕ) → inside ≡ t → IsOwn a s → n ≡ s.number → n ≡ inside.number →
     o ≡ record { frames = frames_of inside.layers; below = s } →

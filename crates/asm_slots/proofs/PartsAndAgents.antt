@@ -16,7 +16,7 @@ more_made f made new y x left rest all whole step added is =
     ap (λ l. l ++ map f rest) (added ∙ ap (λ z. made ++ z ∷ []) is) ∙ append_assoc made (f x ∷ []) (map f rest)
     ∙ ap (λ l. made ++ map f l) (sym step) ∙ whole
 
--- one more is taken apart
+-- one more is split into what it is made of
 pub more_apart : {X Y : Type 0} (f : X → Y) (made new : List X) (x : X) (y : Y) (left rest all : List Y) →
     map f made ++ left ≡ all → left ≡ y ∷ rest → new ≡ made ++ x ∷ [] → f x ≡ y → map f new ++ rest ≡ all
 more_apart f made new x y left rest all whole step added is =
@@ -38,7 +38,7 @@ pub rises_again : (s t : StorageView Standard) (new old : List AgentPart) → ma
 rises_again s t new old same rises =
     subst IsStrictlyIncreasing (sym (sym (ids_of s new) ∙ ap (λ (l : List (AgentAt Standard)). ids (accounts l)) same ∙ ids_of t old)) rises
 
--- what is told of the agents that are made of parts is told of those of the store that has the parts
+-- what holds of the agents that are made of parts holds of those of the store that has the parts
 pub told_of_store : (P : StorageView Standard → List (AgentAt Standard) → Type 0) (x y z : Shared) (parts : List AgentPart)
     (all : List (AgentAt Standard)) → y ≡ x → z ≡ x → all ≡ map (agent_of y.storage) parts → P z.storage all
     → P x.storage (map (agent_of x.storage) parts)

@@ -17,7 +17,7 @@ use Rattle.asm_slots.specs.StepView.{StepView, names_of}
 use Rattle.asm_slots.specs.StepCalls.{HasGotAll, IsScanFor, has_scan}
 use Rattle.asm_slots.proofs.Noting.{none_ascend}
 
--- names that a test takes for one are one
+-- names that the test finds equal are equal
 same_name : (x y : List ℕ) → pointwise nat_eq x y ≡ true → x ≡ y
 same_name = same_list nat_eq (λ x y h. grind (arith, h))
 
@@ -25,16 +25,16 @@ any_of_names : (scans : List Scanned) (name : List ℕ) → has_scan name scans 
 any_of_names [] name = refl
 any_of_names (x ∷ xs) name = ap (λ b. pointwise nat_eq name (string_bytes x.name) || b) (any_of_names xs name)
 
--- where the test finds a scan of the name, there is one
+-- if the test finds a scan of the name, there is one
 pub named : (scans : List Scanned) (name : List ℕ) → has_scan name scans ≡ true → Contains (names_of scans) name
 named scans name is = Contains-from_any {eq = pointwise nat_eq} same_name name (names_of scans) (sym (any_of_names scans name) ∙ is)
 
--- and where it finds none, there is none
+-- and if it finds none, there is none
 pub unnamed : (scans : List Scanned) (name : List ℕ) → has_scan name scans ≡ false → ¬ Contains (names_of scans) name
 unnamed scans name is has =
     false≢true (sym is ∙ any_of_names scans name ∙ list_any-from_Contains nat_list_eq_equiv name (names_of scans) has)
 
--- a scan more takes one place of those that are left, and is at the number of the others
+-- one more scan takes one of the places that are left, and is at the number of the others
 pub few_scans : (got : List Place) (old mid new : List Scanned) (name : List ℕ) (number limit : ℕ) (scan : Option Scanned) →
     length got + limit ≤ reads_limit → length got + length old ≤ reads_limit → All (λ x. x.number ≡ number) old → mid ≡ old →
     IsScanFor limit old name number scan → IfSome scan (λ one. new ≡ mid ++ one ∷ []) → IfNone scan (new ≡ mid) →
@@ -69,7 +69,7 @@ pub few_places : (got : List Place) (scans : List Scanned) → length got + leng
     length got + length (names_of scans) ≤ reads_limit
 few_places got scans few = omega (arith, few, length-map scans (λ (x : Scanned). string_bytes x.name))
 
--- nothing is got or scanned yet
+-- nothing is tracked or scanned yet
 pub none_kept : (got : List Place) (scans : List Scanned) (number : ℕ) → got ≡ [] → scans ≡ [] →
     IsStrictlySortedBy location_cmp got × (length got + length scans ≤ reads_limit) × All (λ x. x.number ≡ number) scans
 none_kept got scans number none unscanned =

@@ -1,4 +1,4 @@
--- Functions that were scanned are whole before a move that fired over their scans.
+-- Scanned functions are unchanged before a move that fired over their scans.
 use Rattle.std.proofs.Common.{IsTrue, string_bytes, Ok, ◌≡◌, ◌≤◌, ◌<◌, ◌+◌, ◌-◌, ◌∙◌, ◌||◌, ◌↔◌, ℕ, ℤ, zero, suc, Bool, true, false, List, [], ◌∷◌, All, get_or, length, map, take, arith, ap, refl, subst, sym}
 use Rattle.std.specs.Prelude.{nat_lt}
 use Rattle.std.specs.List.{list_any}
@@ -34,7 +34,7 @@ take_all_seen zero xs = refl
 take_all_seen (suc n) [] = refl
 take_all_seen (suc n) (x ∷ xs) = ap (λ l. x.instrs ∷ l) (take_all_seen n xs)
 
--- a function that is as it was scanned has what the agent knew that it had at the number of the scan
+-- a function that is unchanged since its scan has what the agent knew that it had at the number of the scan
 pub kept_whole : (a new : AgentAt Standard) (k : ℕ) (s : Scanned) → new.storage ≡ a.storage →
     IsPrefix a.account.seen (take (k - 1) new.account.seen) → s.number ≤ length a.account.seen →
     IsKept (machine_of meaning new.storage) (moves_seen (take (k - 1) new.account.seen)) s →
@@ -52,14 +52,14 @@ second_false : (b c : Bool) → (b || c) ≡ false → c ≡ false
 second_false true c h = absurd (false≢true (sym h))
 second_false false c h = h
 
--- where none of the scans is told to have a greater number, each has at most this one
+-- if no scan is found to have a greater number, each has at most this one
 none_later : (over : List Scanned) (n : ℕ) → list_any (λ s. nat_lt n s.number) over ≡ false → All (λ s. s.number ≤ n) over
 none_later over n none k d lt = by_test (nat_lt n (get_or over k d).number) refl where
   by_test : (b : Bool) → nat_lt n (get_or over k d).number ≡ b → (get_or over k d).number ≤ n
   by_test true is = absurd (false≢true (sym none ∙ list_any_at (λ (s : Scanned). nat_lt n s.number) over k d lt is))
   by_test false is = grind (arith, is)
 
--- so each function is whole before the move that fired
+-- so each function is unchanged before the move that fired
 whole_over : (a new : AgentAt Standard) (reads : List Named) (over : List Scanned) (M : Move) (r : Reply) →
     IsRepliedOver a new reads over M r → is_any_over reads over (length a.account.seen) ≡ false → AreWholeOver a over r new
 whole_over a new reads over M r told within k is = fired (subst (IsRepliedOver a new reads over M) is told) where
@@ -75,7 +75,7 @@ whole_over a new reads over M r told within k is = fired (subst (IsRepliedOver a
       kept_whole a new k (get_or over j d) (ap (λ (x : AgentAt Standard). x.storage) told.replied.agent) told.replied.begins
       (few j d lt) (told.rests.1 j d lt)
 
--- what is told of an answered fire over scans
+-- what holds of an answered fire over scans
 pub tried_over : (call scans : List ℕ) (code : ℤ) (number : ℕ) (a new : AgentAt Standard) (reads : List Named)
     (over : List Scanned) (M : Move) (r : Reply) → ReadAsFireOver call scans reads over M → code_of r ≡ code →
     number_of r ≡ number → is_any_over reads over (length a.account.seen) ≡ false → IsRepliedOver a new reads over M r →

@@ -33,7 +33,7 @@ use Rattle.asm_slots.specs.declared.content.Content.TheVariants as content
 abbrev pub IsOpened : List ℕ → ℕ → StoreView → Type 0
 IsOpened bytes capacity s = ReadAsState bytes s.storage.init × (length s.storage.row ≡ capacity) × IsUnused s
 
--- the storage with these numbers of agents that were made besides
+-- the storage with these further numbers of agents that were made
 abbrev pub HasMade : List ℕ → StoreView → StoreView → Type 0
 HasMade numbers old new = new ≡ record old { numbers = old.numbers ++ numbers }
 
@@ -42,7 +42,7 @@ abbrev pub Makes : List ℕ → Option Content → Option Content → Type 0
 Makes numbers (Some (content.Store s)) new = HoldsStore new (HasMade numbers s)
 Makes numbers _ new = ⊥
 
--- the bytes are JSON of locations, and these were read, after a look that found nothing more
+-- the bytes are JSON of locations, and these were read, after a poll that found nothing more
 abbrev pub HasRead : List ℕ → AgentAt Standard → AgentAt Standard → Type 0
 HasRead bytes old new =
     (locations : List element.Place) × (r : ReadingView) × ReadAsLocations bytes locations
@@ -64,26 +64,27 @@ number_of _ = 0
 abbrev pub IsReplyCode : ℤ → Type 0
 IsReplyCode code = (code ≡ ASM_DONE) ⊎ (code ≡ ASM_STALE) ⊎ (code ≡ ASM_CLASH) ⊎ (code ≡ ASM_FULL)
 
--- the bytes are JSON of a fire, and it was answered with a reply of this code and this number, after so many offers and
--- looks as this reply comes after
+-- the bytes are JSON of a fire, and it was answered with a reply of this code and this number; the counts of attempts
+-- and polls are as of this reply
 abbrev pub HasTriedFire : List ℕ → ℤ → ℕ → AgentAt Standard → AgentAt Standard → Type 0
 HasTriedFire bytes code number old new =
     (reads : List Named) × (M : Move) × (r : Reply) × ReadAsFire bytes reads M × (code_of r ≡ code)
     × (number_of r ≡ number) × IsReplied meaning old new reads M r × IsCoherentReply meaning new reads M r
     × ((n : ℕ) × MadeOffers old new (Ok r) n)
 
--- a fire that rests on scans too was answered by this reply: as one is that names, behind the reads, what was found of them
+-- a fire that depends on scans too was answered by this reply: the one to the fire that also declares, behind the
+-- reads, what was found of the scans
 pub record IsRepliedOver (old new : AgentAt Standard) (reads : List Named) (scans : List Scanned) (M : Move) (r : Reply) : Type 0 where
   pub found : Option Named
   pub replied : IsReplied meaning old new (with_found reads found) M r
   pub coherent : IsCoherentReply meaning new (with_found reads found) M r
   pub rests : RestsOn (machine_of meaning new.storage) (moves_seen (judged_on r new.account.seen)) scans found r
 
--- so many moves had been seen at the start of a call that lost 64 offers, and so many at its end
+-- how many moves had been seen at the start and at the end of a call that lost 64 attempts
 abbrev pub WasBusy : ℕ → ℕ → AgentAt Standard → AgentAt Standard → Type 0
 WasBusy from to old new = IsBusy old new (Busy from to) × ((n : ℕ) × MadeOffers old new (Err (Busy from to)) n)
 
--- it has looked on, and nothing else
+-- it has polled, and nothing else has changed
 abbrev pub HasLooked : AgentAt Standard → AgentAt Standard → Type 0
 HasLooked old new = new ≡ has_looked old new.account.seen new.misses new.number
 
@@ -91,19 +92,19 @@ HasLooked old new = new ≡ has_looked old new.account.seen new.misses new.numbe
 abbrev pub SeesOn : AgentAt Standard → AgentAt Standard → Type 0
 SeesOn old new = IsPrefix old.account.seen new.account.seen
 
--- it stays as it was, or has looked on to the end for a read that was refused memory
+-- it is unchanged, or has polled to the end for a read that was refused memory
 abbrev pub MayHaveLooked : AgentAt Standard → AgentAt Standard → Type 0
 MayHaveLooked old new = (new ≡ old) ⊎ Missed old (last_look new) new
 
--- it stays as it was, or has made offers and looks for a fire that was refused memory
+-- it is unchanged, or has made attempts and polls for a fire that was refused memory
 abbrev pub MayHaveOffered : AgentAt Standard → AgentAt Standard → Type 0
 MayHaveOffered old new = (new ≡ old) ⊎ ((n : ℕ) × MadeOffers old new (Err Memory) n)
 
--- at most 64 looks more found nothing
+-- at most 64 more polls found nothing
 abbrev pub MissedFew : AgentAt Standard → AgentAt Standard → Type 0
 MissedFew old new = new.misses ≤ old.misses + offers_limit
 
--- a look more found nothing, as far as they are counted
+-- at least one more poll found nothing (saturating counter)
 abbrev pub MissedOne : AgentAt Standard → AgentAt Standard → Type 0
 MissedOne old new = min (old.misses + 1) (2 ^ 64 - 1) ≤ new.misses
 
@@ -112,12 +113,12 @@ abbrev pub IsLastAnswer : List Receipt → List ℕ → Type 0
 IsLastAnswer receipts text = (rs : List Receipt) × (r : Receipt) × (receipts ≡ rs ++ r ∷ [])
     × (text ≡ compact_text (answer_json_of r.answer))
 
--- the text of the answer to the last call, where there was one
+-- the text of the answer to the last call, if there was one
 abbrev pub TellsLast : AgentAt Standard → Option (List ℕ) → Type 0
 TellsLast a None = a.account.receipts ≡ []
 TellsLast a (Some s) = IsLastAnswer a.account.receipts s
 
--- it has learnt what was seen there, and has then seen as much as the one or the other
+-- it has learnt what was seen there, and has then seen as much as the longer of the two
 abbrev pub HasLearnt : List Entry → AgentAt Standard → AgentAt Standard → Type 0
 HasLearnt theirs old new =
     (new ≡ has_seen old new.account.seen) × IsPrefix old.account.seen new.account.seen
@@ -129,36 +130,36 @@ abbrev pub Learns : Option Content → Option Content → Option Content → Typ
 Learns (Some (content.Agent other)) old new = Goes old new (HasLearnt other.account.seen)
 Learns _ old new = ⊥
 
--- the storage with this agent among those that were given back, and no journal
+-- the storage with this agent among the returned ones, and without a journal
 abbrev pub HasTaken : AgentAt Standard → StoreView → StoreView → Type 0
 HasTaken a old new = (new ≡ record old { agents = new.agents; journal = None }) × IsPutIn a old.agents new.agents
 
--- the agent was given to the storage
+-- the agent was returned to the storage
 abbrev pub Gives : Option Content → Option Content → Option Content → Type 0
 Gives (Some (content.Store s)) (Some (content.Agent a)) new = HoldsStore new (HasTaken a s)
 Gives _ _ new = ⊥
 
--- the storage without this agent, which was among those that were given back, and with no journal
+-- the storage without this agent, which was among the returned ones, and without a journal
 abbrev pub HasLost : AgentAt Standard → StoreView → StoreView → Type 0
 HasLost a old new = (new ≡ record old { agents = new.agents; journal = None }) × IsPutIn a new.agents old.agents
 
--- an agent with this number was given to the storage
+-- a returned agent of the storage has this number
 abbrev pub HasNumber : StoreView → ℕ → Type 0
 HasNumber s id =
     (before after : List (AgentAt Standard)) × (b : AgentAt Standard) × (s.agents ≡ before ++ b ∷ after)
     × (b.account.id ≡ id)
 
--- an agent with the number of this one was given to the storage
+-- a returned agent of the storage has the number of this one
 abbrev pub IsThere : Option Content → Option Content → Type 0
 IsThere (Some (content.Store s)) (Some (content.Agent a)) = HasNumber s a.account.id
 IsThere _ _ = ⊥
 
--- the storage keeps this journal of the agents that were given to it
+-- the storage retains this journal of its returned agents
 abbrev pub KeepsJournal : StoreView → Option (List ℕ) → Type 0
 KeepsJournal s None = ⊥
 KeepsJournal s (Some text) = IsJournalOf s.storage s.agents text
 
--- the storage keeps the journal of the agents that were given to it, and all else as before
+-- the storage retains the journal of its returned agents, and all else is unchanged
 abbrev pub HasClosed : StoreView → StoreView → Type 0
 HasClosed old new = (new ≡ record old { journal = new.journal }) × KeepsJournal old new.journal
 

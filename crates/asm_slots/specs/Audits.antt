@@ -19,34 +19,34 @@ use Rattle.asm_slots.specs.Standard.{part}
 use Rattle.asm_slots.specs.declared.audit.AuditNumbers.{AuditNumbers}
 use Rattle.asm_slots.specs.declared.content.Content.{Content}
 
--- the numbers of parts, calls and moves, as an audit has them
+-- the numbers of segments, calls and moves, as an audit has them
 abbrev pub counts_of : AuditNumbers → Counts
 counts_of n = record { calls = n.calls; moves = n.moves; parts = n.parts }
 
--- nothing is told by numbers
+-- all numbers are 0
 abbrev pub AreNoNumbers : AuditNumbers → Type 0
 AreNoNumbers n = (n.parts ≡ 0) × (n.calls ≡ 0) × (n.moves ≡ 0)
 
--- the code of an audit's error, with the number of the part, and of the line at fault, or 0
+-- the code of an audit's error, with the number of the segment, and of the line at fault, or 0
 abbrev pub TellsAuditError : AuditError → ℤ → AuditNumbers → Type 0
 TellsAuditError (Journal j fault) code n = TellsError fault code n.calls × (n.parts ≡ j) × (n.moves ≡ 0)
 TellsAuditError (Apart j) code n = (code ≡ ASM_APART) × (n.parts ≡ j) × (n.calls ≡ 0) × (n.moves ≡ 0)
 TellsAuditError LongLine code n = (code ≡ ASM_LONG_LINE) × AreNoNumbers n
 TellsAuditError Memory code n = (code ≡ ASM_MEMORY) × AreNoNumbers n
 
--- the code of what is told of bytes, with the number of the part and of the call whose answer is wrong
+-- the code of the answer to bytes, with the number of the segment and of the call whose answer is wrong
 abbrev pub TellsAnswer : Result Told AuditError → ℤ → AuditNumbers → Type 0
 TellsAnswer (Ok Legal) code n = code ≡ ASM_DONE
 TellsAnswer (Ok (Illegal j c)) code n = (code ≡ ASM_ILLEGAL) × (n.parts ≡ j) × (n.calls ≡ c) × (n.moves ≡ 0)
 TellsAnswer (Err e) code n = TellsAuditError e code n
 
--- the code of what is told of the end, with the numbers of the whole run
+-- the code of the answer at the end, with the numbers of the complete run
 abbrev pub TellsEnd : Result Counts AuditError → ℤ → AuditNumbers → Type 0
 TellsEnd (Ok w) code n = (code ≡ ASM_DONE) × (counts_of n ≡ w)
 TellsEnd (Err e) code n = TellsAuditError e code n
 
--- the first so many of the bytes were taken, and no others; this was told of them all, whatever comes behind; and where all
--- is right, these are the numbers so far
+-- exactly the first `taken` of the bytes were read; this is the answer to all of the bytes, whatever bytes follow;
+-- and if all is right, these are the numbers so far
 pub record HasAudited (bytes : List ℕ) (taken : ℕ) (n : AuditNumbers) (code : ℤ) (old new : AuditView) : Type 0 where
   pub answer : Result Told AuditError
   pub tells : TellsAnswer answer code n
@@ -54,8 +54,8 @@ pub record HasAudited (bytes : List ℕ) (taken : ℕ) (n : AuditNumbers) (code 
   pub first : HasTakenFirst part bytes old.progress old.line new.progress new.line taken answer
   pub counts : code ≡ ASM_DONE → AreFedSoFar part new.progress new.line (counts_of n)
 
--- the bytes are fed to the audit of the slot, or to one that begins there, unless there was no memory to begin one; or the slot
--- holds something else
+-- the bytes are fed to the audit of the slot, or to a new one in the empty slot, unless there was no memory to make
+-- one; or the slot holds something else
 pub record Audits (bytes : List ℕ) (audit after : Option Content) (taken : ℕ) (n : AuditNumbers) (code : ℤ) : Type 0 where
   pub codes : IsOneOf (ASM_DONE ∷ ASM_MEMORY ∷ ASM_TAKEN ∷ ASM_ILLEGAL ∷ ASM_NOT_JSON ∷ ASM_SHAPE ∷ ASM_VERSION
       ∷ ASM_CUT ∷ ASM_LONG_LINE ∷ ASM_APART ∷ []) code
@@ -64,13 +64,13 @@ pub record Audits (bytes : List ℕ) (audit after : Option Content) (taken : ℕ
   pub other : (code ≡ ASM_TAKEN) ↔ ¬ HasRoomForAudit audit
   pub kept : code ≡ ASM_TAKEN → (after ≡ audit) × (taken ≡ 0) × AreNoNumbers n
 
--- what is told where no byte comes behind: the run is whole and legal, or this is its fault
+-- the answer if no byte follows: the run is complete and legal, or this is its fault
 pub record HasEnd (n : AuditNumbers) (code : ℤ) (a : AuditView) : Type 0 where
   pub answer : Result Counts AuditError
   pub tells : TellsEnd answer code n
   pub told : IsFedEnd part a.progress a.line answer
 
--- the end is told of the audit of a slot
+-- the code and the numbers are those of the end of a slot's audit
 pub record EndsAudit (audit : Option Content) (n : AuditNumbers) (code : ℤ) : Type 0 where
   pub codes : IsOneOf (ASM_DONE ∷ ASM_MEMORY ∷ ASM_EMPTY ∷ ASM_NOT_JSON ∷ ASM_SHAPE ∷ ASM_VERSION ∷ ASM_CUT
       ∷ ASM_LONG_LINE ∷ ASM_APART ∷ []) code
@@ -83,6 +83,6 @@ abbrev pub IsAuditState : AuditView → List ℕ → Type 0
 IsAuditState a text =
     (S : State) × IsFedStateSoFar part a.progress a.line (Some S) × (text ≡ compact_text (state_json_of S))
 
--- no part has begun
+-- no segment has begun
 abbrev pub HasNoState : AuditView → Type 0
 HasNoState a = IsFedStateSoFar part a.progress a.line None

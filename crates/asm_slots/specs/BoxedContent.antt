@@ -8,7 +8,7 @@ use Rattle.std_alloc.specs.Box.Ownership.{box_owns}
 use Rattle.asm_slots.specs.declared.content.Content.{Content}
 use Rattle.asm_slots.specs.contracts.content.Content.{the_row}
 
--- the box behind the pointer, where there is one
+-- the box behind the pointer, if there is one
 abbrev pub option_box_owns : (Ty → Ptr → Fml) → Ptr → Option Content → Fml
 option_box_owns token at None = ftrue
 option_box_owns token at (Some v) = box_owns token the_row at v

@@ -9,8 +9,8 @@ use Rattle.asm_slots.specs.Standard.{Standard}
 use Rattle.asm_slots.specs.declared.store_close.Unclosed.{Unclosed}
 use Rattle.asm_slots.specs.declared.store_close.Unclosed.TheVariants as unclosed
 
--- a missing receipt is told by the number of its move, and a history that is beyond a journal's limits as that; that
--- memory was refused tells nothing
+-- why these agents aren't closed: the move with this number lacks a receipt, or their history is beyond a journal's
+-- limits; that memory was refused says nothing of them
 abbrev pub IsUnclosed : StorageView Standard → List (AgentAt Standard) → Unclosed → Type 0
 IsUnclosed s all (unclosed.Missing number) = LacksReceipt s all number
 IsUnclosed s all unclosed.Large = IsTooLarge s all
@@ -23,7 +23,7 @@ IsUnwritten s all history (unclosed.Missing number) = IsUnseen s all number
 IsUnwritten s all history unclosed.Large = ¬ Fits history
 IsUnwritten s all history unclosed.Memory = Unit {0}
 
--- this code tells why, with the number of the move that has no receipt, or 0
+-- the code of why, with the number of the move that has no receipt, or 0
 abbrev pub TellsUnclosed : Unclosed → ℤ → ℕ → Type 0
 TellsUnclosed (unclosed.Missing n) code number = (code ≡ ASM_MISSING) × (number ≡ n)
 TellsUnclosed unclosed.Large code number = (code ≡ ASM_MANY_CALLS) × (number ≡ 0)

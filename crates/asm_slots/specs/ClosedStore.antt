@@ -1,4 +1,4 @@
--- What a closed storage tells.
+-- What a closed storage reports.
 use Rattle.std.specs.Prelude.{◌≡◌, ◌⊎◌, ◌+◌, ◌≤◌, ℕ, List, length}
 use Rattle.asm_storage.specs.declared.history.History.{History}
 use Rattle.asm_storage.specs.Agents.{NoneMissing, most_seen}
@@ -21,8 +21,8 @@ IsTooLarge s all = (history : History) × IsClosed meaning s all history × ¬ F
 abbrev pub IsUnseen : StorageView Standard → List (AgentAt Standard) → ℕ → Type 0
 IsUnseen s all number = (number ≡ most_seen (accounts all) + 1) × (number ≤ length s.row)
 
--- no receipt of these agents tells the move with this number: either it is the least such move of those that one of them has
--- seen; or each of these has a receipt, and it is the move after them
+-- no receipt of these agents has the move with this number: either it is the smallest such number of the moves that
+-- one of them has seen; or each of these moves has a receipt, and it is the number after them
 abbrev pub LacksReceipt : StorageView Standard → List (AgentAt Standard) → ℕ → Type 0
 LacksReceipt s all number =
     IsMissing (accounts all) (Missing number) ⊎ (NoneMissing (accounts all) × IsUnseen s all number)

@@ -1,11 +1,11 @@
--- The codes that C gets.
+-- The codes that calls return to C.
 use Rattle.std.specs.Prelude.{◌≡◌, ◌⊎◌, ◌-◌, ℤ, pos, negsuc, List, [], ◌∷◌, ℕ, codes, int_lt, slice_index_or, if◌then◌else◌}
 
 -- done; of a fire: fired; of a check: legal
 abbrev pub ASM_DONE : ℤ
 ASM_DONE = pos 0
 
--- a location that the move names, or of a function that it scans, was written since
+-- a location that the move declares, or of a function that it scans, was written since
 abbrev pub ASM_STALE : ℤ
 ASM_STALE = pos 1
 
@@ -21,7 +21,7 @@ ASM_MEMORY = pos 3
 abbrev pub ASM_FULL : ℤ
 ASM_FULL = pos 4
 
--- a slot holds nothing of the kind that is wanted, or is passed twice
+-- a slot holds nothing of the kind that the call needs, or is passed twice
 abbrev pub ASM_EMPTY : ℤ
 ASM_EMPTY = pos 5
 
@@ -33,7 +33,7 @@ ASM_CAPACITY = pos 6
 abbrev pub ASM_SMALL : ℤ
 ASM_SMALL = pos 7
 
--- 64 offers were lost to other agents
+-- 64 attempts to append were lost to other agents
 abbrev pub ASM_BUSY : ℤ
 ASM_BUSY = pos 8
 
@@ -45,7 +45,7 @@ ASM_MANY = pos 9
 abbrev pub ASM_NO_ANSWER : ℤ
 ASM_NO_ANSWER = pos 10
 
--- a slot that was to be filled holds something else
+-- a slot that the call would fill holds something else
 abbrev pub ASM_TAKEN : ℤ
 ASM_TAKEN = pos 11
 
@@ -53,7 +53,7 @@ ASM_TAKEN = pos 11
 abbrev pub ASM_NUMBER : ℤ
 ASM_NUMBER = pos 12
 
--- a move has no receipt among the agents that were given back
+-- a move has no receipt among the returned agents
 abbrev pub ASM_MISSING : ℤ
 ASM_MISSING = pos 13
 
@@ -85,7 +85,7 @@ ASM_CUT = pos 19
 abbrev pub ASM_LARGE : ℤ
 ASM_LARGE = pos 20
 
--- the agent's own state stands at another number than the step
+-- the agent's own state is at another version than the step
 abbrev pub ASM_MOVED : ℤ
 ASM_MOVED = pos 21
 
@@ -93,15 +93,15 @@ ASM_MOVED = pos 21
 abbrev pub ASM_DEEP : ℤ
 ASM_DEEP = pos 22
 
--- a part of a run opens with another state than the one before it leaves
+-- a segment of a run opens with another state than the one before it leaves
 abbrev pub ASM_APART : ℤ
 ASM_APART = pos 23
 
--- an agent's number isn't below 256, or there would be one
+-- an agent's number isn't below 256, or one of them wouldn't be
 abbrev pub ASM_AGENTS : ℤ
 ASM_AGENTS = pos 24
 
--- a location or a function is named at a number above that of the moves that the agent has seen
+-- a location is declared or a function scanned at a number above that of the moves that the agent has seen
 abbrev pub ASM_AHEAD : ℤ
 ASM_AHEAD = pos 25
 
@@ -113,7 +113,7 @@ ASM_OPERAND = pos 26
 abbrev pub ASM_NO_FORM : ℤ
 ASM_NO_FORM = pos 27
 
--- no journal was made since an agent was given back or taken
+-- no journal was made since an agent was returned or checked out
 abbrev pub ASM_NO_JOURNAL : ℤ
 ASM_NO_JOURNAL = pos 28
 
@@ -121,15 +121,15 @@ ASM_NO_JOURNAL = pos 28
 abbrev pub ASM_NO_PUSH : ℤ
 ASM_NO_PUSH = pos 29
 
--- no agent with this number was given back
+-- no returned agent has this number
 abbrev pub ASM_NO_AGENT : ℤ
 ASM_NO_AGENT = pos 30
 
--- no part has begun
+-- no segment has begun
 abbrev pub ASM_NO_PART : ℤ
 ASM_NO_PART = pos 31
 
--- the agent's own state stands at fewer moves than its storage has room for
+-- the agent's own state has followed fewer moves than its storage has room for
 abbrev pub ASM_NOT_FULL : ℤ
 ASM_NOT_FULL = pos 32
 
@@ -177,7 +177,7 @@ first_texts =
     codes "the state of the agent is at another number of moves than the step" ∷
     codes "64 moves are pushed already" ∷ []
 
--- and of those from ASM_APART on
+-- the texts of the codes from ASM_APART on
 abbrev pub further_texts : List (List ℕ)
 further_texts =
     codes "a part opens with another state than the one before it leaves" ∷
@@ -194,7 +194,7 @@ further_texts =
     codes "a line of more than 1,073,741,824 bytes" ∷
     codes "a move of more than 4,096 instructions" ∷ []
 
--- the text of this index among these; none where there is no such text
+-- the text with this index among these, or that of no code if there is none
 abbrev pub text_among : List (List ℕ) → ℤ → List ℕ
 text_among texts (pos n) = slice_index_or texts n (codes "no code of this library")
 text_among texts (negsuc n) = codes "no code of this library"

@@ -30,7 +30,7 @@ use Rattle.asm_slots.specs.StepCalls.{IsElsewhere, IsOfScanned, IsStepOn, below,
 use Rattle.asm_slots.specs.declared.content.Content.{Content}
 use Rattle.asm_slots.specs.declared.read_and_fire.Numbers.{Numbers}
 
--- the code and the numbers of what a fire answers: of the move that was fired, and of the moves that had been seen at the
+-- the code and the numbers of a fire's answer: the number of the fired move, and how many moves had been seen at the
 -- start and at the end of a busy call; what a code doesn't set is 0
 abbrev pub TellsFire : Result Reply FireError → ℤ → ℕ → ℕ → ℕ → Type 0
 TellsFire (Ok r) code fired from to = (code ≡ code_of r) × (fired ≡ number_of r) × (from ≡ 0) × (to ≡ 0)
@@ -38,8 +38,8 @@ TellsFire (Err (Busy f t)) code fired from to = (code ≡ ASM_BUSY) × (fired �
 TellsFire (Err ManyReads) code fired from to = (code ≡ ASM_MANY) × (fired ≡ 0) × (from ≡ 0) × (to ≡ 0)
 TellsFire (Err Memory) code fired from to = (code ≡ ASM_MEMORY) × (fired ≡ 0) × (from ≡ 0) × (to ≡ 0)
 
--- all that the step rests on is named at its number: each location that was got where what was seen was made from the state
--- below, and each on which the pushed moves rest
+-- a read at the step's version is declared for each location on which the step depends: each tracked one, where what
+-- was seen was made from the state below, and each on which the pushed moves depend
 pub record NamesAll (s : StepView) (reads : List Named) : Type 0 where
   pub locations : AreEach (s.got ++ resting_of s.layers) (map (λ r. r.at) reads)
   pub numbers : All (λ r. r.number ≡ s.number) reads
@@ -51,33 +51,33 @@ StandsAs layers M =
     IsProper B → AgreesAtRests B old (all_moves groups) →
     left_by (fire m.part B M) ≡ left_by (fire_all m.part (Ok B) (all_moves groups))
 
--- the scans are of the functions that the step scanned, each at its number
+-- the scans are of the functions that the step scanned, each at the step's version
 pub record ScansAll (s : StepView) (scans : List Scanned) : Type 0 where
   pub names : names_of scans ≡ s.scanned
   pub numbers : All (λ x. x.number ≡ s.number) scans
 
--- where the move M fired with this number: on the state before it, which is proper, the pushed moves fire in turn, and leave
--- what M leaves
+-- if the move M fired with this number: on the state before it, if that is well-formed, the pushed moves fire in
+-- turn, and leave what M leaves
 abbrev pub FiresAll : AgentAt Standard → StepView → Move → ℕ → AgentAt Standard → Type 0
 FiresAll a s M k new = (groups : List (List Move)) → IsStepOn a s groups → IsProper (state_at new (k - 1)) →
     (D : State) × (fire part (state_at new (k - 1)) M ≡ Ok D)
     × (fire_all part (Ok (state_at new (k - 1))) (all_moves groups) ≡ Ok D)
 
--- and what was got through some of them, which the others follow, is what these leave there: at a location that is named or
--- of a function that was scanned, or where what is seen isn't made from the state below
+-- and what was read through some of them, which the others follow, is what these leave there: at a tracked location,
+-- at one of a scanned function, or where what is seen isn't made from the state below
 abbrev pub GotStands : AgentAt Standard → StepView → ℕ → AgentAt Standard → Type 0
 GotStands a s k new = (then : StepView) (groups : List (List Move)) (l : Place) (D : State) →
     IsStepOn a then groups → then.number ≡ s.number →
     fire_all part (Ok (state_at new (k - 1))) (all_moves groups) ≡ Ok D →
     (shows_below then.layers l ≡ true → Contains s.got l ⊎ IsOfScanned l s) → seen a then l ≡ val D l
 
--- each function that was scanned is whole there: each of its locations, whether it has a value or none, has what it had below
--- the step
+-- each scanned function is unchanged there: each of its locations, whether it has a value or none, has what it had
+-- below the step
 abbrev pub AreWhole : AgentAt Standard → StepView → ℕ → AgentAt Standard → Type 0
 AreWhole a s k new = (l : Place) → IsOfScanned l s → val (state_at new (k - 1)) l ≡ below a s l
 
--- the step's one move was fired with all named that it rests on, and over all that it scanned, and was answered so; that these
--- are too many, where they are more than 256, each location and each function counted once
+-- the step's one move was fired with all reads that its commit declares and all its scans, and has this answer: that
+-- these are too many exactly if they are more than 256, each location and each function counted once
 pub record HasFiredStep (s : StepView) (code : ℤ) (fired from to : ℕ) (old new : AgentAt Standard) : Type 0 where
   pub reads : List Named
   pub scans : List Scanned
@@ -94,7 +94,7 @@ pub record HasFiredStep (s : StepView) (code : ℤ) (fired from to : ℕ) (old n
   pub got : (k : ℕ) → s.number ≤ length old.account.seen → answer ≡ Ok (Fired k) → GotStands old s k new
   pub whole : (k : ℕ) → s.number ≤ length old.account.seen → answer ≡ Ok (Fired k) → AreWhole old s k new
 
--- the step's move was fired; or nothing was done, for want of memory
+-- the step's move was fired; or nothing was done, since memory was refused
 abbrev pub HasCommitted : StepView → ℤ → ℕ → ℕ → ℕ → AgentAt Standard → AgentAt Standard → Type 0
 HasCommitted s code fired from to old new =
     HasFiredStep s code fired from to old new
@@ -105,7 +105,7 @@ abbrev pub OneDoesAll : AgentAt Standard → StepView → Type 0
 OneDoesAll a s =
     (groups : List (List Move)) → IsStepOn a s groups → DoesAll part (all_moves groups) (unwrap_or (one_move s.layers) [])
 
--- the step's one move is fired, or the code tells why not
+-- the step's one move is fired, or the code says why not
 pub record FiresStep (agent after step : Option Content) (numbers : Numbers) (code : ℤ) : Type 0 where
   pub codes : IsOneOf (ASM_DONE ∷ ASM_STALE ∷ ASM_CLASH ∷ ASM_MEMORY ∷ ASM_FULL ∷ ASM_EMPTY ∷ ASM_BUSY ∷ ASM_MANY ∷ []) code
   pub committed : code ≢ ASM_EMPTY → HoldBoth agent step
@@ -120,7 +120,7 @@ pub record FiresStep (agent after step : Option Content) (numbers : Numbers) (co
   pub kept : code ≡ ASM_EMPTY → after ≡ agent
   pub no_numbers : code ≡ ASM_EMPTY → (numbers.fired ≡ 0) × (numbers.from ≡ 0) × (numbers.to ≡ 0)
 
--- the same, and the step is over where it fired, and stays else
+-- the same; the step's slot is empty if it fired, and unchanged else
 pub record Commits (agent after step step_after : Option Content) (numbers : Numbers) (code : ℤ) : Type 0 where
   pub fires : FiresStep agent after step numbers code
   pub over : code ≡ ASM_DONE → step_after ≡ None
@@ -128,31 +128,31 @@ pub record Commits (agent after step step_after : Option Content) (numbers : Num
 
 -- ---- a commit that records what the step read
 
--- the agent has one receipt more: of a read of these locations, from its own state at the step's number
+-- the agent has one more receipt: of a read of these locations, from its own state at the step's version
 abbrev pub HasRecorded : StepView → List Named → AgentAt Standard → AgentAt Standard → Type 0
 HasRecorded s reads old new =
     (r : ReadingView) × IsRecall meaning old new (map (λ x. x.at) reads) r × (r.number ≡ s.number)
 
--- the locations that a commit names and the functions that were scanned are more than 256
+-- the locations that a commit declares and the scanned functions are more than 256 together
 abbrev pub NamesMany : StepView → List Named → Type 0
 NamesMany s reads = reads_limit < length reads + length s.scanned
 
--- the agent's own state isn't at the step's number, or is behind the agent's receipts
+-- the agent's own state isn't at the step's version, or is behind the agent's receipts
 abbrev pub HasMoved : AgentAt Standard → StepView → Type 0
 HasMoved a s = IsElsewhere a s ⊎ IsBehind a
 
--- why no read is recorded: too much is named, or else the agent has moved
+-- why no read is recorded: there are too many locations and functions, or else the agent has moved
 abbrev pub TellsUnrecorded : AgentAt Standard → StepView → List Named → ℤ → Type 0
 TellsUnrecorded a s reads code =
     ((code ≡ ASM_MANY) × NamesMany s reads) ⊎ ((code ≡ ASM_MOVED) × ¬ NamesMany s reads × HasMoved a s)
 
--- nothing was done, for want of memory, or since no read is recorded
+-- nothing was done, since memory was refused or no read is recorded
 abbrev pub HasRecordedNothing : StepView → ℤ → AgentAt Standard → Type 0
 HasRecordedNothing s code a =
     (code ≡ ASM_MEMORY) ⊎ ((reads : List Named) × NamesAll s reads × TellsUnrecorded a s reads code)
 
--- the read was recorded, which was possible, and then the agent that has its receipt fired the step's move: the step is of
--- the same groups of moves on it
+-- the read was recorded, which was possible; then the agent with its receipt fired the step's move, and for that
+-- agent the step has the same groups of moves
 pub record HasRecordedStep (s : StepView) (code : ℤ) (fired from to : ℕ) (old new : AgentAt Standard) : Type 0 where
   pub reads : List Named
   pub names : NamesAll s reads
@@ -170,7 +170,7 @@ HasCommittedRecorded s code fired from to old new =
     HasRecordedStep s code fired from to old new
     ⊎ (HasRecordedNothing s code old × (fired ≡ 0) × (from ≡ 0) × (to ≡ 0) × (new ≡ old))
 
--- what the step read is recorded and its one move is fired, or the code tells why not
+-- what the step read is recorded and its one move is fired, or the code says why not
 pub record FiresRecorded (agent after step : Option Content) (numbers : Numbers) (code : ℤ) : Type 0 where
   pub codes : IsOneOf (ASM_DONE ∷ ASM_STALE ∷ ASM_CLASH ∷ ASM_MEMORY ∷ ASM_FULL ∷ ASM_EMPTY ∷ ASM_BUSY ∷ ASM_MANY ∷ ASM_MOVED ∷ []) code
   pub committed : code ≢ ASM_EMPTY → HoldBoth agent step
@@ -186,7 +186,7 @@ pub record FiresRecorded (agent after step : Option Content) (numbers : Numbers)
   pub no_numbers : IsOneOf (ASM_EMPTY ∷ ASM_MANY ∷ ASM_MOVED ∷ []) code →
       (numbers.fired ≡ 0) × (numbers.from ≡ 0) × (numbers.to ≡ 0)
 
--- the same, and the step is over where it fired, and stays else
+-- the same; the step's slot is empty if it fired, and unchanged else
 pub record CommitsRecorded (agent after step step_after : Option Content) (numbers : Numbers) (code : ℤ) : Type 0 where
   pub fires : FiresRecorded agent after step numbers code
   pub over : code ≡ ASM_DONE → step_after ≡ None

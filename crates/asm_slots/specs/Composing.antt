@@ -1,4 +1,4 @@
--- What is told of a move on a state, and of two moves, that are given as texts.
+-- What is reported of a move on a state, and of two moves, all of them given as texts.
 use Rattle.std.specs.Prelude.{◌≡◌, ℕ, ℤ, List, [], ◌∷◌, codes, Result, Ok, Err}
 use Rattle.serde_json.specs.Written.{compact_text}
 use Rattle.asm_element.specs.Place.{Place}
@@ -31,13 +31,13 @@ clash_text c = compact_text (reply_json_of (reply.Clash c))
 abbrev pub large_text : Place → List ℕ
 large_text l = compact_text (one_of (codes "large") (location_json_of l))
 
--- the code and the text of what an aggregation answers: the updates [PAIR, ..], or the clash
+-- the code and the text of an aggregation's answer: the updates [PAIR, ..], or the clash
 abbrev pub TellsAggregate : Result Updates AggError → ℤ → List ℕ → Type 0
 TellsAggregate (Ok U) code text = (code ≡ ASM_DONE) × (text ≡ compact_text (state_json_of U))
 TellsAggregate (Err (agg_error.Clash c)) code text = (code ≡ ASM_CLASH) × (text ≡ clash_text c)
 TellsAggregate (Err agg_error.Memory) code text = ⊥
 
--- the bytes are JSON of a state and of a move, and code and text tell the aggregation of the move on the state
+-- the bytes are JSON of a state and of a move, and code and text report the aggregation of the move on the state
 pub record IsAggregated (state instrs : List ℕ) (code : ℤ) (text : List ℕ) : Type 0 where
   pub old : State
   pub move : Move
@@ -47,14 +47,14 @@ pub record IsAggregated (state instrs : List ℕ) (code : ℤ) (text : List ℕ)
   pub aggregate : IsAggregate part (val old) move answer
   pub told : TellsAggregate answer code text
 
--- what the move of these bytes does on the state of those is told; or the code tells why not
+-- what the move of these bytes does on the state of those is reported; or the code says why not
 pub record Aggregates (state instrs out out_after : List ℕ) (written : ℕ) (code : ℤ) : Type 0 where
   pub codes : IsOneOf (ASM_DONE ∷ ASM_CLASH ∷ ASM_MEMORY ∷ ASM_SMALL ∷ ASM_NOT_JSON ∷ ASM_SHAPE ∷ []) code
   pub text : TellsOneOf (ASM_DONE ∷ ASM_CLASH ∷ []) (IsAggregated state instrs) out out_after written code
   pub refused : IsOneOf (ASM_NOT_JSON ∷ ASM_SHAPE ∷ []) code → AreMisread IsStateForm IsMoveForm state instrs code
 
--- the code and the text of what a composition answers: the move [INSTR, ..], the clash, the location where an amount or a
--- sum is too large, or nothing where the move is too long
+-- the code and the text of a composition's answer: the move [INSTR, ..], the clash, the location where an amount or a
+-- sum is too large, or nothing if the move is too long
 abbrev pub TellsComposition : Result Move ComposeError → ℤ → List ℕ → Type 0
 TellsComposition (Ok C) code text = (code ≡ ASM_DONE) × (text ≡ compact_text (move_json_of C))
 TellsComposition (Err (compose_error.Clash c)) code text = (code ≡ ASM_CLASH) × (text ≡ clash_text c)
@@ -62,7 +62,7 @@ TellsComposition (Err (compose_error.Large l)) code text = (code ≡ ASM_LARGE) 
 TellsComposition (Err compose_error.ManyInstructions) code text = (code ≡ ASM_LONG_MOVE) × (text ≡ [])
 TellsComposition (Err compose_error.Memory) code text = ⊥
 
--- the bytes are JSON of two moves, and code and text tell their composition, which fires as the two do in turn
+-- the bytes are JSON of two moves, and code and text report their composition, which fires as the two do in turn
 pub record IsComposed (first second : List ℕ) (code : ℤ) (text : List ℕ) : Type 0 where
   pub one : Move
   pub two : Move
@@ -73,7 +73,8 @@ pub record IsComposed (first second : List ℕ) (code : ℤ) (text : List ℕ) :
   pub sequence : KeepsSequence part one two answer
   pub told : TellsComposition answer code text
 
--- one move that does what the two moves of these bytes do in turn is told, or why there is none; or the code tells why not
+-- one move that does what the two moves of these bytes do in turn is written, or why there is none; or the code says
+-- why not
 pub record Composes (first second out out_after : List ℕ) (written : ℕ) (code : ℤ) : Type 0 where
   pub codes : IsOneOf (ASM_DONE ∷ ASM_CLASH ∷ ASM_MEMORY ∷ ASM_SMALL ∷ ASM_LONG_MOVE
       ∷ ASM_NOT_JSON ∷ ASM_SHAPE ∷ ASM_LARGE ∷ []) code

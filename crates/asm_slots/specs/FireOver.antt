@@ -1,4 +1,4 @@
--- What a fire does that rests on whole functions too.
+-- What a fire does that depends on scans too.
 use Rattle.std.specs.Prelude.{◌≡◌, ◌≢◌, ◌≤◌, ◌<◌, ◌+◌, ◌-◌, ◌||◌, nat_lt, ℕ, ℤ, List, [], ◌∷◌, length, All, Option, Ok}
 use Rattle.std.specs.Prelude.{Bool, true, false, IsTrue, string_bytes}
 use Rattle.std.specs.List.{list_any}
@@ -41,7 +41,7 @@ AreScans = IsListForm IsScanForm
 abbrev pub ReadAsScans : List ℕ → List Scanned → Type 0
 ReadAsScans bytes scans = ReadAs AreScans bytes scans
 
--- the first bytes are JSON of a move with these named reads, and the second ones of these scans
+-- the first bytes are JSON of a move with these declared reads, and the second ones of these scans
 abbrev pub ReadAsFireOver : List ℕ → List ℕ → List Named → List Scanned → Move → Type 0
 ReadAsFireOver call scans reads over M = ReadAsFire call reads M × ReadAsScans scans over
 
@@ -49,40 +49,41 @@ ReadAsFireOver call scans reads over M = ReadAsFire call reads M × ReadAsScans 
 abbrev pub is_any_over : List Named → List Scanned → ℕ → Bool
 is_any_over reads over seen = is_any_above reads seen || list_any (λ s. nat_lt seen s.number) over
 
--- they are JSON of a move and of scans, and a named read or a scan has a number above what the agent has seen
+-- they are JSON of a move and of scans, and a declared read or a scan has a number above what the agent has seen
 abbrev pub FiresOverAhead : List ℕ → List ℕ → AgentAt Standard → Type 0
 FiresOverAhead call scans a =
     (reads : List Named) × (over : List Scanned) × (M : Move) × ReadAsFireOver call scans reads over M
     × (is_any_over reads over (length a.account.seen) ≡ true)
 
--- they are JSON of a move and of scans, and no named read and no scan has such a number
+-- they are JSON of a move and of scans, and no declared read and no scan has such a number
 abbrev pub FiresOverWithin : List ℕ → List ℕ → AgentAt Standard → Type 0
 FiresOverWithin call scans a =
     (reads : List Named) × (over : List Scanned) × (M : Move) × ReadAsFireOver call scans reads over M
     × (is_any_over reads over (length a.account.seen) ≡ false)
 
--- they are JSON of a move and of scans, with more than 256 named reads and scans together
+-- they are JSON of a move and of scans, with more than 256 declared reads and scans together
 abbrev pub ReadAsManyOver : List ℕ → List ℕ → Type 0
 ReadAsManyOver call scans =
     (reads : List Named) × (over : List Scanned) × (M : Move) × ReadAsFireOver call scans reads over M
     × (reads_limit < length reads + length over)
 
--- where the move fired with this number, each function that was scanned is whole before it: each of its locations, whether it
+-- if the move fired with this number, each scanned function is unchanged before it: each of its locations, whether it
 -- has a value or none, has what it had at the number of the scan
 abbrev pub AreWholeOver : AgentAt Standard → List Scanned → Reply → AgentAt Standard → Type 0
 AreWholeOver a over r new = (k : ℕ) → r ≡ Fired k →
     All (λ s. (l : Place) → IsTrue (has_name (string_bytes s.name) l) → val (state_at new (k - 1)) l ≡ val (state_at a s.number) l) over
 
--- they are JSON of a move and of scans, at most 256 named reads and scans together, and the fire was answered over the scans
--- with a reply of this code and this number, after so many offers and looks as this reply comes after
+-- they are JSON of a move and of scans, at most 256 declared reads and scans together, and the fire was answered over
+-- the scans with a reply of this code and this number; the counts of attempts and polls are as of this reply
 abbrev pub HasTriedFireOver : List ℕ → List ℕ → ℤ → ℕ → AgentAt Standard → AgentAt Standard → Type 0
 HasTriedFireOver call scans code number old new =
     (reads : List Named) × (over : List Scanned) × (M : Move) × (r : Reply) × ReadAsFireOver call scans reads over M
     × (code_of r ≡ code) × (number_of r ≡ number) × (length reads + length over ≤ reads_limit)
     × IsRepliedOver old new reads over M r × AreWholeOver old over r new × ((n : ℕ) × MadeOffers old new (Ok r) n)
 
--- the fire of these bytes is answered over the scans of those, which code and numbers tell; or the code tells why not. A number
--- that is yet to come is told before the agent looks, and before more than 256 named reads and scans are
+-- the fire of these bytes is answered over the scans of those, as code and numbers report; or the code says why not.
+-- A number above what the agent has seen is reported before the agent polls, and before more than 256 declared reads
+-- and scans are
 pub record FiresOver (call scans : List ℕ) (agent after : Option Content) (numbers : Numbers) (code : ℤ) : Type 0 where
   pub codes : IsOneOf (ASM_DONE ∷ ASM_STALE ∷ ASM_CLASH ∷ ASM_MEMORY ∷ ASM_FULL ∷ ASM_EMPTY
       ∷ ASM_AHEAD ∷ ASM_BUSY ∷ ASM_MANY ∷ ASM_NOT_JSON ∷ ASM_SHAPE ∷ []) code

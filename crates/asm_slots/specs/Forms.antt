@@ -8,7 +8,7 @@ use Rattle.asm_explain.specs.declared.explaining.Form.TheVariants as form
 abbrev pub ASM_FORM_LOCATIONS : ℤ
 ASM_FORM_LOCATIONS = pos 0
 
--- a move with its named reads, {"fire":[INSTR, ..],"reads":[NAMED, ..]}
+-- a move with its declared reads, {"fire":[INSTR, ..],"reads":[NAMED, ..]}
 abbrev pub ASM_FORM_MOVE : ℤ
 ASM_FORM_MOVE = pos 1
 
@@ -16,7 +16,7 @@ ASM_FORM_MOVE = pos 1
 abbrev pub ASM_FORM_STATE : ℤ
 ASM_FORM_STATE = pos 2
 
--- an event, as in a journal's lines behind the first
+-- an event, as in a journal's lines after the first
 abbrev pub ASM_FORM_EVENT : ℤ
 ASM_FORM_EVENT = pos 3
 
@@ -40,6 +40,6 @@ IsNoForm code = (f : Form) → form_code f ≢ code
 abbrev pub HasForm : ℤ → List ℕ → Type 0
 HasForm code bytes = (f : Form) × (form_code f ≡ code) × IsOfForm f bytes
 
--- the bytes are no JSON, or JSON of no value of the form with this number
+-- the bytes aren't JSON, or are JSON of no value of the form with this number
 abbrev pub LacksForm : ℤ → List ℕ → Type 0
 LacksForm code bytes = (f : Form) × (form_code f ≡ code) × IsOfNoForm f bytes

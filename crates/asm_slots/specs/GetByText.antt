@@ -1,4 +1,4 @@
--- What is told through the step of a slot by a text, and is got.
+-- What is read through the step of a slot, as a text, and tracked.
 use Rattle.std.specs.Prelude.{◌≡◌, ◌≢◌, ℕ, ℤ, List, [], ◌∷◌, Option, IsUtf8}
 use Rattle.asm_explain.specs.Bytes.{AreLocations, IsNoJson, IsOtherJson}
 use Rattle.asm_slots.specs.Codes.{IsOneOf, ASM_DONE, ASM_MEMORY, ASM_EMPTY, ASM_SMALL, ASM_MANY}
@@ -8,7 +8,7 @@ use Rattle.asm_slots.specs.StepCalls.{HasGot, HasGotAll, HasReached, IsElsewhere
 use Rattle.asm_slots.specs.WrittenText.{TellsText}
 use Rattle.asm_slots.specs.declared.content.Content.{Content}
 
--- what is seen at the locations of these bytes is told, and they are got; or the code tells why not
+-- what is seen at the locations of these bytes is written, and they are tracked; or the code says why not
 pub record Gets (bytes : List ℕ) (agent step after : Option Content) (out out_after : List ℕ) (written : ℕ) (code : ℤ) : Type 0 where
   pub codes : IsOneOf (ASM_DONE ∷ ASM_MEMORY ∷ ASM_EMPTY ∷ ASM_SMALL ∷ ASM_MANY ∷ ASM_NOT_JSON ∷ ASM_SHAPE ∷ ASM_MOVED ∷ []) code
   pub text : TellsText (λ text. HoldBoth agent step (λ a s. IsGotText bytes a s text)) out out_after written code
@@ -21,7 +21,7 @@ pub record Gets (bytes : List ℕ) (agent step after : Option Content) (out out_
   pub empty : code ≡ ASM_EMPTY → LacksOne agent step
   pub stays : code ≢ ASM_DONE → after ≡ step
 
--- what is seen at the locations of these bytes is told; or the code tells why not
+-- what is seen at the locations of these bytes is written; or the code says why not
 pub record Sees (bytes : List ℕ) (agent step : Option Content) (out out_after : List ℕ) (written : ℕ) (code : ℤ) : Type 0 where
   pub codes : IsOneOf (ASM_DONE ∷ ASM_MEMORY ∷ ASM_EMPTY ∷ ASM_SMALL ∷ ASM_NOT_JSON ∷ ASM_SHAPE ∷ ASM_MOVED ∷ []) code
   pub text : TellsText (λ text. HoldBoth agent step (λ a s. IsGotText bytes a s text)) out out_after written code
@@ -31,7 +31,8 @@ pub record Sees (bytes : List ℕ) (agent step : Option Content) (out out_after 
   pub shape : code ≡ ASM_SHAPE → IsOtherJson AreLocations bytes
   pub empty : code ≡ ASM_EMPTY → LacksOne agent step
 
--- what is seen at all locations with this function name is told, and the function is scanned; or the code tells why not
+-- what is seen at all locations with this function name is written, and the function is scanned; or the code says why
+-- not
 pub record GetsAll (name : List ℕ) (agent step after : Option Content) (out out_after : List ℕ) (written : ℕ) (code : ℤ) : Type 0 where
   pub codes : IsOneOf (ASM_DONE ∷ ASM_MEMORY ∷ ASM_EMPTY ∷ ASM_SMALL ∷ ASM_MANY ∷ ASM_SHAPE ∷ ASM_MOVED ∷ []) code
   pub text : TellsText (λ text. HoldBoth agent step (λ a s. IsFoundText name a s text)) out out_after written code

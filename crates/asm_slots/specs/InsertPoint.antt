@@ -1,8 +1,8 @@
--- Where an agent goes among parts of agents.
+-- The index at which an agent goes among parts of agents.
 use Rattle.std.specs.Prelude.{◌≡◌, ℕ, ◌<◌, ◌≤◌, All, List, ◌++◌, ◌∷◌, length, take, drop}
 use Rattle.asm_storage.specs.declared.part.AgentPart.{AgentPart}
 
--- the numbers in front of this index are less, and those from it on are greater
+-- the numbers in front of this index are smaller, and those from it on are greater
 pub record IsInsertPoint (parts : List AgentPart) (id at : ℕ) : Type 0 where
   pub within : at ≤ length parts
   pub before : All (λ p. p.id < id) (take at parts)

@@ -1,4 +1,4 @@
--- What is told of the bytes of a journal.
+-- What is reported of the bytes of a journal.
 use Rattle.std.specs.Prelude.{◌≡◌, ◌≢◌, ℕ, ℤ, List, [], ◌∷◌}
 use Rattle.serde_json.specs.Written.{compact_text}
 use Rattle.asm_update.specs.Fire.{state_of}
@@ -18,7 +18,7 @@ use Rattle.asm_slots.specs.Codes.{ASM_NOT_JSON, ASM_SHAPE, ASM_VERSION, ASM_CUT}
 use Rattle.asm_slots.specs.Standard.{part}
 use Rattle.asm_slots.specs.WrittenText.{TellsText}
 
--- the bytes are a journal, and this is what its check tells
+-- the bytes are a journal, and this is the answer of its check
 pub record IsChecked (bytes : List ℕ) (l : Legality) : Type 0 where
   pub history : History
   pub reads : ReadsAs bytes history
@@ -36,7 +36,7 @@ pub record IsTraceOf (bytes text : List ℕ) : Type 0 where
   pub reads : ReadsAs bytes history
   pub trace : IsTrace part history text
 
--- this code tells the error, with the number of its line, or 0
+-- the code of the error, with the number of its line, or 0
 abbrev pub TellsError : JournalError → ℤ → ℕ → Type 0
 TellsError (NotJson n) code line = (code ≡ ASM_NOT_JSON) × (line ≡ n)
 TellsError (Shape n) code line = (code ≡ ASM_SHAPE) × (line ≡ n)
@@ -44,13 +44,14 @@ TellsError Version code line = (code ≡ ASM_VERSION) × (line ≡ 0)
 TellsError Cut code line = (code ≡ ASM_CUT) × (line ≡ 0)
 TellsError Memory code line = (code ≡ ASM_MEMORY) × (line ≡ 0)
 
--- the bytes are no journal, and this code tells their first fault, with this number of its line
+-- the bytes are no journal, and this is the code of their first fault, with this number of its line
 pub record IsRefusal (bytes : List ℕ) (code : ℤ) (line : ℕ) : Type 0 where
   pub error : JournalError
   pub refused : IsRefused bytes error
   pub told : TellsError error code line
 
--- the bytes are a legal journal of so many calls and moves; or the code tells why not, with the number of the call or the line
+-- the bytes are a legal journal of so many calls and moves; or the code says why not, with the number of the call or
+-- the line
 pub record Checks (bytes : List ℕ) (calls moves : ℕ) (code : ℤ) : Type 0 where
   pub codes : IsOneOf (ASM_DONE ∷ ASM_MEMORY ∷ ASM_ILLEGAL ∷ ASM_NOT_JSON ∷ ASM_SHAPE ∷ ASM_VERSION ∷ ASM_CUT ∷ []) code
   pub legal : code ≡ ASM_DONE → IsChecked bytes (Legal calls moves)
@@ -59,7 +60,7 @@ pub record Checks (bytes : List ℕ) (calls moves : ℕ) (code : ℤ) : Type 0 w
   pub no_calls : IsOneOf (ASM_MEMORY ∷ ASM_VERSION ∷ ASM_CUT ∷ []) code → calls ≡ 0
   pub no_moves : code ≢ ASM_DONE → moves ≡ 0
 
--- a text of this kind is told of a journal's bytes; or the code tells why not, with the number of the line at fault
+-- a text of this kind is written of a journal's bytes; or the code says why not, with the number of the line at fault
 pub record Retells (IsText : List ℕ → Type 0) (bytes out out_after : List ℕ) (written line : ℕ) (code : ℤ) : Type 0 where
   pub codes : IsOneOf (ASM_DONE ∷ ASM_MEMORY ∷ ASM_SMALL ∷ ASM_NOT_JSON ∷ ASM_SHAPE ∷ ASM_VERSION ∷ ASM_CUT ∷ []) code
   pub text : TellsText IsText out out_after written code

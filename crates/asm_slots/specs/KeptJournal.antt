@@ -1,4 +1,4 @@
--- What a closed storage keeps.
+-- What a closed storage retains.
 use Rattle.std.specs.Prelude.{◌≡◌, ℕ, List}
 use Rattle.asm_update.specs.Fire.{state_of}
 use Rattle.asm_update.specs.State.{State}

@@ -66,15 +66,15 @@ bytes_of (Set s) = compact_text (value_json_of (Set s))
 bytes_of (Bag b) = compact_text (value_json_of (Bag b))
 bytes_of _ = []
 
--- kind, number and bytes tell the value
+-- kind, number and bytes are those of the value
 abbrev pub IsTold : Value → ℤ → ℤ → List ℕ → Type 0
 IsTold v kind number bytes = (kind ≡ kind_of v) × (number ≡ number_of v) × (bytes ≡ bytes_of v)
 
--- kind, number and bytes tell the element, which is no list
+-- kind, number and bytes are those of the element, which is no list
 abbrev pub IsTextOrPlain : ℤ → ℤ → List ℕ → Element → Type 0
 IsTextOrPlain kind number bytes e = IsTold (Plain e) kind number bytes × (kind ≢ ASM_KIND_LIST)
 
--- the kind is one of those that bytes tell as JSON
+-- the kind is one of those whose bytes are JSON
 abbrev pub IsByJson : ℤ → Type 0
 IsByJson kind = (kind ≡ ASM_KIND_LIST) ⊎ ((kind ≡ ASM_KIND_SET) ⊎ (kind ≡ ASM_KIND_BAG))
 
@@ -82,14 +82,15 @@ IsByJson kind = (kind ≡ ASM_KIND_LIST) ⊎ ((kind ≡ ASM_KIND_SET) ⊎ (kind 
 abbrev pub IsKindForm : ℤ → Value → Data → Type 0
 IsKindForm kind v d = (kind ≡ kind_of v) × IsValueForm v d
 
--- kind, number and bytes mean the value: a list, a set or a bag by any JSON of it, and any other as they tell it
+-- kind, number and bytes mean the value: a list, a set or a bag by any JSON of it, and any other value only by its
+-- own
 abbrev pub IsOperand : ℤ → ℤ → List ℕ → Value → Type 0
 IsOperand kind number bytes (Plain (Inner ds)) = (number ≡ pos 0) × ReadAs (IsKindForm kind) bytes (Plain (Inner ds))
 IsOperand kind number bytes (Set s) = (number ≡ pos 0) × ReadAs (IsKindForm kind) bytes (Set s)
 IsOperand kind number bytes (Bag b) = (number ≡ pos 0) × ReadAs (IsKindForm kind) bytes (Bag b)
 IsOperand kind number bytes v = IsTold v kind number bytes
 
--- the bytes are no text, or are JSON of no value of the kind
+-- the bytes of a text aren't UTF-8, or those of a list, a set or a bag are JSON of no value of the kind
 abbrev pub IsMisshapen : ℤ → List ℕ → Type 0
 IsMisshapen kind bytes =
     ((kind ≡ ASM_KIND_TEXT) × ¬ IsUtf8 bytes) ⊎ (IsByJson kind × IsOtherJson (IsKindForm kind) bytes)
@@ -138,11 +139,11 @@ abbrev pub IsAction : ℤ → ℤ → ℤ → List ℕ → ℕ → Action → Ty
 IsAction verb kind number bytes amount a =
     (verb ≡ verb_of a) × IsAmount a amount × IsOperand kind number bytes (action.content_of a)
 
--- no action is meant
+-- these mean no action
 abbrev pub IsNoAction : ℤ → ℤ → ℤ → List ℕ → ℕ → Type 0
 IsNoAction verb kind number bytes amount = (a : Action) → ¬ IsAction verb kind number bytes amount a
 
--- the move has one instruction more, behind its others: the action that these tell, at the location
+-- the move has one more instruction, behind its others: the action that these mean, at the location
 abbrev pub IsInstructed : Place → ℤ → ℤ → ℤ → List ℕ → ℕ → Move → Move → Type 0
 IsInstructed l verb kind number bytes amount old new =
     (a : Action) × IsAction verb kind number bytes amount a × (new ≡ old ++ record { at = l; action = a } ∷ [])

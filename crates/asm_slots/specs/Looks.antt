@@ -1,4 +1,4 @@
--- What looks that leave no receipt tell, and what they leave.
+-- What polls without a receipt report, and their effects.
 use Rattle.std.specs.Prelude.{◌≡◌, ◌≢◌, ◌↔◌, ℕ, ℤ, List, [], ◌∷◌, Option}
 use Rattle.asm_storage.specs.Storage.{IsSameAgent}
 use Rattle.asm_slots.specs.NumbersAhead.{ReadsAhead, ReadsWithin}
@@ -13,12 +13,14 @@ use Rattle.asm_slots.specs.StepView.{begun}
 use Rattle.asm_slots.specs.WrittenText.{Tells}
 use Rattle.asm_slots.specs.declared.content.Content.{Content}
 
--- the text tells the least location of the named reads of these bytes that is stale after what the slot's agent has seen
+-- the text has the smallest location of the declared reads of these bytes that is stale after what the slot's agent
+-- has seen
 abbrev pub IsStaleTold : List ℕ → Option Content → List ℕ → Type 0
 IsStaleTold reads agent text = Holds agent (λ a. IsStaleOf reads a text)
 
--- the named reads of these bytes stand after what the agent has then seen, or a stale one is told; or the code tells why not.
--- A number that is yet to come is told before the agent looks, and before more than 256 reads are
+-- the declared reads of these bytes are valid after what the agent has then seen, or a stale one is reported; or the
+-- code says why not. A number above what the agent has seen is reported before the agent polls, and before more than
+-- 256 reads are
 pub record Stands (reads : List ℕ) (agent after : Option Content) (out out_after : List ℕ) (written : ℕ) (code : ℤ) : Type 0 where
   pub codes : IsOneOf (ASM_DONE ∷ ASM_STALE ∷ ASM_MEMORY ∷ ASM_EMPTY ∷ ASM_AHEAD ∷ ASM_SMALL ∷ ASM_MANY
       ∷ ASM_NOT_JSON ∷ ASM_SHAPE ∷ []) code
@@ -37,7 +39,8 @@ pub record Stands (reads : List ℕ) (agent after : Option Content) (out out_aft
   pub empty : code ≡ ASM_EMPTY → HoldsNoAgent agent
   pub kept : IsOneOf (ASM_EMPTY ∷ ASM_AHEAD ∷ ASM_MANY ∷ ASM_NOT_JSON ∷ ASM_SHAPE ∷ []) code → after ≡ agent
 
--- the agent has looked on, and the other slot holds a step at so many moves; or the code tells why not, and what it held stays
+-- the agent has polled, and the other slot holds a step at this version; or the code says why not, and the slot is
+-- unchanged
 pub record Begins (agent after step step_after : Option Content) (number : ℕ) (code : ℤ) : Type 0 where
   pub codes : IsOneOf (ASM_DONE ∷ ASM_MEMORY ∷ ASM_EMPTY ∷ ASM_TAKEN ∷ []) code
   pub followed : code ≡ ASM_DONE → Goes agent after (HasFollowed number)

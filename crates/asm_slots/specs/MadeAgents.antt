@@ -1,4 +1,4 @@
--- What making agents of a storage does, and taking one again that was given back.
+-- What making agents of a storage does, and checking out one that was returned.
 use Rattle.std.specs.Prelude.{◌≡◌, ◌≢◌, ◌≤◌, ◌<◌, ◌↔◌, ℕ, ℤ, List, [], ◌∷◌, length, true, false, Option, None}
 use Rattle.std.specs.List.{range_with_len}
 use Rattle.asm_storage.specs.Limits.{agents_limit}
@@ -9,7 +9,7 @@ use Rattle.asm_slots.specs.Slots.{AreEmpty, AreNew, Holds, HoldsNew, HoldsNoStor
 use Rattle.asm_slots.specs.declared.content.Content.{Content}
 use Rattle.asm_slots.specs.declared.slot.Slot.{Slot}
 
--- an agent of the storage with this number is made; or the code tells why not
+-- an agent of the storage with this number is made; or the code says why not
 pub record MakesAgent (id : ℕ) (store after agent agent_after : Option Content) (code : ℤ) : Type 0 where
   pub codes : IsOneOf (ASM_DONE ∷ ASM_MEMORY ∷ ASM_EMPTY ∷ ASM_AGENTS ∷ ASM_TAKEN ∷ ASM_NUMBER ∷ []) code
   pub makes : code ≡ ASM_DONE → Makes (id ∷ []) store after
@@ -23,7 +23,7 @@ pub record MakesAgent (id : ℕ) (store after agent agent_after : Option Content
   pub number : code ≡ ASM_NUMBER → HoldsStore store (λ s. was_made s id ≡ true)
   pub fresh : IsOneOf (ASM_DONE ∷ ASM_MEMORY ∷ []) code → HoldsStore store (λ s. was_made s id ≡ false)
 
--- an agent of the storage is made in each of the slots, with the numbers from 0 up; or the code tells why not
+-- an agent of the storage is made in each of the slots, with the numbers from 0 up; or the code says why not
 pub record MakesAgents (store after : Option Content) (agents agents_after : List Slot) (code : ℤ) : Type 0 where
   pub codes : IsOneOf (ASM_DONE ∷ ASM_MEMORY ∷ ASM_EMPTY ∷ ASM_AGENTS ∷ ASM_TAKEN ∷ ASM_NUMBER ∷ []) code
   pub makes : code ≡ ASM_DONE → Makes (range_with_len 0 (length agents)) store after
@@ -38,7 +38,7 @@ pub record MakesAgents (store after : Option Content) (agents agents_after : Lis
   pub number : code ≡ ASM_NUMBER → HoldsStore store (λ s. was_any_made s (length agents) ≡ true)
   pub fresh : IsOneOf (ASM_DONE ∷ ASM_MEMORY ∷ []) code → HoldsStore store (λ s. was_any_made s (length agents) ≡ false)
 
--- the agent with this number is taken out of those that were given back; or the code tells why not
+-- the returned agent with this number is checked out; or the code says why not
 pub record TakesAgent (number : ℕ) (store after agent agent_after : Option Content) (code : ℤ) : Type 0 where
   pub codes : IsOneOf (ASM_DONE ∷ ASM_MEMORY ∷ ASM_EMPTY ∷ ASM_NO_AGENT ∷ ASM_TAKEN ∷ []) code
   pub lost : code ≡ ASM_DONE → HoldsStore store (λ s. Holds agent_after (λ a. HoldsStore after (HasLost a s)))

@@ -1,4 +1,4 @@
--- The storages that go on where others ended.
+-- Storages that continue where others ended.
 use Rattle.std.specs.Prelude.{◌≡◌, ◌≢◌, ◌↔◌, ℕ, ℤ, List, [], ◌∷◌, length, Option, None, Some}
 use Rattle.asm_element.specs.Place.{Place}
 use Rattle.asm_update.specs.State.{IsProper, val}
@@ -13,7 +13,7 @@ use Rattle.asm_slots.specs.Store.{StoreView, IsUnused}
 use Rattle.asm_slots.specs.declared.content.Content.{Content}
 use Rattle.asm_slots.specs.declared.content.Content.TheVariants as content
 
--- the bytes read as a journal, and the storage of so many moves opens with the state that its moves leave
+-- the bytes read as a journal, and the storage with this capacity opens with the state that its moves leave
 pub record HasOpened (bytes : List ℕ) (most : ℕ) (s : StorageView Standard) : Type 0 where
   pub init : Leaves bytes s.init
   pub capacity : length s.row ≡ most
@@ -22,25 +22,25 @@ pub record HasOpened (bytes : List ℕ) (most : ℕ) (s : StorageView Standard) 
 abbrev pub IsOpenedAfter : List ℕ → ℕ → StoreView → Type 0
 IsOpenedAfter bytes most s = HasOpened bytes most s.storage × IsUnused s
 
--- the new storage opens with the state that the moves of the journal leave which the old one keeps
+-- the new storage opens with the state that the moves of the old one's retained journal leave
 abbrev pub GoesOn : ℕ → StoreView → StoreView → Type 0
 GoesOn most old new = (text : List ℕ) × (old.journal ≡ Some text) × IsOpenedAfter text most new
 
--- the storage of the one slot goes on in the other
+-- the storage of the one slot continues in the other
 abbrev pub IsNextOf : ℕ → Option Content → Option Content → Type 0
 IsNextOf capacity (Some (content.Store s)) new = HoldsStore new (GoesOn capacity s)
 IsNextOf capacity _ new = ⊥
 
--- the storage keeps no journal
+-- the storage retains no journal
 abbrev pub LacksJournal : StoreView → Type 0
 LacksJournal s = s.journal ≡ None
 
--- the agent's own state stands at as many moves as its storage has room for
+-- the agent's own state has followed as many moves as its storage has room for
 abbrev pub IsAtEnd : AgentAt Standard → Type 0
 IsAtEnd a = a.number ≡ length a.storage.row
 
--- the new storage, of so many moves, opens with the state that the moves leave which the agent has seen, as many as its own
--- storage has room for, and no agent of it was made
+-- the new storage, with this capacity and without agents, opens with the state that the moves leave which the agent
+-- has seen, as many as its own storage has room for
 pub record GoesOnFrom (most : ℕ) (a : AgentAt Standard) (new : StoreView) : Type 0 where
   pub at_end : IsAtEnd a
   pub proper : IsProper new.storage.init
@@ -48,7 +48,7 @@ pub record GoesOnFrom (most : ℕ) (a : AgentAt Standard) (new : StoreView) : Ty
   pub capacity : length new.storage.row ≡ most
   pub unused : IsUnused new
 
--- the storage of the agent in the one slot goes on in the other; or the code tells why not
+-- the storage of the agent in the one slot continues in the other; or the code says why not
 pub record GoesOnWith (capacity : ℕ) (agent next after : Option Content) (code : ℤ) : Type 0 where
   pub codes : IsOneOf (ASM_DONE ∷ ASM_MEMORY ∷ ASM_EMPTY ∷ ASM_CAPACITY ∷ ASM_NOT_FULL ∷ ASM_TAKEN ∷ []) code
   pub opened : code ≡ ASM_DONE → Holds agent (λ a. HoldsStore after (GoesOnFrom capacity a))

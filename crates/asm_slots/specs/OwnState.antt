@@ -1,4 +1,4 @@
--- What an agent's own state tells, which stands at one number of the moves that the agent has seen.
+-- What an agent's own state has, which is at one version of what the agent has seen.
 use Rattle.std.specs.Prelude.{◌≡◌, ◌≤◌, if◌then◌else◌, nat_eq, ℕ, ℤ, List, length, map, take, Option, Some, None}
 use Rattle.std.specs.Cmp.Lexicographic.{pointwise}
 use Rattle.serde_json.specs.Written.{compact_text}
@@ -23,30 +23,29 @@ use Rattle.asm_slots.specs.Standard.{Standard, meaning, part}
 use Rattle.asm_slots.specs.declared.content.Content.{Content}
 use Rattle.asm_slots.specs.declared.content.Content.TheVariants as content
 
--- the state that the first so many moves leave, of those that the agent has seen
+-- the state at this version: what so many first moves leave of those that the agent has seen
 abbrev pub state_at : AgentAt Standard → ℕ → State
 state_at a n = state_of part a.storage.init (take n (moves_seen a.account.seen))
 
--- the agent's own state stands at this number, and the agent has seen so many moves
+-- the agent's own state is at this version, which is at most the number of moves that the agent has seen
 abbrev pub StandsAt : AgentAt Standard → ℕ → Type 0
 StandsAt a n = (n ≡ a.number) × (n ≤ length a.account.seen)
 
--- {"number":N,"values":[VALUE, ..]}: what is seen at the locations after so many moves
+-- {"number":N,"values":[VALUE, ..]}: what is seen at the locations at this version
 abbrev pub values_text : ℕ → Old → List Place → List ℕ
 values_text n seen locations = compact_text (answer_json_of (answer.Read n (map seen locations)))
 
--- the bytes are JSON of locations, and the text tells what the first moves that the agent has seen leave there, as many
--- as its own state has followed
+-- the bytes are JSON of locations, and the text has their values in the agent's own state, with its version
 abbrev pub IsPeekOf : List ℕ → AgentAt Standard → List ℕ → Type 0
 IsPeekOf bytes a text =
     (locations : List Place) × (n : ℕ) × ReadAsLocations bytes locations × StandsAt a n
     × (text ≡ values_text n (val (state_at a n)) locations)
 
--- kind, number and bytes tell what the first so many moves leave at the location, at which the agent's own state stands
+-- kind, number and bytes are those of the value at the location in the agent's own state, which is at this version
 abbrev pub IsToldAt : Place → AgentAt Standard → ℕ → ℤ → ℤ → List ℕ → Type 0
 IsToldAt l a n kind number bytes = StandsAt a n × IsTold (val (state_at a n) l) kind number bytes
 
--- the bytes tell what the moves leave at the location at which the agent's own state stands
+-- the bytes are those of the value at the location in the agent's own state
 abbrev pub HasBytesAt : Place → AgentAt Standard → List ℕ → Type 0
 HasBytesAt l a bytes = (n : ℕ) × StandsAt a n × (bytes ≡ bytes_of (val (state_at a n) l))
 
@@ -59,23 +58,23 @@ IsTextOfState values text =
 abbrev pub of_name : List ℕ → Old → Old
 of_name name old l = if pointwise nat_eq l.name name then old l else undef
 
--- the text is the JSON of the state that the first so many moves leave, at which the agent's own state stands
+-- the text is the JSON of the agent's own state, which is at this version
 abbrev pub IsOwnState : AgentAt Standard → ℕ → List ℕ → Type 0
 IsOwnState a n text = StandsAt a n × IsTextOfState (val (state_at a n)) text
 
--- the same, with the locations of this function name alone
+-- the same, with only the locations of this function name
 abbrev pub IsOwnOfName : List ℕ → AgentAt Standard → ℕ → List ℕ → Type 0
 IsOwnOfName name a n text = StandsAt a n × IsTextOfState (of_name name (val (state_at a n))) text
 
--- it has looked on until it found nothing more, and nothing else
+-- it has polled until it found nothing more, and nothing else has changed
 abbrev pub HasLookedOn : AgentAt Standard → AgentAt Standard → Type 0
 HasLookedOn old new = HasLooked old new × Missed old (last_look new) new
 
--- it has looked on until it found nothing more, and has then seen so many moves, where its own state stands
+-- it has polled until it found nothing more; its own state is at this version, and it has seen as many moves
 abbrev pub HasFollowed : ℕ → AgentAt Standard → AgentAt Standard → Type 0
 HasFollowed n old new = HasLookedOn old new × (n ≡ length new.account.seen) × (n ≡ new.number)
 
--- the bytes are JSON of named reads, and none of them is stale after what the agent has then seen
+-- the bytes are JSON of declared reads, and none of them is stale after what the agent has then seen
 abbrev pub AllStand : List ℕ → AgentAt Standard → Type 0
 AllStand bytes a = (reads : List Named) × ReadAsReads bytes reads × IsStaleRead meaning a reads None
 
@@ -83,13 +82,14 @@ AllStand bytes a = (reads : List Named) × ReadAsReads bytes reads × IsStaleRea
 abbrev pub IsStaleText : Place → List ℕ → Type 0
 IsStaleText l text = text ≡ compact_text (reply_json_of (reply.Stale l))
 
--- the bytes are JSON of named reads, and the text {"stale":LOC} tells the least location of those that are stale
+-- the bytes are JSON of declared reads, and the text {"stale":LOC} has the smallest location of those that are stale
 abbrev pub IsStaleOf : List ℕ → AgentAt Standard → List ℕ → Type 0
 IsStaleOf bytes a text =
     (reads : List Named) × (l : Place) × ReadAsReads bytes reads × IsStaleRead meaning a reads (Some l)
     × IsStaleText l text
 
--- the one agent has learnt what the other has seen, and the two have exchanged their states where that of the other was ahead
+-- the one agent has learnt what the other has seen, and the two have exchanged their states if that of the other was
+-- ahead
 abbrev pub TakesState : Option Content → Option Content → Option Content → Option Content → Type 0
 TakesState (Some (content.Agent a)) (Some (content.Agent b)) new left = Holds new (λ c. Holds left (HasTaken a b c))
 TakesState _ _ new left = ⊥

@@ -23,10 +23,10 @@ TellsUncomposed (Large l) code = code ≡ ASM_LARGE
 TellsUncomposed ManyInstructions code = code ≡ ASM_LONG_MOVE
 TellsUncomposed Memory code = code ≡ ASM_MEMORY
 
--- the code tells why the moves of the step's last group don't compose
+-- the code says why the moves of the step's last group don't compose
 abbrev pub IsUncomposedLast : StepView → ℤ → Type 0
 IsUncomposedLast s code = (e : ComposeError) × IsComposedLast s (Err e) × TellsUncomposed e code
 
--- or the locations on which they rest by themselves would take more than 256 places
+-- or the locations on which they depend by themselves would take more than 256 places
 abbrev pub IsNotPoppedLast : StepView → ℤ → Type 0
 IsNotPoppedLast s code = IsUncomposedLast s code ⊎ ((code ≡ ASM_MANY) × WouldTakeMany (resting_last s) s)

@@ -1,4 +1,4 @@
--- What looking at a prepared location tells.
+-- What reading a prepared location reports.
 use Rattle.std.specs.Prelude.{◌≡◌, ◌≢◌, ◌⊎◌, ℕ, ℤ, pos, List, [], ◌∷◌, Option}
 use Rattle.asm_slots.specs.Codes.{IsOneOf, ASM_DONE, ASM_MEMORY, ASM_EMPTY, ASM_SMALL, ASM_MANY, ASM_MOVED}
 use Rattle.asm_slots.specs.Kinds.{IsTold, bytes_of}
@@ -10,15 +10,16 @@ use Rattle.asm_slots.specs.WrittenText.{Tells}
 use Rattle.asm_slots.specs.declared.content.Content.{Content}
 use Rattle.asm_slots.specs.declared.value_head.ValueHead.{ValueHead}
 
--- the value is told: its bytes are written, and kind and number tell the rest
+-- the value is reported: its bytes are written, and kind and number are its own
 abbrev pub TellsValue : Value → ValueHead → List ℕ → List ℕ → ℕ → ℤ → Type 0
 TellsValue v head = Tells (ASM_DONE ∷ []) (λ code. IsTold v head.kind head.number) (λ bytes. bytes ≡ bytes_of v)
 
--- the value is told by nothing
+-- kind and number are 0
 abbrev pub IsNoValue : ValueHead → Type 0
 IsNoValue value = (value.kind ≡ pos 0) × (value.number ≡ pos 0)
 
--- the agent's own state, which stands at so many moves, tells the value at the location; or the code tells why not
+-- the value at the location in the agent's own state is reported, with the version of that state; or the code says
+-- why not
 pub record PeeksAt (at agent : Option Content) (number : ℕ) (value : ValueHead) (out out_after : List ℕ) (written : ℕ) (code : ℤ) : Type 0 where
   pub codes : IsOneOf (ASM_DONE ∷ ASM_MEMORY ∷ ASM_EMPTY ∷ ASM_SMALL ∷ []) code
   pub text : Tells (ASM_DONE ∷ []) (λ c bytes. HoldsLocation at (λ l. Holds agent (λ a. IsToldAt l a number value.kind value.number bytes)))
@@ -27,7 +28,8 @@ pub record PeeksAt (at agent : Option Content) (number : ℕ) (value : ValueHead
   pub no_number : code ≢ ASM_DONE → number ≡ 0
   pub no_value : code ≢ ASM_DONE → IsNoValue value
 
--- what is seen at the location through the pushed moves is told, and the location is got; or the code tells why not
+-- what is seen at the location through the pushed moves is reported, and the location is tracked; or the code says
+-- why not
 pub record GetsAt (at agent step after : Option Content) (value : ValueHead) (out out_after : List ℕ) (written : ℕ) (code : ℤ) : Type 0 where
   pub codes : IsOneOf (ASM_DONE ∷ ASM_MEMORY ∷ ASM_EMPTY ∷ ASM_SMALL ∷ ASM_MANY ∷ ASM_MOVED ∷ []) code
   pub text : Tells (ASM_DONE ∷ []) (λ c bytes. HoldsLocation at (λ l. HoldBoth agent step

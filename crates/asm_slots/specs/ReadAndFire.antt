@@ -13,7 +13,7 @@ use Rattle.asm_slots.specs.Slots.{Goes, Holds, HoldsNoAgent}
 use Rattle.asm_slots.specs.declared.content.Content.{Content}
 use Rattle.asm_slots.specs.declared.read_and_fire.Numbers.{Numbers}
 
--- the locations of these bytes are read; or the code tells why not
+-- the locations of these bytes are read; or the code says why not
 pub record Reads (locations : List ℕ) (agent after : Option Content) (code : ℤ) : Type 0 where
   pub codes : IsOneOf (ASM_DONE ∷ ASM_MEMORY ∷ ASM_EMPTY ∷ ASM_MANY ∷ ASM_NOT_JSON ∷ ASM_SHAPE ∷ []) code
   pub answered : code ≡ ASM_DONE → Goes agent after (HasRead locations)
@@ -27,8 +27,8 @@ pub record Reads (locations : List ℕ) (agent after : Option Content) (code : �
   pub empty : code ≡ ASM_EMPTY → HoldsNoAgent agent
   pub kept : IsOneOf (ASM_EMPTY ∷ ASM_MANY ∷ ASM_NOT_JSON ∷ ASM_SHAPE ∷ []) code → after ≡ agent
 
--- the fire of these bytes is answered, which code and numbers tell; or the code tells why not. A number that is yet to come
--- is told before the agent looks, and before more than 256 named reads are
+-- the fire of these bytes is answered, as code and numbers report; or the code says why not. A number above what the
+-- agent has seen is reported before the agent polls, and before more than 256 declared reads are
 pub record Fires (call : List ℕ) (agent after : Option Content) (numbers : Numbers) (code : ℤ) : Type 0 where
   pub codes : IsOneOf (ASM_DONE ∷ ASM_STALE ∷ ASM_CLASH ∷ ASM_MEMORY ∷ ASM_FULL ∷ ASM_EMPTY
       ∷ ASM_AHEAD ∷ ASM_BUSY ∷ ASM_MANY ∷ ASM_NOT_JSON ∷ ASM_SHAPE ∷ []) code

@@ -15,12 +15,12 @@ use Rattle.asm_slots.specs.declared.content.Content.TheVariants as content
 abbrev pub content_of : Slot → Option Content
 content_of slot = slot.handle.value
 
--- the slot holds an agent, and it is so
+-- the slot holds an agent with this property
 abbrev pub Holds : Option Content → (AgentAt Standard → Type 0) → Type 0
 Holds (Some (content.Agent a)) P = P a
 Holds _ P = ⊥
 
--- where the slot holds an agent, it is so
+-- if the slot holds an agent, it has this property
 abbrev pub IfHolds : Option Content → (AgentAt Standard → Type 0) → Type 0
 IfHolds (Some (content.Agent a)) P = P a
 IfHolds _ P = Unit {0}
@@ -30,12 +30,12 @@ abbrev pub HoldsNoAgent : Option Content → Type 0
 HoldsNoAgent (Some (content.Agent a)) = ⊥
 HoldsNoAgent _ = Unit {0}
 
--- the slot holds an agent before and after, and these two are so
+-- the slot holds an agent before and after, and this relation holds between the two
 abbrev pub Goes : Option Content → Option Content → (AgentAt Standard → AgentAt Standard → Type 0) → Type 0
 Goes (Some (content.Agent a)) new P = Holds new (P a)
 Goes _ new P = ⊥
 
--- the slot holds a storage, and it is so
+-- the slot holds a storage with this property
 abbrev pub HoldsStore : Option Content → (StoreView → Type 0) → Type 0
 HoldsStore (Some (content.Store s)) P = P s
 HoldsStore _ P = ⊥
@@ -45,12 +45,12 @@ abbrev pub HoldsNoStore : Option Content → Type 0
 HoldsNoStore (Some (content.Store s)) = ⊥
 HoldsNoStore _ = Unit {0}
 
--- the slot holds a step, and it is so
+-- the slot holds a step with this property
 abbrev pub HoldsStep : Option Content → (StepView → Type 0) → Type 0
 HoldsStep (Some (content.Step s)) P = P s
 HoldsStep _ P = ⊥
 
--- where the slot holds a step, it is so
+-- if the slot holds a step, it has this property
 abbrev pub IfHoldsStep : Option Content → (StepView → Type 0) → Type 0
 IfHoldsStep (Some (content.Step s)) P = P s
 IfHoldsStep _ P = Unit {0}
@@ -66,21 +66,21 @@ abbrev pub HoldsNoStep : Option Content → Type 0
 HoldsNoStep (Some (content.Step s)) = ⊥
 HoldsNoStep _ = Unit {0}
 
--- the slot holds a step before and after, and these two are so
+-- the slot holds a step before and after, and this relation holds between the two
 abbrev pub GoesStep : Option Content → Option Content → (StepView → StepView → Type 0) → Type 0
 GoesStep (Some (content.Step s)) new P = HoldsStep new (P s)
 GoesStep _ new P = ⊥
 
--- the one slot holds an agent and the other a step, and they are so
+-- the one slot holds an agent and the other a step, and this relation holds between the two
 abbrev pub HoldBoth : Option Content → Option Content → (AgentAt Standard → StepView → Type 0) → Type 0
 HoldBoth (Some (content.Agent a)) step P = HoldsStep step (P a)
 HoldBoth _ step P = ⊥
 
--- one of the two isn't there, the agent or the step
+-- one of the two is missing, the agent or the step
 abbrev pub LacksOne : Option Content → Option Content → Type 0
 LacksOne agent step = HoldsNoAgent agent ⊎ HoldsNoStep step
 
--- the slot holds a location, and it is so
+-- the slot holds a location with this property
 abbrev pub HoldsLocation : Option Content → (Place → Type 0) → Type 0
 HoldsLocation (Some (content.Location l)) P = P l
 HoldsLocation _ P = ⊥
@@ -90,7 +90,7 @@ abbrev pub HoldsNoLocation : Option Content → Type 0
 HoldsNoLocation (Some (content.Location l)) = ⊥
 HoldsNoLocation _ = Unit {0}
 
--- the slot holds a move, and it is so
+-- the slot holds a move with this property
 abbrev pub HoldsMove : Option Content → (Move → Type 0) → Type 0
 HoldsMove (Some (content.Move M)) P = P M
 HoldsMove _ P = ⊥
@@ -106,12 +106,12 @@ HasRoomForMove None = Unit {0}
 HasRoomForMove (Some (content.Move M)) = Unit {0}
 HasRoomForMove _ = ⊥
 
--- the move that the slot holds; where it holds none, that of no instructions
+-- the move that the slot holds; if it holds none, that of no instructions
 abbrev pub move_of : Option Content → Move
 move_of (Some (content.Move M)) = M
 move_of _ = []
 
--- the slot holds an audit, and it is so
+-- the slot holds an audit with this property
 abbrev pub HoldsAudit : Option Content → (AuditView → Type 0) → Type 0
 HoldsAudit (Some (content.Audit a)) P = P a
 HoldsAudit _ P = ⊥
@@ -127,18 +127,19 @@ HasRoomForAudit None = Unit {0}
 HasRoomForAudit (Some (content.Audit a)) = Unit {0}
 HasRoomForAudit _ = ⊥
 
--- the slot holds an audit before, or one that has read nothing begins there, and one after, and these two are so
+-- the slot holds an audit before, or is empty and one that has read nothing begins there; it holds one after, and
+-- this relation holds between the two
 abbrev pub GoesAudit : Option Content → Option Content → (AuditView → AuditView → Type 0) → Type 0
 GoesAudit None new P = (a : AuditView) × WasFed [] a × HoldsAudit new (P a)
 GoesAudit (Some (content.Audit a)) new P = HoldsAudit new (P a)
 GoesAudit _ new P = ⊥
 
--- two agents are of one storage, where there are two
+-- two agents are of one storage, if there are two
 abbrev pub AreOfOneStorage : Option Content → Option Content → Type 0
 AreOfOneStorage (Some (content.Agent a)) (Some (content.Agent b)) = a.storage ≡ b.storage
 AreOfOneStorage _ _ = Unit {0}
 
--- the agent of the slot is of the storage of the other, where there are both
+-- the agent of the slot is of the storage of the other, if there are both
 abbrev pub IsOfStore : Option Content → Option Content → Type 0
 IsOfStore (Some (content.Agent a)) (Some (content.Store s)) = a.storage ≡ s.storage
 IsOfStore _ _ = Unit {0}

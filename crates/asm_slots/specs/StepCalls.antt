@@ -28,8 +28,7 @@ use Rattle.asm_slots.specs.Tracked.{judged}
 use Rattle.asm_slots.specs.declared.owned_step.Way.{Way}
 use Rattle.asm_slots.specs.declared.owned_step.Way.TheVariants as ways
 
--- what is below the pushed moves: the state that the first moves leave, as many as the step's number says, of those that the
--- agent has seen
+-- what is below the pushed moves: the state at the step's version, by the moves that the agent has seen
 abbrev pub below : AgentAt Standard → StepView → Old
 below a s = val (state_at a s.number)
 
@@ -37,22 +36,22 @@ below a s = val (state_at a s.number)
 abbrev pub seen : AgentAt Standard → StepView → Old
 seen a s = seen_through (frames_of s.layers) (below a s)
 
--- the step is of these groups of moves, over the state at its number, which the agent has reached: each is a pushed move with
--- those that extend it
+-- the step has these groups of moves, over the state at its version, which the agent has reached: each group is a
+-- pushed move with those that extend it
 abbrev pub IsStepOn : AgentAt Standard → StepView → List (List Move) → Type 0
 IsStepOn a s groups = (s.number ≤ length a.account.seen) × IsStepOf part (below a s) s.layers groups
 
--- the agent's own state stands at another number than the step
+-- the agent's own state is at another version than the step
 abbrev pub IsElsewhere : AgentAt Standard → StepView → Type 0
 IsElsewhere a s = a.number ≢ s.number
 
--- the agent has seen as many moves as the step's number says
+-- the agent has seen the moves up to the step's version
 abbrev pub HasReached : AgentAt Standard → StepView → Type 0
 HasReached a s = s.number ≤ length a.account.seen
 
--- ---- getting
+-- ---- reading
 
--- the bytes are JSON of locations, and the text tells what is seen there
+-- the bytes are JSON of locations, and the text has what is seen there
 abbrev pub IsGotText : List ℕ → AgentAt Standard → StepView → List ℕ → Type 0
 IsGotText bytes a s text =
     (locations : List Place) × ReadAsLocations bytes locations × (text ≡ values_text s.number (seen a s) locations)
@@ -61,42 +60,42 @@ IsGotText bytes a s text =
 abbrev pub from_below : StepView → List Place → List Place
 from_below s locations = filter (shows_below s.layers) locations
 
--- how many of the 256 places are taken: one by each location that was got, and one by each function that was scanned
+-- how many of the 256 places are taken: one by each tracked location, and one by each scanned function
 abbrev pub places_of : StepView → ℕ
 places_of s = length s.got + length s.scanned
 
--- the locations are got too, where what is seen rests on the state below
+-- the step also tracks those of the locations at which what is seen depends on the state below
 abbrev pub HasGotEach : List Place → StepView → StepView → Type 0
 HasGotEach locations old new =
     (new ≡ record old { got = new.got }) × AreEach (old.got ++ from_below old locations) new.got × (places_of new ≤ reads_limit)
 
--- the locations of these bytes are got too
+-- the step also tracks those of the locations of these bytes
 abbrev pub HasGot : List ℕ → StepView → StepView → Type 0
 HasGot bytes old new = (locations : List Place) × ReadAsLocations bytes locations × HasGotEach locations old new
 
--- the location is got too
+-- the step also tracks the location, under the same condition
 abbrev pub HasGotOne : Place → StepView → StepView → Type 0
 HasGotOne l = HasGotEach (l ∷ [])
 
--- 256 places are taken, and this location isn't got, and what is seen there rests on the state below
+-- 256 places are taken, this location isn't tracked, and what is seen there depends on the state below
 abbrev pub WouldGetOneMore : Place → StepView → Type 0
 WouldGetOneMore l s = (reads_limit ≤ places_of s) × ¬ Contains s.got l × (shows_below s.layers l ≡ true)
 
--- the location is among the others; or it isn't, and this is a copy of it, for which there is room among so many
+-- the location is among the others; or this is a copy of it, for which the limit leaves room
 abbrev pub IsCopyFor : ℕ → List Place → Place → Option Place → Type 0
 IsCopyFor limit got l None = Contains got l
 IsCopyFor limit got l (Some copy) = (copy ≡ l) × (length got < limit)
 
--- more than 256 places would be taken, with the locations
+-- with the locations, more than 256 places would be taken
 abbrev pub WouldTakeMany : List Place → StepView → Type 0
 WouldTakeMany locations s =
     (ls : List Place) × AreEach (s.got ++ from_below s locations) ls × (reads_limit < length ls + length s.scanned)
 
--- so it would be with the locations of these bytes
+-- the same, with the locations of these bytes
 abbrev pub WouldGetMany : List ℕ → StepView → Type 0
 WouldGetMany bytes s = (locations : List Place) × ReadAsLocations bytes locations × WouldTakeMany locations s
 
--- the text tells what is seen at the locations with this function name
+-- the text has what is seen at the locations with this function name
 abbrev pub IsFoundText : List ℕ → AgentAt Standard → StepView → List ℕ → Type 0
 IsFoundText name a s text = IsTextOfState (of_name name (seen a s)) text
 
@@ -112,7 +111,7 @@ IsScanned name s = Contains s.scanned name
 abbrev pub IsOfScanned : Place → StepView → Type 0
 IsOfScanned l s = (name : List ℕ) × IsScanned name s × IsTrue (has_name name l)
 
--- the function with this name is scanned: it was already, and all stays; or its name is put behind the others
+-- the function with this name is scanned: it was already, and nothing changes; or its name is put behind the others
 abbrev pub HasGotAll : List ℕ → StepView → StepView → Type 0
 HasGotAll name old new =
     (IsScanned name old × (new ≡ old))
@@ -126,8 +125,8 @@ WouldGetManyMore name s = (reads_limit ≤ places_of s) × ¬ IsScanned name s
 abbrev pub has_scan : List ℕ → List Scanned → Bool
 has_scan name scans = list_any (λ scan. pointwise nat_eq name (string_bytes scan.name)) scans
 
--- the name is that of one of the scans; or it isn't, and this is a scan of it at the number, for which there is room among so
--- many
+-- the name is that of one of the scans; or it isn't, and this is a scan of it at the number, for which the limit
+-- leaves room
 abbrev pub IsScanFor : ℕ → List Scanned → List ℕ → ℕ → Option Scanned → Type 0
 IsScanFor limit scans name number None = Contains (names_of scans) name
 IsScanFor limit scans name number (Some scan) =
@@ -140,13 +139,13 @@ abbrev pub grown : Way → List (List Move) → Move → List (List Move)
 grown ways.Push groups M = groups ++ (M ∷ []) ∷ []
 grown ways.Extend groups M = extended groups M
 
--- a layer more; or a new one in the place of the last. There are 64 at most
+-- one more layer, of at most 64; or a new one in the place of the last
 abbrev pub IsLayered : Way → List Layer → List Layer → Type 0
 IsLayered ways.Push old new = ((y : Layer) × (new ≡ old ++ y ∷ [])) × (length old ≢ frames_limit)
 IsLayered ways.Extend old new = (y : Layer) × (new ≡ all_but_last old ++ y ∷ [])
 
--- so the move is answered on the state below the step, if that is proper: after the step's moves it fires there, or has the
--- clash that is told, and nothing is too large
+-- the answer to the move on the state below the step, if that is well-formed: after the step's moves it fires there,
+-- or has the reported clash, and nothing is too large
 abbrev pub IsPushAnswerBelow : Move → AgentAt Standard → StepView → List Layer → Result (Unit {0}) StepError → Type 0
 IsPushAnswerBelow M a s new r =
     (groups : List (List Move)) → IsStepOn a s groups → IsProper (state_at a s.number) →
@@ -161,8 +160,8 @@ pub record IsGrown (way : Way) (M : Move) (a : AgentAt Standard) (old new : Step
   pub fires : IsPushAnswerBelow M a old new.layers (Ok tt)
   pub step : (groups : List (List Move)) → IsStepOn a old groups → IsStepOn a new (grown way groups M)
 
--- why it isn't, never that something is too large where the step is one of the agent over a proper state; 64 moves don't keep
--- one from extending the last
+-- why it isn't: never something too large if the step is one of the agent over a well-formed state, and never 64
+-- pushed moves if it would extend the last
 abbrev pub IsPushError : Way → Move → AgentAt Standard → StepView → StepError → Type 0
 IsPushError ways.Extend M a s Deep = ⊥
 IsPushError way M a s e =
@@ -172,8 +171,8 @@ IsPushError way M a s e =
 abbrev pub HasGrown : Way → List ℕ → AgentAt Standard → StepView → StepView → Type 0
 HasGrown way bytes a old new = (M : Move) × ReadAsMove bytes M × IsGrown way M a old new
 
--- the code and the text of why a move isn't pushed: the clash, the location where an amount or a sum is too large, or nothing
--- where there are too many instructions or moves
+-- the code and the text of why a move isn't pushed: the clash, the location where an amount or a sum is too large, or
+-- nothing if there are too many instructions or moves
 abbrev pub TellsRefusal : StepError → ℤ → List ℕ → Type 0
 TellsRefusal (Clash c) code text = (code ≡ ASM_CLASH) × (text ≡ clash_text c)
 TellsRefusal (Large l) code text = (code ≡ ASM_LARGE) × (text ≡ large_text l)
@@ -181,31 +180,33 @@ TellsRefusal Many code text = (code ≡ ASM_LONG_MOVE) × (text ≡ [])
 TellsRefusal Deep code text = (code ≡ ASM_DEEP) × (text ≡ [])
 TellsRefusal Memory code text = ⊥
 
--- code and text tell the refusal of a move, and the locations that it tells of are got; or these take more than 256 places, and
--- nothing but that is told
+-- code and text report the refusal of a move, and the locations on which it depends are tracked; or these take more
+-- than 256 places, and only that is reported
 abbrev pub TellsTracked : Move → StepView → StepView → StepError → ℤ → List ℕ → Type 0
 TellsTracked M old new e code text =
     (TellsRefusal e code text × HasGotEach (judged M e) old new)
     ⊎ ((code ≡ ASM_MANY) × (text ≡ []) × (new ≡ old) × WouldTakeMany (judged M e) old)
 
--- code and text tell why the move is neither pushed nor extends the last one, and what they tell of the state below is got
+-- code and text report why the move is neither pushed nor extends the last one, and the locations below on which that
+-- depends are tracked
 abbrev pub IsRefused : Way → Move → AgentAt Standard → StepView → StepView → ℤ → List ℕ → Type 0
 IsRefused way M a old new code text = (e : StepError) × IsPushError way M a old e × TellsTracked M old new e code text
 
--- the bytes are JSON of a move, of which it is so
+-- the bytes are JSON of a move that is refused with this code and this text
 abbrev pub IsNotGrown : Way → List ℕ → AgentAt Standard → StepView → StepView → ℤ → List ℕ → Type 0
 IsNotGrown way bytes a old new code text = (M : Move) × ReadAsMove bytes M × IsRefused way M a old new code text
 
 -- ---- popping
 
--- the move that was pushed last is gone, with those that extended it
+-- the move that was pushed last is popped, with those that extended it
 pub record HasPopped (old new : StepView) : Type 0 where
   pub same : new ≡ record old { layers = new.layers }
   pub less : (y : Layer) × (old.layers ≡ new.layers ++ y ∷ [])
   pub step : (a : AgentAt Standard) (groups : List (List Move)) (group : List Move) →
       IsStepOn a old (groups ++ group ∷ []) → IsStepOn a new groups
 
--- the locations are got where what is seen rests on the state below, and then the move that was pushed last is gone
+-- the step also tracks those of the locations at which what is seen depends on the state below, and then the move
+-- that was pushed last is popped
 abbrev pub HasPoppedOver : List Place → StepView → StepView → Type 0
 HasPoppedOver locations old new = (mid : StepView) × HasGotEach locations old mid × HasPopped mid new
 

@@ -1,4 +1,4 @@
--- What pushing a move onto the step of a slot leaves, or extending by it the one that was pushed last.
+-- The effects of pushing a move onto the step of a slot, or of extending by it the one that was pushed last.
 use Rattle.std.specs.Prelude.{◌≡◌, ◌⊎◌, ℕ, ℤ, List, [], ◌∷◌, Option}
 use Rattle.asm_journal.specs.Event.{IsMoveForm}
 use Rattle.asm_explain.specs.Bytes.{IsNoJson, IsOtherJson}
@@ -15,12 +15,14 @@ use Rattle.asm_slots.specs.declared.owned_step.Way.TheVariants as ways
 abbrev pub refusals : List ℤ
 refusals = ASM_CLASH ∷ ASM_MANY ∷ ASM_LARGE ∷ ASM_DEEP ∷ ASM_LONG_MOVE ∷ []
 
--- the codes with which the step changes: the move is taken, or refused, also where the text of the refusal is too long
+-- the codes with which the step may change: the move is accepted or refused, even if the text of the refusal is too
+-- long
 abbrev pub changes : List ℤ
 changes = ASM_DONE ∷ ASM_SMALL ∷ refusals
 
--- the move of these bytes is pushed, or extends the one that was pushed last, and all but the step stays as it was; or the
--- code, with the text that is written, tells why not, and the step has got what that tells of. An extension is never too deep
+-- the move of these bytes is pushed, or extends the one that was pushed last, and only the step changes; or the code,
+-- with the text that is written, says why not, and the step tracks what that depends on. An extension is never too
+-- deep
 pub record Grows (way : Way) (instrs : List ℕ) (agent step after : Option Content) (out out_after : List ℕ) (written : ℕ) (code : ℤ) : Type 0 where
   pub codes : IsOneOf (ASM_DONE ∷ ASM_CLASH ∷ ASM_MEMORY ∷ ASM_EMPTY ∷ ASM_SMALL ∷ ASM_MANY
       ∷ ASM_NOT_JSON ∷ ASM_SHAPE ∷ ASM_LARGE ∷ ASM_MOVED ∷ ASM_DEEP ∷ ASM_LONG_MOVE ∷ []) code

@@ -5,8 +5,8 @@ use Rattle.asm_element.specs.Place.{Place}
 use Rattle.asm_state.specs.declared.scanned.Scanned.{Scanned}
 use Rattle.asm_step.specs.Layers.{Layer}
 
--- the number of moves at which it began, the layers of what is pushed, the locations that were got, and the names of the
--- functions that were scanned, each once
+-- the version at which it began, the layers of what is pushed, the tracked locations, and the names of the scanned
+-- functions, each once
 pub record StepView : Type 0 where
   pub number : ℕ
   pub layers : List Layer
@@ -21,7 +21,7 @@ step_code y l =
     (λ s. (s.number, (s.layers, (s.got, s.scanned))))
     (λ p. record { number = p.0; layers = p.1.0; got = p.1.1.0; scanned = p.1.1.1 }) (λ _. refl)
 
--- a step at this number, of no moves and with nothing got or scanned
+-- a step at this version, without moves, tracked locations and scanned functions
 abbrev pub begun : ℕ → StepView
 begun n = record { number = n; layers = []; got = []; scanned = [] }
 

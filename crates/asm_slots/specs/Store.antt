@@ -4,8 +4,8 @@ use Rattle.std.specs.Coded.{Coded, code_by, coded×, coded_ℕ, coded_list, code
 use Rattle.asm_storage.specs.Storage.{AgentAt, StorageView}
 use Rattle.asm_slots.specs.Standard.{Standard}
 
--- the storage, the numbers of the agents that were made in their order, the agents that were given back in ascending
--- order of their numbers, and the text of their journal once they are closed
+-- the storage, the numbers of the agents that were made in their order, the returned agents in ascending order of
+-- their numbers, and the text of their journal once they are closed
 pub record StoreView : Type 0 where
   pub storage : StorageView Standard
   pub numbers : List ℕ

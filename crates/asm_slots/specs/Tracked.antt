@@ -1,4 +1,4 @@
--- Where a push or a pop tells of what is below a step, so that it is got.
+-- The locations below a step that it tracks, since the report of a push or a pop depends on them.
 use Rattle.std.specs.Prelude.{List, [], ◌∷◌, filter}
 use Rattle.std.specs.Ordering.{is_le}
 use Rattle.asm_element.specs.Place.{Place, location_cmp}
@@ -14,8 +14,8 @@ use Rattle.asm_slots.specs.StepView.{StepView}
 abbrev pub judged_to : Place → Move → List Place
 judged_to l M = l ∷ filter (λ k. is_le (location_cmp k l)) (partial_places M)
 
--- the locations that a refusal tells of: its own with the smaller ones at which the move has partial updates, which fit there;
--- all of these, where the move alone isn't to blame
+-- the locations on which a refusal depends: its own with the smaller ones at which the move has partial updates,
+-- which fit there; all of these, if the move alone isn't the cause
 abbrev pub judged : Move → StepError → List Place
 judged M (Clash c) = judged_to c.at M
 judged M (Large l) = judged_to l M
@@ -27,6 +27,6 @@ judged M Memory = []
 abbrev pub judged_last : StepView → List Place
 judged_last s = all_partial_places (moves_of s.layers)
 
--- the locations on which the moves that were pushed last rest by themselves
+-- the locations on which the moves that were pushed last depend by themselves
 abbrev pub resting_last : StepView → List Place
 resting_last s = filter (rests (moves_of s.layers)) (resting_of s.layers)

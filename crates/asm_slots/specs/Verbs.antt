@@ -17,11 +17,11 @@ action_with verbs.Remove e = SetRemove e
 action_with (verbs.BagAdd n) e = BagAdd e n
 action_with (verbs.BagRemove n) e = BagRemove e n
 
--- it is told by this number and this amount
+-- this number and this amount mean it
 abbrev pub IsVerb : ℤ → ℕ → Verb → Type 0
 IsVerb verb amount v = (e : Element) → (verb ≡ verb_of (action_with v e)) × IsAmount (action_with v e) amount
 
--- no action is told by this number and this amount
+-- this number and this amount mean no action
 abbrev pub IsNoVerb : ℤ → ℕ → Type 0
 IsNoVerb verb amount = (a : Action) → verb ≡ verb_of a → ¬ IsAmount a amount
 

@@ -1,4 +1,4 @@
-//! Audits of runs, and what they tell to C.
+//! Audits of runs, and the numbers that they report to C.
 #![tactic(auto, unfolding(asm_aggregate::specs::Standard::standard_meaning))]
 
 ghost use Rattle.std.specs.Prelude.{◌≡◌, ◌∷◌, [], IfOk, IfSome, IfNone, string_bytes};
@@ -13,19 +13,23 @@ use asm_update::PlainState;
 use std::alloc::{AllocError, Global};
 use std::marker::Model;
 
-/// The numbers of an audit.
+/// The numbers that an audit reports.
 #[repr(C)]
 #[derive(Drop)]
 pub struct AuditNumbers {
-    /// How many parts are whole; of a part that is at fault its number, from 0.
+    /// How many segments are complete; after a fault, the number of its segment.
+    ///
+    /// Segments are counted from 0.
     pub parts: u64,
-    /// How many calls were judged, of all parts; the number of a call whose answer is wrong, or of a line at fault.
+    /// How many calls were judged, in all segments.
+    ///
+    /// After a fault, the number of the call with the wrong answer, or of the line at fault.
     pub calls: u64,
-    /// How many moves were fired, of all parts.
+    /// How many moves were fired, in all segments.
     pub moves: u64,
 }
 
-/// An audit of a run, by the standard aggregator.
+/// An audit of a run, with the standard aggregator.
 #[derive(Drop)]
 pub struct Audit {
     auditor: ByteAuditor<Standard>,
@@ -43,7 +47,7 @@ impl Model for Audit {
 }
 
 impl Audit {
-    /// One that has read nothing.
+    /// Return an audit that has read nothing.
     pub(crate) fn new(alloc: Global) -> Audit
         ensures { WasFed [] result }
     {
@@ -52,7 +56,7 @@ impl Audit {
         }
     }
 
-    /// Takes the next bytes, and how many of them were taken.
+    /// Read the next bytes; return how many of them were read, and the answer.
     pub(crate) fn feed(&mut self, alloc: Global, bytes: &[u8]) -> (usize, Result<Told, AuditError>)
         ensures told { IsFedAnswer part bytes.now self.old.progress self.old.line self.new.progress self.new.line result.1 }
         ensures first { HasTakenFirst part bytes.now self.old.progress self.old.line self.new.progress self.new.line
@@ -61,7 +65,7 @@ impl Audit {
         self.auditor.feed_some(alloc, bytes)
     }
 
-    /// What is told if no further byte comes.
+    /// Return the answer if no further byte comes; the audit is unchanged.
     pub(crate) fn finish(&mut self, alloc: Global) -> Result<Counts, AuditError>
         ensures told { IsFedEnd part self.old.progress self.old.line result }
         ensures same { self.new ≡ self.old }
@@ -69,14 +73,14 @@ impl Audit {
         self.auditor.finish(alloc)
     }
 
-    /// The numbers so far.
+    /// Return the numbers so far.
     pub(crate) fn counts(&self) -> Counts
         ensures { AreFedSoFar part self.now.progress self.now.line result }
     {
         self.auditor.counts()
     }
 
-    /// The state that the moves so far leave, if a part has begun.
+    /// Return the state that the moves so far leave, if a segment has begun.
     pub(crate) fn state(&self, alloc: Global) -> Result<Option<PlainState>, AllocError>
         ensures { IfOk result (IsFedStateSoFar part self.now.progress self.now.line) }
     {

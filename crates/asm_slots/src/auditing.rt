@@ -1,4 +1,4 @@
-//! Feeding bytes to audits, and what is told of them.
+//! Feeding bytes to audits, and their answers as codes and numbers.
 ghost use Rattle.std.specs.Prelude.{◌≡◌, ◌≢◌, ◌∷◌, [], IfErr, IfOk, OnErr, Some, None, string_bytes};
 ghost use Rattle.asm_slots.specs.Audits.{Audits, AreNoNumbers, HasAudited, HasEnd, HasNoState, IsAuditState};
 ghost use Rattle.asm_slots.specs.Audits.{TellsAnswer, TellsAuditError, TellsEnd, counts_of};
@@ -39,7 +39,7 @@ impl AuditNumbers {
         }
     }
 
-    // Of a part, with the number of a call or a line.
+    // Return the numbers of a segment, and of a call or a line in it.
     fn at(part: u64, number: u64) -> AuditNumbers
         ensures part { result.parts ≡ part }
         ensures number { result.calls ≡ number }
@@ -53,7 +53,7 @@ impl AuditNumbers {
     }
 }
 
-// The code of the error, with its numbers.
+// Return the code of the error, with its numbers.
 fn code_of_audit_error(error: AuditError) -> (i32, AuditNumbers)
     ensures codes { IsOneOf (ASM_MEMORY ∷ ASM_NOT_JSON ∷ ASM_SHAPE ∷ ASM_VERSION ∷ ASM_CUT ∷ ASM_LONG_LINE ∷ ASM_APART ∷ []) result.0 }
     ensures told { TellsAuditError error result.0 result.1 }
@@ -69,7 +69,7 @@ fn code_of_audit_error(error: AuditError) -> (i32, AuditNumbers)
     }
 }
 
-// Feeds the bytes to the audit, and tells how many of them were taken, and the numbers.
+// Feed the bytes to the audit; write how many of them were read, and the numbers.
 fn feed(
     alloc: Global,
     audit: &mut Audit,
@@ -103,7 +103,19 @@ fn feed(
     }
 }
 
-/// Feeds the bytes to the audit in the box, which goes into the slot.
+/// Feed the bytes to the audit in the box, and put the box into the slot.
+///
+/// `taken` is how many of the bytes were read, and `told` has the numbers of the audit.
+///
+/// # Errors
+///
+/// - `ASM_ILLEGAL`: the call with this number, in the segment with this number, has a wrong answer.
+/// - `ASM_NOT_JSON`, `ASM_SHAPE`: the line with this number, in the segment with this number, is at fault.
+/// - `ASM_VERSION`, `ASM_CUT`: the journal of the segment with this number is at fault.
+/// - `ASM_APART`: the segment with this number opens with another state than the one before it leaves.
+/// - `ASM_LONG_LINE`: a line has more than 1,073,741,824 bytes.
+/// - `ASM_TAKEN`: exactly if the box has no audit; its content is unchanged, and `taken` and all numbers are 0.
+/// - `ASM_MEMORY`
 pub fn feed_in(
     alloc: Global,
     slot: &mut Slot,
@@ -126,14 +138,19 @@ pub fn feed_in(
     code
 }
 
-// An audit that has read nothing, in a slot's box.
+// Return an audit that has read nothing, in a slot's box.
 fn begun(alloc: Global) -> Result<Box<Content>, AllocError>
     ensures { IfOk result (λ b. (a : AuditView) × (b.value ≡ content.Audit a) × WasFed [] a) }
 {
     Ok(Box::new(alloc, Content::Audit(Audit::new(alloc)))?)
 }
 
-/// Feeds the bytes to an audit that begins in the empty slot.
+/// Feed the bytes to a new audit, which begins in the empty slot.
+///
+/// # Errors
+///
+/// - Those of `feed_in`, except `ASM_TAKEN`.
+/// - `ASM_MEMORY`: the slot may be empty, and then `taken` and all numbers are 0.
 pub fn feed_first(
     alloc: Global,
     slot: &mut Slot,
@@ -152,7 +169,13 @@ pub fn feed_first(
     }
 }
 
-/// What is told of the audit if no further byte comes, with its numbers.
+/// Return the code and the numbers of the audit if no further byte comes.
+///
+/// The audit is unchanged.
+///
+/// # Errors
+///
+/// - Those of `feed_in`, except `ASM_TAKEN` and `ASM_ILLEGAL`, with the same numbers.
 pub fn ended(alloc: Global, audit: &mut Audit) -> (i32, AuditNumbers)
     ensures codes { IsOneOf (ASM_DONE ∷ ASM_MEMORY ∷ ASM_NOT_JSON ∷ ASM_SHAPE ∷ ASM_VERSION ∷ ASM_CUT
         ∷ ASM_LONG_LINE ∷ ASM_APART ∷ []) result.0 }
@@ -165,7 +188,12 @@ pub fn ended(alloc: Global, audit: &mut Audit) -> (i32, AuditNumbers)
     }
 }
 
-/// The text of the state that the moves so far leave.
+/// Return the text of the state that the moves so far leave.
+///
+/// # Errors
+///
+/// - `ASM_NO_PART`: no segment has begun.
+/// - `ASM_MEMORY`
 pub fn audit_state(alloc: Global, audit: &Audit) -> Result<String, i32>
     ensures ok { IfOk result (λ text. IsAuditState audit.now (string_bytes text)) }
     ensures codes { IfErr result (IsOneOf (ASM_MEMORY ∷ ASM_NO_PART ∷ [])) }

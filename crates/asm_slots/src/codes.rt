@@ -1,4 +1,4 @@
-//! The codes that calls answer, and their texts.
+//! The codes that calls return, and their texts.
 ghost use Rattle.std.specs.Prelude.{◌∷◌, [], ◌≡◌, ◌≢◌, ◌<◌, false, int_lt, length, string_bytes};
 ghost use Rattle.asm_slots.specs.Codes.{IsOneOf, first_texts, further, further_texts, text_among, text_of_code};
 ghost use Rattle.asm_slots.specs.Codes.{ASM_APART, ASM_DONE, ASM_SMALL};
@@ -76,14 +76,20 @@ pub const LONG_LINE: i32 = 34;
 
 pub const LONG_MOVE: i32 = 35;
 
-/// A text that is to be written, with its code.
+/// A text to write, with its code.
 #[derive(Drop)]
 pub struct Told {
     pub code: i32,
     pub text: String,
 }
 
-/// Copies the bytes to the start of the buffer, where they fit.
+/// Copy the bytes to the start of the buffer, if they fit.
+///
+/// `written` is how many bytes there are, in any case.
+///
+/// # Errors
+///
+/// - `ASM_SMALL`: there are more bytes than the buffer has, which is unchanged.
 pub fn copied(bytes: &[u8], out: &mut [u8], written: &mut usize) -> i32
     ensures written { written.new ≡ length bytes.now }
     ensures codes { IsOneOf (ASM_DONE ∷ ASM_SMALL ∷ []) result }
@@ -97,7 +103,11 @@ pub fn copied(bytes: &[u8], out: &mut [u8], written: &mut usize) -> i32
     DONE
 }
 
-/// Copies the text to the start of the buffer and answers the code, where it fits.
+/// Copy the text to the start of the buffer and return its code, if it fits.
+///
+/// # Errors
+///
+/// - `ASM_SMALL`: the text is longer than the buffer, which is unchanged; `written` is the room that it needs.
 pub fn written_as(told: &Told, out: &mut [u8], written: &mut usize) -> i32
     requires { told.now.code ≢ ASM_SMALL }
     ensures codes { IsOneOf (told.now.code ∷ ASM_SMALL ∷ []) result }
@@ -110,7 +120,7 @@ pub fn written_as(told: &Told, out: &mut [u8], written: &mut usize) -> i32
     SMALL
 }
 
-/// What the code means, in a line of English.
+/// Return what the code means, as a line of English.
 pub fn text_of_code(code: i32) -> &'static str
     ensures { result.now ≡ text_of_code code }
 {
@@ -121,7 +131,8 @@ pub fn text_of_code(code: i32) -> &'static str
     }
 }
 
-// The text of a code before `APART`. All in one match are more than the prover looks through.
+// Return the text of a code below `APART`.
+// Proof: one match with all codes is too large for the prover.
 fn first_text(code: i32) -> &'static str
     ensures { result.now ≡ text_among first_texts code }
 {
@@ -153,7 +164,7 @@ fn first_text(code: i32) -> &'static str
     }
 }
 
-// The text of a code from `APART` on.
+// Return the text of a code from `APART` on.
 fn further_text(code: i32) -> &'static str
     requires { int_lt code ASM_APART ≡ false }
     ensures { result.now ≡ text_among further_texts (further code) }

@@ -1,4 +1,4 @@
-//! Firing the one move of a step, with or without a receipt of what the step read.
+//! Committing a step: firing its one move, with or without a receipt of what the step read.
 ghost use Rattle.std.specs.Prelude.{◌≡◌, ◌≤◌, ◌+◌, ◌⊎◌, ◌∷◌, [], Some, map, unwrap_or, IfErr, IfOk, OnErr, OnOk};
 ghost use Rattle.asm_step.specs.Layers.{one_move};
 ghost use Rattle.asm_storage.specs.Limits.{offers_limit};
@@ -21,7 +21,7 @@ use asm_storage::{FireError, READS_LIMIT, RecallError, Reply};
 use asm_update::Instructions;
 use std::alloc::{AllocError, Global};
 
-// The code of what a fire answers, with its numbers.
+// Return the code of a fire's answer, with its numbers.
 fn told_fire(answer: Result<Reply, FireError>) -> (i32, Numbers)
     ensures told { TellsFire answer result.0 result.1.fired result.1.from result.1.to }
     ensures codes { IsOneOf (ASM_DONE ∷ ASM_STALE ∷ ASM_CLASH ∷ ASM_MEMORY ∷ ASM_FULL ∷ ASM_BUSY ∷ ASM_MANY ∷ []) result.0 }
@@ -44,7 +44,7 @@ fn told_fire(answer: Result<Reply, FireError>) -> (i32, Numbers)
     }
 }
 
-// The step's one move, and all named that it depends on.
+// Return the step's one move, and all reads that its commit declares.
 fn prepare(alloc: Global, step: &OwnedStep) -> Result<(Instructions, Items<Named>), AllocError>
     ensures names { IfOk result (λ p. NamesAll step.now p.1) }
     ensures one { IfOk result (λ p. p.0 ≡ unwrap_or (one_move step.now.layers) []) }
@@ -55,7 +55,7 @@ fn prepare(alloc: Global, step: &OwnedStep) -> Result<(Instructions, Items<Named
     Ok((instrs, reads))
 }
 
-// Fires the step's one move with all named that it depends on, and over all that it scanned.
+// Fire the step's one move with all reads that its commit declares, and with all scans of the step.
 fn fire_prepared(
     alloc: Global,
     agent: &mut OwnedAgent,
@@ -78,7 +78,7 @@ fn fire_prepared(
     told_fire(agent.fire_over(alloc, reads, &step.scanned, instrs))
 }
 
-// Fires the step's one move, if there is memory to prepare it.
+// Fire the step's one move, if there is memory to prepare it.
 #[tactic(auto, using(crate::proofs::Commits::does_all))]
 fn fire_step(alloc: Global, agent: &mut OwnedAgent, step: &OwnedStep) -> (i32, Numbers)
     ensures committed { HasCommitted step.now result.0 result.1.fired result.1.from result.1.to agent.old agent.new }
@@ -96,7 +96,7 @@ fn fire_step(alloc: Global, agent: &mut OwnedAgent, step: &OwnedStep) -> (i32, N
     fire_prepared(alloc, agent, step, &instrs, &reads)
 }
 
-// The locations that the reads name.
+// Return the locations of the declared reads.
 fn locations_of(alloc: Global, reads: &[Named]) -> Result<Vec<Location>, AllocError>
     ensures { IfOk result (λ locations. locations.items ≡ map (λ x. x.at) reads.now) }
 {
@@ -107,8 +107,8 @@ fn locations_of(alloc: Global, reads: &[Named]) -> Result<Vec<Location>, AllocEr
     Ok(locations)
 }
 
-// Adds a receipt of a read of what the reads name, from the agent's own state at the step's number. On error, which is the
-// code that says why, nothing changes.
+// Add a receipt of a read of the declared locations, from the agent's own state at the step's version. On error, the
+// agent is unchanged, and the error is the code that says why.
 fn record_reads(
     alloc: Global,
     agent: &mut OwnedAgent,
@@ -139,7 +139,7 @@ fn record_reads(
     }
 }
 
-// Adds a receipt of a read of all that the step's one move depends on, and then fires the move.
+// Add a receipt of a read of all locations on which the step's one move depends, then fire the move.
 #[tactic(auto, using(crate::proofs::Commits::does_all))]
 fn fire_recorded(alloc: Global, agent: &mut OwnedAgent, step: &OwnedStep) -> (i32, Numbers)
     ensures committed { HasCommittedRecorded step.now result.0 result.1.fired result.1.from result.1.to agent.old agent.new }
@@ -163,7 +163,17 @@ fn fire_recorded(alloc: Global, agent: &mut OwnedAgent, step: &OwnedStep) -> (i3
     }
 }
 
-/// Fires the one move of the step in a box with the agent in another.
+/// Fire the one move of the step in a box, with the agent in another box.
+///
+/// The fire declares each tracked location, and each on which the pushed moves depend, at the step's version. It covers
+/// each scanned function.
+///
+/// # Errors
+///
+/// - `ASM_EMPTY`: the first box has no agent, or the second no step; nothing changes.
+/// - `ASM_MANY`: the declared locations and the scanned functions are more than 256 together.
+/// - `ASM_STALE`, `ASM_CLASH`, `ASM_FULL`, `ASM_BUSY`: as of `fire_over_in`.
+/// - `ASM_MEMORY`: nothing was fired; the agent may have seen more.
 pub fn commit_in(alloc: Global, agent: &mut Content, step: &Content) -> (i32, Numbers)
     ensures { FiresStep (Some agent.old) (Some agent.new) (Some step.now) result.1 result.0 }
 {
@@ -176,7 +186,18 @@ pub fn commit_in(alloc: Global, agent: &mut Content, step: &Content) -> (i32, Nu
     fire_step(alloc, inner, taken)
 }
 
-/// Adds a receipt of what the step in a box read, and then fires its one move, with the agent in another box.
+/// Add a receipt of what the step in a box read, then fire its one move.
+///
+/// The agent is in another box. The read has the locations that the fire declares, from the agent's own state at the
+/// step's version.
+///
+/// # Errors
+///
+/// - `ASM_EMPTY`, `ASM_MANY`: as of `commit_in`; nothing changes.
+/// - `ASM_MOVED`: the agent's own state isn't at the step's version, or is behind the agent's receipts; nothing
+///   changes.
+/// - `ASM_STALE`, `ASM_CLASH`, `ASM_FULL`, `ASM_BUSY`: as of `commit_in`, after the read was recorded.
+/// - `ASM_MEMORY`: nothing was fired; the agent may have the receipt of the read.
 pub fn commit_recorded_in(alloc: Global, agent: &mut Content, step: &Content) -> (i32, Numbers)
     ensures { FiresRecorded (Some agent.old) (Some agent.new) (Some step.now) result.1 result.0 }
 {

@@ -1,4 +1,5 @@
-//! Moves without an agent: their updates on a state, and two of them composed. Both go from texts to a text.
+//! Moves without an agent: the updates of a move on a state, and the composition of two moves. Both read texts and
+//! return a text.
 ghost use Rattle.std.specs.Prelude.{◌≡◌, ◌∷◌, [], codes, string_bytes, IfOk, IfErr};
 ghost use Rattle.serde_json.specs.View.{view};
 ghost use Rattle.asm_journal.specs.Element.{location_json_of};
@@ -21,7 +22,7 @@ use asm_update::{AggError, Clash, Instructions, PlainState, UpdateSet};
 use serde_json::{Map, Value as Json};
 use std::alloc::{AllocError, Global};
 
-/// `{"clash":[LOC,CAUSE]}`
+/// Return `{"clash":[LOC,CAUSE]}`.
 pub(crate) fn clash_text(alloc: Global, clash: Clash) -> Result<String, AllocError>
     ensures { IfOk result (λ s. string_bytes s ≡ clash_text clash) }
 {
@@ -36,7 +37,7 @@ fn large_json(alloc: Global, at: &Location) -> Result<Json, AllocError>
     Ok(Json::Object(members))
 }
 
-/// `{"large":LOC}`
+/// Return `{"large":LOC}`.
 pub(crate) fn large_text(alloc: Global, at: &Location) -> Result<String, AllocError>
     ensures { IfOk result (λ s. string_bytes s ≡ large_text at.now) }
 {
@@ -85,7 +86,14 @@ fn told_move(alloc: Global, answer: Result<Instructions, ComposeError>) -> Resul
     }
 }
 
-/// What the aggregation of the move of these bytes on the state of those answers.
+/// Aggregate the move of these bytes on the state of those.
+///
+/// The code is `ASM_DONE` with the text of the updates, or `ASM_CLASH` with that of the clash.
+///
+/// # Errors
+///
+/// - `ASM_NOT_JSON`, `ASM_SHAPE`: the bytes of the state, or else those of the move, aren't read.
+/// - `ASM_MEMORY`
 pub fn aggregated(alloc: Global, state: &[u8], instrs: &[u8]) -> Result<Told, i32>
     ensures ok { IfOk result (λ t. IsAggregated state.now instrs.now t.code (string_bytes t.text)) }
     ensures few { IfOk result (λ t. IsOneOf (ASM_DONE ∷ ASM_CLASH ∷ []) t.code) }
@@ -103,7 +111,15 @@ pub fn aggregated(alloc: Global, state: &[u8], instrs: &[u8]) -> Result<Told, i3
     }
 }
 
-/// What the composition of the moves of these bytes answers.
+/// Compose the moves of these bytes.
+///
+/// The code is `ASM_DONE` with the text of the move, `ASM_CLASH` with that of the clash, `ASM_LARGE` with the location
+/// where an amount or a sum is too large, or `ASM_LONG_MOVE` with no text.
+///
+/// # Errors
+///
+/// - `ASM_NOT_JSON`, `ASM_SHAPE`: the bytes of the first move, or else those of the second, aren't read.
+/// - `ASM_MEMORY`
 pub fn composed(alloc: Global, first: &[u8], second: &[u8]) -> Result<Told, i32>
     ensures ok { IfOk result (λ t. IsComposed first.now second.now t.code (string_bytes t.text)) }
     ensures few { IfOk result (λ t. IsOneOf (ASM_DONE ∷ ASM_CLASH ∷ ASM_LONG_MOVE ∷ ASM_LARGE ∷ []) t.code) }

@@ -1,4 +1,4 @@
-//! What a slot contains, in the box behind its handle.
+//! The content of a slot, in the box behind its handle.
 use crate::audit::Audit;
 use crate::owned_agent::OwnedAgent;
 use crate::owned_step::OwnedStep;
@@ -6,7 +6,9 @@ use crate::store::Store;
 use asm_element::Location;
 use asm_update::Instructions;
 
-/// The box is reused: it contains nothing while a call works on what was taken out.
+/// The content of a slot's box.
+///
+/// The box is reused: it contains nothing while a call works on the content that it took out.
 #[derive(Drop)]
 pub enum Content {
     Nothing,

@@ -1,4 +1,4 @@
-//! Whether a text reads as a form, and a sentence that says where and why it doesn't.
+//! Judging whether a text reads as a form, with a sentence that says where and why it doesn't.
 ghost use Rattle.std.specs.Prelude.{◌≡◌, ◌≢◌, ◌<◌, ◌≤◌, ◌↔◌, ◌∷◌, [], length, IfSome, IfNone};
 ghost use Rattle.asm_slots.specs.Codes.{IsOneOf, ASM_DONE, ASM_MEMORY, ASM_NO_FORM, ASM_SMALL};
 ghost use Rattle.asm_slots.specs.Forms.{HasForm, IsNoForm, LacksForm, form_code};
@@ -21,12 +21,18 @@ fn form_of(form: i32) -> Option<Form>
     }
 }
 
-/// Writes where and why a text isn't of a form, in a sentence; of a text that is, an empty one.
+/// Write where and why a text isn't of a form, as a sentence.
 ///
-/// The forms are 0: locations, 1: a move with its reads, 2: a state, 3: an event, as a journal's lines behind
-/// the first, 4: a script. It tells what the readers of these accept, and nothing that another call is refused for:
-/// more than 256 locations are locations. Which sentence comes is tested. `ASM_NO_FORM`: no such form. `ASM_SMALL`:
-/// `written` is the room that it needs. `ASM_MEMORY`. What a code doesn't set is 0.
+/// If the text is of the form, the sentence is empty. The forms are 0: locations, 1: a move with its declared reads, 2:
+/// a state, 3: an event, as in a journal's lines after the first, 4: a script. The call judges what the readers of
+/// these accept, and nothing for which another call is refused: more than 256 locations are locations. The choice of
+/// the sentence is tested. What a code doesn't set is 0.
+///
+/// # Errors
+///
+/// - `ASM_NO_FORM`: exactly if there is no such form.
+/// - `ASM_SMALL`: `written` is the room that the sentence needs.
+/// - `ASM_MEMORY`
 pub fn explain(alloc: Global, form: i32, text: &[u8], out: &mut [u8], written: &mut usize) -> i32
     ensures codes { IsOneOf (ASM_DONE ∷ ASM_MEMORY ∷ ASM_NO_FORM ∷ ASM_SMALL ∷ []) result }
     ensures accepted { result ≡ ASM_DONE → written.new ≡ 0 → HasForm form text.now }

@@ -1,4 +1,4 @@
-//! Firing a move that rests on whole functions too.
+//! Firing a move that depends on scans of functions too.
 ghost use Rattle.std.specs.Prelude.{◌≡◌, ◌≢◌, ◌≤◌, ◌+◌, ◌∷◌, [], IfOk, IfErr};
 ghost use Rattle.asm_storage.specs.Limits.{offers_limit};
 ghost use Rattle.asm_storage.specs.Storage.{IsSameAgent};
@@ -20,7 +20,7 @@ use asm_state::Scanned;
 use asm_storage::FireError;
 use std::alloc::Global;
 
-// The move of the one text, and the scans of the other.
+// Read the move of the one text, and the scans of the other.
 fn fire_over_of(alloc: Global, call: &[u8], scans: &[u8]) -> Result<(Fire, Vec<Scanned>), TextError>
     ensures ok { IfOk result (λ p. ReadAsFireOver call.now scans.now p.0.reads p.1.items p.0.instrs) }
     ensures err { IfErr result (IsEitherMisread IsFireForm AreScans call.now scans.now) }
@@ -35,7 +35,17 @@ fn fire_over_of(alloc: Global, call: &[u8], scans: &[u8]) -> Result<(Fire, Vec<S
     }
 }
 
-/// Fires the move of the one text, so that it rests on the whole functions of the scans of the other too.
+/// Fire the move of one text, with the scans of another.
+///
+/// The move then depends on each location of a scanned function too, whether it has a value or none.
+///
+/// # Errors
+///
+/// - `ASM_STALE`: a declared location was written since its read, or one of a scanned function since its scan.
+/// - `ASM_AHEAD`: a declared read or a scan has a number above what the agent has seen; nothing changes.
+/// - `ASM_MANY`: there are more than 256 declared reads and scans together; nothing changes.
+/// - `ASM_NOT_JSON`, `ASM_SHAPE`: the text of the move, or else that of the scans, isn't read; nothing changes.
+/// - `ASM_CLASH`, `ASM_FULL`, `ASM_BUSY`, `ASM_MEMORY`: as of `fire_in`.
 pub fn fire_over_in(
     alloc: Global,
     agent: &mut OwnedAgent,
@@ -72,7 +82,7 @@ pub fn fire_over_in(
     if agent.is_behind_over(fire.reads.as_slice(), &scans) {
         return (AHEAD, Numbers::none());
     }
-    // So the receipt shares them, where it would copy them.
+    // The receipt then shares the reads instead of copying them.
     let Ok(reads) = fire.reads.share(alloc) else {
         return (MEMORY, Numbers::none());
     };

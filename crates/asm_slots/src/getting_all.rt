@@ -1,4 +1,4 @@
-//! What is seen through a step at all locations with one function name, and the scan of the function.
+//! Reading through a step all locations with one function name, and the scan of the function.
 ghost use Rattle.std.specs.Prelude.{◌≡◌, ◌≢◌, ◌≤◌, ◌<◌, ◌∷◌, ◌++◌, [], length, vec_len, string_bytes, Contains, IsUtf8};
 ghost use Rattle.std.specs.Prelude.{IfErr, IfOk, IfNone, IfSome, IsSome, OnOk};
 ghost use Rattle.std.specs.Vec.{vec_capacity};
@@ -20,7 +20,7 @@ use asm_update::PlainState;
 use std::alloc::Global;
 use std::str;
 
-// What is seen at the locations with this name.
+// Return what is seen at the locations with this name.
 fn found_in(
     alloc: Global,
     agent: &OwnedAgent,
@@ -37,12 +37,12 @@ fn found_in(
     }
     let below = state.of_name(alloc, name)?;
     let found = step.step.scan(alloc, below, name)?;
-    // The clause speaks of a state without undef, and only this call tells the proof that it is one.
+    // Proof: the clause is about a state without undef, and only this call shows that it is one.
     found.proper();
     Ok(found)
 }
 
-// Its text.
+// Return its text.
 fn found_text(
     alloc: Global,
     agent: &OwnedAgent,
@@ -57,14 +57,14 @@ fn found_text(
     Ok(state_text(alloc, &found)?)
 }
 
-// Whether one of the scans is of the function with this name.
+// Return whether one of the scans is of the function with this name.
 fn is_scanned(scans: &[Scanned], name: &str) -> bool
     ensures { result ≡ has_scan name.now scans.now }
 {
     scans.iter().any(|scan| name == scan.name.as_str())
 }
 
-// A scan of the function, unless there is one among the others, and room for it behind them.
+// Return a scan of the function and make room for it behind the others, unless one of these is of the function.
 fn scan_for(
     alloc: Global,
     limit: usize,
@@ -89,7 +89,7 @@ fn scan_for(
     Ok(Some(Scanned { name, number }))
 }
 
-// Puts the scan, if there is one, behind the others.
+// Append the scan, if there is one.
 fn note_scan(scans: &mut Vec<Scanned>, scan: Option<Scanned>)
     requires { IsSome scan → vec_len scans.old < vec_capacity scans.old }
     ensures some { IfSome scan (λ one. scans.new.items ≡ scans.old.items ++ one ∷ []) }
@@ -101,7 +101,7 @@ fn note_scan(scans: &mut Vec<Scanned>, scan: Option<Scanned>)
     scans.push(scan).unwrap();
 }
 
-// The same as below, with the name as a text.
+// Do what `get_all_in` does, with the name as a string.
 fn get_all_of_name(
     alloc: Global,
     agent: &OwnedAgent,
@@ -138,7 +138,17 @@ fn get_all_of_name(
     code
 }
 
-/// Tells what is seen at the locations with this name through the step, which scans the function.
+/// Write what is seen at the locations with this name through the step.
+///
+/// The step scans the function. After any code except `ASM_DONE`, the step is unchanged.
+///
+/// # Errors
+///
+/// - `ASM_MOVED`: the agent's own state isn't at the step's version.
+/// - `ASM_MANY`: the function isn't scanned, and the tracked locations and the scanned functions are 256 together.
+/// - `ASM_SHAPE`: the name isn't UTF-8.
+/// - `ASM_SMALL`: `written` is the room that the text needs.
+/// - `ASM_MEMORY`
 pub fn get_all_in(
     alloc: Global,
     agent: &OwnedAgent,

@@ -1,4 +1,4 @@
-//! What is seen through the pushed moves of a step at a prepared location, which is got.
+//! Reading a prepared location through the pushed moves of a step, which tracks it.
 ghost use Rattle.std.specs.Prelude.{◌≡◌, ◌≢◌, ◌≤◌, ◌<◌, ◌∷◌, ◌++◌, ℕ, [], length, Contains};
 ghost use Rattle.std.specs.Prelude.{IfErr, IfOk, IsSome, Some, vec_len};
 ghost use Rattle.std.specs.Vec.{vec_capacity};
@@ -24,7 +24,7 @@ use asm_element::Location;
 use asm_storage::READS_LIMIT;
 use std::alloc::Global;
 
-// A copy of the location, unless it is among the others, and room for it among them.
+// Return a copy of the location and make room for it among the others, unless it is one of them.
 fn copy_for(
     alloc: Global,
     limit: usize,
@@ -44,12 +44,12 @@ fn copy_for(
         return Err(GetError::Many);
     }
     let copy = at.copy(alloc)?;
-    // Twice as many places at most, and one for the first.
+    // At most twice as many places, and one for the first.
     got.reserve_exact(got.len().max(1))?;
     Ok(Some(copy))
 }
 
-// Puts the copy, if there is one, in its place among the others.
+// Insert the copy, if there is one, in its place among the others.
 fn note(got: &mut Vec<Location>, copy: Option<Location>)
     requires ascending { IsStrictlySortedBy location_cmp got.old.items }
     requires room { IsSome copy → vec_len got.old < vec_capacity got.old }
@@ -105,7 +105,18 @@ fn get_one(
     code
 }
 
-/// Tells what is seen at the location in a box through the step of a slot, where it is got.
+/// Write what is seen at the location in a box through the step of a slot.
+///
+/// The step tracks the location, if what is seen is made from the state below. After any code except `ASM_DONE`, the
+/// step is unchanged, and kind and number of the value are 0.
+///
+/// # Errors
+///
+/// - `ASM_EMPTY`: the box has no location, the first slot no agent, or the second no step.
+/// - `ASM_MOVED`: the agent's own state isn't at the step's version.
+/// - `ASM_MANY`: the location would be tracked, and tracked locations and scanned functions are 256 together.
+/// - `ASM_SMALL`: `written` is the room that the bytes of the value need.
+/// - `ASM_MEMORY`
 pub fn get_in_both(
     alloc: Global,
     agent: &mut Slot,

@@ -1,4 +1,4 @@
-//! Counting a storage's moves, giving agents back, closing them into a journal, and its text.
+//! Returning agents to their storage, and the codes of a close that fails.
 ghost use Rattle.std.specs.Prelude.{◌≡◌, ◌≢◌, ◌∷◌, [], None, Some};
 ghost use Rattle.asm_slots.specs.AgentCalls.{HasNumber, HasTaken};
 ghost use Rattle.asm_slots.specs.Codes.{IsOneOf, ASM_DONE, ASM_MEMORY};
@@ -17,7 +17,14 @@ use crate::store_close::Unclosed;
 use crate::take_and_put::{put_agent, put_store};
 use std::alloc::Global;
 
-/// Gives the agent to the storage, and puts both back where it is refused.
+/// Return the agent to the storage.
+///
+/// On success, the agent's slot is empty. On error, both are in their slots, unchanged.
+///
+/// # Errors
+///
+/// - `ASM_NUMBER`: an agent with this number was returned before.
+/// - `ASM_MEMORY`
 pub fn give_at(
     alloc: Global,
     store: &mut Slot,
@@ -49,7 +56,9 @@ pub fn give_at(
     }
 }
 
-/// The code of the error, with the number of the move that has no receipt.
+/// Return the code of the error, with the number of the move without a receipt.
+///
+/// With any code except `ASM_MISSING`, the number is 0.
 pub fn code_of_unclosed(error: Unclosed) -> (i32, u32)
     ensures codes { IsOneOf (ASM_MEMORY ∷ ASM_MISSING ∷ ASM_MANY_CALLS ∷ []) result.0 }
     ensures told { TellsUnclosed error result.0 result.1 }

@@ -1,4 +1,4 @@
-//! What C holds of a value of ours: a pointer that it never follows.
+//! What C holds of a value: a pointer that it never follows.
 ghost use Rattle.std.specs.Prelude.{◌≡◌, Option, IsSome, IsNone};
 ghost use Rattle.std.specs.Coded.{coded_option};
 ghost use Rattle.asm_slots.specs.contracts.content.Content.{the_row as content_row};

@@ -1,4 +1,4 @@
-//! Moves that are gathered in slots, instruction by instruction.
+//! Building moves in slots, instruction by instruction.
 ghost use Rattle.std.specs.Prelude.{◌≡◌, ◌≢◌, ◌↔◌, ◌≤◌, ◌<◌, ◌+◌, ◌∷◌, ◌++◌, [], OnErr, OnOk, Some, length};
 ghost use Rattle.asm_update.specs.Limits.{instructions_limit};
 ghost use Rattle.asm_slots.specs.Codes.{IsOneOf, ASM_DONE, ASM_MEMORY, ASM_EMPTY, ASM_OPERAND, ASM_LONG_MOVE};
@@ -19,7 +19,7 @@ use asm_element::Location;
 use asm_update::{Action, Instruction, Instructions, InstructionsError};
 use std::alloc::{AllocError, Global};
 
-// Puts the instruction of the action at the location behind the others.
+// Append the instruction of the action at the location.
 fn append(alloc: Global, gathered: &mut Instructions, at: &Location, action: Action) -> i32
     ensures codes { IsOneOf (ASM_DONE ∷ ASM_MEMORY ∷ ASM_LONG_MOVE ∷ []) result }
     ensures done { result ≡ ASM_DONE →
@@ -62,7 +62,18 @@ fn instruct_at(
     }
 }
 
-/// Puts the instruction at the location of a slot behind those of the move.
+/// Append an instruction at the location of a slot to the move.
+///
+/// On error, nothing changes.
+///
+/// # Errors
+///
+/// - `ASM_EMPTY`: the slot has no location.
+/// - `ASM_OPERAND`: verb, kind, number, bytes and amount make no instruction.
+/// - `ASM_NOT_JSON`: the bytes of a list, a set or a bag aren't JSON.
+/// - `ASM_SHAPE`: the bytes of a text aren't UTF-8, or those of a list, a set or a bag are JSON of no such value.
+/// - `ASM_LONG_MOVE`: the move has 4,096 instructions.
+/// - `ASM_MEMORY`
 pub fn instruct_in(
     alloc: Global,
     gathered: &mut Instructions,
@@ -95,7 +106,7 @@ pub fn instruct_in(
     code
 }
 
-/// Puts the move in the place of what the slot holds.
+/// Replace what the slot holds with the move.
 pub(crate) fn hold(alloc: Global, slot: &mut Slot, gathered: Instructions) -> Result<(), AllocError>
     ensures held { OnOk result (content_of slot.new ≡ Some (content.Move gathered)) }
     ensures kept { OnErr result (content_of slot.new ≡ content_of slot.old) }
@@ -105,7 +116,13 @@ pub(crate) fn hold(alloc: Global, slot: &mut Slot, gathered: Instructions) -> Re
     Ok(())
 }
 
-/// Puts a move of this instruction alone into an empty slot.
+/// Put a move of this instruction only into an empty slot.
+///
+/// On error, nothing changes.
+///
+/// # Errors
+///
+/// - Those of `instruct_in`, except `ASM_LONG_MOVE`.
 pub fn instruct_first(
     alloc: Global,
     instrs: &mut Slot,
@@ -137,7 +154,7 @@ pub fn instruct_first(
     }
 }
 
-// Puts the instructions of the other move behind those of the move.
+// Append the instructions of the other move.
 fn append_all(gathered: &mut Instructions, other: &Instructions) -> i32
     ensures codes { IsOneOf (ASM_DONE ∷ ASM_MEMORY ∷ ASM_LONG_MOVE ∷ []) result }
     ensures done { result ≡ ASM_DONE → gathered.new ≡ gathered.old ++ other.now }
@@ -151,7 +168,15 @@ fn append_all(gathered: &mut Instructions, other: &Instructions) -> i32
     }
 }
 
-/// Puts the instructions of the move in the other slot behind those of the move; an empty slot has none.
+/// Append the instructions of the move in the other slot.
+///
+/// An empty slot has none. On error, nothing changes.
+///
+/// # Errors
+///
+/// - `ASM_EMPTY`: exactly if the other slot holds anything except a move.
+/// - `ASM_LONG_MOVE`: the move would have more than 4,096 instructions.
+/// - `ASM_MEMORY`
 pub fn unite_in(alloc: Global, gathered: &mut Instructions, other: &mut Slot) -> i32
     ensures codes { IsOneOf (ASM_DONE ∷ ASM_MEMORY ∷ ASM_EMPTY ∷ ASM_LONG_MOVE ∷ []) result }
     ensures done { result ≡ ASM_DONE → gathered.new ≡ gathered.old ++ move_of (content_of other.old) }
@@ -174,7 +199,13 @@ pub fn unite_in(alloc: Global, gathered: &mut Instructions, other: &mut Slot) ->
     code
 }
 
-/// Puts a copy of the move in the other slot into an empty slot, or the move of no instructions where the other is empty too.
+/// Put a copy of the move in the other slot into an empty slot.
+///
+/// If the other slot is empty too, the copy has no instructions. On error, nothing changes.
+///
+/// # Errors
+///
+/// - Those of `unite_in`.
 pub fn unite_first(alloc: Global, instrs: &mut Slot, other: &mut Slot) -> i32
     ensures codes { IsOneOf (ASM_DONE ∷ ASM_MEMORY ∷ ASM_EMPTY ∷ ASM_LONG_MOVE ∷ []) result }
     ensures done { result ≡ ASM_DONE →
@@ -193,7 +224,7 @@ pub fn unite_first(alloc: Global, instrs: &mut Slot, other: &mut Slot) -> i32
     if let Err(AllocError) = hold(alloc, instrs, gathered) {
         return MEMORY;
     }
-    // An empty slot that C passes twice is full now.
+    // If C passes one empty slot twice, it is full now.
     if other.is_full() != was_full {
         *instrs = Slot::empty(alloc);
         return EMPTY;

@@ -12,7 +12,7 @@ use asm_journal::{JournalError, Legality, check, from_text, replay, state_text};
 use asm_trace::standard_trace_text;
 use std::alloc::{AllocError, Global};
 
-/// The code of the error, with the number of the line at fault, or 0.
+/// Return the code of the error, with the number of the line at fault, or 0.
 pub fn code_of_error(error: JournalError) -> (i32, u64)
     ensures codes { IsOneOf (ASM_MEMORY ∷ ASM_NOT_JSON ∷ ASM_SHAPE ∷ ASM_VERSION ∷ ASM_CUT ∷ []) result.0 }
     ensures told { TellsError error result.0 result.1 }
@@ -27,7 +27,12 @@ pub fn code_of_error(error: JournalError) -> (i32, u64)
     }
 }
 
-/// What the check of the journal tells.
+/// Check the journal.
+///
+/// # Errors
+///
+/// - The first fault of the bytes, if they are no journal.
+/// - `Memory` only if memory is refused.
 pub fn checked(alloc: Global, journal: &[u8]) -> Result<Legality, JournalError>
     ensures ok { IfOk result (IsChecked journal.now) }
     ensures err { IfErr result (IsRefused journal.now) }
@@ -39,7 +44,11 @@ pub fn checked(alloc: Global, journal: &[u8]) -> Result<Legality, JournalError>
     }
 }
 
-/// The text of the state that the moves of the journal leave.
+/// Return the text of the state that the moves of the journal leave.
+///
+/// # Errors
+///
+/// - Those of `checked`.
 pub fn replayed(alloc: Global, journal: &[u8]) -> Result<String, JournalError>
     ensures ok { IfOk result (λ text. IsReplayed journal.now (string_bytes text)) }
     ensures err { IfErr result (IsRefused journal.now) }
@@ -54,7 +63,11 @@ pub fn replayed(alloc: Global, journal: &[u8]) -> Result<String, JournalError>
     }
 }
 
-/// The trace of the journal.
+/// Return the trace of the journal.
+///
+/// # Errors
+///
+/// - Those of `checked`.
 pub fn traced(alloc: Global, journal: &[u8]) -> Result<String, JournalError>
     ensures ok { IfOk result (λ text. IsTraceOf journal.now (string_bytes text)) }
     ensures err { IfErr result (IsRefused journal.now) }

@@ -1,4 +1,4 @@
-//! The journal that a closed storage keeps, with the state that its moves leave.
+//! The journal that a closed storage retains, with the state that its moves leave.
 ghost use Rattle.std.specs.Prelude.{◌≡◌, ◌↔◌, IfOk, IsErrOf, string_bytes};
 ghost use Rattle.asm_storage.specs.History.{Fits};
 ghost use Rattle.asm_storage.specs.declared.error.StorageError.TheVariants.{BadCapacity};
@@ -15,7 +15,9 @@ use std::alloc::{AllocError, Global};
 use std::marker::Model;
 use std::sync::Arc;
 
-/// A journal's text, and the state that its moves leave, which storages that go on from it share.
+/// A journal's text, and the state that its moves leave.
+///
+/// Storages that continue from the journal share this state.
 #[derive(Drop)]
 pub struct KeptJournal {
     text: String,
@@ -35,12 +37,14 @@ impl Model for KeptJournal {
 }
 
 impl KeptJournal {
-    /// The journal of the history of agents, of which no more than one event is made at a time.
+    /// Return the journal of the agents' history.
+    ///
+    /// It makes at most one event of the history at a time.
     pub(crate) fn of(alloc: Global, closing: &Closing<'_>) -> Result<KeptJournal, AllocError>
         requires { Fits closing.now }
         ensures { IfOk result (λ journal. journal ≡ text_of closing.now) }
     {
-        // The invariant needs that the text reads as the history.
+        // Proof: the invariant needs that the text reads as the history.
         text_reads_back();
         let text = closing_text(alloc, closing)?;
         let left = replay_closing(alloc, &standard(), closing)?;
@@ -48,14 +52,16 @@ impl KeptJournal {
         Ok(KeptJournal { text, left })
     }
 
-    /// Its text.
+    /// Return its text.
     pub fn text(&self) -> &String
         ensures { string_bytes result.now ≡ self.now }
     {
         &self.text
     }
 
-    /// A storage for so many moves that opens with the state that the journal's moves leave.
+    /// Open a storage with the state that the journal's moves leave.
+    ///
+    /// It has this capacity.
     pub(crate) fn next(
         &self,
         alloc: Global,

@@ -1,8 +1,8 @@
-//! Slots that hold a storage, an agent of one, a step, a location, a move or an audit, and what the calls of the library for C
-//! stand on.
+//! Slots that hold a storage, an agent, a step, a location, a move or an audit: the base of the calls of the library
+//! for C.
 //!
-//! A slot lies in the memory of whoever calls; one of zeros holds nothing. Each agent owns a share of its
-//! storage, so slots may be released in any order. Texts are those of journals. Each call answers a code.
+//! A slot is in the memory of the caller; one of zeros holds nothing. Each agent owns a share of its storage, so slots
+//! may be released in any order. Texts are those of journals. Each call returns a code.
 #![tactic(auto)]
 
 mod audit;

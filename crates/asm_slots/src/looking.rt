@@ -1,4 +1,4 @@
-//! Values in an agent's own state, and whether named reads still stand: looks that leave no receipt.
+//! Calls without a receipt: values in an agent's own state, and the validation of declared reads.
 ghost use Rattle.std.specs.Prelude.{◌≡◌, ◌∷◌, [], map, string_bytes, IfOk, IfErr, Some};
 ghost use Rattle.asm_storage.specs.Storage.{IsSameAgent};
 ghost use Rattle.asm_slots.specs.NumbersAhead.{ReadsAhead, ReadsWithin};
@@ -46,7 +46,9 @@ fn values_at<L: Lookup>(
     Ok(values)
 }
 
-/// `{"number":N,"values":[VALUE, ..]}`: what is seen at the locations after so many moves.
+/// Return `{"number":N,"values":[VALUE, ..]}`.
+///
+/// The values are those that are seen at the locations at version N.
 pub(crate) fn text_of_values<L: Lookup>(
     alloc: Global,
     number: u32,
@@ -59,7 +61,13 @@ pub(crate) fn text_of_values<L: Lookup>(
     answer_text(alloc, &Answer::Read { number, values })
 }
 
-/// The text of the values of the locations of these bytes in the agent's own state.
+/// Return the text of the values of these locations in the agent's own state.
+///
+/// # Errors
+///
+/// - `ASM_NOT_JSON`: the bytes aren't JSON.
+/// - `ASM_SHAPE`: they are JSON, but of no locations.
+/// - `ASM_MEMORY`
 pub fn peeked(alloc: Global, agent: &OwnedAgent, locations: &[u8]) -> Result<String, i32>
     ensures ok { IfOk result (λ text. IsPeekOf locations.now agent.now (string_bytes text)) }
     ensures codes { IfErr result (IsOneOf (ASM_MEMORY ∷ ASM_NOT_JSON ∷ ASM_SHAPE ∷ [])) }
@@ -77,7 +85,7 @@ pub fn peeked(alloc: Global, agent: &OwnedAgent, locations: &[u8]) -> Result<Str
     }
 }
 
-// Writes {"stale":LOC}.
+// Write {"stale":LOC}.
 fn tell_stale(alloc: Global, at: Location, out: &mut [u8], written: &mut usize) -> i32
     requires { written.old ≡ 0 }
     ensures codes { IsOneOf (ASM_STALE ∷ ASM_MEMORY ∷ ASM_SMALL ∷ []) result }
@@ -89,7 +97,19 @@ fn tell_stale(alloc: Global, at: Location, out: &mut [u8], written: &mut usize) 
     }
 }
 
-/// Has the agent look on, puts it into the slot, and tells whether the named reads of these bytes stand.
+/// Validate the declared reads of these bytes, and put the agent into the slot.
+///
+/// The agent polls the row until no move is left. With `ASM_DONE`, no read is stale after what it has then seen.
+///
+/// # Errors
+///
+/// - `ASM_STALE`: a read is stale, and `{"stale":LOC}` is written with the smallest such location.
+/// - `ASM_SMALL`: a read is stale, and `written` is the room that this text needs.
+/// - `ASM_AHEAD`: a read has a number above what the agent has seen; the agent is unchanged.
+/// - `ASM_MANY`: there are more than 256 reads; the agent is unchanged.
+/// - `ASM_NOT_JSON`: the bytes aren't JSON; the agent is unchanged.
+/// - `ASM_SHAPE`: they are JSON, but of no declared reads; the agent is unchanged.
+/// - `ASM_MEMORY`: the agent may have seen more.
 pub fn stands_at(
     alloc: Global,
     slot: &mut Slot,

@@ -1,4 +1,4 @@
-//! The storages that go on where others ended.
+//! Storages that continue where others ended.
 ghost use Rattle.std.specs.Prelude.{◌≡◌, ◌∷◌, [], Some, IfOk, IfErr};
 ghost use Rattle.std.specs.Bool.{OnTrue, OnFalse};
 ghost use Rattle.asm_slots.specs.AgentCalls.{IsNoCapacity};
@@ -17,7 +17,13 @@ use asm_storage::Storage;
 use std::alloc::Global;
 
 impl Store {
-    /// The storage that goes on from the journal that is kept, in a slot's box.
+    /// Open a storage that continues from the retained journal, in a slot's box.
+    ///
+    /// # Errors
+    ///
+    /// - `ASM_NO_JOURNAL`: no journal is retained.
+    /// - `ASM_CAPACITY`: the capacity isn't 1 to 1,048,576.
+    /// - `ASM_MEMORY`
     pub fn next(&self, alloc: Global, capacity: u32) -> Result<Box<Content>, i32>
         ensures ok { IfOk result (λ b. HoldsStore (Some b.value) (GoesOn capacity self.now)) }
         ensures codes { IfErr result (IsOneOf (ASM_MEMORY ∷ ASM_CAPACITY ∷ ASM_NO_JOURNAL ∷ [])) }
@@ -34,7 +40,7 @@ impl Store {
     }
 }
 
-// Whether a storage may have room for so many moves.
+// Return whether a storage may have this capacity.
 fn is_capacity(capacity: u32) -> bool
     ensures yes { OnTrue result (¬ IsNoCapacity capacity) }
     ensures no { OnFalse result (IsNoCapacity capacity) }
@@ -42,8 +48,15 @@ fn is_capacity(capacity: u32) -> bool
     1 <= capacity && capacity <= CAPACITY_LIMIT
 }
 
-/// The storage that goes on with the agent's own state, in a slot's box, where that stands at all moves that the agent's
-/// storage has room for.
+/// Open a storage that continues from the agent's own state, in a slot's box.
+///
+/// That state must have followed as many moves as the agent's storage has room for.
+///
+/// # Errors
+///
+/// - `ASM_NOT_FULL`: it has followed another number of moves.
+/// - `ASM_CAPACITY`: the capacity isn't 1 to 1,048,576.
+/// - `ASM_MEMORY`
 pub fn gone_on(alloc: Global, agent: &OwnedAgent, capacity: u32) -> Result<Box<Content>, i32>
     ensures ok { IfOk result (λ b. HoldsStore (Some b.value) (GoesOnFrom capacity agent.now)) }
     ensures codes { IfErr result (IsOneOf (ASM_MEMORY ∷ ASM_CAPACITY ∷ ASM_NOT_FULL ∷ [])) }
@@ -63,7 +76,7 @@ pub fn gone_on(alloc: Global, agent: &OwnedAgent, capacity: u32) -> Result<Box<C
     let Ok(left) = state.to_plain(alloc) else {
         return Err(MEMORY);
     };
-    // The clause speaks of a state without undef, and only this call tells the proof that it is one.
+    // Proof: the clause is about a state without undef, and only this call shows that it is one.
     left.proper();
     match Storage::new(alloc, standard(), left, capacity) {
         Ok(storage) => boxed_store(alloc, storage, capacity),

@@ -1,4 +1,4 @@
-//! What the commit of a step would offer, as a text.
+//! What the commit of a step would fire, as a text.
 ghost use Rattle.std.specs.Prelude.{◌≡◌, ◌∷◌, [], IfOk, string_bytes};
 ghost use Rattle.serde_json.specs.Written.{compact_text};
 ghost use Rattle.asm_journal.specs.Event.{call_json_of};
@@ -12,7 +12,7 @@ use asm_journal::ToJson;
 use asm_storage::Call;
 use std::alloc::{AllocError, Global};
 
-// The step's one move with all that it rests on.
+// Return the step's one move, with all reads that its commit declares.
 fn offer_of(alloc: Global, step: &OwnedStep) -> Result<Call, AllocError>
     ensures { IfOk result (IsOffer step.now) }
 {
@@ -34,7 +34,12 @@ fn offer_text(alloc: Global, step: &OwnedStep) -> Result<String, AllocError>
     call_text(alloc, &offer_of(alloc, step)?)
 }
 
-/// Tells the step's one move with all that it rests on.
+/// Write the step's one move, with all reads that its commit declares.
+///
+/// # Errors
+///
+/// - `ASM_SMALL`: `written` is the room that the text needs.
+/// - `ASM_MEMORY`
 pub fn offer_in(alloc: Global, step: &OwnedStep, out: &mut [u8], written: &mut usize) -> i32
     requires { written.old ≡ 0 }
     ensures codes { IsOneOf (ASM_DONE ∷ ASM_MEMORY ∷ ASM_SMALL ∷ []) result }

@@ -1,4 +1,4 @@
-//! Opening storages, making agents, and letting go of what slots hold.
+//! Opening storages, and freeing what slots hold.
 ghost use Rattle.std.specs.Prelude.{◌≡◌, ◌∷◌, [], length, IfOk, IfErr, Some, None};
 ghost use Rattle.std.specs.Bool.{OnTrue, OnFalse};
 ghost use Rattle.asm_slots.specs.AgentCalls.{IsNoCapacity, IsOpened};
@@ -20,7 +20,7 @@ use asm_storage::{Storage, StorageError};
 use std::alloc::Global;
 use std::sync::Arc;
 
-/// The storage, in a slot's box, of which no agent was made.
+/// Return the storage, without agents, in a slot's box.
 pub(crate) fn boxed_store(
     alloc: Global,
     storage: Storage<Standard>,
@@ -45,7 +45,7 @@ pub(crate) fn boxed_store(
     Ok(made)
 }
 
-/// The code of the error.
+/// Return the code of the error.
 pub(crate) fn code_of_storage_error(error: StorageError) -> i32
     ensures codes { IsOneOf (ASM_MEMORY ∷ ASM_CAPACITY ∷ []) result }
     ensures range { result ≡ ASM_CAPACITY → error ≡ BadCapacity }
@@ -56,7 +56,16 @@ pub(crate) fn code_of_storage_error(error: StorageError) -> i32
     }
 }
 
-/// A storage of which no move was fired.
+/// Open a storage with the state of these bytes, in a slot's box.
+///
+/// No move of it was fired, and no agent was made.
+///
+/// # Errors
+///
+/// - `ASM_CAPACITY`: the capacity isn't 1 to 1,048,576.
+/// - `ASM_NOT_JSON`: the bytes aren't JSON.
+/// - `ASM_SHAPE`: they are JSON, but of no state.
+/// - `ASM_MEMORY`
 pub fn opened(alloc: Global, init: &[u8], capacity: u32) -> Result<Box<Content>, i32>
     ensures ok { IfOk result (λ b. HoldsStore (Some b.value) (IsOpened init.now capacity)) }
     ensures err { IfErr result (IsOneOf (ASM_MEMORY ∷ ASM_CAPACITY ∷ ASM_NOT_JSON ∷ ASM_SHAPE ∷ [])) }
@@ -74,7 +83,7 @@ pub fn opened(alloc: Global, init: &[u8], capacity: u32) -> Result<Box<Content>,
     }
 }
 
-/// Whether one of the slots holds something.
+/// Return whether one of the slots holds something.
 pub fn is_any_full(slots: &[Slot]) -> bool
     ensures no { OnFalse result (AreEmpty slots.now) }
     ensures yes { OnTrue result (¬ AreEmpty slots.now) }
@@ -87,7 +96,7 @@ pub fn is_any_full(slots: &[Slot]) -> bool
     false
 }
 
-/// Releases what the slots hold.
+/// Release what the slots hold.
 pub fn clear(alloc: Global, slots: &mut [Slot])
     ensures { AreEmpty slots.new }
 {

@@ -1,4 +1,4 @@
-//! The actions of instructions, from the numbers and bytes by which C names them.
+//! The actions of instructions, from the numbers and bytes that C passes.
 ghost use Rattle.std.specs.Prelude.{◌≡◌, ◌≢◌, ◌∷◌, [], IsUtf8, IfErr, IfNone, IfOk, IfSome};
 ghost use Rattle.asm_element.specs.declared.element.Element.{Element};
 ghost use Rattle.asm_element.specs.declared.value.Value.TheVariants as values;
@@ -50,7 +50,7 @@ fn truth_of(number: i64) -> Option<Element>
     }
 }
 
-// The element without bytes.
+// Return the element of this kind and number, without bytes.
 fn plain_of(kind: i32, number: i64) -> Option<Element>
     ensures some { IfSome result (IsTextOrPlain kind number []) }
     ensures none { IfNone result (kind ≢ ASM_KIND_TEXT → (e : Element) → ¬ IsTextOrPlain kind number [] e) }
@@ -82,7 +82,7 @@ fn text_of(alloc: Global, number: i64, bytes: &[u8]) -> Result<Element, i32>
     }
 }
 
-// The element of this kind but a list, with this number and these bytes.
+// Return the element of this kind, except a list, with this number and these bytes.
 fn element_of(alloc: Global, kind: i32, number: i64, bytes: &[u8]) -> Result<Element, i32>
     ensures ok { IfOk result (IsTextOrPlain kind number bytes.now) }
     ensures codes { IfErr result (IsOneOf (ASM_MEMORY ∷ ASM_OPERAND ∷ ASM_SHAPE ∷ [])) }
@@ -101,7 +101,7 @@ fn element_of(alloc: Global, kind: i32, number: i64, bytes: &[u8]) -> Result<Ele
     }
 }
 
-// The list, the set or the bag of these bytes, as the kind says.
+// Read the list, the set or the bag of these bytes, by the kind.
 fn read_value(alloc: Global, kind: i32, number: i64, bytes: &[u8]) -> Result<Value, i32>
     requires { IsByJson kind }
     ensures ok { IfOk result (IsOperand kind number bytes.now) }
@@ -125,7 +125,7 @@ fn read_value(alloc: Global, kind: i32, number: i64, bytes: &[u8]) -> Result<Val
     }
 }
 
-// The value of this kind, with this number and these bytes.
+// Return the value of this kind, with this number and these bytes.
 fn value_of(alloc: Global, kind: i32, number: i64, bytes: &[u8]) -> Result<Value, i32>
     ensures ok { IfOk result (IsOperand kind number bytes.now) }
     ensures codes { IfErr result (IsOneOf (ASM_MEMORY ∷ ASM_OPERAND ∷ ASM_NOT_JSON ∷ ASM_SHAPE ∷ [])) }
@@ -187,7 +187,7 @@ fn action_with(verb: Verb, element: Element) -> Action
     }
 }
 
-// The action with this value; a set or a bag can be put alone.
+// Return the action with this value; a set or a bag can only be put.
 fn action_on(verb: Verb, value: Value) -> Option<Action>
     ensures some { IfSome result (IsActionOn verb value) }
     ensures none { IfNone result (CannotTake verb value) }
@@ -209,7 +209,16 @@ fn increment_of(kind: i32, number: i64, bytes: &[u8], amount: u32) -> Result<Act
     Ok(Action::Increment(number))
 }
 
-/// The action of this verb, with the value of this kind, number and bytes, and with this amount.
+/// Return the action of this verb, with this value and this amount.
+///
+/// Kind, number and bytes mean the value.
+///
+/// # Errors
+///
+/// - `ASM_OPERAND`: verb, kind, number, bytes and amount make no action.
+/// - `ASM_NOT_JSON`: the bytes of a list, a set or a bag aren't JSON.
+/// - `ASM_SHAPE`: the bytes of a text aren't UTF-8, or those of a list, a set or a bag are JSON of no such value.
+/// - `ASM_MEMORY`
 pub(crate) fn action_of(
     alloc: Global,
     verb: i32,

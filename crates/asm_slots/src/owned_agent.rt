@@ -32,7 +32,7 @@ use std::alloc::{AllocError, Global};
 use std::marker::Model;
 use std::sync::Arc;
 
-/// A share of the storage, and the part of an agent of it.
+/// A share of a storage, and the part of one of its agents.
 #[derive(Drop)]
 pub struct OwnedAgent {
     pub(crate) shared: Arc<Shared>,
@@ -65,7 +65,7 @@ impl Model for OwnedAgent {
 }
 
 impl OwnedAgent {
-    /// An agent of the storage with this number, which has made no call.
+    /// Return an agent of the storage with this number, which has made no call.
     pub(crate) fn at_start(
         alloc: Global,
         shared: &Arc<Shared>,
@@ -80,21 +80,21 @@ impl OwnedAgent {
         Ok(OwnedAgent { shared, part })
     }
 
-    /// The share of the storage.
+    /// Return the share of the storage.
     pub fn shared(&self) -> &Arc<Shared>
         ensures { (arc_value result.now).storage ≡ self.now.storage }
     {
         &self.shared
     }
 
-    /// How many moves its storage has room for.
+    /// Return how many moves its storage has room for.
     pub(crate) fn capacity(&self) -> u32
         ensures { result ≡ length self.now.storage.row }
     {
         self.shared.capacity()
     }
 
-    /// Reads the locations.
+    /// Read the locations.
     pub(crate) fn read(
         self,
         alloc: Global,
@@ -115,7 +115,7 @@ impl OwnedAgent {
         (OwnedAgent { shared, part }, answer)
     }
 
-    /// Fires the move.
+    /// Fire the move.
     pub(crate) fn fire(
         &mut self,
         alloc: Global,
@@ -137,7 +137,7 @@ impl OwnedAgent {
         self.part.try_fire_over(alloc, &self.shared.storage, reads, &[], instrs, &mut || {})
     }
 
-    /// Fires the move, so that it rests on the whole functions of the scans too.
+    /// Fire the move, so that it depends on the scanned functions too.
     pub(crate) fn fire_over(
         &mut self,
         alloc: Global,
@@ -166,7 +166,9 @@ impl OwnedAgent {
         )
     }
 
-    /// Adds a receipt of a read of the locations from its own state, at the number of that state, without a poll.
+    /// Read the locations from its own state, and add a receipt; don't poll.
+    ///
+    /// The receipt is at the version of that state.
     pub(crate) fn recall(
         &mut self,
         alloc: Global,
@@ -180,7 +182,7 @@ impl OwnedAgent {
         self.part.recall(alloc, &self.shared.storage, locations)
     }
 
-    /// Its own state.
+    /// Return its own state.
     pub(crate) fn state(&self) -> &State
         ensures following { IsFollowing (machine_of meaning self.now.storage) self.now.account.seen result.now }
         ensures within { result.now.number ≤ length self.now.account.seen }
@@ -189,7 +191,11 @@ impl OwnedAgent {
         self.part.state()
     }
 
-    /// Has its state follow the row to the end; how many moves it has then seen.
+    /// Poll the row until no move is left, and follow; return how many it has seen.
+    ///
+    /// # Errors
+    ///
+    /// - `AllocError` only if memory is refused.
     pub fn follow(&mut self, alloc: Global) -> Result<u32, AllocError>
         ensures same { IsSameAgent self.old self.new }
         ensures looked { HasLookedOn self.old self.new }
@@ -200,7 +206,7 @@ impl OwnedAgent {
         self.part.follow(alloc, &self.shared.storage)
     }
 
-    /// The least location of the named reads that is stale by now, if one is.
+    /// Poll, and return the smallest stale location of the declared reads, if any.
     pub(crate) fn stale_of(
         self,
         alloc: Global,
@@ -221,7 +227,7 @@ impl OwnedAgent {
         (OwnedAgent { shared, part }, stale)
     }
 
-    /// Its number.
+    /// Return its number, below 256.
     pub(crate) fn id(&self) -> u32
         ensures id { result ≡ self.now.account.id }
         ensures few { result < agents_limit }
@@ -229,42 +235,42 @@ impl OwnedAgent {
         self.part.id()
     }
 
-    /// How many moves it has seen.
+    /// Return how many moves it has seen.
     pub fn seen(&self) -> u32
         ensures { result ≡ length self.now.account.seen }
     {
         self.part.seen()
     }
 
-    /// Whether one of the reads has a number above what it has seen.
+    /// Return whether one of the reads has a number above what it has seen.
     pub(crate) fn is_behind(&self, reads: &[Named]) -> bool
         ensures { result ≡ is_any_above reads.now (length self.now.account.seen) }
     {
         has_above(reads, self.seen())
     }
 
-    /// Whether one of the reads or of the scans has a number above what it has seen.
+    /// Return whether a read or a scan has a number above what it has seen.
     pub(crate) fn is_behind_over(&self, reads: &[Named], scans: &[Scanned]) -> bool
         ensures { result ≡ is_any_over reads.now scans.now (length self.now.account.seen) }
     {
         self.is_behind(reads) || has_later(scans, self.seen())
     }
 
-    /// How many of its offers won.
+    /// Return how many of its attempts to append won.
     pub fn won(&self) -> u32
         ensures { result ≡ self.now.account.won }
     {
         self.part.won()
     }
 
-    /// How many of its looks found an empty cell.
+    /// Return how many of its polls found an empty cell.
     pub fn misses(&self) -> u64
         ensures { result ≡ self.now.misses }
     {
         self.part.misses()
     }
 
-    /// A mark of what it has seen.
+    /// Return a mark of what it has seen.
     pub fn mark(self, alloc: Global) -> (OwnedAgent, Mark)
         ensures same { result.0 ≡ self }
         ensures mark { result.1 ≡ record { row = self.storage.row; seen = self.account.seen } }
@@ -276,7 +282,7 @@ impl OwnedAgent {
         (OwnedAgent { shared, part }, mark)
     }
 
-    /// Takes in what the mark holds.
+    /// Learn what the mark holds.
     pub fn learn(self, alloc: Global, mark: &Mark) -> OwnedAgent
         requires { mark.now.row ≡ self.storage.row }
         ensures { HasLearnt mark.now.seen self result }
@@ -288,7 +294,9 @@ impl OwnedAgent {
         OwnedAgent { shared, part }
     }
 
-    /// Learns what another agent of the storage has seen, and exchanges the states of the two where the other's is ahead.
+    /// Learn what another agent of the storage has seen, and take its newer state.
+    ///
+    /// If the other's state is ahead, the two exchange their states.
     pub fn take_state(&mut self, other: &mut OwnedAgent)
         requires { other.old.storage ≡ self.old.storage }
         ensures { HasTaken self.old other.old self.new other.new }
@@ -296,7 +304,13 @@ impl OwnedAgent {
         self.part.take_state(&self.shared.storage, &mut other.part);
     }
 
-    /// The text of the answer to its last answered call.
+    /// Return the text of the answer to its last answered call.
+    ///
+    /// `None` means that it has answered no call.
+    ///
+    /// # Errors
+    ///
+    /// - `AllocError` only if memory is refused.
     pub fn answer(self, alloc: Global) -> (OwnedAgent, Result<Option<String>, AllocError>)
         ensures same { result.0 ≡ self }
         ensures told { IfOk result.1 (λ o. TellsLast self (option_map string_bytes o)) }
@@ -309,14 +323,14 @@ impl OwnedAgent {
     }
 }
 
-// Whether one of the reads has a number above this one.
+// Return whether one of the reads has a number above this one.
 fn has_above(reads: &[Named], seen: u32) -> bool
     ensures { result ≡ is_any_above reads.now seen }
 {
     reads.iter().any(|read| seen < read.number)
 }
 
-// Whether one of the scans has a number above this one.
+// Return whether one of the scans has a number above this one.
 fn has_later(scans: &[Scanned], seen: u32) -> bool
     ensures { result ≡ list_any (λ s. nat_lt seen s.number) scans.now }
 {

@@ -1,4 +1,4 @@
-//! A step of an engine: moves pushed over the state at one number of moves, and what was got and scanned.
+//! A step of an engine: moves pushed over the state at one version, with its tracked locations and its scans.
 #![tactic(auto, unfolding(asm_aggregate::specs::Standard::standard_meaning))]
 
 ghost use Rattle.std.specs.Prelude.{◌≡◌, ◌++◌, ◌∷◌, [], All, List, filter, length, map, IfOk, IfSome, IsNone, OnOk, OnErr, IfErr};
@@ -23,14 +23,16 @@ use asm_update::Instructions;
 use std::alloc::{AllocError, Global};
 use std::marker::Model;
 
-/// It borrows nothing: each call is passed the agent whose own state it is over.
+/// A step, which borrows nothing.
+///
+/// Each call is passed the agent whose own state is below the step.
 #[derive(Drop)]
 pub struct OwnedStep {
     pub(crate) number: u32,
     pub(crate) step: Step,
-    // Each once, in ascending order; with what was scanned at most 256.
+    // The tracked locations: each once, in ascending order; with the scans at most 256.
     pub(crate) got: Vec<Location>,
-    // Each name once, all at the number of the step.
+    // Each name once, all at the step's version.
     pub(crate) scanned: Vec<Scanned>,
 }
 
@@ -68,7 +70,7 @@ pub enum Way {
     Extend,
 }
 
-// Appends copies of the locations.
+// Append copies of the locations.
 fn push_copies(
     alloc: Global,
     all: &mut Vec<Location>,
@@ -82,7 +84,7 @@ fn push_copies(
     Ok(())
 }
 
-/// Those of the locations at which what is seen is made from what is below the step.
+/// Return those locations at which what is seen is made from below the step.
 pub(crate) fn from_below(
     alloc: Global,
     step: &Step,
@@ -99,7 +101,7 @@ pub(crate) fn from_below(
     Ok(kept)
 }
 
-/// The locations of both lists, each once, in ascending order.
+/// Return the locations of both lists, each once, in ascending order.
 pub(crate) fn each_of(
     alloc: Global,
     first: &[Location],
@@ -114,7 +116,7 @@ pub(crate) fn each_of(
     Ok(all)
 }
 
-/// Puts the move onto the step, over what the state has.
+/// Put the move onto the step, over what the state has.
 pub(crate) fn grow(
     alloc: Global,
     step: &mut Step,
@@ -140,7 +142,7 @@ pub(crate) fn grow(
     }
 }
 
-// Each of the locations under the number.
+// Return a declared read of each location, at this number.
 fn named_at(alloc: Global, locations: Vec<Location>, number: u32) -> Result<Vec<Named>, AllocError>
     ensures locations { IfOk result (λ reads. map (λ r. r.at) reads.items ≡ locations.items) }
     ensures numbers { IfOk result (λ reads. All (λ r. r.number ≡ number) reads.items) }
@@ -153,7 +155,7 @@ fn named_at(alloc: Global, locations: Vec<Location>, number: u32) -> Result<Vec<
 }
 
 impl OwnedStep {
-    /// A step at this number of moves, of no moves; it takes no memory.
+    /// Return a step at this version, without moves; it takes no memory.
     pub(crate) fn at(alloc: Global, number: u32) -> OwnedStep
         ensures { result ≡ begun number }
     {
@@ -165,14 +167,16 @@ impl OwnedStep {
         }
     }
 
-    /// How many moves are pushed.
+    /// Return how many moves are pushed.
     pub fn depth(&self) -> u32
         ensures { result ≡ length self.now.layers }
     {
         self.step.depth() as u32
     }
 
-    /// Takes the move that was pushed last away, with those that extend it, and hands them back; None where there is none.
+    /// Pop the move that was pushed last, with those that extend it.
+    ///
+    /// It returns these moves, or `None` if there is none.
     pub(crate) fn pop(&mut self) -> Option<Popped>
         ensures popped { IfSome result (λ popped. HasPopped self.old self.new) }
         ensures moves { IfSome result (AreLastOf self.old) }
@@ -182,7 +186,7 @@ impl OwnedStep {
         self.step.pop()
     }
 
-    /// All locations that the step rests on, at its number.
+    /// Return all reads that a commit of the step declares, at its version.
     pub(crate) fn reads(&self, alloc: Global) -> Result<Items<Named>, AllocError>
         ensures { IfOk result (NamesAll self.now) }
     {

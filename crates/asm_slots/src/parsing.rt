@@ -1,4 +1,4 @@
-//! What bytes from C read as.
+//! Reading the bytes that C passes.
 ghost use Rattle.std.specs.Prelude.{◌≡◌, ◌∷◌, [], IfOk, IfErr};
 ghost use Rattle.asm_journal.specs.Value.{IsStateForm};
 ghost use Rattle.asm_explain.specs.Bytes.{AreLocations, IsMisread, ReadAs};
@@ -16,7 +16,7 @@ use asm_state::Named;
 use asm_update::{Instructions, PlainState};
 use std::alloc::Global;
 
-/// The code of the error.
+/// Return the code of the error.
 pub(crate) fn code_of_text_error(error: TextError) -> i32
     ensures codes { IsOneOf (ASM_MEMORY ∷ ASM_NOT_JSON ∷ ASM_SHAPE ∷ []) result }
     ensures code { result ≡ text_error_code error }
@@ -30,7 +30,7 @@ pub(crate) fn code_of_text_error(error: TextError) -> i32
     }
 }
 
-/// The locations of `[LOC, ..]`.
+/// Read the locations of `[LOC, ..]`.
 pub(crate) fn locations_of(alloc: Global, bytes: &[u8]) -> Result<Vec<Location>, TextError>
     ensures ok { IfOk result (λ locations. ReadAsLocations bytes.now locations.items) }
     ensures err { IfErr result (IsMisread AreLocations bytes.now) }
@@ -41,7 +41,7 @@ pub(crate) fn locations_of(alloc: Global, bytes: &[u8]) -> Result<Vec<Location>,
     }
 }
 
-/// The named reads of `[NAMED, ..]`.
+/// Read the declared reads of `[NAMED, ..]`.
 pub(crate) fn reads_of(alloc: Global, bytes: &[u8]) -> Result<Vec<Named>, TextError>
     ensures ok { IfOk result (λ reads. ReadAsReads bytes.now reads.items) }
     ensures err { IfErr result (IsMisread AreReads bytes.now) }
@@ -52,7 +52,7 @@ pub(crate) fn reads_of(alloc: Global, bytes: &[u8]) -> Result<Vec<Named>, TextEr
     }
 }
 
-/// The move of `[INSTR, ..]`.
+/// Read the move of `[INSTR, ..]`.
 pub(crate) fn move_of(alloc: Global, bytes: &[u8]) -> Result<Instructions, TextError>
     ensures ok { IfOk result (ReadAsMove bytes.now) }
     ensures err { IfErr result (IsMisread IsMoveForm bytes.now) }
@@ -60,7 +60,7 @@ pub(crate) fn move_of(alloc: Global, bytes: &[u8]) -> Result<Instructions, TextE
     read_quickly::<Instructions>(alloc, bytes)
 }
 
-/// The values of two texts, or the fault of the first of them that has one.
+/// Read the values of two texts; the error is that of the first with a fault.
 pub(crate) fn read_both<T: FromJson, U: FromJson>(
     alloc: Global,
     first: &[u8],
@@ -80,7 +80,7 @@ pub(crate) fn read_both<T: FromJson, U: FromJson>(
     }
 }
 
-/// The opening state of `[PAIR, ..]`.
+/// Read the opening state of `[PAIR, ..]`.
 pub(crate) fn state_of(alloc: Global, bytes: &[u8]) -> Result<PlainState, TextError>
     ensures ok { IfOk result (ReadAsState bytes.now) }
     ensures err { IfErr result (IsMisread IsStateForm bytes.now) }

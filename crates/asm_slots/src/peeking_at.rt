@@ -12,7 +12,16 @@ use crate::take_and_put::agent_in;
 use crate::value_head::{ValueHead, tell_at};
 use std::alloc::Global;
 
-/// Tells the value at the location in a box in the own state of a slot's agent.
+/// Write the value at the location in a box, from the own state of a slot's agent.
+///
+/// `number` is the version of that state. After any code except `ASM_DONE`, `number` is 0, and so are kind and number
+/// of the value.
+///
+/// # Errors
+///
+/// - `ASM_EMPTY`: the box has no location, or the slot no agent.
+/// - `ASM_SMALL`: `written` is the room that the bytes of the value need.
+/// - `ASM_MEMORY`
 pub fn peek_in(
     alloc: Global,
     agent: &mut Slot,

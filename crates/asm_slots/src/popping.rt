@@ -1,4 +1,4 @@
-//! Taking the move that was pushed last out of a step, into a slot.
+//! Popping the move of a step that was pushed last, also into a slot.
 #![tactic(auto, unfolding(asm_aggregate::specs::Standard::standard_meaning))]
 
 ghost use Rattle.std.specs.Bool.{OnFalse, OnTrue};
@@ -25,7 +25,7 @@ use asm_element::Location;
 use asm_update::Instructions;
 use std::alloc::{AllocError, Global};
 
-/// Whether the slot is empty or holds a move.
+/// Return whether the slot is empty or holds a move.
 pub fn has_room_for_move(alloc: Global, slot: &mut Slot) -> bool
     ensures kept { content_of slot.new ≡ content_of slot.old }
     ensures yes { OnTrue result (HasRoomForMove (content_of slot.old)) }
@@ -39,7 +39,7 @@ pub fn has_room_for_move(alloc: Global, slot: &mut Slot) -> bool
     room
 }
 
-// The code of why moves don't compose.
+// Return the code of why moves don't compose.
 fn code_of_compose_error(error: &ComposeError) -> i32
     ensures { TellsUncomposed error.now result }
 {
@@ -52,7 +52,7 @@ fn code_of_compose_error(error: &ComposeError) -> i32
 }
 
 impl OwnedStep {
-    // The one move that does what the move does that was pushed last, and those that extend it; None where there is none.
+    // Return one move that does what the last pushed move and those that extend it do in turn; `None` if there is none.
     fn last_as_move(&self, alloc: Global) -> Result<Option<Instructions>, ComposeError>
         ensures some { IfOk result (λ one. IfSome one (λ M. IsComposedLast self.now (Ok M))) }
         ensures pushed { IfOk result (λ one. IfSome one (λ M. self.now.layers ≢ [])) }
@@ -65,7 +65,7 @@ impl OwnedStep {
         }
     }
 
-    // All that is got once these moves are popped as one.
+    // Return all locations that are tracked once these moves are popped as one.
     fn got_at_rest(&self, alloc: Global) -> Result<Vec<Location>, GetError>
         ensures all { IfOk result (λ all. AreEach (self.now.got ++ from_below self.now (resting_last self.now)) all.items) }
         ensures few { IfOk result (λ all. length all.items + length self.now.scanned ≤ reads_limit) }
@@ -75,8 +75,16 @@ impl OwnedStep {
     }
 }
 
-/// Takes the move that was pushed last away, with those that extend it. Where these have partial updates that were judged on
-/// the state below, that is got.
+/// Pop the move that was pushed last, with those that extend it.
+///
+/// If these have partial updates that were judged on the state below, the step tracks their locations. After any code
+/// except `ASM_DONE`, the step is unchanged.
+///
+/// # Errors
+///
+/// - `ASM_NO_PUSH`: no move is pushed.
+/// - `ASM_MANY`: the tracked locations and the scanned functions would be more than 256 together.
+/// - `ASM_MEMORY`
 pub fn pop_in(alloc: Global, step: &mut OwnedStep) -> i32
     ensures codes { IsOneOf (ASM_DONE ∷ ASM_MEMORY ∷ ASM_MANY ∷ ASM_NO_PUSH ∷ []) result }
     ensures popped { result ≡ ASM_DONE → HasPoppedOver (judged_last step.old) step.old step.new }
@@ -100,8 +108,19 @@ pub fn pop_in(alloc: Global, step: &mut OwnedStep) -> i32
     }
 }
 
-/// Takes the move that was pushed last away, with those that extend it, and puts the one that does what they do into the
-/// slot. Where these rest by themselves on the state below, that is got.
+/// Pop the last pushed move and those that extend it, as one move, into the slot.
+///
+/// The one move does what they do in turn. If they depend by themselves on the state below, the step tracks those
+/// locations. After any code except `ASM_DONE`, nothing changes.
+///
+/// # Errors
+///
+/// - `ASM_NO_PUSH`: no move is pushed.
+/// - `ASM_CLASH`: the moves don't compose, since they clash.
+/// - `ASM_LARGE`: they don't compose, since an amount or a sum is too large.
+/// - `ASM_LONG_MOVE`: they don't compose, since the one move would have more than 4,096 instructions.
+/// - `ASM_MANY`: the tracked locations and the scanned functions would be more than 256 together.
+/// - `ASM_MEMORY`
 pub fn pop_into(alloc: Global, step: &mut OwnedStep, instrs: &mut Slot) -> i32
     ensures codes { IsOneOf (ASM_DONE ∷ ASM_CLASH ∷ ASM_MEMORY ∷ ASM_MANY ∷ ASM_LARGE ∷ ASM_NO_PUSH ∷ ASM_LONG_MOVE ∷ []) result }
     ensures popped { result ≡ ASM_DONE → HasPoppedOver (resting_last step.old) step.old step.new }

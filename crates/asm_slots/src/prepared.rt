@@ -1,4 +1,4 @@
-//! Locations and moves in slots, which calls look at in their boxes.
+//! Locations and moves in slots, which calls read in their boxes.
 ghost use Rattle.std.specs.Prelude.{◌≡◌, ◌∷◌, [], IfErr, IfNone, IfOk, IfSome, None, Some};
 ghost use Rattle.asm_journal.specs.Element.{IsLocationForm};
 ghost use Rattle.asm_explain.specs.Bytes.{IsNoJson, IsOtherJson};
@@ -15,7 +15,7 @@ use asm_explain::read_quickly;
 use asm_update::Instructions;
 use std::alloc::Global;
 
-/// The location in the box, if one is there.
+/// Return the location in the box, if there is one.
 pub(crate) fn location_in(held: &Content) -> Option<&Location>
     ensures some { IfSome result (λ at. held.now ≡ content.Location at.now) }
     ensures none { IfNone result (HoldsNoLocation (Some held.now)) }
@@ -26,7 +26,7 @@ pub(crate) fn location_in(held: &Content) -> Option<&Location>
     }
 }
 
-/// The move in the box, if one is there.
+/// Return the move in the box, if there is one.
 pub(crate) fn move_in(held: &Content) -> Option<&Instructions>
     ensures some { IfSome result (λ instrs. held.now ≡ content.Move instrs.now) }
     ensures none { IfNone result (HoldsNoMove (Some held.now)) }
@@ -37,7 +37,13 @@ pub(crate) fn move_in(held: &Content) -> Option<&Instructions>
     }
 }
 
-/// The location of these bytes, in a slot's box.
+/// Read the location of these bytes, in a slot's box.
+///
+/// # Errors
+///
+/// - `ASM_NOT_JSON`: the bytes aren't JSON.
+/// - `ASM_SHAPE`: they are JSON, but of no location.
+/// - `ASM_MEMORY`
 pub fn prepared(alloc: Global, location: &[u8]) -> Result<Box<Content>, i32>
     ensures ok { IfOk result (λ b. HoldsLocation (Some b.value) (ReadAsLocation location.now)) }
     ensures err { IfErr result (IsOneOf (ASM_MEMORY ∷ ASM_NOT_JSON ∷ ASM_SHAPE ∷ [])) }

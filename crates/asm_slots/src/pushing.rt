@@ -54,7 +54,7 @@ fn told_refusal(alloc: Global, error: StepError) -> Result<Told, AllocError>
     }
 }
 
-// Why the move isn't pushed, and all that is got once that is told.
+// Why the move isn't pushed, and all locations that are tracked once this is reported.
 #[derive(Drop)]
 struct Refused {
     told: Told,
@@ -79,7 +79,7 @@ fn refusal_of(
     Ok(Refused { told, got })
 }
 
-// Tells why the move isn't pushed, and has what that tells of got.
+// Report why the move isn't pushed, and track the locations on which that depends.
 fn refuse(
     alloc: Global,
     step: &mut OwnedStep,
@@ -104,7 +104,7 @@ fn refuse(
     }
 }
 
-/// Puts the move onto the step, while the agent's own state stands at the step's number.
+/// Put the move onto the step, if the agent's own state is at the step's version.
 pub(crate) fn grow_by(
     alloc: Global,
     agent: &OwnedAgent,
@@ -160,7 +160,25 @@ fn grow_in(
     }
 }
 
-/// Puts the move of these bytes onto the step of a slot, over the own state of the agent in another.
+/// Put the move of these bytes onto the step of a slot.
+///
+/// It is put over the own state of the agent in another slot. A refusal is `ASM_CLASH`, `ASM_LARGE`, `ASM_DEEP` or
+/// `ASM_LONG_MOVE`, or `ASM_SMALL` if its text is too long. After a refusal, the step tracks the locations on which that
+/// depends.
+///
+/// # Errors
+///
+/// - `ASM_CLASH`: the move clashes, and `{"clash":[LOC,CAUSE]}` is written.
+/// - `ASM_LARGE`: an amount or a sum is too large, and `{"large":LOC}` is written.
+/// - `ASM_DEEP`: 64 moves are pushed; never for an extension.
+/// - `ASM_LONG_MOVE`: there would be more than 4,096 instructions.
+/// - `ASM_MANY`: to track those locations would take more than 256 places; the step is unchanged.
+/// - `ASM_SMALL`: the move is refused, and `written` is the room that the text needs.
+/// - `ASM_MOVED`: the agent's own state isn't at the step's version; the step is unchanged.
+/// - `ASM_NOT_JSON`: the bytes aren't JSON; the step is unchanged.
+/// - `ASM_SHAPE`: they are JSON, but of no move; the step is unchanged.
+/// - `ASM_EMPTY`: the first slot has no agent, or the second no step; the step is unchanged.
+/// - `ASM_MEMORY`: the step is unchanged.
 pub fn grow_of(
     alloc: Global,
     agent: &mut Slot,

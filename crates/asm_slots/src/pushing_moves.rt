@@ -1,4 +1,4 @@
-//! Pushing the move in a slot onto a step, and extending by it the one that was pushed last.
+//! Pushing the move in a slot onto a step, or extending by it the one that was pushed last.
 ghost use Rattle.std.specs.Prelude.{◌≡◌, Some};
 ghost use Rattle.asm_slots.specs.StepPush.{GrowsBy};
 ghost use Rattle.asm_slots.specs.Slots.{content_of};

@@ -1,4 +1,4 @@
-//! Reading, firing, and the answers to both.
+//! Reading and firing, with their codes and numbers.
 ghost use Rattle.std.specs.Prelude.{◌≡◌, ◌≢◌, ◌≤◌, ◌+◌, ◌∷◌, [], ℕ, Some};
 ghost use Rattle.asm_storage.specs.Limits.{offers_limit};
 ghost use Rattle.asm_storage.specs.declared.call.Reply.TheVariants.{Fired};
@@ -24,7 +24,14 @@ use asm_explain::fire_of;
 use asm_storage::{FireError, ReadError, Reply};
 use std::alloc::Global;
 
-/// Reads the locations of these bytes, and puts the agent into the slot.
+/// Read the locations of these bytes, and put the agent into the slot.
+///
+/// # Errors
+///
+/// - `ASM_MANY`: there are more than 256 locations; the agent is unchanged.
+/// - `ASM_NOT_JSON`: the bytes aren't JSON; the agent is unchanged.
+/// - `ASM_SHAPE`: they are JSON, but of no locations; the agent is unchanged.
+/// - `ASM_MEMORY`: the agent may have seen more.
 pub fn read_at(
     alloc: Global,
     slot: &mut Slot,
@@ -60,15 +67,15 @@ pub fn read_at(
     }
 }
 
-/// The numbers of a fire, each of them 0 where it tells nothing.
+/// The numbers of a fire; each is 0 if the code doesn't set it.
 #[repr(C)]
 #[derive(Drop)]
 pub struct Numbers {
-    /// The number of the move that was fired.
+    /// The number of the fired move.
     pub fired: u32,
     /// How many moves had been seen at the start of a busy call.
     pub from: u32,
-    /// How many at its end.
+    /// How many moves had been seen at its end.
     pub to: u32,
 }
 
@@ -86,7 +93,7 @@ impl Numbers {
     }
 }
 
-/// The code of the reply, with the number of the move that was fired, or 0.
+/// Return the code of the reply, with the number of the fired move, or 0.
 pub(crate) fn code_of_reply(reply: Reply) -> (i32, u32)
     ensures code { result.0 ≡ code_of reply }
     ensures number { result.1 ≡ number_of reply }
@@ -102,7 +109,19 @@ pub(crate) fn code_of_reply(reply: Reply) -> (i32, u32)
     }
 }
 
-/// Fires the move of these bytes.
+/// Fire the move of these bytes.
+///
+/// # Errors
+///
+/// - `ASM_STALE`: a declared location was written since its read.
+/// - `ASM_CLASH`: the updates of the move clash.
+/// - `ASM_FULL`: as many moves were fired as the capacity.
+/// - `ASM_BUSY`: 64 attempts to append were lost; the numbers have what had been seen at the start and at the end.
+/// - `ASM_AHEAD`: a declared read has a number above what the agent has seen; nothing changes.
+/// - `ASM_MANY`: there are more than 256 declared reads; nothing changes.
+/// - `ASM_NOT_JSON`: the bytes aren't JSON; nothing changes.
+/// - `ASM_SHAPE`: they are JSON, but of no move; nothing changes.
+/// - `ASM_MEMORY`: nothing was fired; the agent may have seen more.
 pub fn fire_in(alloc: Global, agent: &mut OwnedAgent, call: &[u8]) -> (i32, Numbers)
     ensures codes { IsOneOf (ASM_DONE ∷ ASM_STALE ∷ ASM_CLASH ∷ ASM_MEMORY ∷ ASM_FULL ∷ ASM_AHEAD ∷ ASM_BUSY ∷ ASM_MANY
         ∷ ASM_NOT_JSON ∷ ASM_SHAPE ∷ []) result.0 }
@@ -133,7 +152,7 @@ pub fn fire_in(alloc: Global, agent: &mut OwnedAgent, call: &[u8]) -> (i32, Numb
     if agent.is_behind(fire.reads.as_slice()) {
         return (AHEAD, Numbers::none());
     }
-    // So the receipt shares them, where it would copy them.
+    // The receipt then shares the reads instead of copying them.
     let Ok(reads) = fire.reads.share(alloc) else {
         return (MEMORY, Numbers::none());
     };

@@ -1,4 +1,4 @@
-//! Scans of functions that are read from bytes.
+//! Reading scans of functions from bytes.
 ghost use Rattle.std.specs.Prelude.{◌≡◌, ◌≢◌, ◌∷◌, [], IfOk, IfErr, IfSome, IfNone, option_map};
 ghost use Rattle.serde_json.specs.Data.{Data};
 ghost use Rattle.serde_json.specs.View.{view, items_view};
@@ -13,7 +13,7 @@ use serde_json::Value as Json;
 use std::alloc::{AllocError, Global};
 use std::marker::Model;
 
-/// The scans that a text was read as. Contracts see them as the list of them.
+/// The scans that were read from a text; contracts see them as a list.
 #[derive(Drop)]
 struct ReadScans {
     scans: Vec<Scanned>,
@@ -32,7 +32,7 @@ impl Model for ReadScans {
     ghost view = { λ s. s.scans.items };
 }
 
-// The items of an array of two.
+// Return the items of an array of two.
 fn pair_items(json: &Json) -> Option<(&Json, &Json)>
     ensures some { IfSome result (λ p. view json.now ≡ list_of (view p.0.now ∷ view p.1.now ∷ [])) }
     ensures none { IfNone result ((a b : Data) → view json.now ≢ list_of (a ∷ b ∷ [])) }
@@ -40,14 +40,14 @@ fn pair_items(json: &Json) -> Option<(&Json, &Json)>
     two_items(json.as_array()?)
 }
 
-// A whole number from 0 to 4,294,967,295.
+// Read a whole number from 0 to 4,294,967,295.
 fn read_number(json: &Json) -> Option<u32>
     ensures { IsParsed IsNumberForm (view json.now) result }
 {
     u32::try_from(json.as_u64()?).ok()
 }
 
-// Reads `[NAME,NUMBER]`.
+// Read `[NAME,NUMBER]`.
 fn read_scan(alloc: Global, json: &Json) -> Result<Option<Scanned>, AllocError>
     ensures { IfOk result (IsParsed IsScanForm (view json.now)) }
 {
@@ -64,7 +64,7 @@ fn read_scan(alloc: Global, json: &Json) -> Result<Option<Scanned>, AllocError>
     Ok(Some(Scanned { name, number }))
 }
 
-// Reads each of the items, in their order.
+// Read each of the items, in order.
 fn read_each(alloc: Global, items: &[Json]) -> Result<Option<Vec<Scanned>>, AllocError>
     ensures { IfOk result (λ o. IsParsed (AreForms IsScanForm) (items_view items.now) (option_map (λ v. v.items) o)) }
 {
@@ -92,7 +92,7 @@ impl FromJson for ReadScans {
     }
 }
 
-/// The scans of `[[NAME,NUMBER], ..]`.
+/// Read the scans of `[[NAME,NUMBER], ..]`.
 pub(crate) fn scans_of(alloc: Global, bytes: &[u8]) -> Result<Vec<Scanned>, TextError>
     ensures ok { IfOk result (λ scans. ReadAsScans bytes.now scans.items) }
     ensures err { IfErr result (IsMisread AreScans bytes.now) }

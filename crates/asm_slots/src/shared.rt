@@ -6,7 +6,7 @@ use asm_storage::Storage;
 use std::sync::Arc;
 use std::sync::atomic::{AtomicU64, Ordering};
 
-/// A storage with its capacity, and a count that tells it from others.
+/// A storage with its capacity, and a counter that distinguishes it from others.
 #[derive(Drop)]
 pub struct Shared {
     pub(crate) storage: Storage<Standard>,
@@ -27,7 +27,7 @@ impl Shared {
         }
     }
 
-    /// How many moves the storage has room for.
+    /// Return how many moves the storage has room for.
     pub(crate) fn capacity(&self) -> u32
         ensures { result ≡ length self.now.storage.row }
     {
@@ -35,17 +35,18 @@ impl Shared {
     }
 }
 
-// Whether the count of the second goes up where that of the first does.
+// Return whether the counter of the second goes up when that of the first does.
 fn goes_along(first: &Shared, second: &Shared) -> bool {
     let before = second.count.load(Ordering::SeqCst);
     first.count.fetch_add(1, Ordering::SeqCst);
     second.count.load(Ordering::SeqCst) != before
 }
 
-/// Whether two shares are of one storage: whether the count of each goes up where that of the other does.
+/// Return whether two shares are of one storage.
 ///
-/// A count never goes down, so shares of one storage are always told so. Those of two are told apart unless
-/// other calls count in both of them, between two steps of each of eight tries.
+/// It tries whether the counter of each goes up when that of the other does. A counter never goes down, so shares of
+/// one storage are always detected as such. Those of two storages are distinguished, unless other calls count in both
+/// of them, between two steps of each of eight tries.
 pub fn are_one(first: &Arc<Shared>, second: &Arc<Shared>) -> bool {
     for _ in 0..4 {
         if !goes_along(first, second) || !goes_along(second, first) {

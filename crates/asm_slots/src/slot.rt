@@ -1,4 +1,4 @@
-//! What C holds.
+//! The slots that C holds.
 ghost use Rattle.std.specs.Prelude.{◌≡◌, MatchOption};
 ghost use Rattle.asm_slots.specs.BoxedContent.{is_some};
 
@@ -7,7 +7,9 @@ use crate::handle::Handle;
 use crate::raw_box::RawBox;
 use std::alloc::Global;
 
-/// Nothing where `full` is false: a slot of zeros holds nothing.
+/// A slot, which holds nothing if `full` is false.
+///
+/// So a slot of zeros holds nothing.
 #[repr(C)]
 pub struct Slot {
     full: bool,
@@ -16,7 +18,7 @@ pub struct Slot {
 }
 
 impl Slot {
-    /// A slot that holds nothing.
+    /// Return a slot that holds nothing.
     pub fn empty(alloc: Global) -> Slot
         ensures { result.handle.value ≡ None }
     {
@@ -35,7 +37,7 @@ impl Slot {
         }
     }
 
-    /// Whether it holds something.
+    /// Return whether it holds something.
     pub fn is_full(&self) -> bool
         ensures { result ≡ is_some self.now.handle.value }
     {

@@ -1,4 +1,4 @@
-//! Beginning a step, what is seen through its pushed moves, and taking the last one away.
+//! Beginning a step, and reading through its pushed moves.
 ghost use Rattle.std.specs.Prelude.{◌≡◌, ◌≢◌, ◌≤◌, ◌<◌, ◌+◌, ◌∷◌, ◌++◌, [], List, length, string_bytes, OnOk, OnErr, IfOk, IfErr, Some};
 ghost use Rattle.std.specs.Bool.{OnTrue, OnFalse};
 ghost use Rattle.asm_element.specs.Place.{Place};
@@ -26,7 +26,7 @@ use crate::tracking::tracked;
 use asm_element::Location;
 use std::alloc::{AllocError, Global};
 
-/// Whether the slot is empty or holds a step.
+/// Return whether the slot is empty or holds a step.
 pub fn has_room(alloc: Global, slot: &mut Slot) -> bool
     ensures kept { content_of slot.new ≡ content_of slot.old }
     ensures yes { OnTrue result (HasRoomForStep (content_of slot.old)) }
@@ -40,7 +40,13 @@ pub fn has_room(alloc: Global, slot: &mut Slot) -> bool
     room
 }
 
-/// Puts a step at this number, of no moves, in the place of what the slot holds.
+/// Replace what the slot holds with a step at this version, without moves.
+///
+/// On error, the slot is unchanged.
+///
+/// # Errors
+///
+/// - `AllocError` only if memory is refused.
 pub fn put_begun(alloc: Global, slot: &mut Slot, number: u32) -> Result<(), AllocError>
     ensures begun { OnOk result (HoldsStep (content_of slot.new) (λ s. s ≡ begun number)) }
     ensures kept { OnErr result (content_of slot.new ≡ content_of slot.old) }
@@ -50,7 +56,7 @@ pub fn put_begun(alloc: Global, slot: &mut Slot, number: u32) -> Result<(), Allo
     Ok(())
 }
 
-/// Why nothing is got.
+/// Why a read through a step fails.
 #[derive(Drop)]
 pub(crate) enum GetError {
     Moved,
@@ -70,14 +76,15 @@ impl From<AllocError> for GetError {
     }
 }
 
-/// What is got: the text that tells it, and all that was got by then.
+/// A read through a step: its text, and all locations that are tracked by then.
 #[derive(Drop)]
 pub(crate) struct Got {
     pub(crate) text: String,
     pub(crate) all: Vec<Location>,
 }
 
-// What is seen at the locations through the pushed moves, while the agent's own state stands at the step's number.
+// Return the text of what is seen at the locations through the pushed moves, if the agent's own state is at the step's
+// version.
 fn text_seen(
     alloc: Global,
     agent: &OwnedAgent,
@@ -97,7 +104,7 @@ fn text_seen(
     Ok(text_of_values(alloc, step.number, &step.step.over(state), locations)?)
 }
 
-// The same, with all that is got then.
+// Return the same, with all locations that are then tracked.
 fn got_at(
     alloc: Global,
     agent: &OwnedAgent,
@@ -119,7 +126,15 @@ fn got_at(
     Ok(Got { text, all })
 }
 
-/// Tells what is seen at the locations of these bytes through the step, of which nothing is noted.
+/// Write what is seen at these locations through the step; track none of them.
+///
+/// # Errors
+///
+/// - `ASM_MOVED`: the agent's own state isn't at the step's version.
+/// - `ASM_NOT_JSON`: the bytes aren't JSON.
+/// - `ASM_SHAPE`: they are JSON, but of no locations.
+/// - `ASM_SMALL`: `written` is the room that the text needs.
+/// - `ASM_MEMORY`
 pub fn see_in(
     alloc: Global,
     agent: &OwnedAgent,
@@ -147,7 +162,15 @@ pub fn see_in(
     }
 }
 
-/// Tells what is seen at the locations of these bytes through the step, which are got.
+/// Write what is seen at these locations through the step, and track them.
+///
+/// It tracks those at which what is seen is made from the state below. After any code except `ASM_DONE`, the step is
+/// unchanged.
+///
+/// # Errors
+///
+/// - `ASM_MANY`: the tracked locations and the scanned functions would be more than 256 together.
+/// - `ASM_MOVED`, `ASM_NOT_JSON`, `ASM_SHAPE`, `ASM_SMALL`, `ASM_MEMORY`: as of `see_in`.
 pub fn get_in(
     alloc: Global,
     agent: &OwnedAgent,

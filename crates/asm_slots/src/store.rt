@@ -1,4 +1,4 @@
-//! A share of a storage, with the numbers of its agents, those that were given back to it, and their journal.
+//! A share of a storage, with the numbers of its agents, the returned agents, and their journal.
 ghost use Rattle.std.specs.Prelude.{◌≡◌, ◌≤◌, IfNone, IfSome, None, Some, length, string_bytes};
 ghost use Rattle.std_alloc.specs.Arc.{arc_value};
 
@@ -8,11 +8,11 @@ use asm_storage::AgentPart;
 use std::marker::Model;
 use std::sync::Arc;
 
-/// The numbers of the agents that were given back ascend.
+/// A share of a storage, with its agents; the numbers of the returned ones ascend.
 #[derive(Drop)]
 pub struct Store {
     pub(crate) shared: Arc<Shared>,
-    // The number of each agent that was made: a freed agent's moves may stand in the row.
+    // The number of each agent that was made: the row may have moves of an agent that was freed.
     pub(crate) numbers: Vec<u32>,
     pub(crate) parts: Vec<AgentPart>,
     pub(crate) journal: Option<KeptJournal>,
@@ -55,21 +55,23 @@ impl Model for Store {
 }
 
 impl Store {
-    /// The share of the storage.
+    /// Return the share of the storage.
     pub fn shared(&self) -> &Arc<Shared>
         ensures { (arc_value result.now).storage ≡ self.now.storage }
     {
         &self.shared
     }
 
-    /// How many moves stand in the storage's row: it looks from the first one on until it finds nothing more.
+    /// Return how many moves the storage's row has.
+    ///
+    /// It polls the row from the first move on until no move is left.
     pub fn moves(&self) -> u32
         ensures { result ≤ length self.now.storage.row }
     {
         self.shared.storage.moves()
     }
 
-    /// The text of the journal, where it is kept.
+    /// Return the text of the journal, if one is retained.
     pub fn journal(&self) -> Option<&String>
         ensures some { IfSome result (λ text. self.now.journal ≡ Some (string_bytes text.now)) }
         ensures none { IfNone result (self.now.journal ≡ None) }

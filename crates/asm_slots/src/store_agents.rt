@@ -28,7 +28,7 @@ fn agent_of(alloc: Global, shared: &Arc<Shared>, id: u32) -> Result<Box<Content>
     Ok(Box::new(alloc, Content::Agent(agent))?)
 }
 
-// An agent whose number is noted, unless it was noted before.
+// Make an agent and record its number, unless that was recorded before.
 fn noted_agent(
     alloc: Global,
     shared: &Arc<Shared>,
@@ -57,14 +57,14 @@ fn noted_agent(
     Ok(made)
 }
 
-// Whether one of the numbers is below this one.
+// Return whether one of the numbers is below this one.
 fn has_below(numbers: &[u32], count: u32) -> bool
     ensures { result ≡ is_any_below numbers.now count }
 {
     numbers.iter().any(|number| *number < count)
 }
 
-// Makes an agent in each of the slots, with the numbers from 0 up; false where there was no memory.
+// Make an agent in each of the slots, with the numbers from 0 up; return false if memory is refused.
 fn fill(alloc: Global, shared: &Arc<Shared>, agents: &mut [Slot]) -> bool
     requires { length agents.old ≤ agents_limit }
     ensures made { OnTrue result (AreNew (arc_value shared.now).storage agents.new) }
@@ -79,7 +79,7 @@ fn fill(alloc: Global, shared: &Arc<Shared>, agents: &mut [Slot]) -> bool
     true
 }
 
-// Notes the numbers from 0 up, in room that was made for them.
+// Record the numbers from 0 up, in room that was reserved for them.
 fn note(numbers: &mut Vec<u32>, count: u32)
     requires { length numbers.old.items + count ≤ vec_capacity numbers.old }
     ensures { numbers.new.items ≡ numbers.old.items ++ range_with_len 0 count }
@@ -89,7 +89,7 @@ fn note(numbers: &mut Vec<u32>, count: u32)
     }
 }
 
-// Makes agents in the slots, whose numbers are noted, unless one of them was noted before.
+// Make agents in the slots and record their numbers, unless one of these was recorded before.
 fn noted_agents(
     alloc: Global,
     shared: &Arc<Shared>,
@@ -122,7 +122,14 @@ fn noted_agents(
 }
 
 impl Store {
-    /// Makes an agent, whose number is noted.
+    /// Make an agent and record its number.
+    ///
+    /// On error, the storage is unchanged.
+    ///
+    /// # Errors
+    ///
+    /// - `ASM_NUMBER`: an agent with this number was made before.
+    /// - `ASM_MEMORY`
     pub fn make_agent(mut self, alloc: Global, id: u32) -> (Store, Result<Box<Content>, i32>)
         requires { id < agents_limit }
         ensures agent { IfOk result.1 (λ b. Holds (Some b.value) (λ a. a ≡ at_start self.storage id)) }
@@ -137,7 +144,14 @@ impl Store {
         (self, made)
     }
 
-    /// Makes an agent in each of the slots, with the numbers from 0 up, which are noted.
+    /// Make an agent in each of the slots, and record the numbers, from 0 up.
+    ///
+    /// On error, the storage is unchanged.
+    ///
+    /// # Errors
+    ///
+    /// - `ASM_NUMBER`: an agent with one of these numbers was made before; the slots are unchanged.
+    /// - `ASM_MEMORY`
     pub fn make_agents(mut self, alloc: Global, agents: &mut [Slot]) -> (Store, i32)
         requires { length agents.old ≤ agents_limit }
         ensures codes { IsOneOf (ASM_DONE ∷ ASM_MEMORY ∷ ASM_NUMBER ∷ []) result.1 }

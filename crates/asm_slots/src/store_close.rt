@@ -1,4 +1,4 @@
-//! Closing the agents that were given back into one journal.
+//! Closing the returned agents into one journal.
 #![tactic(auto, unfolding(asm_aggregate::specs::Standard::standard_meaning))]
 
 ghost use Rattle.std.specs.Prelude.{◌≡◌, ◌≤◌, [], All, length, map, vec_capacity};
@@ -20,7 +20,7 @@ use asm_aggregate::Standard;
 use asm_storage::{Agent, AgentPart, CloseError, Closing, Storage};
 use std::alloc::{AllocError, Global};
 
-// The agents of which these are the parts, in room that was made for them.
+// Return the agents with these parts, in room that was reserved for them.
 fn agents_of<'s>(
     storage: &'s Storage<Standard>,
     parts: Vec<AgentPart>,
@@ -37,7 +37,8 @@ fn agents_of<'s>(
     agents
 }
 
-// Their parts again, in room that was made for them. The storage is there for the contract alone.
+// Return their parts again, in room that was reserved for them.
+// Proof: only the contract needs the storage.
 fn parts_of(
     storage: &Storage<Standard>,
     agents: Vec<Agent<'_, Standard>>,
@@ -63,7 +64,7 @@ pub enum Unclosed {
     Memory,
 }
 
-// How many moves the agent has seen that has seen most.
+// Return the most moves that one of the agents has seen.
 fn most_seen(agents: &[Agent<'_, Standard>]) -> u32
     ensures { result ≡ most_seen (accounts agents.now) }
 {
@@ -74,7 +75,7 @@ fn most_seen(agents: &[Agent<'_, Standard>]) -> u32
     seen
 }
 
-// The number of a move that none of the agents has seen, as it stands behind all that they have.
+// Return the number of the first move after all that these agents have seen, if the row has one.
 fn unseen_move(storage: &Storage<Standard>, agents: &[Agent<'_, Standard>]) -> Option<u32>
     ensures { IfSome result (IsUnseen storage.now agents.now) }
 {
@@ -85,7 +86,7 @@ fn unseen_move(storage: &Storage<Standard>, agents: &[Agent<'_, Standard>]) -> O
     Some(seen + 1)
 }
 
-// The journal of the agents' history, unless a move stands in the row that none of them has seen.
+// Return the journal of the agents' history, unless the row has a move that none of them has seen.
 fn written(
     alloc: Global,
     storage: &Storage<Standard>,
@@ -107,7 +108,7 @@ fn written(
     }
 }
 
-// The journal of the agents' history, unless a move has no receipt among them.
+// Return the journal of the agents' history, unless a move has no receipt among them.
 fn journal_of(
     alloc: Global,
     storage: &Storage<Standard>,
@@ -129,7 +130,15 @@ fn journal_of(
 }
 
 impl Store {
-    /// Closes the agents that were given back, and keeps their journal.
+    /// Close the returned agents, and retain their journal.
+    ///
+    /// On error, the storage is unchanged.
+    ///
+    /// # Errors
+    ///
+    /// - `Missing`: the move with this number has no receipt among the returned agents.
+    /// - `Large`: their history is beyond the limits of a journal.
+    /// - `Memory` only if memory is refused.
     pub fn close(self, alloc: Global) -> (Store, Result<(), Unclosed>)
         ensures closed { OnOk result.1 (HasClosed self result.0) }
         ensures unchanged { OnErr result.1 (result.0 ≡ self) }

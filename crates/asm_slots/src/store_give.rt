@@ -1,4 +1,4 @@
-//! Giving an agent back to its storage.
+//! Returning an agent to its storage.
 ghost use Rattle.std.specs.Prelude.{◌≡◌, ◌<◌, ◌≤◌, ◌∷◌, [], All, IfNone, IfSome, IfErr, OnOk, Some};
 ghost use Rattle.std.specs.Prelude.{length, map, slice_get, take};
 ghost use Rattle.std.specs.List.Sorted.{IsStrictlyIncreasing};
@@ -14,7 +14,7 @@ use crate::owned_agent::OwnedAgent;
 use crate::store::Store;
 use asm_storage::AgentPart;
 
-// How many of the parts, whose numbers ascend, have a number below this one.
+// Return how many of the parts, whose numbers ascend, have a number below this one.
 fn below(parts: &[AgentPart], id: u32) -> usize
     ensures within { result ≤ length parts.now }
     ensures before { All (λ p. p.id < id) (take result parts.now) }
@@ -28,7 +28,7 @@ fn below(parts: &[AgentPart], id: u32) -> usize
     parts.len()
 }
 
-// Where an agent with this number goes among the parts; `None` where one of them has the number.
+// Return the index at which an agent with this number goes among the parts; `None` if one of them has the number.
 fn insert_point(parts: &[AgentPart], id: u32) -> Option<usize>
     requires { IsStrictlyIncreasing (map (λ p. p.id) parts.now) }
     ensures some { IfSome result (IsInsertPoint parts.now id) }
@@ -41,7 +41,7 @@ fn insert_point(parts: &[AgentPart], id: u32) -> Option<usize>
     Some(at)
 }
 
-// The agent's part, without its share of the storage.
+// Return the agent's part, without its share of the storage.
 fn part_of(agent: OwnedAgent) -> AgentPart
     ensures agent { agent_of agent.storage result ≡ agent }
     ensures part { IsPartOf meaning agent.storage result }
@@ -51,7 +51,9 @@ fn part_of(agent: OwnedAgent) -> AgentPart
 }
 
 impl Store {
-    /// Takes the agent among those that were given back. It comes back with a code where it is refused.
+    /// Add the agent to the returned ones, and discard the journal.
+    ///
+    /// On error, the storage is unchanged; the agent comes back with the code.
     pub(crate) fn give(mut self, agent: OwnedAgent) -> (Store, Result<(), (i32, OwnedAgent)>)
         requires { agent.storage ≡ self.storage }
         ensures given { OnOk result.1 (HasTaken agent self result.0) }

@@ -1,4 +1,4 @@
-//! Taking an agent out of its storage again.
+//! Checking a returned agent out of its storage.
 ghost use Rattle.std.specs.Prelude.{◌≡◌, ◌≢◌, ◌<◌, ◌∷◌, [], All, IfErr, IfNone, IfOk, IfSome, OnErr, Some, length, slice_get};
 ghost use Rattle.asm_storage.specs.declared.part.AgentPart.{AgentPart};
 ghost use Rattle.asm_slots.specs.AgentCalls.{HasLost, HasNumber};
@@ -13,7 +13,7 @@ use asm_storage::AgentPart;
 use std::alloc::Global;
 use std::sync::Arc;
 
-// Where the part with this number is.
+// Return the index of the part with this number, if there is one.
 fn place_of(parts: &[AgentPart], number: u32) -> Option<usize>
     ensures within { IfSome result (λ at. at < length parts.now) }
     ensures there { IfSome result (λ at. (p : AgentPart) → slice_get parts.now at ≡ Some p → p.id ≡ number) }
@@ -28,7 +28,14 @@ fn place_of(parts: &[AgentPart], number: u32) -> Option<usize>
 }
 
 impl Store {
-    /// Takes the agent with this number out of those that were given back, in a slot's box.
+    /// Check out the returned agent with this number, in a slot's box.
+    ///
+    /// The journal is discarded. On error, the storage is unchanged.
+    ///
+    /// # Errors
+    ///
+    /// - `ASM_NO_AGENT`: no returned agent has this number.
+    /// - `ASM_MEMORY`
     pub fn take_back(mut self, alloc: Global, number: u32) -> (Store, Result<Box<Content>, i32>)
         ensures lost { IfOk result.1 (λ b. Holds (Some b.value) (λ a. HasLost a self result.0)) }
         ensures numbered { IfOk result.1 (λ b. Holds (Some b.value) (λ a. a.account.id ≡ number)) }

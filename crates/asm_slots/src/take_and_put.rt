@@ -1,4 +1,4 @@
-//! Taking what slots hold out of them, in its box or out of it, and putting it back.
+//! Taking the content of slots out of them, in its box or without it, and putting it in again.
 ghost use Rattle.std.specs.Prelude.{◌≡◌, ◌⊎◌, ◌∷◌, [], IfErr, IfNone, IfOk, IfSome, None, OnErr, Some};
 ghost use denote.Param.Send.{IsSend};
 ghost use Rattle.asm_slots.specs.Codes.{IsOneOf, ASM_EMPTY, ASM_OTHER};
@@ -15,7 +15,7 @@ use crate::slot::Slot;
 use crate::store::Store;
 use std::alloc::Global;
 
-/// The box of what the slot holds, taken out of it.
+/// Take the box out of the slot, if the slot holds something.
 pub fn take_shell(alloc: Global, slot: &mut Slot) -> Option<Box<Content>>
     ensures some { IfSome result (λ shell. content_of slot.old ≡ Some shell.value) }
     ensures none { IfNone result (content_of slot.new ≡ content_of slot.old) }
@@ -24,14 +24,14 @@ pub fn take_shell(alloc: Global, slot: &mut Slot) -> Option<Box<Content>>
     std::mem::replace(slot, Slot::empty(alloc)).into_box()
 }
 
-/// Puts the box into the slot.
+/// Put the box into the slot.
 pub fn put_shell(slot: &mut Slot, shell: Box<Content>)
     ensures { content_of slot.new ≡ Some shell.value }
 {
     *slot = Slot::holding(shell);
 }
 
-/// The agent in the box, if one is there.
+/// Return the agent in the box, if there is one.
 pub fn agent_in(held: &Content) -> Option<&OwnedAgent>
     ensures some { IfSome result (λ agent. held.now ≡ content.Agent agent.now) }
     ensures none { IfNone result (HoldsNoAgent (Some held.now)) }
@@ -42,7 +42,7 @@ pub fn agent_in(held: &Content) -> Option<&OwnedAgent>
     }
 }
 
-/// The storage in the box, if one is there.
+/// Return the storage in the box, if there is one.
 pub fn store_in(held: &Content) -> Option<&Store>
     ensures some { IfSome result (λ store. held.now ≡ content.Store store.now) }
     ensures none { IfNone result (HoldsNoStore (Some held.now)) }
@@ -53,7 +53,7 @@ pub fn store_in(held: &Content) -> Option<&Store>
     }
 }
 
-/// The audit in the box, if one is there.
+/// Return the audit in the box, if there is one.
 pub fn audit_in(held: &Content) -> Option<&Audit>
     ensures some { IfSome result (λ audit. held.now ≡ content.Audit audit.now) }
     ensures none { IfNone result (HoldsNoAudit (Some held.now)) }
@@ -64,7 +64,9 @@ pub fn audit_in(held: &Content) -> Option<&Audit>
     }
 }
 
-/// The agent of the slot and its box, taken out of it.
+/// Take the agent and its box out of the slot, if it holds an agent.
+///
+/// Else the slot is unchanged.
 pub fn take_agent(alloc: Global, slot: &mut Slot) -> Option<(Box<Content>, OwnedAgent)>
     ensures some { IfSome result (λ p. content_of slot.old ≡ Some (content.Agent p.1)) }
     ensures none { IfNone result (content_of slot.new ≡ content_of slot.old) }
@@ -81,7 +83,7 @@ pub fn take_agent(alloc: Global, slot: &mut Slot) -> Option<(Box<Content>, Owned
     }
 }
 
-/// Puts the agent into the slot, in its box.
+/// Put the agent into the slot, in its box.
 pub fn put_agent(slot: &mut Slot, mut shell: Box<Content>, agent: OwnedAgent)
     ensures { content_of slot.new ≡ Some (content.Agent agent) }
 {
@@ -98,7 +100,14 @@ pub struct TwoAgents {
     pub other: OwnedAgent,
 }
 
-/// The agents of two slots and their boxes, taken out of them.
+/// Take the agents of two slots and their boxes out of them.
+///
+/// On error, both slots are unchanged.
+///
+/// # Errors
+///
+/// - `ASM_EMPTY`: one of the slots has no agent.
+/// - `ASM_OTHER`: `are_one` reports that the agents are of two storages.
 pub fn take_agents(alloc: Global, agent: &mut Slot, other: &mut Slot) -> Result<TwoAgents, i32>
     requires { AreOfOneStorage (content_of agent.old) (content_of other.old) }
     ensures agent { IfOk result (λ both. content_of agent.old ≡ Some (content.Agent both.agent)) }
@@ -130,7 +139,9 @@ pub fn take_agents(alloc: Global, agent: &mut Slot, other: &mut Slot) -> Result<
     })
 }
 
-/// The storage of the slot and its box, taken out of it.
+/// Take the storage and its box out of the slot, if it holds a storage.
+///
+/// Else the slot is unchanged.
 pub fn take_store(alloc: Global, slot: &mut Slot) -> Option<(Box<Content>, Store)>
     ensures some { IfSome result (λ p. content_of slot.old ≡ Some (content.Store p.1)) }
     ensures none { IfNone result (content_of slot.new ≡ content_of slot.old) }
@@ -147,7 +158,7 @@ pub fn take_store(alloc: Global, slot: &mut Slot) -> Option<(Box<Content>, Store
     }
 }
 
-/// Puts the storage into the slot, in its box.
+/// Put the storage into the slot, in its box.
 pub fn put_store(slot: &mut Slot, mut shell: Box<Content>, store: Store)
     ensures { content_of slot.new ≡ Some (content.Store store) }
 {
@@ -162,7 +173,9 @@ pub struct Both {
     pub step: Box<Content>,
 }
 
-/// The boxes of what the two slots hold, taken out of them.
+/// Take the boxes out of two slots, if both hold something.
+///
+/// Else both slots are unchanged.
 pub fn take_both(alloc: Global, agent: &mut Slot, step: &mut Slot) -> Option<Both>
     ensures agent { IfSome result (λ b. content_of agent.old ≡ Some b.agent.value) }
     ensures step { IfSome result (λ b. content_of step.old ≡ Some b.step.value) }
@@ -180,7 +193,7 @@ pub fn take_both(alloc: Global, agent: &mut Slot, step: &mut Slot) -> Option<Bot
     }
 }
 
-/// Puts both boxes into their slots.
+/// Put both boxes into their slots.
 pub fn put_both(agent: &mut Slot, step: &mut Slot, both: Both)
     ensures agent { content_of agent.new ≡ Some both.agent.value }
     ensures step { content_of step.new ≡ Some both.step.value }
@@ -189,7 +202,9 @@ pub fn put_both(agent: &mut Slot, step: &mut Slot, both: Both)
     put_shell(step, both.step);
 }
 
-/// What the call answers on what is in the slot's box, which it looks at; without it the code is `ASM_EMPTY`.
+/// Make the call with what `$look` finds in the slot's box; return its answer.
+///
+/// Without it the code is `ASM_EMPTY`. The box goes into the slot again.
 #[macro_export]
 macro_rules! in_box {
     ($alloc:expr, $slot:ident, $look:path, $inner:ident => $call:expr) => {{
@@ -206,7 +221,9 @@ macro_rules! in_box {
     }};
 }
 
-/// What the call answers that changes the agent in the slot's box; without one the code is `ASM_EMPTY`.
+/// Make the call, which changes the agent in the slot's box; return its answer.
+///
+/// Without an agent the code is `ASM_EMPTY`. The box goes into the slot again.
 #[macro_export]
 macro_rules! in_agent {
     ($alloc:expr, $slot:ident, $inner:ident => $call:expr) => {{
@@ -223,8 +240,9 @@ macro_rules! in_agent {
     }};
 }
 
-/// Has the call look at the agent and change the step in the boxes of the two slots, which go back; without both
-/// the code is `ASM_EMPTY`.
+/// Make the call, which reads the agent and changes the step of two slots.
+///
+/// Without both the code is `ASM_EMPTY`. The boxes go into the slots again.
 #[macro_export]
 macro_rules! in_both {
     ($alloc:expr, $agent:ident, $step:ident => $call:expr) => {{
@@ -249,7 +267,8 @@ macro_rules! in_both {
     }};
 }
 
-// A claim that no goal needs, and that can only be proved at a function: what a slot contains may go from thread to thread.
+// Proof: no goal needs this claim, which can only be proved at a function: the content of a slot may be sent to another
+// thread.
 pub(crate) fn may_cross(_content: &Content)
     ensures { IsSend content_row }
 {}

@@ -1,4 +1,4 @@
-//! What a step tracks of the state below it: what it told by a get, by a refusal, or by a move that is popped.
+//! The locations of the state below that a step tracks: those of reads, of refused moves, and of popped moves.
 ghost use Rattle.std.specs.Prelude.{◌≡◌, ◌≢◌, ◌≤◌, ◌+◌, ◌++◌, [], filter, length, IfErr, IfOk, IfSome, IsNone, OnOk};
 ghost use Rattle.std.specs.Ordering.{is_le};
 ghost use Rattle.asm_element.specs.Place.{location_cmp};
@@ -17,7 +17,9 @@ use asm_storage::READS_LIMIT;
 use asm_update::{Action, Instruction, Instructions};
 use std::alloc::{AllocError, Global};
 
-/// All that is got with these locations too, where what is seen is made from the state below.
+/// Return all tracked locations, once these are read too.
+///
+/// Of these it adds those at which what is seen is made from the state below.
 pub(crate) fn tracked(
     alloc: Global,
     step: &OwnedStep,
@@ -36,7 +38,7 @@ pub(crate) fn tracked(
     Ok(all)
 }
 
-// Appends a copy of the instruction's location, if it is a partial update.
+// Append a copy of the instruction's location, if it is a partial update.
 fn push_partial(
     alloc: Global,
     all: &mut Vec<Location>,
@@ -51,7 +53,7 @@ fn push_partial(
     Ok(())
 }
 
-// Appends copies of the locations of the move's partial updates.
+// Append copies of the locations of the move's partial updates.
 fn push_partials(
     alloc: Global,
     all: &mut Vec<Location>,
@@ -65,7 +67,7 @@ fn push_partials(
     Ok(())
 }
 
-// Appends copies of those of all the moves.
+// Append copies of the locations of all the moves' partial updates.
 fn push_all_partials(
     alloc: Global,
     all: &mut Vec<Location>,
@@ -79,7 +81,7 @@ fn push_all_partials(
     Ok(())
 }
 
-// Those of the locations that aren't above the last one.
+// Return those of the locations that aren't above the last one.
 fn up_to(
     alloc: Global,
     locations: Vec<Location>,
@@ -96,7 +98,7 @@ fn up_to(
     Ok(kept)
 }
 
-// The location of a refusal, and those up to it at which the move has partial updates.
+// Return the location of a refusal, and those up to it at which the move has partial updates.
 fn judged_to(
     alloc: Global,
     at: &Location,
@@ -111,7 +113,7 @@ fn judged_to(
     Ok(all)
 }
 
-/// The locations that the refusal of the move tells of.
+/// Return the locations on which the refusal of the move depends.
 pub(crate) fn judged(
     alloc: Global,
     instrs: &Instructions,
@@ -129,21 +131,21 @@ pub(crate) fn judged(
     Ok(all)
 }
 
-// Whether one of the moves writes the location.
+// Return whether one of the moves writes the location.
 fn one_writes(moves: &[Instructions], at: &Location) -> bool
     ensures { result ≡ one_writes moves.now at.now }
 {
     moves.iter().any(|instrs| writes(instrs, at))
 }
 
-// Whether the move writes the location.
+// Return whether the move writes the location.
 fn writes(instrs: &Instructions, at: &Location) -> bool
     ensures { result ≡ writes instrs.now at.now }
 {
     instrs.iter().any(|instruction| instruction.at == *at)
 }
 
-// Whether the move puts a value at the location.
+// Return whether the move puts a value at the location.
 fn puts(instrs: &Instructions, at: &Location) -> bool
     ensures { result ≡ puts instrs.now at.now }
 {
@@ -151,7 +153,7 @@ fn puts(instrs: &Instructions, at: &Location) -> bool
         && matches!(&instruction.action, Action::Regular(_)))
 }
 
-// Whether the moves rest on the value below them at the location.
+// Return whether the moves depend on the value below them at the location.
 fn rests(popped: &Popped, at: &Location) -> bool
     ensures { result ≡ rests popped.now at.now }
 {
@@ -167,7 +169,7 @@ fn rests(popped: &Popped, at: &Location) -> bool
     false
 }
 
-// Those of the locations on which the moves rest.
+// Return those of the locations on which the moves depend.
 fn resting_of(
     alloc: Global,
     popped: &Popped,
@@ -185,7 +187,9 @@ fn resting_of(
 }
 
 impl OwnedStep {
-    /// The locations at which the moves that were pushed last have partial updates; None where none is pushed.
+    /// Return the locations at which the last pushed moves have partial updates.
+    ///
+    /// `None` means that no move is pushed.
     pub(crate) fn judged_last(&self, alloc: Global) -> Result<Option<Vec<Location>>, AllocError>
         ensures some { IfOk result (λ o. IfSome o (λ ls. ls.items ≡ judged_last self.now)) }
         ensures pushed { IfOk result (λ o. IfSome o (λ ls. self.now.layers ≢ [])) }
@@ -201,7 +205,7 @@ impl OwnedStep {
         Ok(Some(all))
     }
 
-    /// The locations on which the moves that were pushed last rest by themselves.
+    /// Return the locations on which the last pushed moves depend by themselves.
     pub(crate) fn resting_last(&self, alloc: Global) -> Result<Vec<Location>, AllocError>
         ensures { IfOk result (λ ls. ls.items ≡ resting_last self.now) }
     {

@@ -1,4 +1,4 @@
-//! Values told by kind, number and bytes.
+//! Values as kind, number and bytes.
 ghost use Rattle.std.specs.Prelude.{◌≡◌, ◌≢◌, ◌∷◌, [], pos, IfNone, IfOk, IfSome, string_bytes};
 ghost use Rattle.serde_json.specs.Written.{compact_text};
 ghost use Rattle.asm_element.specs.declared.value.Value.TheVariants as values;
@@ -27,11 +27,11 @@ pub(crate) const SET: i32 = 5;
 
 pub(crate) const BAG: i32 = 6;
 
-/// A value but for its bytes: what it is, with its number where it is a number, or 1 where it is true.
+/// A value without its bytes: its kind, and its number if it has one.
 #[repr(C)]
 #[derive(Drop)]
 pub struct ValueHead {
-    /// What the value is.
+    /// The kind of the value.
     pub kind: i32,
     /// The number, 1 for true, and 0 for any other value.
     pub number: i64,
@@ -77,7 +77,7 @@ impl ValueHead {
     }
 }
 
-// The bytes of an element but a list.
+// Return the bytes of an element, except a list.
 fn bytes_of_element(element: &Element) -> Option<&[u8]>
     ensures some { IfSome result (λ bytes. bytes.now ≡ bytes_of (values.Plain element.now)) }
     ensures none { IfNone result (bytes_of (values.Plain element.now)
@@ -90,7 +90,7 @@ fn bytes_of_element(element: &Element) -> Option<&[u8]>
     }
 }
 
-// The bytes of the value where they lie in it; its JSON has to be written where they don't.
+// Return the bytes of the value if it holds them; else its JSON has to be written.
 fn bytes_in(value: &Value) -> Option<&[u8]>
     ensures some { IfSome result (λ bytes. bytes.now ≡ bytes_of value.now) }
     ensures none { IfNone result (bytes_of value.now ≡ compact_text (value_json_of value.now)) }
@@ -107,7 +107,7 @@ fn json_text(alloc: Global, value: &Value) -> Result<String, AllocError>
     value_json(alloc, value)?.to_string(alloc)
 }
 
-// Writes the bytes of the value, and tells the rest of it.
+// Write the bytes of the value, and its kind and number.
 fn tell_value(
     alloc: Global,
     value: &Value,
@@ -133,7 +133,7 @@ fn tell_value(
     code
 }
 
-/// Tells the value that is seen at the location, undef where there is none.
+/// Write the value that is seen at the location, or undef if there is none.
 pub(crate) fn tell_at<L: Lookup>(
     alloc: Global,
     seen: &L,
