@@ -7,7 +7,7 @@ import java.nio.file.Files;
 import java.nio.file.Path;
 import java.util.Map;
 
-/** A run without end: each time that this is started it counts on in the folder that is named. */
+/** An endless run: each start of this counts on in the folder that is named. */
 public final class Counter {
     private static final Location COUNT = Location.of("count");
 
@@ -16,7 +16,7 @@ public final class Counter {
         try (Run run = Files.exists(path) ? Run.resume(path) : Run.open(Map.of(COUNT, 0), path);
                 RunAgent agent = run.agent(0)) {
             for (int done = 0; done < 1000; done++)
-                agent.play(step -> { // again, where others were quicker or a part is full
+                agent.play(step -> { // again, if others were quicker or a part is full
                     step.push(Instruction.inc(COUNT, 1));
                     return null;
                 });

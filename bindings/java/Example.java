@@ -31,7 +31,7 @@ public final class Example {
         return Location.of("account", number);
     }
 
-    /** Transfers the amount, or what is there of it; again, where another agent was quicker. */
+    /** Transfers the amount, or what is there of it; again, if another agent was quicker. */
     static void transfer(Agent agent, Location from, Location to, long amount) {
         agent.play(step -> {
             long there = step.get(from).asLong();

@@ -1,5 +1,5 @@
-/* The calls of an engine's step, for Java without JNA, which takes longer for each than the call itself. folugben_bind has
- * the methods of the class Calls be these functions, which pass their words on to the library. */
+/* The calls of an engine's step, for Java without JNA, which takes longer for each than the call itself. folugben_bind makes
+ * the methods of the class Calls these functions, which pass their arguments on to the library. */
 #include <jni.h>
 #include <stdbool.h>
 #include <stddef.h>
@@ -12,7 +12,7 @@
 #define TEXTS jlong out, jlong room, jlong written
 #define TEXTS_AT AT(out), (size_t)room, AT(written)
 
-/* Where the library's calls are, each of the type that the header tells. A call is written once, by folugben_bind. */
+/* The addresses of the library's calls, each of the type in the header. A call is written once, by folugben_bind. */
 static struct {
     __typeof__(asm_begin) *begin;
     __typeof__(asm_get) *get;
@@ -71,7 +71,7 @@ MOVE_CALL(extend_move)
 
 static void JNICALL release(OWN, jlong slot) { library.free(AT(slot)); }
 
-/* A method, what it is to be, and where the address of the library's call is kept. */
+/* A method, its function here, and the place of the address of the library's call. */
 static const struct {
     JNINativeMethod method;
     void *call;
@@ -91,24 +91,24 @@ static const struct {
     {{"asm_free", "(J)V", (void *)release}, &library.free},
 };
 
-/* The version of the header, as asm_version tells that of the library. */
+/* Returns the version of the header, as asm_version returns that of the library. */
 JNIEXPORT int32_t folugben_quick_version(void) { return FOLUGBEN_VERSION; }
 
-/* The name of a method that can be bound, from 0 up; null behind the last. */
+/* Returns the name of a method that can be bound, from 0 up; null after the last. */
 JNIEXPORT const char *folugben_bindable(int32_t index) {
     return (size_t)index < sizeof bound / sizeof *bound ? bound[index].method.name : NULL;
 }
 
-/* Whether the place has this call; the first one that comes stays there. Class loaders that load this library by its name share
- * it, and each may have a libfolugben of its own, which is unloaded with it. A class keeps only the library of its own calls
- * loaded, so a place that changed would have it call into another one, or to where none is any more. */
+/* Returns whether the place has this call; the first call that comes stays there. Class loaders that load this library by its
+ * name share it, and each may have a libfolugben of its own, which is unloaded with it. A class keeps only the library of its own
+ * calls loaded. So a place that changed would have it call into another one, or to an address without any. */
 static bool has(void **place, void *call) {
     void *found = NULL;
     return __atomic_compare_exchange_n(place, &found, call, false, __ATOMIC_ACQ_REL, __ATOMIC_ACQUIRE) || found == call;
 }
 
-/* Binds the method to the library's call at this address. 0: that was done. 1: the method is left as it was, since it passes its
- * words on to the call of another library. Else an exception is thrown. */
+/* Binds the method to the library's call at this address. Returns 0 if that was done, and 1 if the method is unchanged, since it
+ * passes its arguments on to the call of another library. Else an exception is thrown. */
 JNIEXPORT int32_t folugben_bind(JNIEnv *env, jclass calls, int32_t index, void *call) {
     return has(bound[index].call, call) ? (*env)->RegisterNatives(env, calls, &bound[index].method, 1) : 1;
 }

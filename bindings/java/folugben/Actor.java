@@ -5,28 +5,28 @@ import java.util.List;
 import java.util.SortedMap;
 
 /**
- * An agent, of a storage, of a {@link Run} or of a {@link SharedRun}. Numbers of moves are those of
- * the run, which is one storage where it has no further ones.
+ * An agent of a storage, of a {@link Run} or of a {@link SharedRun}.
+ *
+ * <p>Numbers of moves are those of the run; a storage on its own counts as a run.
  */
 public sealed interface Actor extends AutoCloseable permits Agent, RunAgent, SharedAgent {
-    /** Its number among the agents of its storage or run. */
+    /** Returns its number among the agents of its storage or run. */
     int number();
 
-    /** Begins a step on its own state, which follows all moves that are found first. */
+    /** Polls, and begins a step on the state that it then sees. */
     Step step();
 
     /**
-     * Begins a step, plays the rule on it and commits it, and begins again where other agents were
-     * quicker. Between tries in vain other threads run, and after some it waits for up to a
-     * millisecond.
+     * Plays the rule on a step and commits it, and begins again after each conflict.
      *
-     * <p>A rule that pushes nothing fires nothing, and {@link Played#isFired} tells so. What the
-     * rule throws ends it, and nothing is fired.
+     * <p>Between vain tries other threads run, and after some it waits for up to a millisecond. A
+     * rule that pushes nothing fires nothing, and {@link Played#isFired} is false. An exception of
+     * the rule ends the play, and nothing is fired.
      *
-     * @param <T> what the rule tells
+     * @param <T> what the rule returns
      * @param <X> what the rule throws
      * @param rule what is played on each step
-     * @return the number of the move, what the rule told, and how often it was begun again
+     * @return the number of the move, what the rule returned, and how often it was begun again
      * @throws X as the rule
      * @throws FolugbenException as a {@link FullException} or {@link ManyException} of the commit
      * @throws RunException if the run has ended
@@ -36,13 +36,13 @@ public sealed interface Actor extends AutoCloseable permits Agent, RunAgent, Sha
     }
 
     /**
-     * The same with so many tries at most, of which none begins so long after the first one.
+     * Plays it with at most so many tries, of which none begins after the timeout.
      *
-     * @param <T> what the rule tells
+     * @param <T> what the rule returns
      * @param <X> what the rule throws
      * @param rule what is played on each step
      * @param tries how many steps are begun at most
-     * @param timeout how long further ones are begun
+     * @param timeout how long after the first one further ones are begun
      * @return the same
      * @throws X as the rule
      * @throws ConflictException of the last try
@@ -55,41 +55,43 @@ public sealed interface Actor extends AutoCloseable permits Agent, RunAgent, Sha
         return Patience.Plays.play(this, rule, tries, timeout);
     }
 
-    /** Has its own state follow all moves that are found; how many it has then seen. */
+    /** Polls until no further move is found, and returns how many moves it has seen. */
     long follow();
 
-    /** The values of the locations, any number of them, in its own state. */
+    /** Returns the values of the locations, any number of them, in its own state. */
     Reading peek(List<Location> locations);
 
-    /** Its own state. */
+    /** Returns its own state. */
     State state();
 
-    /** The locations of one function name in its own state. */
+    /** Returns the locations of one function in its own state. */
     State scan(String name);
 
-    /** How many moves it has seen. */
+    /** Returns how many moves it has seen. */
     long seen();
 
-    /** How many moves it fired. */
+    /** Returns how many moves it fired. */
     long won();
 
-    /** Gives it back; it may be called again. */
+    /** Returns it to its storage or run; it may be called again. */
     @Override
     void close();
 
-    /** What is played on a step; it tells what the play is to answer. */
+    /** What is played on a step; its result is that of the play. */
     @FunctionalInterface
     interface Rule<T, X extends Exception> {
-        /** Gets from the step and pushes to it; what it answers is told with the move. */
+        /** Reads from the step and pushes to it; the play returns the result with the move. */
         T play(Step step) throws X;
     }
 
     /**
-     * The number of the move that was fired, from 1 up, or 0 where the rule pushed nothing; what the
-     * rule told; and how often it was begun again.
+     * The result of a play.
+     *
+     * <p>It has the number of the move that was fired, from 1 up, or 0 if the rule pushed nothing;
+     * what the rule returned; and how often it was begun again.
      */
     record Played<T>(long move, T told, int retries) {
-        /** Whether a move was fired. */
+        /** Returns whether a move was fired. */
         public boolean isFired() {
             return move != 0;
         }
@@ -99,57 +101,59 @@ public sealed interface Actor extends AutoCloseable permits Agent, RunAgent, Sha
     record Peeked(long number, Value value) {}
 
     /**
-     * A state [PAIR, ..], or a part of it: as it is after so many moves, and, where a step tells it,
-     * as it is seen through the pushed ones.
+     * A state [PAIR, ..], or a part of it, after so many moves.
+     *
+     * <p>A step returns it as it is seen through the pushed moves.
      */
     record State(long number, String pairs) {
-        /** Its locations that aren't empty with their values, in ascending order. */
+        /** Returns its locations that aren't empty with their values, in ascending order. */
         public SortedMap<Location, Value> values() {
             return JsonReader.state(pairs);
         }
     }
 
     /**
-     * What became of a fire, or of reads that were looked at again. `answer` is the text
-     * {"stale":LOC} or {"clash":[LOC,CAUSE]} of what was answered so, and else null; `isOfStep`
-     * tells whether it was a step that was fired, and `isOfRun` whether it was an agent of a {@link
+     * The outcome of a fire, or of a validation of reads.
+     *
+     * <p>`answer` is the text {"stale":LOC} or {"clash":[LOC,CAUSE]} of such an outcome, else null.
+     * `isOfStep` is whether a step was fired, and `isOfRun` whether it was an agent of a {@link
      * Run} or a {@link SharedRun}.
      */
     record Reply(Code code, long move, long from, long to, String answer, boolean isOfStep,
             boolean isOfRun) {
-        /** What became of a fire that was none of a step, or of reads. */
+        /** The outcome of a fire without a step, or of a validation of reads. */
         public Reply(Code code, long move, long from, long to, String answer) {
             this(code, move, from, to, answer, false, false);
         }
 
-        /** What became of a fire, or of reads, on an agent that is none of a run. */
+        /** The outcome of a fire, or of a validation of reads, of an agent of no run. */
         public Reply(Code code, long move, long from, long to, String answer, boolean isOfStep) {
             this(code, move, from, to, answer, isOfStep, false);
         }
 
-        /** Whether a move was fired; `move` is then its number, from 1 up. */
+        /** Returns whether a move was fired; `move` is then its number, from 1 up. */
         public boolean isFired() {
             return code == Code.DONE && move != 0;
         }
 
-        /** Whether a named location was written since it was read. */
+        /** Returns whether a named location was written since it was read. */
         public boolean isStale() {
             return code == Code.STALE;
         }
 
-        /** Whether the updates clash. */
+        /** Returns whether the updates clash. */
         public boolean isClash() {
             return code == Code.CLASH;
         }
 
         /**
-         * Whether to begin again.
+         * Returns whether to begin again.
          *
-         * <p>That is so where
+         * <p>That is so if
          *
          * <ul>
          *   <li>a named location was written since it was read,
-         *   <li>64 offers were lost,
+         *   <li>64 attempts to append failed,
          *   <li>the updates of a step clash, as they do only with what was written since it began,
          *   <li>an agent that records has moved past the version of the step (MOVED), or
          *   <li>the part of a run is full, as another step goes on in the next one.
@@ -160,21 +164,21 @@ public sealed interface Actor extends AutoCloseable permits Agent, RunAgent, Sha
                     || (isOfRun && code == Code.FULL);
         }
 
-        /** The least location that is stale or clashes; else null. */
+        /** Returns the smallest location that is stale or clashes; else null. */
         public Location at() {
             return answer == null ? null : JsonReader.objection(answer).at();
         }
 
-        /** Why the updates clash; else null. */
+        /** Returns why the updates clash; else null. */
         public Cause cause() {
             return answer == null ? null : JsonReader.objection(answer).cause();
         }
 
         /**
-         * The number of the move that was fired, from 1 up; 0 of reads that stand.
+         * Returns the number of the fired move, from 1 up; 0 of reads that are valid.
          *
          * @throws FolugbenException as a {@link StaleException}, {@link ClashException}, {@link
-         *         FullException} or {@link BusyException} where it is another reply; of a step as a
+         *         FullException} or {@link BusyException} if it is another reply; of a step as a
          *         {@link CommitClashException} for a {@link ClashException}, or as a {@link
          *         CommitMovedException}; of a run as a {@link PartException} for a {@link
          *         FullException}

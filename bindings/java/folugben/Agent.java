@@ -5,10 +5,10 @@ import java.util.List;
 import java.util.Objects;
 
 /**
- * An agent of a storage, which reads locations and fires moves, most easily by a {@link Step}.
- * Calls take and give objects, or texts: JSON in the forms of docs/FORMATS.md, of which one with a
- * lone surrogate is refused by an IllegalArgumentException. Any thread may call it. Nothing is
- * released by the garbage collector; call close(), which gives the agent back to its storage.
+ * An agent of a storage, which reads locations and fires moves.
+ * {@link Step} makes that easy. Calls take and return objects, or texts: JSON in the forms of
+ * docs/FORMATS.md. A text with a lone surrogate is an IllegalArgumentException. Any thread may call
+ * it. No garbage collector releases it: call close(), which returns it to its storage.
  */
 public final class Agent extends AgentCalls implements Actor {
     Agent(Storage storage, int number) {
@@ -33,7 +33,7 @@ public final class Agent extends AgentCalls implements Actor {
      * with their values at the step's version. So the journal shows what the move was computed
      * from, and {@link Storage#check} judges that too. What {@link Step#scan} found stays out of
      * the journal, and so does what {@link Step#see} returned. Each commit then takes about twice
-     * the receipts. Where this agent has moved past the step's version, as by {@link #follow} within
+     * the receipts. If this agent has moved past the step's version, as by {@link #follow} within
      * the step, the commit is a conflict ({@link CommitMovedException}), and play begins again.
      *
      * @return this agent
@@ -103,7 +103,7 @@ public final class Agent extends AgentCalls implements Actor {
     /**
      * Fires a move that depends on the reads, and returns the reply.
      *
-     * <p>At most 4,096 instructions and 256 reads. No update is lost where each number is that of a
+     * <p>At most 4,096 instructions and 256 reads. No update is lost if each number is that of a
      * reading of this agent, or of one of which it has learnt. After {@link Storage#next} numbers
      * start again: keep none.
      *
@@ -118,7 +118,7 @@ public final class Agent extends AgentCalls implements Actor {
     /**
      * Fires a move that depends on the whole functions of the scans too.
      *
-     * <p>It is stale also where a location of one of the functions was written since, including one
+     * <p>It is stale also if a location of one of the functions was written since, including one
      * that had no value.
      *
      * <p>At most 256 reads and scans together. The number of a scan is that of {@link #scan}.
@@ -188,10 +188,10 @@ public final class Agent extends AgentCalls implements Actor {
     }
 
     /**
-     * Polls until no further move is found, and returns how many moves the agent has then seen.
+     * Polls until no further move is found; returns how many moves it has then seen.
      *
      * <p>Its own state moves on only here, in read, fire, stands and step, and by a commit. It also
-     * polls before it is shown, where another agent of the same thread took the state. A poll leaves
+     * polls before it is shown, if another agent of the same thread took the state. A poll leaves
      * no receipt.
      */
     @Override
@@ -330,7 +330,7 @@ public final class Agent extends AgentCalls implements Actor {
         Objects.requireNonNull(other, "other");
         if (other.storage != storage)
             FolugbenException.expect(Code.OTHER);
-        // Of two with one number, one of which was given back, the locks have no other order.
+        // Of two with one number, one of which was returned, the locks have no other order.
         synchronized (LEARNING) {
             withBoth(other, () -> {
                 Code code = Code.of(Calls.asm_learn(slot.at, other.slot.at));
@@ -357,7 +357,7 @@ public final class Agent extends AgentCalls implements Actor {
         }
     }
 
-    /** Returns how many of its looks found no further move. */
+    /** Returns how many of its polls found no further move. */
     public long misses() {
         Turns.here().readsAll();
         synchronized (slot) {
@@ -389,7 +389,7 @@ public final class Agent extends AgentCalls implements Actor {
             abandon();
     }
 
-    /** Such as agent 3, at 7 moves. */
+    /** Returns a text such as agent 3, at 7 moves. */
     @Override
     public String toString() {
         synchronized (slot) {

@@ -2,19 +2,19 @@ package folugben;
 
 import java.util.Objects;
 
-/** What an agent has, and what its calls on the library come to, with its lock. */
+/** An agent's fields, and the results of its calls on the library, with its lock. */
 abstract sealed class AgentCalls permits Agent {
     /** The agent's slot, and the lock of the calls on it and on its steps. */
     final Slot.AgentSlot slot = new Slot.AgentSlot();
     final Room room = slot.room;
     final Storage storage;
     final int number;
-    /** What it is of where that is of a run; else null. */
+    /** The part that it belongs to, if it is of a run; else null. */
     volatile Run.Chained chain;
     int vain;
     /** Whether commits add a receipt of what their step read; with its lock. */
     private boolean isRecording;
-    /** Tells that it was given back, if this code was answered for that; to be called with its lock. */
+    /** Throws if this code says that it was returned; to be called with its lock. */
     Code held(Code code) {
         if (code != Code.EMPTY || slot.isFull())
             return code;
@@ -22,25 +22,25 @@ abstract sealed class AgentCalls permits Agent {
             throw PartException.full();
         throw FolugbenException.closed("the agent was given back");
     }
-    /** Whether it is of a part of a run that is over. */
+    /** Returns whether it is of a part of a run that is over. */
     boolean isPast() {
         Run.Chained own = chain;
         return own != null && own.isOver();
     }
-    /** What is expected of the code of a call on it. */
+    /** Throws if the code of a call on it isn't DONE. */
     void expect(Code code) {
         FolugbenException.expect(held(code));
     }
-    /** The values of a reading, without the number. */
+    /** Returns the values of a reading, without the number. */
     static String values(String reading) {
         return reading.substring(reading.indexOf(','));
     }
-    /** The code of a fire, FULL where it came too late for the part of a run. */
+    /** Returns the code of a fire, or FULL if it came too late for the part of a run. */
     Code inTime(Code code) {
         boolean isTooLate = code == Code.EMPTY && !slot.isFull() && isPast();
         return isTooLate ? Code.FULL : code;
     }
-    /** What became of a fire with this code, on which the agent's lock is still held. */
+    /** Returns the outcome of a fire with this code, while its agent's lock is held. */
     Actor.Reply reply(Code told, boolean isOfStep) {
         Code code = inTime(told);
         long before = before();
@@ -65,11 +65,11 @@ abstract sealed class AgentCalls permits Agent {
             this.isRecording = isRecording;
         }
     }
-    /** Whether commits record what their step read; with its lock. */
+    /** Returns whether commits record what their step read; with its lock. */
     final boolean isRecording() {
         return isRecording;
     }
-    /** Commits the step, with its lock: the code, and the numbers in the room. */
+    /** Commits the step, with its lock: returns the code; the numbers are in the room. */
     final Code commit(long step) {
         if (!isRecording)
             return Code.of(Calls.asm_commit(slot.at, step, room.numbers()));
@@ -80,7 +80,7 @@ abstract sealed class AgentCalls permits Agent {
         }
         return code;
     }
-    /** Whether it is one of a run. */
+    /** Returns whether it is one of a run. */
     boolean isOfRun() {
         return chain != null;
     }
@@ -88,29 +88,33 @@ abstract sealed class AgentCalls permits Agent {
     void joins(Run.Chained chain) {
         this.chain = chain;
     }
-    /** How many moves of its run come before those of its storage. */
+    /** Returns how many moves of its run come before those of its storage. */
     long before() {
         return chain == null ? 0 : chain.before();
     }
-    /** How many of its calls were answered and fired nothing, since it was made or taken. */
+    /**
+     * Returns how many of its calls were answered and fired nothing.
+     *
+     * <p>They count since it was made or checked out.
+     */
     int vain() {
         synchronized (slot) {
             return vain;
         }
     }
-    /** Whether it is there: neither given back nor abandoned. */
+    /** Returns whether it was neither returned nor abandoned. */
     boolean isHeld() {
         synchronized (slot) {
             return slot.isFull();
         }
     }
-    /** Whether a step is under way on it. */
+    /** Returns whether a step is under way on it. */
     boolean isInStep() {
         synchronized (slot) {
             return slot.hasStep();
         }
     }
-    /** Tells the run, if it is of one that may wait for that, that a step is over; with its lock. */
+    /** Notes that a step is over, for a run that may wait for that; with its lock. */
     void endStep() {
         if (chain != null)
             chain.endStep();
@@ -135,15 +139,17 @@ abstract sealed class AgentCalls permits Agent {
             return told.text();
         }
     }
-    /** Its storage. */
+    /** Returns its storage. */
     Storage storage() {
         return storage;
     }
 
     /**
-     * Takes the state of the agent whose call on the storage was this thread's last one, if that
-     * waits for nothing in it: so that each move is followed about once, and not once for each of
-     * the agents that a thread plays by turns.
+     * Takes the state of this thread's last agent of the storage, if nothing needs it.
+     *
+     * <p>The last agent is the one whose call on the storage was this thread's last one. So each
+     * move is followed about once, and not once for each of the agents that a thread plays by
+     * turns.
      */
     void takeState() {
         Agent other = storage.plays((Agent) this);
@@ -151,7 +157,7 @@ abstract sealed class AgentCalls permits Agent {
             withBoth(other, () -> slot.takeState(other.slot));
     }
 
-    /** Does something with the locks of both, which are taken in the order of their numbers. */
+    /** Does the work with the locks of both, taken in the order of their numbers. */
     void withBoth(Agent other, Runnable work) {
         boolean isFirst = number < other.number;
         synchronized (isFirst ? slot : other.slot) {
@@ -166,7 +172,7 @@ abstract sealed class AgentCalls permits Agent {
         this.number = number;
     }
 
-    /** Whether named reads still stand. */
+    /** Validates the named reads. */
     final Actor.Reply standing(String reads, Turns.Player player) {
         byte[] call = Texts.utf8(reads, "reads");
         synchronized (slot) {

@@ -1,9 +1,10 @@
 package folugben;
 
 /**
- * What an audit tells of a run that isn't legal, or isn't whole: the first wrong answer as ILLEGAL,
- * the first fault as NOT_JSON, SHAPE, VERSION, CUT or APART, and as LONG_LINE a line of more than
- * 1,073,741,824 bytes.
+ * Reports what is wrong with a run that isn't legal, or isn't complete.
+ *
+ * <p>The first wrong answer is ILLEGAL. The first fault is NOT_JSON, SHAPE, VERSION, CUT or APART,
+ * or LONG_LINE for a line of more than 1,073,741,824 bytes.
  */
 public final class AuditException extends FolugbenException {
     private static final long serialVersionUID = 1;
@@ -22,17 +23,17 @@ public final class AuditException extends FolugbenException {
         return name == null ? "" : ", " + name + " " + number;
     }
 
-    /** The number of the part that is at fault, from 0. */
+    /** Returns the number of the part that is at fault, from 0. */
     public long part() {
         return part;
     }
 
-    /** Of ILLEGAL the number of the call in its part, from 0; else -1. */
+    /** Returns the number of an ILLEGAL call in its part, from 0; else -1. */
     public long call() {
         return code() == Code.ILLEGAL ? number() : -1;
     }
 
-    /** Of NOT_JSON and SHAPE the number of the line in its part, from 1; else 0. */
+    /** Returns the number of a NOT_JSON or SHAPE line in its part, from 1; else 0. */
     public long line() {
         return code() == Code.NOT_JSON || code() == Code.SHAPE ? number() : 0;
     }

@@ -9,17 +9,19 @@ import java.util.Objects;
 import java.util.SortedMap;
 
 /**
- * An audit of a run of any length, as its bytes come: parts, each a whole journal, one behind the
- * other, each of which opens with the state that the one before it leaves. It holds that state and
- * one line, and tells the first wrong answer at once.
+ * An audit of a run of any length, whose bytes are passed in pieces of any size.
  *
- * <p>Any thread may call it, in one call at a time. Nothing is released by the garbage collector;
- * call close().
+ * <p>A run is a sequence of parts, each a complete journal. Each part opens with the state after
+ * the one before it. The auditor holds that state and one line, and reports the first wrong answer
+ * at once.
+ *
+ * <p>Any thread may call it, in one call at a time. No garbage collector releases an auditor: call
+ * close().
  *
  * <pre>{@code
  * try (Auditor auditor = new Auditor()) {
  *     Auditor.Counts told = auditor.feed(Path.of("run.journal"));
- *     auditor.end(); // throws an AuditException where the last part isn't whole
+ *     auditor.end(); // throws an AuditException if the last part isn't complete
  * }
  * }</pre>
  */
@@ -40,15 +42,16 @@ public final class Auditor implements AutoCloseable {
     }
 
     /**
-     * The numbers of an audit: how many parts are whole, and how many calls were judged and moves
-     * fired in all parts.
+     * The counts of an audit: complete parts, judged calls, and fired moves.
+     *
+     * <p>Calls and moves count in all parts.
      */
     public record Counts(long parts, long calls, long moves) {}
 
     /**
-     * The numbers of a stored run, a folder or one file, which is whole and legal.
+     * Audits a stored run, a folder or one file, and returns its counts.
      *
-     * @throws AuditException if it isn't
+     * @throws AuditException if it isn't legal, or isn't complete
      * @throws DamagedException if a segment of the folder isn't the one that was saved
      * @throws UncheckedIOException if it can't be read
      */
@@ -60,7 +63,7 @@ public final class Auditor implements AutoCloseable {
     }
 
     /**
-     * Takes the next bytes, any number of them, and tells the numbers so far.
+     * Audits the next bytes, any number of them, and returns the counts so far.
      *
      * @throws AuditException for the first wrong answer, and for the first fault; the bytes before
      *         the one at which it is seen, the line feed of its line, were taken
@@ -105,7 +108,7 @@ public final class Auditor implements AutoCloseable {
     private void expect(Code code, Counts told) {
         switch (code) {
             case DONE, MEMORY -> FolugbenException.expect(code);
-            // Of such a line no number is told; those of the audit are these.
+            // Such a line comes without numbers; those of the audit are these.
             case LONG_LINE -> throw new AuditException(code, counts.parts(), 0);
             default -> throw new AuditException(code, told.parts(), told.calls());
         }
@@ -117,8 +120,9 @@ public final class Auditor implements AutoCloseable {
     }
 
     /**
-     * Takes what comes from a stream until that ends, as feed of bytes does; the stream isn't
-     * closed.
+     * Audits the bytes of a stream up to its end, as feed of bytes does.
+     *
+     * <p>The stream isn't closed.
      *
      * @throws UncheckedIOException if it can't be read
      */
@@ -134,7 +138,7 @@ public final class Auditor implements AutoCloseable {
     }
 
     /**
-     * Takes the bytes of a file, as feed of a stream does, or all segments of a run's folder.
+     * Audits the bytes of a file, or of all segments of a run's folder, as feed does.
      *
      * @throws DamagedException if a segment isn't the one that was saved
      */
@@ -159,14 +163,14 @@ public final class Auditor implements AutoCloseable {
         }
     }
 
-    /** How many bytes were taken of all that were fed. */
+    /** Returns how many of all bytes that were fed were taken. */
     public long taken() {
         synchronized (slot) {
             return taken;
         }
     }
 
-    /** The numbers so far, of the bytes that were taken. */
+    /** Returns the counts so far, of the bytes that were taken. */
     public Counts counts() {
         synchronized (slot) {
             return counts;
@@ -174,10 +178,11 @@ public final class Auditor implements AutoCloseable {
     }
 
     /**
-     * The numbers of the run, if no further byte comes: it is whole and legal. Further bytes may
-     * come nevertheless.
+     * Returns the counts of the run, if it ends here: it is complete and legal.
      *
-     * @throws AuditException CUT or NOT_JSON if its last part or line isn't whole
+     * <p>Further bytes may come nevertheless.
+     *
+     * @throws AuditException CUT or NOT_JSON if its last part or line isn't complete
      */
     public Counts end() {
         synchronized (slot) {
@@ -209,7 +214,7 @@ public final class Auditor implements AutoCloseable {
         return JsonReader.state(state());
     }
 
-    /** Such as an audit, Counts[parts=1, calls=3, moves=2]. */
+    /** Returns a text such as an audit, Counts[parts=1, calls=3, moves=2]. */
     @Override
     public String toString() {
         return "an audit, " + counts();

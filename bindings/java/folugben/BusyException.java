@@ -1,6 +1,10 @@
 package folugben;
 
-/** 64 offers were lost to other agents, though none wrote what is named; nothing was fired. */
+/**
+ * Reports that 64 attempts to append were lost to other agents; nothing was fired.
+ *
+ * <p>None of them wrote what is named.
+ */
 public final class BusyException extends ConflictException {
     private static final long serialVersionUID = 1;
 
@@ -18,12 +22,12 @@ public final class BusyException extends ConflictException {
         this.to = to;
     }
 
-    /** How many moves the agent had seen at the start of the call. */
+    /** Returns how many moves the agent had seen at the start of the call. */
     public long from() {
         return from;
     }
 
-    /** How many at its end. */
+    /** Returns how many it had seen at the end of the call. */
     public long to() {
         return to;
     }

@@ -20,7 +20,7 @@ import java.util.Map;
 final class Calls {
     /** The version of the library that these classes were written for. */
     static final int WRITTEN_FOR = 2000;
-    /** The room for a text of which it isn't known how long it is. */
+    /** The room for a text of unknown length. */
     static final int ROOM = 512;
     /** The most bytes of an array. */
     static final int MOST = Integer.MAX_VALUE - 8;
@@ -39,8 +39,10 @@ final class Calls {
     private Calls() {}
 
     /**
-     * The library with a name. Where nothing says where it is, that of the jar goes before those of
-     * the system, if it is of the version that these classes were written for.
+     * Returns the library with a name.
+     *
+     * <p>If no option says where it is, the one in the jar is preferred to those of the system, if
+     * it is of the version that these classes were written for.
      */
     static NativeLibrary library(String name, String version, Map<String, Object> options) {
         boolean isNamed = name.contains("/") || System.getProperty("jna.library.path") != null;
@@ -48,7 +50,7 @@ final class Calls {
             if (!isNamed) {
                 File file = Native.extractFromResourcePath(name, Calls.class.getClassLoader());
                 NativeLibrary found = NativeLibrary.getInstance(file.getPath(), options);
-                // JNA's name for what it takes out of a jar, which isn't needed once it is loaded.
+                // JNA's name for what it unpacks from a jar, which isn't needed once it is loaded.
                 if (file.getName().matches("jna\\d+\\.tmp"))
                     file.delete();
                 if (found.getFunction(version).invokeInt(new Object[0]) == WRITTEN_FOR)
@@ -228,10 +230,7 @@ final class Calls {
     /** The code of a call, and the text that it wrote with it. */
     record Told(Code code, String text) {}
 
-    /**
-     * What a call tells, which is made with a buffer with so much room, and again with a larger one
-     * if that is too small.
-     */
+    /** Returns what a call writes to a buffer of this size, or else a larger one. */
     static Told told(Writer call, int room) {
         byte[] out = new byte[room];
         long[] written = new long[1];
@@ -258,7 +257,7 @@ final class Calls {
                 byte[] journal, long len, byte[] out, long room, long[] written, long[] line);
     }
 
-    /** Returns what a call writes of a journal; where the room is too small, all is done again. */
+    /** Returns what a call writes of a journal; with little room, all is done again. */
     static String ofJournal(String journal, int times, JournalCall call) {
         byte[] text = Texts.utf8(journal, "journal");
         long[] line = new long[1];
@@ -271,13 +270,14 @@ final class Calls {
     }
 
     /**
-     * Has the calls of a step go past JNA, which takes longer for each than the call itself: by a
-     * further library, bindings/java/quick.c, if it lies where JNA looks for libraries.
+     * Has the calls of a step bypass JNA, which takes longer than the call itself.
+     *
+     * <p>They go through a further library, bindings/java/quick.c, if JNA finds it.
      */
     static final class Quick {
         private static final String NAME = "folugben_quick";
         private static final Object[] NO_WORDS = {};
-        /** Null where none of this version is there. It is kept, as JNA unloads what nothing has. */
+        /** Null if none of this version is there. It is kept, as JNA unloads unused ones. */
         private static final NativeLibrary LIBRARY = found();
 
         private Quick() {}
@@ -301,9 +301,11 @@ final class Calls {
         }
 
         /**
-         * Takes the class and its loader, which were for finding the library, out of options that JNA
-         * keeps. Where JNA lies in a parent of this loader, this one can then be let go, once the class
-         * Calls is unregistered, which JNA's own native code has until then.
+         * Takes the class and its loader out of options that JNA keeps.
+         *
+         * <p>They were for finding the library. If JNA is in a parent of this loader, this one can
+         * then be freed, once the class Calls is unregistered, to which JNA's own native code
+         * refers until then.
          */
         static void forget(Class<?> own, Map<String, ?> options) {
             if (options != null)
@@ -311,9 +313,9 @@ final class Calls {
         }
 
         /**
-         * Binds methods of this class, which JNA has bound before, to the calls of the library.
-         * Where class loaders share the further library, it has the calls of the libfolugben that
-         * came first.
+         * Binds methods of this class, which JNA bound before, to calls of the library.
+         *
+         * <p>If class loaders share the further library, it has the calls of the first libfolugben.
          */
         static void bind(Class<?> calls, NativeLibrary library) {
             if (!isThere())

@@ -8,18 +8,18 @@ public enum Cause {
     TWO,
     /** Partial updates of two of these: sets, bags, numbers. */
     MIXED,
-    /** The value that is there is no set, no bag or no number. */
+    /** The present value is no set, no bag or no number. */
     KIND,
     /** An element is added to a set and removed from it. */
     BOTH,
-    /** A value is put that the partial updates don't agree with. */
+    /** A value is put that contradicts the partial updates. */
     AGAINST,
     /** More of an element is removed than the bag has. */
     SHORT,
     /** A count would be above 4294967295, or a number outside the range of a long. */
     LARGE;
 
-    /** The cause of a word in an answer, such as "Two". */
+    /** Returns the cause of a word in an answer, such as "Two". */
     static Cause of(String word) {
         return valueOf(word.toUpperCase(Locale.ROOT));
     }

@@ -1,8 +1,10 @@
 package folugben;
 
 /**
- * The updates of a move clash, on what is seen where it is pushed; nothing was fired or pushed. What
- * a step that is committed clashes with is a {@link CommitClashException}.
+ * Reports that the updates of a move clash on what is seen at its push.
+ *
+ * <p>Nothing was fired or pushed. What a committed step clashes with is a {@link
+ * CommitClashException}.
  */
 public final class ClashException extends FolugbenException {
     private static final long serialVersionUID = 1;
@@ -11,12 +13,12 @@ public final class ClashException extends FolugbenException {
         super(Code.CLASH, 0, answer, "", answer);
     }
 
-    /** The least location at which they clash. */
+    /** Returns the smallest location at which they clash. */
     public Location at() {
         return JsonReader.objection(answer()).at();
     }
 
-    /** Why they do. */
+    /** Returns why they clash. */
     public Cause cause() {
         return JsonReader.objection(answer()).cause();
     }

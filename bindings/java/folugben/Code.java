@@ -2,7 +2,7 @@ package folugben;
 
 import java.nio.charset.StandardCharsets;
 
-/** What a call answers, as {@link FolugbenException} and {@link Agent.Reply} tell it. */
+/** What a call returns, which {@link FolugbenException} or {@link Agent.Reply} has. */
 public enum Code {
     /** The call was answered; a fire fired its move. */
     DONE(0),
@@ -14,27 +14,27 @@ public enum Code {
     MEMORY(3),
     /** As many moves were fired as the capacity. */
     FULL(4),
-    /** What is called on was closed, given back or fired. */
+    /** The object of the call was closed, returned or fired. */
     EMPTY(5),
-    /** The capacity of a storage is none, which no call here tells. */
+    /** The capacity of a storage is none, which no call here returns. */
     CAPACITY(6),
-    /** A buffer is too small, which no call here tells. */
+    /** A buffer is too small, which no call here returns. */
     SMALL(7),
-    /** 64 offers were lost to other agents. */
+    /** 64 attempts to append were lost to other agents. */
     BUSY(8),
     /** There are more than 256 locations, or locations and scanned functions. */
     MANY(9),
     /** No call was answered yet. */
     NO_ANSWER(10),
-    /** A slot is in use already, which no call here tells. */
+    /** A slot is in use already, which no call here returns. */
     TAKEN(11),
     /** The storage made an agent with this number before. */
     NUMBER(12),
-    /** A move has no receipt among the agents that were given back. */
+    /** A move has no receipt among the agents that were returned. */
     MISSING(13),
     /** An agent is of another storage. */
     OTHER(14),
-    /** An answer of a journal is another than a storage of one thread gives. */
+    /** An answer of a journal differs from that of a sequential storage. */
     ILLEGAL(15),
     /** A text is not JSON. */
     NOT_JSON(16),
@@ -56,15 +56,15 @@ public enum Code {
     AGENTS(24),
     /** A location or a function is named at a number above that of the moves that are seen. */
     AHEAD(25),
-    /** A verb, a kind and an operand make no instruction, which no call here tells. */
+    /** A verb, a kind and an operand make no instruction, which no call here returns. */
     OPERAND(26),
-    /** There is no such form, which no call here tells. */
+    /** There is no such form, which no call here returns. */
     NO_FORM(27),
-    /** No journal was made since an agent was given back or taken. */
+    /** No journal was made since an agent was returned or checked out. */
     NO_JOURNAL(28),
     /** No move is pushed. */
     NO_PUSH(29),
-    /** No agent with this number was given back. */
+    /** No agent with this number was returned. */
     NO_AGENT(30),
     /** No part of a run has begun. */
     NO_PART(31),

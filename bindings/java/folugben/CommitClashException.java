@@ -1,8 +1,9 @@
 package folugben;
 
 /**
- * The updates of a step clash with what another agent wrote since it began; nothing was fired. A
- * clash of a push is none of this, but a {@link ClashException}.
+ * Reports that a step's updates clash with another agent's; nothing was fired.
+ *
+ * <p>The other agent wrote since the step began. A clash of a push is a {@link ClashException}.
  */
 public final class CommitClashException extends ConflictException {
     private static final long serialVersionUID = 1;
@@ -11,12 +12,12 @@ public final class CommitClashException extends ConflictException {
         super(Code.CLASH, 0, answer, "", answer);
     }
 
-    /** The least location at which they clash. */
+    /** Returns the smallest location at which they clash. */
     public Location at() {
         return JsonReader.objection(answer()).at();
     }
 
-    /** Why they do. */
+    /** Returns why they clash. */
     public Cause cause() {
         return JsonReader.objection(answer()).cause();
     }

@@ -1,8 +1,9 @@
 package folugben;
 
 /**
- * The folder of a run isn't as the run left it: a segment is missing, or was changed. Nothing is
- * removed or written then.
+ * Reports that a run isn't as it was left: a segment is missing, or was changed.
+ *
+ * <p>Nothing is removed or written then in the run's folder.
  */
 public final class DamagedException extends RuntimeException {
     private static final long serialVersionUID = 1;
@@ -15,7 +16,7 @@ public final class DamagedException extends RuntimeException {
         this.segment = segment;
     }
 
-    /** The number of the segment that is at fault, from 0. */
+    /** Returns the number of the segment that is at fault, from 0. */
     public long segment() {
         return segment;
     }

@@ -13,65 +13,68 @@ import java.util.List;
 import java.util.Properties;
 
 /**
- * A connection to the database of a shared run, for one thread at a time. Statements have a ? for
- * each value. Each call throws a {@link LostException} where the connection is lost.
+ * A connection to the database of a shared run, for one thread at a time.
+ *
+ * <p>Statements have a ? for each value. Each call throws a {@link LostException} if the connection
+ * is lost.
  */
 interface Database {
-    /** The calls behind a place. */
+    /** The calls after a place. */
     String SINCE = "select place, token, segment, agent, call, scans from call where place > ?"
             + " order by place limit ?";
 
-    /** What is done within a transaction. */
+    /** The work of a transaction. */
     interface Work {
         void done() throws IOException;
     }
 
-    /** Connects to postgresql://.. or to a file of SQLite, which is made where that is said. */
+    /** Connects to postgresql://.. or to a file of SQLite, which is made on request. */
     static Database connect(String target, boolean writes, boolean makes) throws IOException {
         return isServer(target) ? new Postgres(target)
                                 : new Sqlite(RunFolder.reached(Path.of(target)), writes, makes);
     }
 
-    /** Whether a target is the name of a PostgreSQL server. */
+    /** Returns whether a target is the name of a PostgreSQL server. */
     static boolean isServer(String target) {
         return target.startsWith("postgresql:") || target.startsWith("postgres:");
     }
 
-    /** The type of bytes. */
+    /** Returns the type of bytes. */
     String blob();
 
-    /** Runs one statement; its rows. */
+    /** Runs one statement; returns its rows. */
     List<Object[]> run(String sql, Object... values) throws IOException;
 
     /**
-     * Appends calls to the log, except those whose token is there; up to so many rows behind a
-     * place, once all is on the disk.
+     * Appends calls to the log, except those whose token is there; returns further rows.
+     *
+     * <p>It returns up to so many rows after a place, once all is on the disk.
      */
     List<Object[]> append(List<Object[]> calls, long since, int most) throws IOException;
 
-    /** Runs it as one transaction, alone, that is on the disk at the end. */
+    /** Runs the work as one transaction, alone; all is on the disk at the end. */
     void transact(Work work) throws IOException;
 
     /**
-     * Whether the tables of a run are there.
+     * Returns whether the tables of a run are there.
      *
      * @throws DamagedException if others are
      */
     boolean hasRun() throws IOException;
 
-    /** Makes what has to be there before the tables, in a transaction. */
+    /** Makes what must be there before the tables, in a transaction. */
     void make() throws IOException;
 
-    /** Takes an agent's number for this process, as long as it lives; whether nobody else has it. */
+    /** Takes an agent's number for this process, as long as it lives; false if another has it. */
     boolean hold(int agent) throws IOException;
 
-    /** Lets others have the number. */
+    /** Frees the number for others. */
     void let(int agent) throws IOException;
 
     /** Closes the connection; it may be called again. */
     void close();
 
-    /** The connection to a server is lost; whether what was sent is done isn't known. */
+    /** Reports a lost connection to a server; it isn't known whether what was sent is done. */
     static final class LostException extends IOException {
         private static final long serialVersionUID = 1;
 
@@ -80,9 +83,9 @@ interface Database {
         }
     }
 
-    /** What both databases have in common: statements by JDBC. */
+    /** The common part of both databases: statements by JDBC. */
     static abstract class JdbcDatabase implements Database {
-        /** The driver that takes a URL, which is the caller's and not in the jar. */
+        /** Returns the driver that takes a URL, which is the caller's and not in the jar. */
         static Driver driver(String url, String jar) {
             try {
                 return DriverManager.getDriver(url);
@@ -92,10 +95,10 @@ interface Database {
             }
         }
 
-        /** The connection, which is made by then. */
+        /** Returns the connection, which is made by then. */
         abstract Connection connection();
 
-        /** The exception of what a driver throws. */
+        /** Returns the exception for what a driver throws. */
         abstract IOException fault(SQLException thrown);
 
         Connection connected(Driver driver, String url, Properties words) throws SQLException {
@@ -116,7 +119,7 @@ interface Database {
             for (int at = 0; at < values.length; at++) statement.setObject(at + 1, values[at]);
         }
 
-        /** The rows of the last statement that tells some. */
+        /** Returns the rows of the last statement that returns some. */
         List<Object[]> lastRows(PreparedStatement statement, boolean tells) throws SQLException {
             return tells ? rows(statement.getResultSet()) : List.of();
         }

@@ -1,6 +1,6 @@
 package folugben;
 
-/** 64 moves are pushed already. */
+/** Reports that 64 moves are pushed already. */
 public final class DeepException extends FolugbenException {
     private static final long serialVersionUID = 1;
 

@@ -5,8 +5,9 @@ import java.util.List;
 import java.util.Objects;
 
 /**
- * A plain value: undef, a boolean, a whole number, a text or a list of such. Arguments of
- * locations, items of lists, and what sets and bags hold are elements.
+ * A plain value: undef, a boolean, an integer, a text or a list of such.
+ *
+ * <p>Arguments of locations, items of lists, and members of sets and bags are elements.
  *
  * <p>Elements ascend as in a journal: undef, false, true, numbers by value, texts by their bytes in
  * UTF-8, lists, a shorter one before a longer one and of equal length by their items.
@@ -34,7 +35,7 @@ public sealed interface Element extends Value, Comparable<Element> {
         }
     }
 
-    /** A whole number of 64 bits. */
+    /** An integer of 64 bits. */
     record Num(long value) implements Element {
         @Override
         public String toString() {
@@ -44,7 +45,7 @@ public sealed interface Element extends Value, Comparable<Element> {
 
     /** A text, without lone surrogates. */
     record Text(String value) implements Element {
-        /** The text, if it is Unicode. */
+        /** Takes the text, if it is Unicode. */
         public Text {
             Texts.unicode(value, "a text");
         }
@@ -57,7 +58,7 @@ public sealed interface Element extends Value, Comparable<Element> {
 
     /** A list of at most 4,096 items, which is at most 8 deep. */
     record ListOf(List<Element> items) implements Element {
-        /** A copy of the items, if they are within the limits. */
+        /** Copies the items, if they are within the limits. */
         public ListOf {
             items = Texts.Copies.of(items, "items");
             if (items.size() > MAX_ITEMS)
@@ -84,19 +85,21 @@ public sealed interface Element extends Value, Comparable<Element> {
         }
     }
 
-    /** 0; of a list 1 more than the greatest depth of its items. */
+    /** Returns 0; of a list 1 more than the greatest depth of its items. */
     default int depth() {
         return 0;
     }
 
-    /** What a location has that has nothing. */
+    /** Returns the value of an empty location. */
     static Element undef() {
         return new Undef();
     }
 
     /**
-     * An element; of null {@link #undef}; of a Boolean a truth; of a Byte, Short, Integer or Long a
-     * number; of a String a text; of a List a list of its items, of which the same holds.
+     * Returns the element of an object.
+     *
+     * <p>A null becomes {@link #undef}, a Boolean a truth, a Byte, Short, Integer or Long a number,
+     * a String a text, and a List a list of its items, to which the same applies.
      *
      * @throws IllegalArgumentException for what is no element, such as a set or a double; for a
      *         text with a lone surrogate; for a list of more than 4,096 items, or more than 8 deep
@@ -106,7 +109,7 @@ public sealed interface Element extends Value, Comparable<Element> {
     }
 
     /**
-     * A list of these, each of which is an element as {@link #of} takes it.
+     * Returns a list of these, each an element as {@link #of} takes it.
      *
      * @throws IllegalArgumentException as of
      */

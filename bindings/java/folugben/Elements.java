@@ -8,14 +8,15 @@ import java.util.Objects;
 /** Elements of plain objects, and the order in which sets, bags and states are written. */
 final class Elements {
     /**
-     * The order of elements, for sets and maps: who asks these for another object is told so by a
-     * ClassCastException, as their contract has it.
+     * The order of elements, for sets and maps.
+     *
+     * <p>They throw a ClassCastException if asked for another object, as their contract has it.
      */
     static final Comparator<Object> ORDER = (one, other) -> compare(asked(one), asked(other));
 
     private Elements() {}
 
-    /** An element of each. */
+    /** Returns an element of each. */
     static List<Element> each(Object[] objects, String name) {
         return each(Arrays.asList(Objects.requireNonNull(objects, name)), 0);
     }
@@ -24,7 +25,7 @@ final class Elements {
         return objects.stream().map(object -> of(object, depth)).toList();
     }
 
-    /** What {@link Element#of} makes of the object, which has so many lists around it. */
+    /** Returns what {@link Element#of} makes of the object, within so many lists. */
     static Element of(Object value, int depth) {
         if (value == null)
             return Element.undef();
@@ -79,7 +80,7 @@ final class Elements {
         return element instanceof Element.Text ? 3 : 4;
     }
 
-    /** By code points, as UTF-8 orders them: compareTo puts a surrogate before U+E000. */
+    /** Compares by code points, as UTF-8 orders them: compareTo puts a surrogate before U+E000. */
     private static int compare(String one, String other) {
         int length = Math.min(one.length(), other.length());
         for (int at = 0; at < length; at++)
@@ -88,12 +89,12 @@ final class Elements {
         return Integer.compare(one.length(), other.length());
     }
 
-    /** Surrogates behind all other units. */
+    /** Ranks surrogates after all other units. */
     private static int rank(char unit) {
         return Character.isSurrogate(unit) ? unit + 0x10000 : unit;
     }
 
-    /** A shorter list before a longer one, and of equal length by the items from left to right. */
+    /** Compares lists: first by length, then by the items from left to right. */
     static int compare(List<Element> one, List<Element> other) {
         int order = Integer.compare(one.size(), other.size());
         for (int at = 0; order == 0 && at < one.size(); at++)

@@ -4,7 +4,11 @@ import java.util.List;
 import java.util.Locale;
 import java.util.stream.Collectors;
 
-/** A play hasn't ended after as many turns as it may take, as where an agent waits for another. */
+/**
+ * Reports that a play hasn't ended after as many turns as it may take.
+ *
+ * <p>It may be that an agent waits for another.
+ */
 public final class EndlessException extends RuntimeException {
     private static final long serialVersionUID = 1;
 

@@ -13,7 +13,7 @@ import java.util.function.Predicate;
 import java.util.function.Supplier;
 
 /**
- * A search for the schedule in which the works of agents break what is to hold, the shortest first.
+ * A search for a schedule in which agents' works break an invariant.
  *
  * <pre>{@code
  * Explorer.Explored explored = Explorer.of(() -> Storage.open(INIT, 100), Collections.nCopies(3, work))
@@ -22,10 +22,11 @@ import java.util.function.Supplier;
  * assertTrue(explored.isExhaustive(), explored::toString);
  * }</pre>
  *
- * <p>Each schedule plays on a new storage, and each work with the agent of its place. Of schedules
- * that differ only in the order of calls that don't depend on each other one is played. The works
- * may share nothing but the storage, and do the same in the same schedule: a number of a move may
- * be named in a fire, and not be computed with. A work that throws is a finding too.
+ * <p>The shortest schedule comes first. Each schedule plays on a new storage, and each work with
+ * the agent of its place. Of schedules that differ only in the order of calls that don't depend on
+ * each other, one is played. The works may share nothing except the storage, and must do the same
+ * in the same schedule: a number of a move may be named in a fire, and not be computed with. A work
+ * that throws is a finding too.
  *
  * <p>An explorer is immutable: each call that sets something returns another one.
  */
@@ -76,24 +77,26 @@ public final class Explorer {
         return new Explorer(make, works, other, schedules, time, turns);
     }
 
-    /** The same with so many schedules at most, 10,000 where it isn't said. */
+    /** Returns such a search with at most so many schedules, 10,000 by default. */
     public Explorer schedules(int most) {
         return new Explorer(make, works, holds, most, time, turns);
     }
 
-    /** The same with so much time at most, a minute where it isn't said. */
+    /** Returns such a search with at most so much time, a minute by default. */
     public Explorer time(Duration most) {
         return new Explorer(make, works, holds, schedules, Objects.requireNonNull(most, "most"), turns);
     }
 
-    /** The same with so many turns of a schedule at most, 10,000 where it isn't said. */
+    /** Returns such a search with so many turns a schedule at most, 10,000 by default. */
     public Explorer turns(int most) {
         return new Explorer(make, works, holds, schedules, time, most);
     }
 
     /**
-     * What breaks: the turns by which {@link Interleave#play} plays it again, the journal that they
-     * leave, what doesn't hold, in words, and what a work has thrown, or else null.
+     * A schedule that breaks something.
+     *
+     * <p>It has the turns by which {@link Interleave#play} plays it again, the journal that they
+     * make, what doesn't hold, in words, and what a work has thrown, or else null.
      */
     public record Finding(List<Integer> turns, String journal, String broken, Throwable thrown) {
         /** A copy of the turns. */
@@ -103,8 +106,10 @@ public final class Explorer {
     }
 
     /**
-     * What a search has come to: how many schedules were played, and whether all hold, or else what
-     * breaks, if that was found within the bounds.
+     * The result of a search.
+     *
+     * <p>It has the number of played schedules, and whether everything holds in all of them, or
+     * else the finding, if there was one within the bounds.
      */
     public record Explored(int schedules, boolean isExhaustive, Optional<Finding> finding) {
         @Override
@@ -117,7 +122,11 @@ public final class Explorer {
         }
     }
 
-    /** The works did something else in the same schedule: they draw, or share more than the storage. */
+    /**
+     * The works acted differently in the same schedule.
+     *
+     * <p>They draw, or share more than the storage.
+     */
     public static final class DiffersException extends RuntimeException {
         private static final long serialVersionUID = 1;
 
@@ -129,12 +138,12 @@ public final class Explorer {
     private record Planned(int length, int place, List<Integer> plan) {}
 
     /**
-     * Searches, up to the first finding, to a bound, or until all schedules were tried.
+     * Searches up to the first finding, to a bound, or until all schedules were tried.
      *
-     * @throws EndlessException if a schedule hasn't ended after so many turns, as where agents wait
-     *         for each other. One who looks again and again is made to wait for others, but then
-     *         there is no end of schedules.
-     * @throws DiffersException if the works did something else in the same schedule
+     * @throws EndlessException if a schedule hasn't ended after so many turns, as if agents wait
+     *         for each other. The search makes one that polls again and again wait for others, but
+     *         then there is no end of schedules.
+     * @throws DiffersException if the works acted differently in the same schedule
      */
     public Explored explore() {
         long end = System.nanoTime() + time.toNanos();
@@ -163,7 +172,11 @@ public final class Explorer {
         return new Explored(played, isExact && queue.isEmpty(), Optional.empty());
     }
 
-    /** The turns of a breach up to it, where all works end behind that; else all of its schedule. */
+    /**
+     * Returns the finding with the turns up to the breach, if all works end after it.
+     *
+     * <p>Else the finding has all turns of the schedule.
+     */
     private Finding replayed(Holds.Breach breach, Schedule schedule) {
         List<Schedule.Event> all = new ArrayList<>(breach.events());
         for (Schedule.Event event : schedule.events())
@@ -188,7 +201,11 @@ public final class Explorer {
         return found;
     }
 
-    /** The journal of the works by these turns; none where they don't end, unless it is wanted. */
+    /**
+     * Returns the journal of the works by these turns; none if they don't end.
+     *
+     * <p>If it is wanted, it is returned even then.
+     */
     private Optional<String> played(Storage storage, List<Integer> listed, boolean isWanted) {
         List<Agent> agents = Schedule.agents(storage, works.size());
         boolean isEnded = true;

@@ -1,8 +1,10 @@
 package folugben;
 
 /**
- * A call that wasn't answered, or a reply that is thrown, with its code of include/folugben.h and
- * its numbers. Some codes have a class of their own, which tells more.
+ * A call that wasn't answered, or a reply that is thrown.
+ *
+ * <p>It has the code of include/folugben.h and its numbers. Some codes have a class of their own,
+ * with further results.
  */
 public sealed class FolugbenException extends RuntimeException
         permits AuditException, ClashException, ConflictException, DeepException, FullException,
@@ -13,7 +15,7 @@ public sealed class FolugbenException extends RuntimeException
     private static final String SCAN =
             "a scan is an array of a function's name and a number, from 0 to 4,294,967,295";
 
-    /** How deep brackets are nested in no text whose lists are within their limit. */
+    /** A depth of brackets that no text has whose lists are within their limit. */
     private static final int DEEPEST = 32;
 
     private final Code code;
@@ -30,7 +32,7 @@ public sealed class FolugbenException extends RuntimeException
         Turns.here().hears(this);
     }
 
-    /** The exception of a code without an answer, of its own class where it has one. */
+    /** Returns the exception of a code without an answer, if it can of its own class. */
     private static FolugbenException of(Code code, long number, String said, String where) {
         return switch (code) {
             case MANY, LONG_MOVE, AGENTS -> new ManyException(code, said);
@@ -41,7 +43,7 @@ public sealed class FolugbenException extends RuntimeException
         };
     }
 
-    /** The exception of a reply. */
+    /** Returns the exception of a reply. */
     static FolugbenException of(Agent.Reply reply) {
         return switch (reply.code()) {
             case STALE -> new StaleException(reply.answer());
@@ -54,12 +56,16 @@ public sealed class FolugbenException extends RuntimeException
         };
     }
 
-    /** The exception of named reads of which one has a number above what the agent has seen. */
+    /**
+     * Returns the exception of named reads, one of which the agent hasn't seen.
+     *
+     * <p>Its number is above that of the moves that the agent has seen.
+     */
     static FolugbenException ahead(String reads, long seen) {
         return ahead(reads, "[]", seen);
     }
 
-    /** The same of named reads and scans. */
+    /** Returns the same for named reads and scans. */
     static FolugbenException ahead(String reads, String scans, long seen) {
         int place = 0;
         for (JsonReader.Read read : JsonReader.reads(reads)) {
@@ -81,35 +87,38 @@ public sealed class FolugbenException extends RuntimeException
                 what + " is named at " + number + ", and the agent has seen " + seen, "");
     }
 
-    /** What the code means, with what is said of the text that is refused. */
+    /** Returns what the code means, with what is said of the text that is refused. */
     private static String message(Code code, String said) {
         if (said.isEmpty())
             return code.text();
         return code == Code.NOT_JSON ? said : code.text() + ": " + said;
     }
 
-    /** Its code, for a switch. */
+    /** Returns its code, for a switch. */
     public Code code() {
         return code;
     }
 
     /**
-     * The missing move, the first call that isn't legal, counted from 0, or the line at fault; else
-     * 0.
+     * Returns the missing move, the first illegal call from 0, or the line at fault.
+     *
+     * <p>It is 0 for other codes.
      */
     public long number() {
         return number;
     }
 
     /**
-     * The text {"clash":[LOC,CAUSE]} of a CLASH, {"large":LOC} of a LARGE of a move that wasn't
-     * pushed or composed, or {"stale":LOC} of a STALE; else null.
+     * Returns the text of the answer; else null.
+     *
+     * <p>It is {"clash":[LOC,CAUSE]} of a CLASH, {"large":LOC} of a LARGE of a move that wasn't
+     * pushed or composed, or {"stale":LOC} of a STALE.
      */
     public String answer() {
         return answer;
     }
 
-    /** What the number of a code counts; null where a code has none. */
+    /** Returns what the number of a code counts; null if a code has none. */
     static String numberName(Code code) {
         switch (code) {
             case MISSING:
@@ -139,12 +148,12 @@ public sealed class FolugbenException extends RuntimeException
         throw of(code, numbers[0], said, name + " " + numbers[0]);
     }
 
-    /** What is expected of the code of a call that was passed a text of this form. */
+    /** Throws if the code of a call that was passed a text of this form isn't DONE. */
     static void expectRead(Code code, Storage.Form form, byte[] text) {
         expect(code, isMisread(code) ? Calls.explain(form, text) : "");
     }
 
-    /** What is expected of the code of a fire that was passed this move, and scans. */
+    /** Throws if the code of a fire that was passed this move, and scans, isn't DONE. */
     static void expectFire(Code code, byte[] call) {
         String said = isMisread(code) ? Calls.explain(Storage.Form.MOVE, call) : "";
         expect(code, code == Code.SHAPE && said.isEmpty() ? SCAN : said);
@@ -154,17 +163,17 @@ public sealed class FolugbenException extends RuntimeException
         return code == Code.NOT_JSON || code == Code.SHAPE;
     }
 
-    /** What is expected of the code of a call that was passed a move [INSTR, ..]. */
+    /** Throws if the code of a call that was passed a move [INSTR, ..] isn't DONE. */
     static void expectMove(Code code, String move, String name) {
         expectPart(code, move, withoutReads(move), name);
     }
 
-    /** What is expected of the code of a call that was passed named reads [NAMED, ..]. */
+    /** Throws if the code of a call that was passed reads [NAMED, ..] isn't DONE. */
     static void expectReads(Code code, String reads) {
         expectPart(code, reads, "{\"fire\":[],\"reads\":" + reads + "}", "");
     }
 
-    /** What is expected of the code of a call on a state and a move, in this order. */
+    /** Throws if the code of a call on a state and a move, in this order, isn't DONE. */
     static void expectStateAndMove(Code code, String state, String move) {
         String said = isMisread(code) ? explain(Storage.Form.STATE, state) : "";
         if (!said.isEmpty())
@@ -172,14 +181,14 @@ public sealed class FolugbenException extends RuntimeException
         expectMove(code, move, "move");
     }
 
-    /** What is expected of the code of a call on two moves, in this order. */
+    /** Throws if the code of a call on two moves, in this order, isn't DONE. */
     static void expectMoves(Code code, String first, String second) {
         if (isMisread(code) && !explain(Storage.Form.MOVE, withoutReads(first)).isEmpty())
             expectMove(code, first, "first");
         expectMove(code, second, "second");
     }
 
-    /** What is expected of the code of a call that was passed a location LOC. */
+    /** Throws if the code of a call that was passed a location LOC isn't DONE. */
     static void expectLocation(Code code, String location) {
         if (isMisread(code))
             throw of(code, 0,
@@ -200,8 +209,9 @@ public sealed class FolugbenException extends RuntimeException
     }
 
     /**
-     * A part of a move's text, if it is JSON, is explained within the whole; the byte at which it
-     * isn't is one of its own.
+     * Throws if the code isn't DONE; explains a part of a move's text within all of it.
+     *
+     * <p>If the part isn't JSON, the byte at which it isn't is one of its own.
      */
     private static void expectPart(Code code, String part, String whole, String name) {
         if (!isMisread(code)) {
@@ -213,7 +223,7 @@ public sealed class FolugbenException extends RuntimeException
         throw of(code, 0, said, name);
     }
 
-    /** What is expected of a call that may tell why a move can't be made. */
+    /** Throws if a call reports why a move can't be made. */
     static void expectNoObjection(Calls.Told told) {
         if (told.code() == Code.CLASH)
             throw new ClashException(told.text());
@@ -221,35 +231,39 @@ public sealed class FolugbenException extends RuntimeException
             throw new LargeException(Code.LARGE, told.text(), told.text());
     }
 
-    /** What is expected of the code of a call on a journal, with the number of a call or a line. */
+    /**
+     * Throws if the code of a call on a journal isn't DONE.
+     *
+     * <p>It is passed the number of a call or a line.
+     */
     static void expectJournal(Code code, byte[] journal, long number) {
         boolean isLine = isMisread(code) && number > 1;
         String said = isLine ? Calls.explain(Storage.Form.EVENT, Texts.line(journal, number)) : "";
         expect(code, said, number);
     }
 
-    /** The exception for what is closed, as is said. */
+    /** Returns the exception for what is closed, with this text. */
     static FolugbenException closed(String said) {
         return of(Code.EMPTY, 0, said, "");
     }
 
-    /** The exception for a number that an agent has or had. */
+    /** Returns the exception for a number that an agent has or had. */
     static FolugbenException numberTaken(int agent) {
         return of(Code.NUMBER, 0, "agent " + agent, "");
     }
 
-    /** The exception for a number that an agent of another process has. */
+    /** Returns the exception for a number that an agent of another process has. */
     static FolugbenException numberHeld(int agent) {
         return of(Code.NUMBER, 0, "agent " + agent + " is in use by another process", "");
     }
 
-    /** The exception for a journal that lacks a move, with what is said of the agents. */
+    /** Returns the exception for a journal that lacks a move, with this text on the agents. */
     static FolugbenException missing(int move, String said) {
         String where = numberName(Code.MISSING) + " " + move;
         return of(Code.MISSING, move, said, said.endsWith(where) ? "" : where);
     }
 
-    /** The exception for an argument that isn't one value of JSON. */
+    /** Returns the exception for an argument that isn't one value of JSON. */
     static FolugbenException notJson(String argument) {
         return of(Code.NOT_JSON, 0, "", argument);
     }

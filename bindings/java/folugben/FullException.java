@@ -1,6 +1,6 @@
 package folugben;
 
-/** As many moves were fired as the capacity; nothing was fired. */
+/** Reports that as many moves were fired as the capacity; nothing was fired. */
 public final class FullException extends FolugbenException {
     private static final long serialVersionUID = 1;
 

@@ -10,11 +10,11 @@ import java.util.Set;
 import java.util.TreeMap;
 import java.util.function.Predicate;
 
-/** What has to hold in each state, and in the last one. */
+/** What must hold in each state, and in the last one. */
 final class Holds {
     private final Predicate<? super Map<Location, Value>> invariant;
     private final Predicate<? super Map<Location, Value>> atEnd;
-    /** What is known of states: why one breaks the invariant; empty for one that doesn't. */
+    /** The known states: why one breaks the invariant; empty for one that doesn't. */
     private final Map<Map<Location, Value>, Verdict> known = new HashMap<>();
 
     Holds(Predicate<? super Map<Location, Value>> invariant,
@@ -35,7 +35,7 @@ final class Holds {
         known.clear();
     }
 
-    /** Whether something holds, and why it doesn't, as far as that was told. */
+    /** Whether something holds, and why it doesn't, if a reason was returned. */
     private record Verdict(boolean holds, String why) {
         static Verdict of(
                 Predicate<? super Map<Location, Value>> invariant, Map<Location, Value> values) {
@@ -47,10 +47,10 @@ final class Holds {
         }
     }
 
-    /** What doesn't hold, behind these events. */
+    /** What doesn't hold after these events. */
     record Breach(List<Schedule.Event> events, String broken, Throwable thrown) {}
 
-    /** What breaks in a schedule, and in those in which dependent events have its order; or null. */
+    /** Returns what breaks in a schedule, or in one with its order of dependent events; or null. */
     Breach breach(Schedule schedule) {
         List<Schedule.Event> events = schedule.events();
         for (int number = 0; number < schedule.faults().size(); number++) {
@@ -89,12 +89,16 @@ final class Holds {
             if (!verdict.holds)
                 return broken(events.subList(0, end), count, verdict);
             while (end < events.size() && !events.get(end).isMove()) end++;
-            end++; // behind the next move
+            end++; // after the next move
         }
         return null;
     }
 
-    /** The states between moves in all schedules in which dependent events have the same order. */
+    /**
+     * Returns a breach of the states between moves in all schedules of the same order; or null.
+     *
+     * <p>It is the order of dependent events.
+     */
     private Breach ofCuts(List<Schedule.Event> events, List<Map<Location, Value>> moments) {
         BitSet moves = new BitSet();
         for (int at = 0; at < events.size(); at++) moves.set(at, events.get(at).isMove());
@@ -117,7 +121,7 @@ final class Holds {
         return null;
     }
 
-    /** The moves with one more; null where it is among them, or another one has to come before. */
+    /** Returns the moves with one more; null if it is among them, or another must come first. */
     private static BitSet with(BitSet cut, int move, List<Schedule.Event> events, BitSet moves) {
         if (cut.get(move))
             return null;
@@ -131,7 +135,7 @@ final class Holds {
         return more;
     }
 
-    /** The values behind some moves: each location has that of the last of them which writes it. */
+    /** Returns the values after some moves: each location has that of its last write by them. */
     private static Map<Location, Value> values(List<Schedule.Event> events, BitSet moves,
             List<Map<Location, Value>> moments, BitSet cut) {
         Map<Location, Value> values = new TreeMap<>(moments.get(0));
@@ -151,7 +155,7 @@ final class Holds {
         return values;
     }
 
-    /** These moves and all events that come before them. */
+    /** Returns these moves and all events that come before them. */
     private static List<Schedule.Event> upTo(List<Schedule.Event> events, BitSet moves) {
         BitSet all = new BitSet();
         moves.stream().forEach(move -> {
@@ -161,7 +165,7 @@ final class Holds {
         return all.stream().mapToObj(events::get).toList();
     }
 
-    /** Whether something breaks in this very schedule. */
+    /** Returns whether something breaks in this very schedule. */
     boolean isBroken(String journal) {
         List<Map<Location, Value>> moments = moments(journal);
         return moments.stream().anyMatch(it -> !verdict(it).holds)

@@ -3,16 +3,17 @@ package folugben;
 import java.util.Objects;
 
 /**
- * An update instruction: an update, or a partial one of a set, a bag or a number. Instructions are
- * immutable and equal by content.
+ * An update instruction: an update, or a partial one of a set, a bag or a number.
+ *
+ * <p>Instructions are immutable and equal by content.
  */
 public sealed interface Instruction {
-    /** The location that it updates. */
+    /** Returns the location that it updates. */
     Location location();
 
     /** Puts a value. */
     record Put(Location location, Value value) implements Instruction {
-        /** Its parts, of which none is null. */
+        /** Takes its parts, none of which is null. */
         public Put {
             Objects.requireNonNull(location, "location");
             Objects.requireNonNull(value, "value");
@@ -26,7 +27,7 @@ public sealed interface Instruction {
 
     /** Adds an element to a set. */
     record Add(Location location, Element element) implements Instruction {
-        /** Its parts, of which none is null. */
+        /** Takes its parts, none of which is null. */
         public Add {
             Objects.requireNonNull(location, "location");
             Objects.requireNonNull(element, "element");
@@ -40,7 +41,7 @@ public sealed interface Instruction {
 
     /** Removes an element from a set. */
     record Remove(Location location, Element element) implements Instruction {
-        /** Its parts, of which none is null. */
+        /** Takes its parts, none of which is null. */
         public Remove {
             Objects.requireNonNull(location, "location");
             Objects.requireNonNull(element, "element");
@@ -54,7 +55,7 @@ public sealed interface Instruction {
 
     /** Adds an element to a bag, 1 to 4294967295 times. */
     record BagAdd(Location location, Element element, long amount) implements Instruction {
-        /** Its parts, of which none is null, if the amount is in range. */
+        /** Takes its parts, none of which is null, if the amount is in range. */
         public BagAdd {
             Objects.requireNonNull(location, "location");
             Objects.requireNonNull(element, "element");
@@ -69,7 +70,7 @@ public sealed interface Instruction {
 
     /** Removes an element from a bag, 1 to 4294967295 times. */
     record BagRemove(Location location, Element element, long amount) implements Instruction {
-        /** Its parts, of which none is null, if the amount is in range. */
+        /** Takes its parts, none of which is null, if the amount is in range. */
         public BagRemove {
             Objects.requireNonNull(location, "location");
             Objects.requireNonNull(element, "element");
@@ -82,9 +83,9 @@ public sealed interface Instruction {
         }
     }
 
-    /** Raises a number, by 0 or less too. */
+    /** Adds a number, which may be 0 or less, to a number. */
     record Inc(Location location, long by) implements Instruction {
-        /** Its parts, of which none is null. */
+        /** Takes its parts, none of which is null. */
         public Inc {
             Objects.requireNonNull(location, "location");
         }
@@ -96,7 +97,9 @@ public sealed interface Instruction {
     }
 
     /**
-     * Puts a value, as {@link Value#of} takes it; null leaves the location empty.
+     * Returns one that puts a value, as {@link Value#of} takes it.
+     *
+     * <p>A null leaves the location empty.
      *
      * @throws IllegalArgumentException as Value.of
      */
@@ -105,7 +108,7 @@ public sealed interface Instruction {
     }
 
     /**
-     * Adds an element, as {@link Element#of} takes it, to a set.
+     * Returns one that adds an element, as {@link Element#of} takes it, to a set.
      *
      * @throws IllegalArgumentException as Element.of
      */
@@ -114,7 +117,9 @@ public sealed interface Instruction {
     }
 
     /**
-     * Removes an element, as {@link Element#of} takes it, from a set.
+     * Returns one that removes an element from a set.
+     *
+     * <p>The element is as {@link Element#of} takes it.
      *
      * @throws IllegalArgumentException as Element.of
      */
@@ -123,7 +128,9 @@ public sealed interface Instruction {
     }
 
     /**
-     * Adds an element, as {@link Element#of} takes it, to a bag so many times.
+     * Returns one that adds an element to a bag so many times.
+     *
+     * <p>The element is as {@link Element#of} takes it.
      *
      * @throws IllegalArgumentException for an amount that isn't 1 to 4294967295, or as Element.of
      */
@@ -132,7 +139,9 @@ public sealed interface Instruction {
     }
 
     /**
-     * Removes an element, as {@link Element#of} takes it, from a bag so many times.
+     * Returns one that removes an element from a bag so many times.
+     *
+     * <p>The element is as {@link Element#of} takes it.
      *
      * @throws IllegalArgumentException for an amount that isn't 1 to 4294967295, or as Element.of
      */
@@ -140,13 +149,13 @@ public sealed interface Instruction {
         return new BagRemove(location, Element.of(element), amount);
     }
 
-    /** Raises a number by another. */
+    /** Returns one that adds a number to a number. */
     static Instruction inc(Location location, long by) {
         return new Inc(location, by);
     }
 
     /**
-     * The instruction of a text.
+     * Returns the instruction of a text.
      *
      * @throws IllegalArgumentException if it is none
      */
@@ -154,7 +163,7 @@ public sealed interface Instruction {
         return JsonReader.parsed(text, "instruction", JsonReader::instruction);
     }
 
-    /** Its text, as the storage writes it. */
+    /** Returns its text, as the storage writes it. */
     default String json() {
         return JsonWriter.text(this);
     }

@@ -6,18 +6,20 @@ import java.util.List;
 import java.util.Random;
 
 /**
- * Plays agents by turns: one at a time goes on, up to its next call or that of one of its steps;
- * who goes on then is drawn by a seed. What only tells a number, as {@code won}, takes no turn.
+ * Plays agents by turns: one at a time goes on, up to its next call.
  *
- * <p>The same seed gives the same journal, byte for byte, where the works themselves draw nothing
- * else, unlike threads, which give another order each time. So a test tries many seeds, and a
- * schedule that breaks an invariant is kept as its seed. A work must not wait for what another one
- * does in a later turn of its own: the play ends with an {@link EndlessException} after so many turns
- * then. Where the thread is interrupted that plays, each work ends at its next call, and a
+ * <p>A seed draws who goes on then. The calls are those of the agent and of its steps. A call that
+ * only returns a number, as {@code won}, takes no turn.
+ *
+ * <p>The same seed makes the same journal, byte for byte, if the works themselves draw nothing
+ * else; threads make another order each time. So a test tries many seeds, and a schedule that
+ * breaks an invariant is kept as its seed. A work must not wait for what another one does in a
+ * later turn of its own: the play then ends with an {@link EndlessException} after so many turns.
+ * If the thread that plays is interrupted, each work ends at its next call, and a
  * CancellationException is thrown.
  */
 public final class Interleave {
-    /** How many turns a play takes at most, where nothing else is said. */
+    /** How many turns a play takes at most, by default. */
     private static final int MOST = 1_000_000;
 
     private Interleave() {}
@@ -42,7 +44,7 @@ public final class Interleave {
     /** What is played with an agent. */
     @FunctionalInterface
     public interface Work<A, R> {
-        /** Plays it; what it answers is told. */
+        /** Plays it; the play returns the result. */
         R play(A agent);
     }
 
@@ -59,10 +61,12 @@ public final class Interleave {
     }
 
     /**
-     * The same where a list tells who goes on at each turn, counted round those that haven't ended.
-     * Behind its end whoever is at work goes on to the end, and then the first of the others. So
-     * an empty list plays one after the other, and a schedule that breaks what is to hold is made
-     * shorter until it just still does.
+     * Plays the agents by a list that says who goes on at each turn.
+     *
+     * <p>A number of the list counts round those that haven't ended. After the end of the list
+     * whoever is at work goes on to its end, and then the first of the others. So an empty list
+     * plays one after the other, and a schedule that breaks an invariant is shortened until it just
+     * still does.
      */
     public static <A, R> List<R> play(List<? extends A> agents,
             List<? extends Work<? super A, ? extends R>> works, List<Integer> turns) {
@@ -70,9 +74,9 @@ public final class Interleave {
     }
 
     /**
-     * The same with so many turns at most.
+     * Plays the agents by a list with at most so many turns.
      *
-     * @throws EndlessException if works are still under way after them, as where one waits for
+     * @throws EndlessException if works are still under way after them, such as one that waits for
      *         another one
      */
     public static <A, R> List<R> play(List<? extends A> agents,

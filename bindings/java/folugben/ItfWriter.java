@@ -21,7 +21,7 @@ final class ItfWriter {
     private final long first;
     private final long last;
     private final long limit;
-    /** What the locations of each function have; a location that is written goes to the end. */
+    /** The values of each function's locations; a written location goes to the end. */
     private final Map<String, Map<Location, Held>> held = new TreeMap<>();
     private long written;
 
@@ -160,7 +160,7 @@ final class ItfWriter {
         return "{\"#bigint\":\"" + number + "\"}";
     }
 
-    /** The element; undef, which the format hasn't, is a record without fields. */
+    /** Returns the element; undef, which the format hasn't, is a record without fields. */
     private static String text(Value element) {
         if (element.isUndef())
             return "{}";
@@ -175,7 +175,7 @@ final class ItfWriter {
         return items.stream().map(ItfWriter::text).collect(Collectors.joining(",", "[", "]"));
     }
 
-    /** The text in quotes, with the escapes of Python's writer. */
+    /** Returns the text in quotes, with the escapes of Python's writer. */
     private static String quoted(String text) {
         StringBuilder quoted = new StringBuilder("\"");
         for (char it : text.toCharArray())

@@ -18,7 +18,7 @@ import java.util.stream.Collectors;
 import java.util.stream.Stream;
 import java.util.stream.StreamSupport;
 
-/** What is made of journals: the states of a run, move by move, also for tools, and a table. */
+/** Reads journals: the states of a run, move by move, also for tools, and a table. */
 public final class Journals {
     private static final List<String> HEAD =
             List.of("move", "agent", "function", "arguments", "old", "new");
@@ -27,14 +27,14 @@ public final class Journals {
 
     /** The values of the locations that have one, after so many moves. */
     public record Moment(long number, SortedMap<Location, Value> values) {
-        /** Values that nothing changes. */
+        /** Makes the values unmodifiable. */
         public Moment {
             values = Collections.unmodifiableSortedMap(new TreeMap<>(values));
         }
     }
 
     /**
-     * The states of a journal, the opening state first, as number 0.
+     * Returns the states of a journal, the opening state first, as number 0.
      *
      * @throws FolugbenException if it is no journal
      */
@@ -83,10 +83,11 @@ public final class Journals {
     }
 
     /**
-     * Writes a table of a journal, with a row for each change of each move: the move's number, its
-     * agent, the function, its arguments, and the old and the new value as JSON. Of a set or a bag
-     * that stays one, the new value is what changes, as a trace has it, and the old one is left out.
-     * The opening state comes first, as move 0 of no agent.
+     * Writes a table of a journal, with a row for each change of each move.
+     *
+     * <p>A row has the move's number, its agent, the function, its arguments, and the old and the
+     * new value as JSON. Of a set or a bag that stays one, the new value is what changes, as in a
+     * trace, and the old one is left out. The opening state comes first, as move 0 of no agent.
      *
      * @throws FolugbenException if it is no journal
      * @throws UncheckedIOException if it can't be written
@@ -105,7 +106,9 @@ public final class Journals {
     }
 
     /**
-     * Writes all states of a journal in the Informal Trace Format of Apalache and Quint.
+     * Writes all states of a journal in the Informal Trace Format.
+     *
+     * <p>It is the format of Apalache and Quint.
      *
      * @throws LargeException if the states have more than 1,073,741,824 characters
      * @throws FolugbenException if it is no journal; nothing is written
@@ -116,11 +119,12 @@ public final class Journals {
     }
 
     /**
-     * Writes the states from the first to the last one in the Informal Trace Format. Its meta data
-     * name the source, which may be empty. State 0 is the opening state, and state n that after move
-     * n. In a state each function is a map from the tuples of its arguments to its values. Each state
-     * is complete, as the format has no other, so the output grows with the moves times the size of
-     * the state.
+     * Writes the states from the first to the last one in the Informal Trace Format.
+     *
+     * <p>Its meta data name the source, which may be empty. State 0 is the opening state, and state
+     * n that after move n. In a state each function is a map from the tuples of its arguments to
+     * its values. Each state is complete, as the format has no other, so the output grows with the
+     * moves times the size of the state.
      *
      * @throws LargeException if these states have more than 1,073,741,824 characters; those that
      *         come before the limit are written
@@ -155,14 +159,14 @@ public final class Journals {
         }
     }
 
-    /** The moves of a journal with what each of them changes, as its trace tells them. */
+    /** The moves of a journal with the changes of each, as in its trace. */
     static final class Trace {
         private final Iterator<String> lines;
         /** The locations that have a value in the state that it opens with. */
         final SortedMap<Location, Value> init = new TreeMap<>();
 
         /**
-         * The trace of a journal.
+         * Reads the trace of a journal.
          *
          * @throws FolugbenException if it is none
          */
@@ -170,7 +174,7 @@ public final class Journals {
             this(Storage.trace(journal));
         }
 
-        /** The trace of these lines. */
+        /** Reads the trace of these lines. */
         Trace(List<String> trace) {
             lines = trace.iterator();
             JsonReader.members(lines.next(), "header", (name, reader) -> {
@@ -183,7 +187,7 @@ public final class Journals {
         /** A move: the number of its agent, and what it changes. */
         record Move(long agent, List<Change> changes) {}
 
-        /** The next move; null behind the last. */
+        /** Returns the next move; null after the last. */
         Move next() {
             while (lines.hasNext()) {
                 long[] agent = new long[1];
@@ -203,20 +207,20 @@ public final class Journals {
             return null;
         }
 
-        /** What a move changes at a location. */
+        /** A change of a location by a move. */
         sealed interface Change {
-            /** The location. */
+            /** Returns the location. */
             Location location();
 
-            /** The value that it leaves where this one was, null for none. */
+            /** Returns the value that it leaves if this one was there, null for none. */
             Value on(Value there);
 
-            /** The value before it, as a table has it. */
+            /** Returns the value before it, as a table has it. */
             default String before() {
                 return "";
             }
 
-            /** What it leaves, or how that differs, as a table has it. */
+            /** Returns what it leaves, or how that differs, as a table has it. */
             String text();
         }
 

@@ -17,13 +17,13 @@ import java.util.SortedMap;
 import java.util.TreeMap;
 
 /**
- * Reads the forms of docs/FORMATS.md: what the storage writes, and texts of a caller, which have
- * the keys of an object once and in the order in which the storage writes them.
+ * Reads the forms of docs/FORMATS.md, from the storage and from a caller.
+ * A caller's text must have the keys of an object once and in the order of the storage's own texts.
  */
 final class JsonReader {
     private static final JsonFactory FACTORY = unlimited(JsonFactory.builder()).build();
 
-    /** The longest text that getText tells in each version. */
+    /** The longest text that getText returns in each version. */
     private static final int SURE = 20_000_000;
 
     private final JsonParser in;
@@ -33,8 +33,8 @@ final class JsonReader {
     }
 
     /**
-     * The builder of a factory that reads texts of any length. Jackson from 2.15 on otherwise
-     * refuses those above 20,000,000 characters.
+     * Returns the builder of a factory that reads texts of any length.
+     * Jackson from 2.15 on otherwise refuses those above 20,000,000 characters.
      */
     static <T> T unlimited(T builder) {
         for (Method method : builder.getClass().getMethods())
@@ -52,12 +52,12 @@ final class JsonReader {
         return builder;
     }
 
-    /** What is read, which begins at the token on which the parser stands and ends on its last. */
+    /** Reads a form: begins at the parser's current token, and ends on the form's last. */
     interface Form<T> {
         T read(JsonReader reader) throws IOException;
     }
 
-    /** What the text is read as; an exception says that it is no such thing. */
+    /** Returns what the text is read as; throws if it is no such form. */
     static <T> T parsed(String text, String kind, Form<T> form) {
         try (JsonParser in = FACTORY.createParser(Texts.unicode(text, kind))) {
             if (in.nextToken() == null)
@@ -74,7 +74,7 @@ final class JsonReader {
         }
     }
 
-    /** The locations and values of a state, in ascending order. */
+    /** Returns the locations and values of a state, in ascending order. */
     static SortedMap<Location, Value> state(String pairs) {
         return parsed(pairs, "state", reader -> {
             SortedMap<Location, Value> state = new TreeMap<>();
@@ -84,7 +84,7 @@ final class JsonReader {
         });
     }
 
-    /** What the header of a journal tells of the storage: its capacity and its opening state. */
+    /** What the header of a journal says of the storage: capacity and opening state. */
     record Header(int capacity, String init) {}
 
     static Header header(String line) {
@@ -104,7 +104,7 @@ final class JsonReader {
         });
     }
 
-    /** The locations [LOC, ..]. */
+    /** Returns the locations [LOC, ..]. */
     static List<Location> locations(String locations) {
         return parsed(locations, "locations", reader -> reader.list(JsonReader::location));
     }
@@ -113,7 +113,7 @@ final class JsonReader {
         return parsed(move, "move", reader -> reader.list(JsonReader::instruction));
     }
 
-    /** The reading {"number":N,"values":[VALUE, ..]} of the locations. */
+    /** Returns the reading {"number":N,"values":[VALUE, ..]} of the locations. */
     static Reading reading(String answer, List<Location> locations) {
         return parsed(answer, "reading", reader -> {
             reader.key("number");
@@ -125,7 +125,7 @@ final class JsonReader {
         });
     }
 
-    /** The offer {"fire":[INSTR, ..],"reads":[NAMED, ..]} of a step. */
+    /** Returns the pending move {"fire":[INSTR, ..],"reads":[NAMED, ..]} of a step. */
     static Step.Offer offer(String text) {
         return parsed(text, "offer", reader -> {
             reader.key("fire");
@@ -140,7 +140,7 @@ final class JsonReader {
         });
     }
 
-    /** A location as a text names it, at a number that may be of moves that are yet to come. */
+    /** A location as a text names it, at a number that may be above the moves so far. */
     record Read(Location location, long number) {}
 
     static List<Read> reads(String reads) {
@@ -166,7 +166,7 @@ final class JsonReader {
         return ended(new Read(location, nextNumber()), JsonToken.END_ARRAY);
     }
 
-    /** What {"stale":LOC}, {"large":LOC} or {"clash":[LOC,CAUSE]} tells. */
+    /** What {"stale":LOC}, {"large":LOC} or {"clash":[LOC,CAUSE]} says. */
     record Objection(Location at, Cause cause) {}
 
     static Objection objection(String answer) {
@@ -192,7 +192,7 @@ final class JsonReader {
         return in.currentToken() == JsonToken.START_OBJECT ? valueOf(key()) : plain();
     }
 
-    /** The value of an object whose first key was read. */
+    /** Returns the value of an object whose first key was read. */
     Value valueOf(String key) throws IOException {
         return switch (key) {
             case "list" -> ended(items(1), JsonToken.END_OBJECT);
@@ -206,7 +206,7 @@ final class JsonReader {
         return element(1);
     }
 
-    /** An element, of which a list is so deep within the lists around it. */
+    /** Returns an element, within so many lists around it. */
     private Element element(int depth) throws IOException {
         if (in.currentToken() != JsonToken.START_OBJECT)
             return plain();
@@ -232,7 +232,7 @@ final class JsonReader {
         };
     }
 
-    /** The text of a string. The getText of some distributions has its limit in any case. */
+    /** Returns the text of a string. In some distributions getText is always limited. */
     private String text() throws IOException {
         if (in.getTextLength() <= SURE)
             return in.getText();
@@ -241,7 +241,7 @@ final class JsonReader {
         return text.toString();
     }
 
-    /** A whole number of 64 bits. */
+    /** Returns an integer of 64 bits. */
     long number() throws IOException {
         expect(in.currentToken() == JsonToken.VALUE_NUMBER_INT, "no whole number");
         String digits = in.getText();
@@ -315,12 +315,12 @@ final class JsonReader {
         return in.getText();
     }
 
-    /** What is done with a member of an object, on whose value the reader stands. */
+    /** What is done with a member of an object; the reader's token is its value. */
     interface Member {
         void read(String name, JsonReader reader) throws IOException;
     }
 
-    /** Reads the members of an object; those that the work doesn't read are left out. */
+    /** Reads the members of an object; skips those that the work doesn't read. */
     static void members(String text, String kind, Member member) {
         parsed(text, kind, reader -> {
             reader.begin(JsonToken.START_OBJECT, "no object");
@@ -328,19 +328,19 @@ final class JsonReader {
                 String name = reader.in.currentName();
                 reader.next();
                 member.read(name, reader);
-                reader.in.skipChildren(); // nothing, where a value was read to its end
+                reader.in.skipChildren(); // does nothing if a value was read to its end
                 reader.next();
             }
             return reader;
         });
     }
 
-    /** Goes on to the next token; what it is. */
+    /** Goes on to the next token, and returns it. */
     JsonToken next() throws IOException {
         return in.nextToken();
     }
 
-    /** The items of an array. */
+    /** Returns the items of an array. */
     <T> List<T> list(Form<? extends T> form) throws IOException {
         expect(in.currentToken() == JsonToken.START_ARRAY, "no array");
         List<T> items = new ArrayList<>();
@@ -348,7 +348,7 @@ final class JsonReader {
         return items;
     }
 
-    /** The first key of an object; the parser then stands on its value. */
+    /** Returns the first key of an object; the parser's token is then its value. */
     String key() throws IOException {
         begin(JsonToken.START_OBJECT, "no object");
         expect(in.currentToken() == JsonToken.FIELD_NAME, "an empty object");
@@ -367,13 +367,13 @@ final class JsonReader {
         in.nextToken();
     }
 
-    /** Goes on from the token that is expected. */
+    /** Goes on from the expected token. */
     void begin(JsonToken token, String what) throws IOException {
         expect(in.currentToken() == token, what);
         in.nextToken();
     }
 
-    /** Goes on to the token that is expected. */
+    /** Goes on to the expected token. */
     void end(JsonToken token) throws IOException {
         expect(in.nextToken() == token, "more than is expected");
     }

@@ -22,7 +22,7 @@ final class JsonWriter {
         this.out = out;
     }
 
-    /** What is written of one item. */
+    /** Writes one item. */
     private interface Item<T> {
         void write(JsonWriter writer, T item) throws IOException;
     }
@@ -37,7 +37,7 @@ final class JsonWriter {
         return text.toString();
     }
 
-    /** An exception names the argument that is null, or of which an item is. */
+    /** Returns a list; an exception names the argument that is null or has a null item. */
     private static <T> String list(
             Item<? super T> form, Collection<? extends T> items, String name) {
         return text((writer, all) -> writer.each(form, all), Texts.Copies.<T>of(items, name));
@@ -79,7 +79,7 @@ final class JsonWriter {
         return list(JsonWriter::pair, pairs, name);
     }
 
-    /** The text of a state whose values are such as Value.of takes. */
+    /** Returns the text of a state whose values are such as Value.of takes. */
     static String state(Map<Location, ?> state, String name) {
         return list(JsonWriter::entry, Objects.requireNonNull(state, name).entrySet(), name);
     }

@@ -4,9 +4,11 @@ import java.util.List;
 import java.util.Objects;
 
 /**
- * A location: the name of a function, of 1 to 64 ASCII letters, digits and _, which begins with no
- * digit, and at most 8 arguments. Locations are immutable and equal by content; they ascend by
- * name, then by the number of arguments, then by the arguments from left to right.
+ * A location: the name of a function and at most 8 arguments.
+ *
+ * <p>The name has 1 to 64 ASCII letters, digits and _, and begins with no digit. Locations are
+ * immutable and equal by content; they ascend by name, then by the number of arguments, then by the
+ * arguments from left to right.
  */
 public record Location(String name, List<Element> arguments) implements Comparable<Location> {
     /** The most characters of a name. */
@@ -15,7 +17,7 @@ public record Location(String name, List<Element> arguments) implements Comparab
     /** The most arguments. */
     public static final int MAX_ARGUMENTS = 8;
 
-    /** A copy of the arguments, if they and the name are within the limits. */
+    /** Copies the arguments, if they and the name are within the limits. */
     public Location {
         Objects.requireNonNull(name, "name");
         if (!isName(name))
@@ -28,8 +30,7 @@ public record Location(String name, List<Element> arguments) implements Comparab
     }
 
     /**
-     * The location of these arguments, each of which is an element as {@link Element#of}
-     * takes it.
+     * Returns the location of these arguments, as {@link Element#of} takes each.
      *
      * @throws IllegalArgumentException for a name that is none, more than 8 arguments, or as
      *         Element.of
@@ -39,7 +40,7 @@ public record Location(String name, List<Element> arguments) implements Comparab
     }
 
     /**
-     * The location of a text.
+     * Returns the location of a text.
      *
      * @throws IllegalArgumentException if it is none
      */
@@ -52,7 +53,7 @@ public record Location(String name, List<Element> arguments) implements Comparab
         return new PreparedLocation(json());
     }
 
-    /** Its text, as the storage writes it. */
+    /** Returns its text, as the storage writes it. */
     public String json() {
         return JsonWriter.text(this);
     }
@@ -76,7 +77,7 @@ public record Location(String name, List<Element> arguments) implements Comparab
         return order != 0 ? order : Elements.compare(arguments, other.arguments);
     }
 
-    /** Such as x, or account(1, "a"). */
+    /** Returns a text such as x, or account(1, "a"). */
     @Override
     public String toString() {
         return arguments.isEmpty() ? name : name + Texts.Words.listed("(", arguments, ")");

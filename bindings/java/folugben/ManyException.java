@@ -1,8 +1,9 @@
 package folugben;
 
 /**
- * More than 256 locations are read, got or named, or a composed move has more than 4,096
- * instructions.
+ * Reports more than 256 locations, or more than 4,096 instructions of a move.
+ *
+ * <p>The locations are read, tracked or named; the move is a composed one.
  */
 public final class ManyException extends FolugbenException {
     private static final long serialVersionUID = 1;
@@ -11,19 +12,19 @@ public final class ManyException extends FolugbenException {
         super(code, 0, said, "", null);
     }
 
-    /** Of so many places, where at most 256 may be. */
+    /** Returns that of so many places; at most 256 are allowed. */
     static ManyException places(int count, String what) {
         return new ManyException(Code.MANY, count + " " + what + ", at most 256");
     }
 
-    /** Of a step that would rest on too many. */
+    /** Throws for a step that would depend on too many places. */
     static void expectPlaces(Code code) {
         if (code == Code.MANY)
             throw new ManyException(
                     code, "the step would rest on more than 256 locations and functions");
     }
 
-    /** Of a move that would have too many instructions. */
+    /** Throws for a move that would have too many instructions. */
     static void expectMove(Code code, String what) {
         if (code == Code.LONG_MOVE)
             throw new ManyException(code, what + " would have more than 4,096 instructions");

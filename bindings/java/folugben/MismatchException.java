@@ -1,6 +1,10 @@
 package folugben;
 
-/** A shared run has another opening state than it was told, or tables of another version. */
+/**
+ * Reports a shared run with another opening state, or another version's tables.
+ *
+ * <p>The opening state differs from the one that was passed.
+ */
 public final class MismatchException extends IllegalArgumentException {
     private static final long serialVersionUID = 1;
 

@@ -3,20 +3,22 @@ package folugben;
 import java.util.Objects;
 
 /**
- * A move that is gathered instruction by instruction at prepared locations, and pushed by {@link
- * Step#push(Move)}: its text is neither written nor read. It keeps its instructions until {@link
- * #clear}, and may be pushed any number of times, in steps of any storage.
+ * A move that is gathered instruction by instruction at prepared locations.
  *
- * <p>Of an operand that is a list, a set or a bag the text is written once, when it is gathered.
- * What {@link Step#popMove()} answers counts as one instruction, and more can be gathered behind
- * it. Any thread may use a move, in one call at a time. Nothing is released by the garbage
- * collector; call close().
+ * <p>{@link Step#push(Move)} pushes it, and neither writes nor reads its text. It keeps its
+ * instructions until {@link #clear}, and may be pushed any number of times, in steps of any
+ * storage.
+ *
+ * <p>The text of an operand that is a list, a set or a bag is written once, when it is gathered.
+ * What {@link Step#popMove()} returns counts as one instruction, and more can be gathered after it.
+ * Any thread may use a move, in one call at a time. No garbage collector releases a move: call
+ * close().
  *
  * <pre>{@code
  * try (PreparedLocation count = Location.of("count").prepare(); Move move = new Move()) {
  *     try (Step step = agent.step()) {
  *         step.push(move.clear().put(count, step.getNumber(count) + 1));
- *         step.commit(); // throws a ConflictException where another step is to be begun
+ *         step.commit(); // throws a ConflictException if another step must be begun
  *     }
  * }
  * }</pre>
@@ -33,16 +35,16 @@ public final class Move implements AutoCloseable {
     final Slot slot = new Slot();
 
     private int size;
-    /** How many bytes its instructions have about, which a step that it is pushed to counts. */
+    /** About how many bytes its instructions have, for the count of a step. */
     long bytes;
     private boolean isClosed;
-    /** Whether a thread was stopped, or out of stack, where it isn't known if it instructed. */
+    /** Whether a thread was stopped or out of stack, so that the effect isn't known. */
     boolean isCutOff;
 
-    /** A move of no instructions. */
+    /** Makes a move of no instructions. */
     public Move() {}
 
-    /** How many instructions it has; what was popped into it is one of them. */
+    /** Returns how many instructions it has; what was popped into it is one of them. */
     public int size() {
         synchronized (slot) {
             return size;
@@ -59,7 +61,7 @@ public final class Move implements AutoCloseable {
         return this;
     }
 
-    /** Such as a move of 3 instructions. */
+    /** Returns a text such as a move of 3 instructions. */
     @Override
     public String toString() {
         synchronized (slot) {
@@ -83,7 +85,7 @@ public final class Move implements AutoCloseable {
         isCutOff = false;
     }
 
-    /** To be called with its lock. */
+    /** Throws if it was closed; to be called with its lock. */
     void expectOpen() {
         if (isClosed)
             throw isClosed();
@@ -202,12 +204,12 @@ public final class Move implements AutoCloseable {
         return element(at, BAG_REMOVE, element, Value.BagOf.inRange(amount));
     }
 
-    /** Raises a number, by 0 or less too. */
+    /** Adds the number, which may be 0 or less, to the number there. */
     public Move inc(PreparedLocation at, long by) {
         return number(at, INC, by, 0);
     }
 
-    /** Gathers an instruction, whose location is prepared for it alone. */
+    /** Gathers an instruction, whose location is prepared for this call alone. */
     public Move gather(Instruction instruction) {
         try (PreparedLocation at = instruction.location().prepare()) {
             if (instruction instanceof Instruction.Put it)
@@ -225,12 +227,13 @@ public final class Move implements AutoCloseable {
     }
 
     /**
-     * Gathers the instructions of another move too, which stays as it is: this one then does what
-     * both do at once. One that both have counts twice.
+     * Gathers the instructions of another move too, which doesn't change.
+     *
+     * <p>This one then does what both do at once. An instruction that both have counts twice.
      *
      * @throws IllegalArgumentException if it is this move
-     * @throws FolugbenException as a {@link ManyException} if both have more than 4,096 instructions
-     *         together, and nothing is gathered then; EMPTY if one is closed
+     * @throws FolugbenException as a {@link ManyException} if both have more than 4,096
+     *         instructions together, and nothing is gathered then; EMPTY if one is closed
      */
     public Move unite(Move other) {
         if (Objects.requireNonNull(other, "other") == this)
@@ -308,7 +311,7 @@ public final class Move implements AutoCloseable {
         return this;
     }
 
-    /** Takes what the step pops, in the place of its instructions. To be called with its lock. */
+    /** Takes what the step pops, in place of its instructions; with its lock. */
     Code takePopped(long step) {
         expectOpen();
         isCutOff = true;
@@ -319,7 +322,7 @@ public final class Move implements AutoCloseable {
         return code;
     }
 
-    /** Counts the instruction, if the code says that it was taken. */
+    /** Counts the instruction, if the code says that it was gathered. */
     private void took(PreparedLocation at, int operand, Code code) {
         if (code == Code.DONE)
             size++;

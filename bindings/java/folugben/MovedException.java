@@ -1,9 +1,6 @@
 package folugben;
 
-/**
- * The agent's own state doesn't stand at the number of the step, as it has moved on since: begin
- * another step.
- */
+/** Reports that the agent has moved past the step's version: begin another step. */
 public final class MovedException extends FolugbenException {
     private static final long serialVersionUID = 1;
 

@@ -5,20 +5,22 @@ import java.util.Map;
 import java.util.SortedMap;
 
 /**
- * What moves come to without an agent. Calls take and give objects, or texts: JSON in the forms of
- * docs/FORMATS.md, of which one with a lone surrogate is refused by an IllegalArgumentException. A
- * FolugbenException for a text that
- * can't be read names its argument.
+ * Computes with moves, without an agent.
+ *
+ * <p>Calls take and return objects, or texts: JSON in the forms of docs/FORMATS.md. A text with a
+ * lone surrogate is an IllegalArgumentException. A FolugbenException for a text that can't be read
+ * names its argument.
  */
 public final class Moves {
     private Moves() {}
 
     /**
-     * The updates [PAIR, ..] of the move [INSTR, ..] on the state [PAIR, ..], in ascending order of
-     * locations; null leaves a location empty, as each is that the state doesn't have. The state
-     * needs the locations of partial updates alone.
+     * Returns the updates [PAIR, ..] of the move [INSTR, ..] on the state [PAIR, ..].
      *
-     * @throws FolugbenException CLASH, whose answer is {"clash":[LOC,CAUSE]}, for the least
+     * <p>They are in ascending order of locations; null leaves a location empty, as each is that
+     * the state doesn't have. The state needs only the locations of partial updates.
+     *
+     * @throws FolugbenException CLASH, whose answer is {"clash":[LOC,CAUSE]}, for the smallest
      *         location that clashes
      */
     public static String aggregate(String state, String move) {
@@ -35,13 +37,14 @@ public final class Moves {
     }
 
     /**
-     * The updates of the move on the state, whose values are such as {@link Value#of} takes: the
-     * locations that it writes with their new values, in ascending order, undef where it leaves one
-     * empty.
+     * Returns the updates of the move on the state, in ascending order.
+     *
+     * <p>The state's values are such as {@link Value#of} takes. The updates are the locations that
+     * the move writes with their new values, undef if it leaves one empty.
      *
      * @throws IllegalArgumentException as Value.of
-     * @throws FolugbenException as a {@link ClashException}, for the least location that clashes;
-     *         SHAPE if the move has more than 4,096 instructions
+     * @throws FolugbenException as a {@link ClashException}, for the smallest location that
+     *         clashes; SHAPE if the move has more than 4,096 instructions
      */
     public static SortedMap<Location, Value> aggregate(
             Map<Location, ?> state, List<? extends Instruction> move) {
@@ -50,12 +53,13 @@ public final class Moves {
     }
 
     /**
-     * One move [INSTR, ..] that does what the first move [INSTR, ..] and then the second do: on a
-     * state on which the first fires, it fires as the two in turn, or clashes as the second does
-     * then.
+     * Returns one move [INSTR, ..] that does what the first and then the second do.
      *
-     * @throws FolugbenException where on no state both fire: CLASH, whose answer is
-     *         {"clash":[LOC,CAUSE]}, or LARGE, whose answer is {"large":LOC}; LONG_MOVE where the move
+     * <p>On a state on which the first fires, it fires as the two in turn, or clashes as the second
+     * does then.
+     *
+     * @throws FolugbenException if on no state both fire: CLASH, whose answer is
+     *         {"clash":[LOC,CAUSE]}, or LARGE, whose answer is {"large":LOC}; LONG_MOVE if the move
      *         would have more than 4,096 instructions
      */
     public static String compose(String first, String second) {

@@ -12,11 +12,13 @@ import java.util.Objects;
 import java.util.Set;
 
 /**
- * A player who takes a turn at each look and each fire alone, and notes what is done from there to
- * the next one, an event: by that a search knows which events depend on each other.
+ * A player that takes a turn at each poll and each fire alone, and notes events.
+ *
+ * <p>An event is what is done from such a turn to the next one. By that a search knows which events
+ * depend on each other.
  */
 final class Noted extends Turns.Player {
-    /** Whether all events are said to depend on each other, by which a test sees what is saved. */
+    /** Whether all events count as dependent, by which a test sees what is saved. */
     static volatile boolean areAllDependent;
 
     /** What an event reads and writes; it may read everything. */
@@ -33,12 +35,14 @@ final class Noted extends Turns.Player {
             written.add(location.name());
         }
 
-        /** The locations that it writes. */
+        /** Returns the locations that it writes. */
         Set<Location> writes() {
             return writes;
         }
 
-        /** Whether the order of the two matters: one writes what the other reads or writes. */
+        /**
+         * Returns whether the order of the two matters: one writes what the other reads or writes.
+         */
         boolean meets(Footprint other) {
             return areAllDependent || disturbs(other) || other.disturbs(this)
                     || areCommon(writes, other.writes);
@@ -53,7 +57,7 @@ final class Noted extends Turns.Player {
             return some.stream().anyMatch(others::contains);
         }
 
-        /** What either of the two reads and writes. */
+        /** Returns what either of the two reads and writes. */
         Footprint joined(Footprint other) {
             Footprint both = new Footprint();
             for (Footprint it : List.of(this, other)) {
@@ -79,12 +83,12 @@ final class Noted extends Turns.Player {
         }
     }
 
-    /** The event at work; before the first one it is the beginning. */
+    /** The present event; before the first one it is the beginning. */
     private Footprint now = new Footprint();
-    /** Of how many calls it is, and whether it has fired. */
+    /** How many calls it has, and whether it has fired. */
     private int calls = 1;
     private boolean isMove;
-    /** A digest of all that was told before this event, and by now: what is done next rests on it. */
+    /** A digest of all answers before this event, and by now, on which what follows depends. */
     private String key = "";
     private String told = "";
     /** Whether all that was noted of an event was noted within it. */
@@ -126,7 +130,7 @@ final class Noted extends Turns.Player {
                 depends();
             return;
         }
-        // Whether a step goes on behind another look of its agent depends on all that others do.
+        // Whether a step goes on after another poll of its agent depends on all that others do.
         boolean isMixed = step != null && it != step;
         now.readsAll |= isMixed;
         turns.await(number());
@@ -188,7 +192,7 @@ final class Noted extends Turns.Player {
 
     @Override
     void pushes(Step pushed) {
-        // A partial update is taken or refused by the value that it changes.
+        // The value that a partial update changes decides if it is taken or refused.
         for (Instruction it : pushed.offerNow().fire())
             if (!(it instanceof Instruction.Put))
                 now.reads.add(it.location());
@@ -203,7 +207,7 @@ final class Noted extends Turns.Player {
         writes(offer.fire());
     }
 
-    // It counts as written also where the fire is refused: an event does the same wherever it comes.
+    // It counts as written also if the fire is refused: an event does the same in any order.
     private void writes(Collection<Instruction> instructions) {
         instructions.forEach(it -> now.write(it.location()));
     }

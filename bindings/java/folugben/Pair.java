@@ -2,16 +2,16 @@ package folugben;
 
 import java.util.Objects;
 
-/** A location and its value, of which a state has one for each location that isn't empty. */
+/** A location and its value; a state has one for each location that isn't empty. */
 public record Pair(Location location, Value value) {
-    /** Both, of which none is null. */
+    /** Takes both, neither of which is null. */
     public Pair {
         Objects.requireNonNull(location, "location");
         Objects.requireNonNull(value, "value");
     }
 
     /**
-     * A location and its value, as {@link Value#of} takes it.
+     * Returns a location and its value, as {@link Value#of} takes it.
      *
      * @throws IllegalArgumentException as Value.of
      */

@@ -1,9 +1,10 @@
 package folugben;
 
 /**
- * A part of a run: a storage, and which agents are out in it. It is over once the next part is
- * there, once it is to end at rest, or once the run ends; no agent is taken in it from then on. It
- * is whole once it is over and all agents came back.
+ * A part of a run: a storage, and which agents are out in it.
+ *
+ * <p>It is over once the next part is there, once it must end at rest, or once the run ends; no
+ * agent is checked out in it from then on. It is complete once it is over and all agents came back.
  *
  * <p>Its lock is taken after that of an agent of the run, and before those of slots.
  */
@@ -31,7 +32,7 @@ final class Part implements Run.Chained {
         this.before = before;
     }
 
-    /** An agent with this number, which is out from then on; null where the part is over. */
+    /** Checks out an agent with this number; returns null if the part is over. */
     synchronized Agent take(int own) {
         if (isOver)
             return null;
@@ -43,7 +44,7 @@ final class Part implements Run.Chained {
         return taken;
     }
 
-    /** Tells that the agent with this number came back, or was abandoned. */
+    /** Notes that the agent with this number came back, or was abandoned. */
     void back(int own) {
         synchronized (this) {
             if (!isOut[own])
@@ -55,7 +56,7 @@ final class Part implements Run.Chained {
     }
 
     /**
-     * Opens the next part with the state of the agent, which stands at all moves of this one.
+     * Opens the next part with the state of an agent that is at this part's last move.
      *
      * @throws LargeException if that is too long for a line
      */
@@ -66,7 +67,7 @@ final class Part implements Run.Chained {
         open(agent.goOn(capacity), before + capacity);
     }
 
-    /** Opens the next part behind this one, which is at rest, and whose journal was closed. */
+    /** Opens the part after this one, which is at rest, and whose journal was closed. */
     synchronized void goOnAtRest() {
         int moves = storage.moves();
         open(storage.next(capacity), before + moves);
@@ -83,7 +84,11 @@ final class Part implements Run.Chained {
         vain += calls;
     }
 
-    /** Whether it is over; with too many receipts, as so many moves have one, it is from now on. */
+    /**
+     * Returns whether it is over. It ends now if it has too many receipts.
+     *
+     * <p>So many moves have one receipt each.
+     */
     boolean isOverWith(int moves) {
         if (!isOver && moves + vain > run.receipts()) {
             end();
@@ -92,34 +97,38 @@ final class Part implements Run.Chained {
         return isOver;
     }
 
-    /** Whether no move was fired in it. One that isn't the newest may be written and closed. */
+    /**
+     * Returns whether no move was fired in it.
+     *
+     * <p>One that isn't the newest may be written and closed.
+     */
     synchronized boolean isEmpty() {
         return !isOver && storage.moves() == 0;
     }
 
-    /** Has no agent be taken in it any more; the part behind it, if there is one. */
+    /** Ends the check-out of agents in it; returns the part after it, if there is one. */
     synchronized Part end() {
         isOver = true;
         return next;
     }
 
-    /** Whether no agent is taken in it any more. */
+    /** Returns whether no agent is checked out in it any more. */
     @Override
     public boolean isOver() {
         return isOver;
     }
 
-    /** The part behind it; null where there is none yet. */
+    /** Returns the part after it; null if there is none yet. */
     Part next() {
         return next;
     }
 
-    /** Whether it is over and all agents came back. */
+    /** Returns whether it is over and all agents came back. */
     synchronized boolean isWhole() {
         return isOver && out == 0;
     }
 
-    /** Has whoever waits for the agents of a part that is over look again. */
+    /** Wakes those who wait for the agents of a part that is over. */
     @Override
     public void endStep() {
         if (isOver)

@@ -1,8 +1,9 @@
 package folugben;
 
 /**
- * The part of a run is over in which a step was begun, or something was looked at; nothing was
- * fired. What was tried is to be begun anew, in the next part.
+ * Reports that a part of a run is over; nothing was fired.
+ *
+ * <p>A step was begun in it, or something was read in it. Begin again, in the next part.
  */
 public final class PartException extends ConflictException {
     private static final long serialVersionUID = 1;
@@ -11,12 +12,12 @@ public final class PartException extends ConflictException {
         super(code, 0, said, "", null);
     }
 
-    /** Of a call in a part that is over. */
+    /** Returns that of a call in a part that is over. */
     static PartException full() {
         return new PartException(Code.FULL, "the run goes on in its next part");
     }
 
-    /** Of a number of a part that is over. */
+    /** Returns that of a number of a part that is over. */
     static PartException past(Named read, long begin) {
         return new PartException(Code.FULL,
                 read.location() + " is named at " + read.number() + ", and that part has ended at "

@@ -9,13 +9,15 @@ import java.nio.ByteBuffer;
 import java.time.Duration;
 
 /**
- * A thread that closes the parts of a run, one after the other, saves their journals in its folder,
- * and releases them. Its lock is taken last of all, and it holds none while it asks for another.
+ * A thread that closes the parts of a run in order, saves and releases them.
+ *
+ * <p>It saves their journals in the run's folder. Its lock is taken last of all, and it holds none
+ * while it asks for another.
  */
 final class PartWriter {
-    /** How many parts are over and not written before agents wait, but the one that is next. */
+    /** How many parts may be over and not written before agents wait, besides the next. */
     private static final int BEHIND = 1;
-    /** How often the first move of a part is looked for at least, in ms. */
+    /** The longest time between two checks for the first move of a part, in ms. */
     private static final long LOOK = 50;
     /** How long an agent may stay, in ms, in a step of a part that is full, or ends at rest. */
     private static final long PATIENCE = 100;
@@ -30,9 +32,9 @@ final class PartWriter {
     private volatile Part head;
     private volatile long parts;
     private volatile long saved;
-    /** After how many ns from its first move a part ends at rest; 0 for never. */
+    /** How many ns after its first move a part ends at rest; 0 for never. */
     private volatile long every;
-    /** All below with the lock of this. How often something has changed that may be waited for. */
+    /** All below with the lock of this. How often what may be waited for has changed. */
     private long changes;
     private boolean isClosing;
     private boolean isDone;
@@ -50,25 +52,26 @@ final class PartWriter {
         thread.start();
     }
 
-    /** How many parts are on the disk. */
+    /** Returns how many parts are on the disk. */
     long parts() {
         return parts;
     }
 
-    /** How many moves these have. */
+    /** Returns how many moves these have. */
     long saved() {
         return saved;
     }
 
-    /** Has this thread, and all who wait for it, look again. */
+    /** Wakes this thread, and all who wait for it, to check again. */
     synchronized void wake() {
         changes++;
         notifyAll();
     }
 
     /**
-     * Waits until the newest part isn't over and, if so wanted, enough was written, or until the
-     * run has ended.
+     * Waits until the newest part isn't over, or the run has ended.
+     *
+     * <p>If so wanted, it waits until enough was written too.
      */
     synchronized void awaitPart(boolean waitsForRoom) {
         boolean isInterrupted = false;
@@ -82,7 +85,7 @@ final class PartWriter {
         return run.newest().number - head.number > BEHIND;
     }
 
-    /** Waits, with the lock, for a change or some ms; whether it wasn't interrupted meanwhile. */
+    /** Waits, with the lock, for a change or some ms; returns false if interrupted. */
     private boolean awaitChange(long most) {
         try {
             wait(most);
@@ -106,7 +109,7 @@ final class PartWriter {
         wake();
     }
 
-    /** Has all that was fired be written, and waits for that. */
+    /** Has all fired moves be written, and waits for that. */
     synchronized void close() {
         isClosing = true;
         wake();
@@ -141,7 +144,11 @@ final class PartWriter {
         wake();
     }
 
-    /** Waits until the part that is next is whole, and takes back who is in no step, or too long. */
+    /**
+     * Waits until the next part is complete.
+     *
+     * <p>It takes back agents that are in no step, or too long in one.
+     */
     private void awaitWhole() {
         long begin = 0;
         long first = 0;
@@ -162,7 +169,7 @@ final class PartWriter {
         }
     }
 
-    /** After how many ms to look again whether a part has to end; 0 for never. */
+    /** Returns after how many ms to check again if a part must end; 0 for never. */
     private long look() {
         return every == 0 ? 0 : Math.min(LOOK, Math.max(1, every / 4_000_000));
     }
@@ -176,7 +183,7 @@ final class PartWriter {
             awaitChange(most);
     }
 
-    /** Writes the next part, which is whole; whether a further one comes. */
+    /** Writes the next part, which is complete; returns whether a further one comes. */
     private boolean write() {
         Part whole = head;
         ByteBuffer journal = whole.storage.closeJournal(room);
@@ -207,7 +214,11 @@ final class PartWriter {
         parts++;
     }
 
-    /** How many events a journal has: the lines behind its header, of which none is too long. */
+    /**
+     * Returns how many events a journal has.
+     *
+     * <p>They are the lines after its header, of which none is too long.
+     */
     static long events(ByteBuffer journal) {
         long lines = 0;
         int begin = 0;
@@ -233,14 +244,16 @@ final class PartWriter {
     }
 
     /**
-     * Hands memory that was released back to the system. The C library keeps it for the thread that took
-     * it; as each part of a run is taken by other threads than the one that releases it, a long run would
-     * else keep more and more.
+     * Returns released memory to the system.
+     *
+     * <p>The C library keeps it for the thread that allocated it. As each part of a run is
+     * allocated by other threads than the one that releases it, a long run would otherwise keep
+     * more and more.
      */
     static final class FreeMemory {
-        /** How many bytes of journals are written between two times. */
+        /** How many bytes of journals are written between two releases. */
         private static final long BETWEEN = 8_000_000;
-        /** Null where the C library has no such call. */
+        /** Null if the C library has no such call. */
         private final Function trim = found();
         private long left = BETWEEN;
 
@@ -252,7 +265,7 @@ final class PartWriter {
             }
         }
 
-        /** Counts so many bytes of a journal, and hands back what is free once there were enough. */
+        /** Counts so many bytes of a journal, and releases free memory after enough. */
         void count(long bytes) {
             left -= bytes;
             if (left > 0 || trim == null)

@@ -9,7 +9,7 @@ import java.util.concurrent.locks.LockSupport;
 final class Patience {
     private Patience() {}
 
-    /** Rests for so many ms. */
+    /** Sleeps for so many ms. */
     static void rest(long most) {
         long end = System.nanoTime() + TimeUnit.MILLISECONDS.toNanos(most);
         boolean isInterrupted = false;
@@ -26,7 +26,7 @@ final class Patience {
         join(thread, 0);
     }
 
-    /** The same for so many ms at most, 0 for as long as it takes. */
+    /** Waits for so many ms at most, 0 for as long as it takes. */
     static void join(Thread thread, long most) {
         boolean isInterrupted = false;
         while (true)
@@ -40,13 +40,13 @@ final class Patience {
             }
     }
 
-    /** Plays of a rule on step after step, until one is fired. */
+    /** Plays a rule on step after step, until one is fired. */
     static final class Plays {
-        /** After so many tries in vain an agent waits between them: 1 << LONGEST_WAIT us at most. */
+        /** After so many vain tries an agent waits: 1 << LONGEST_WAIT us at most. */
         private static final int TRIES_WITHOUT_WAIT = 8;
         private static final int LONGEST_WAIT = 10;
 
-        /** So long no play takes: 292 years. */
+        /** A time that no play takes: 292 years. */
         static final Duration FOR_EVER = Duration.ofNanos(Long.MAX_VALUE);
 
         private Plays() {}
@@ -76,7 +76,7 @@ final class Patience {
             }
         }
 
-        /** Waits between tries in vain, of which there were so many before. */
+        /** Waits between vain tries, after so many before. */
         static void backOff(int tries) {
             if (Turns.isPlayed())
                 return;

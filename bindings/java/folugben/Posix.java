@@ -12,11 +12,11 @@ import java.util.Arrays;
 
 /** Calls of the system that Java doesn't have: locks that belong to an open file. */
 final class Posix {
-    /** The flags of open, which read and write, and close the file where another program begins. */
+    /** The flags of open to read and write, and to close the file in another program. */
     static final int READ_AND_WRITE = 0x80002;
-    /** Besides: a file is made where there is none, and no link is followed. */
+    /** The same flags, which also make a missing file, and follow no link. */
     static final int MADE_WITHOUT_LINKS = READ_AND_WRITE | 0x40 | 0x20000;
-    /** What errno is where a lock is another's. */
+    /** The errno if a lock is another's. */
     static final int WOULD_WAIT = 11;
 
     private static final int IS_NOT_THERE = 2;
@@ -28,7 +28,7 @@ final class Posix {
         return NativeLibrary.getInstance("c").getFunction(name).invokeInt(words);
     }
 
-    /** The descriptor of a file that is opened. */
+    /** Opens a file, and returns its descriptor. */
     static int open(Path path, int flags) throws IOException {
         byte[] name = path.toAbsolutePath().toString().getBytes(
                 Charset.forName(System.getProperty("sun.jnu.encoding", "UTF-8")));
@@ -40,7 +40,7 @@ final class Posix {
                                      : fault(path, "opened", number);
     }
 
-    /** The exception of a call on a file that failed with this errno. */
+    /** Returns the exception of a call on a file that failed with this errno. */
     static FileSystemException fault(Path path, String what, int number) {
         return new FileSystemException(
                 path.toString(), null, "it can't be " + what + " (errno " + number + ")");

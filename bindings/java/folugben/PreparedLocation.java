@@ -1,14 +1,16 @@
 package folugben;
 
 /**
- * A location that is prepared once, for any number of calls of the agents and steps of any storage:
- * they neither write its text nor read it. {@link Location#prepare} prepares one.
+ * A location that is prepared once, for any number of calls.
  *
- * <p>Any thread may use it, in one call at a time: where several threads are to go on beside each
- * other, prepare one for each of them. Nothing is released by the garbage collector; call close().
+ * <p>{@link Location#prepare} prepares one. The calls are of agents and steps of any storage, and
+ * neither write its text nor read it.
+ *
+ * <p>Any thread may use it, in one call at a time: if several threads must go on beside each other,
+ * prepare one for each of them. No garbage collector releases it: call close().
  */
 public final class PreparedLocation implements AutoCloseable {
-    /** Its slot, and the lock of the calls on it, which is taken after an agent's and a move's. */
+    /** Its slot, and the lock of calls on it, taken after an agent's and a move's. */
     final Slot slot = new Slot();
 
     private final String text;
@@ -27,12 +29,12 @@ public final class PreparedLocation implements AutoCloseable {
         text = location;
     }
 
-    /** How long its text is. */
+    /** Returns how long its text is. */
     int length() {
         return text.length();
     }
 
-    /** What is expected of the code of a call on it and on other slots. */
+    /** Throws if the code of a call on it and on other slots isn't DONE. */
     void expect(Code code) {
         if (code == Code.EMPTY)
             synchronized (slot) {
@@ -42,18 +44,18 @@ public final class PreparedLocation implements AutoCloseable {
         FolugbenException.expect(code);
     }
 
-    /** The location. */
+    /** Returns the location. */
     public Location location() {
         return Location.parse(text);
     }
 
-    /** Such as x, or account(1, "a"). */
+    /** Returns a text such as x, or account(1, "a"). */
     @Override
     public String toString() {
         return location().toString();
     }
 
-    /** Releases it. Moves that have instructions there keep these. */
+    /** Releases it. Moves that have instructions there keep them. */
     @Override
     public void close() {
         synchronized (slot) {

@@ -30,7 +30,7 @@ public record Reading(long number, List<Location> locations, List<Value> values)
         return before == 0 ? this : new Reading(number + before, locations, values);
     }
 
-    /** The locations with the number: what a fire names that rests on all of them. */
+    /** Returns the locations with the number: the reads of a fire that depends on all of them. */
     public List<Named> named() {
         return locations.stream().map(location -> new Named(location, number)).toList();
     }

@@ -11,9 +11,11 @@ import java.util.Deque;
 import java.util.List;
 
 /**
- * The state of a shared run up to a place of its log: a storage to which one agent fires the calls
- * of the log, in their order. Equal calls in equal order have equal answers, so all replicas of a
- * run agree on each answer, and on where a segment ends.
+ * The state of a shared run up to a place of its log.
+ *
+ * <p>It is a storage to which one agent fires the calls of the log, in their order. Equal calls in
+ * equal order have equal answers. So all replicas of a run agree on each answer, and on where a
+ * segment ends.
  */
 final class Replica {
     /** A segment ends after so many calls for each of its moves, as stale ones are kept too. */
@@ -25,7 +27,7 @@ final class Replica {
     /** A segment that has ended, with its text and the place of its last call. */
     record Ended(Segment segment, byte[] text, long place) {}
 
-    /** What a call came to: its answer, and what it has ended, each null where there is none. */
+    /** The effect of a call: its answer, and what it has ended, each null if there is none. */
     record Applied(Answer answer, Ended ended) {}
 
     private final int moves;
@@ -34,7 +36,7 @@ final class Replica {
     private volatile Era era;
     private int fired;
 
-    /** The replica behind a segment, which is checked. */
+    /** Makes the replica after a segment, which is checked. */
     Replica(SharedLog log, SharedLog.Ended last) throws IOException {
         moves = log.moves();
         segment = last.segment();
@@ -47,17 +49,17 @@ final class Replica {
         }
     }
 
-    /** Its storage by now. */
+    /** Returns its present storage. */
     Era era() {
         return era;
     }
 
-    /** The place of the last call that was applied. */
+    /** Returns the place of the last call that was applied. */
     long applied() {
         return applied;
     }
 
-    /** Fires the call at the next place; of another process's call no answer is told. */
+    /** Fires the call at the next place; a call of another process has no answer. */
     Applied apply(SharedLog.Placed next, boolean isOwn) {
         SharedLog.Call call = next.call();
         Answer answer = isOwn ? new Answer(past(), null) : null;
@@ -68,7 +70,7 @@ final class Replica {
         return new Applied(answer, goesOn ? null : end());
     }
 
-    /** The reply to a call whose segment had ended. */
+    /** Returns the reply to a call whose segment had ended. */
     private static Actor.Reply past() {
         return new Actor.Reply(Code.FULL, 0, 0, 0, null, true, true);
     }
@@ -122,7 +124,7 @@ final class Replica {
         return new Ended(segment, text, applied);
     }
 
-    /** The number of moves of the run up to its place, and the state after them. */
+    /** Returns the number of moves of the run up to its place, and the state after them. */
     Actor.State state() {
         Agent applier = era.applier;
         applier.follow();
@@ -135,7 +137,7 @@ final class Replica {
     }
 
     /**
-     * The journals of what the log has behind a saved segment.
+     * Returns the journals of what the log has after a saved segment.
      *
      * @throws SharedLog.BehindException if further segments were saved meanwhile
      */
@@ -162,8 +164,9 @@ final class Replica {
     }
 
     /**
-     * A storage of a replica, with its number among the segments and the number of moves before it. Its
-     * calls are made with the lock of the replica's worker.
+     * A storage of a replica, with its segment's number and the number of moves before it.
+     *
+     * <p>Its calls are made with the lock of the replica's worker.
      */
     static final class Era {
         private static final byte[] HEADER = "{\"agents\":".getBytes(StandardCharsets.US_ASCII);
@@ -177,7 +180,7 @@ final class Replica {
         final Agent applier;
 
         private final Storage storage;
-        /** The numbers that agents of this process may have in the storage, and which it made. */
+        /** The numbers that agents of this process may have in the storage, and the made ones. */
         private final Deque<Integer> free = new ArrayDeque<>();
         private final boolean[] wasMade = new boolean[Storage.AGENTS];
         /** The agents of the calls, as the log has them: a byte for each. */
@@ -192,7 +195,7 @@ final class Replica {
         }
 
         /**
-         * An agent of this process, to begin steps with; it fires nothing.
+         * Returns an agent of this process, to begin steps with; it fires nothing.
          *
          * @throws FolugbenException as a {@link ManyException} if there are 255 already
          */
@@ -218,12 +221,16 @@ final class Replica {
             agents.write(agent);
         }
 
-        /** How many events its journal has. */
+        /** Returns how many events its journal has. */
         int events() {
             return agents.size();
         }
 
-        /** Closes it; its journal, with the agents' numbers of the log. Steps may go on. */
+        /**
+         * Closes it; returns its journal, with the agents' numbers of the log.
+         *
+         * <p>Steps may go on.
+         */
         byte[] journal() {
             applier.give();
             ByteBuffer plain = storage.closeJournal(new Room());
@@ -250,7 +257,7 @@ final class Replica {
             return all.toByteArray();
         }
 
-        /** Writes the line at this index with another number behind its prefix; where it ends. */
+        /** Writes the line at this index with another number after its prefix; returns its end. */
         private static int write(ByteArrayOutputStream all, byte[] text, int at, byte[] prefix, int number) {
             int rest = at + prefix.length;
             while (text[rest] != ',') rest++;

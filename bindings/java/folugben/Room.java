@@ -8,20 +8,21 @@ import java.nio.ByteOrder;
 import java.nio.charset.StandardCharsets;
 
 /**
- * Native memory for what an agent's calls are passed and what they tell. It is kept from call to
- * call, grows to the longest text, and is for one call at a time. Of an array, JNA would make a
- * copy for each call.
+ * Native memory for the arguments and results of an agent's calls.
+ *
+ * <p>It is kept from call to call, grows to the longest text, and is for one call at a time. For an
+ * array, JNA would make a copy for each call.
  */
 final class Room {
-    /** Where calls write the length of a text, numbers, and a value's kind and number. */
+    /** The place of what calls write: a text's length, numbers, a value's kind and number. */
     private static final int WRITTEN = 0;
     private static final int NUMBERS = 8;
     private static final int KIND = 32;
     private static final int NUMBER = 40;
-    /** Where the text begins that a call is passed; behind it is the room for what it writes. */
+    /** The place of the text that a call is passed, before the room for what it writes. */
     private static final int TEXT = 48;
 
-    /** The kinds of values that calls without text tell. */
+    /** The kinds of values that calls without text return. */
     static final int UNDEF = 0;
     static final int BOOL = 1;
     static final int NUM = 2;
@@ -34,7 +35,7 @@ final class Room {
 
     private ByteBuffer bytes;
     private long at;
-    /** Where a call's text begins. */
+    /** The place where a call's text begins. */
     private int begin = TEXT;
 
     Room() {
@@ -52,7 +53,7 @@ final class Room {
     private void take(int size) {
         ByteBuffer taken = ByteBuffer.allocateDirect(size).order(ByteOrder.nativeOrder());
         long address = Pointer.nativeValue(Native.getDirectBufferPointer(taken));
-        // Both or none, also where this thread is stopped.
+        // Both or none, also if this thread is stopped.
         bytes = taken;
         at = address;
     }
@@ -62,12 +63,12 @@ final class Room {
         int make(long text, long out, long room, long written);
     }
 
-    /** The code of the call, which is made again where the room for its text was too small. */
+    /** Makes a call, again if the room for its text was too small; returns its code. */
     Code make(byte[] text, Call call) {
         return make(text, 0, text.length, call);
     }
 
-    /** The same of a text that is a part of an array. */
+    /** Makes such a call with a text that is a part of an array. */
     Code make(byte[] text, int offset, int length, Call call) {
         begin = TEXT + length;
         for (long size = (long) begin + Calls.ROOM;; size = begin + written()) {
@@ -80,23 +81,23 @@ final class Room {
         }
     }
 
-    /** The same of a call that is passed no text. */
+    /** Makes such a call that is passed no text. */
     Code make(Call call) {
         return make(NO_TEXT, call);
     }
 
-    /** What such a call told. */
+    /** Returns what such a call wrote. */
     Calls.Told told(byte[] text, Call call) {
         Code code = make(text, call);
         return new Calls.Told(code, text());
     }
 
-    /** The same of a call that is passed no text. */
+    /** Returns what such a call wrote that is passed no text. */
     Calls.Told told(Call call) {
         return told(NO_TEXT, call);
     }
 
-    /** The text that the last call wrote, which is said to write one. */
+    /** Returns the text that the last call wrote, which must be a call that writes one. */
     String text() {
         int length = (int) written();
         if (length == 0)
@@ -106,47 +107,47 @@ final class Room {
         return new String(text, StandardCharsets.UTF_8);
     }
 
-    /** The same as bytes, which stay until the next call. */
+    /** Returns the same as bytes, which stay until the next call. */
     ByteBuffer textBytes() {
         return bytes.slice(begin, (int) written());
     }
 
-    /** The length of the text that the last call wrote, or what else it has written there. */
+    /** Returns the length of the last call's text, or what else it has written there. */
     long written() {
         return bytes.getLong(WRITTEN);
     }
 
-    /** The address of three numbers, of 32 or of 64 bits. */
+    /** Returns the address of three numbers, of 32 or of 64 bits. */
     long numbers() {
         return at + NUMBERS;
     }
 
-    /** The number that the last call wrote there, as the first, the second or the third one. */
+    /** Returns a number that the last call wrote: the first, the second or the third. */
     int number(int index) {
         return bytes.getInt(NUMBERS + Integer.BYTES * index);
     }
 
-    /** The same of 64 bits. */
+    /** Returns such a number of 64 bits. */
     long wide(int index) {
         return bytes.getLong(NUMBERS + Long.BYTES * index);
     }
 
-    /** The address of a value. */
+    /** Returns the address of a value. */
     long value() {
         return at + KIND;
     }
 
-    /** The kind of the value that the last call wrote there. */
+    /** Returns the kind of the value that the last call wrote there. */
     int kind() {
         return bytes.getInt(KIND);
     }
 
-    /** Its number. */
+    /** Returns its number. */
     long number() {
         return bytes.getLong(NUMBER);
     }
 
-    /** The value itself. */
+    /** Returns the value itself. */
     Value told() {
         return switch (kind()) {
             case UNDEF -> Element.undef();

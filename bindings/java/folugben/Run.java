@@ -10,49 +10,49 @@ import java.util.Map;
 import java.util.Objects;
 
 /**
- * A run without end: a chain of storages, its parts, whose journals are the files of a folder, one
- * text file a segment. Its agents go on by themselves from part to part, and none waits for another
- * one, but where a part ends at rest; a thread of the run closes the parts, writes their journals
- * and forces them to the disk, one after the other. An {@link Auditor} checks such a folder, while
- * the run goes on too. Call close(): what isn't saved by the end of the process is lost, as by a
+ * An endless run: a chain of storages, its parts, with their journals in a folder.
+ * Each journal is a text file, a segment. The agents move on from part to part by themselves. None
+ * waits for another one, except where a part ends at rest. One thread closes the parts in order,
+ * writes their journals and forces them to the disk. An {@link Auditor} checks such a folder, also
+ * while the run goes on. Call close(): what isn't saved at the end of the process is lost, as by a
  * crash.
  *
- * <p>What holds, and what rests on it:
+ * <p>Invariants, and what depends on them:
  *
  * <ul>
- *   <li>A part is over once the next one is open, once it is to end at rest, or once the run ends.
- *       That never changes back. No agent is taken in a part that is over.
- *   <li>The next part is opened by an agent that stands at all moves of a part that is full, or by
- *       the thread once a part that ends at rest is whole. So it opens with what all moves of the
- *       part leave, and no further one is fired there.
- *   <li>A part is over before any agent is in the next one. An agent that is told something by one
- *       of the next part finds its own part over, so it reads nothing that is behind what it knows.
- *   <li>An agent comes back between two steps: it gives itself back as it begins one, and where it
- *       begins none, the thread takes it. One that stays in a step of a part that is full, or ends
- *       at rest, is taken too, in a tenth of a second. So a part that is over becomes whole.
- *   <li>A part is whole once it is over and no agent is out in it. Then nothing more happens in it,
- *       and the thread alone has it: it writes the part and releases it, and then the next one.
- *   <li>A file has the name of a segment once it is whole and on the disk, and is never changed. So
- *       a crash leaves whole segments, and nothing of a run is ever cut off or removed.
- *   <li>Agents wait for the thread, holding no lock, where two parts are over and not written yet,
- *       so that no more than three are in memory. The thread waits for no agent that waits for it.
+ *   <li>A part is over once the next one is open, once it must end at rest, or once the run ends.
+ *       That never changes back. No agent is checked out in a part that is over.
+ *   <li>The next part is opened by an agent that is at the last move of a full part, or by the
+ *       thread once a part that ends at rest is complete. So it opens with the state after all
+ *       moves of the part, and no further one is fired there.
+ *   <li>A part is over before any agent is in the next one. An agent that learns something from
+ *       one of the next part finds its own part over, so it reads nothing older than it knows.
+ *   <li>An agent comes back between two steps: it returns itself as it begins one; if it begins
+ *       none, the thread takes it. One that stays in a step of a part that is full, or ends at
+ *       rest, is taken too, in a tenth of a second. So a part that is over becomes complete.
+ *   <li>A part is complete once it is over and no agent is out in it. Nothing more happens in it
+ *       then, and the thread alone has it: it writes and releases the part, and then the next.
+ *   <li>A file has the name of a segment once it is complete and on the disk, and never changes.
+ *       So a crash leaves complete segments, and nothing of a run is ever cut off or removed.
+ *   <li>Agents wait for the thread, holding no lock, while two parts are over and not written yet,
+ *       so at most three are in memory. The thread waits for no agent that waits for it.
  * </ul>
  */
 public final class Run implements AutoCloseable {
-    /** How many moves a part has, where nothing else is said. */
+    /** The number of moves in a part, by default. */
     public static final int MOVES = 100_000;
 
-    /** What of an earlier run is checked before it goes on. */
+    /** What is checked of an earlier run before it is resumed. */
     public enum Check {
         /** All segments are audited. */
         ALL,
-        /** The last segment alone is audited; of the others the names are looked at. */
+        /** The last segment alone is audited; of the others only the names are checked. */
         LAST
     }
 
-    /** How many receipts a part keeps, for each move, before it ends at rest. */
+    /** How many receipts for each move a part keeps before it ends at rest, by default. */
     private static final int RECEIPTS = 2;
-    /** The number of receipts where none is said. */
+    /** The number of receipts if none is passed. */
     private static final long UNSAID = Long.MIN_VALUE;
 
     private final RunAgent[] agents = new RunAgent[Storage.AGENTS];
@@ -73,12 +73,12 @@ public final class Run implements AutoCloseable {
     }
 
     /**
-     * A run with the opening state, whose values are such as {@link Value#of} takes, in a folder
-     * that isn't there yet, or is empty. That begins with a segment of no calls, so that the run may
-     * be resumed from then on. Each further part has 100,000 moves.
+     * Opens a run with the opening state, in a folder that is new or empty.
+     * The values are such as {@link Value#of} takes. The run begins with a segment of no calls, so
+     * that it may be resumed from then on. Each further part has 100,000 moves.
      *
-     * @throws UncheckedIOException if there is a run or anything else, if another run is made there,
-     *         or if the folder can't be written
+     * @throws UncheckedIOException if there is a run or anything else, if another run is made
+     *         there, or if the folder can't be written
      * @throws IllegalArgumentException as Value.of
      * @throws LargeException if the opening state is too long for a line
      */
@@ -86,23 +86,23 @@ public final class Run implements AutoCloseable {
         return open(init, path, MOVES);
     }
 
-    /** The same with so many moves in a part, 1 to 1,048,576. */
+    /** Opens such a run with so many moves in a part, 1 to 1,048,576. */
     public static Run open(Map<Location, ?> init, Path path, int moves) {
         return open(init, path, moves, UNSAID);
     }
 
     /**
-     * The same; a part with more receipts than this ends before it is full, once no agent is in a
-     * step, while all that begin one wait for that, a tenth of a second at most. Each answered call
-     * has a receipt, which takes memory and a line of the journal: a move, a stale try, and what a
-     * commit records. Where it isn't said, it is twice the number of moves, or four times that of a
-     * run that records.
+     * Opens such a run with a limit of the receipts in a part.
+     * A part with more receipts ends before it is full, once no agent is in a step. All that begin
+     * a step wait for that, a tenth of a second at most. Each answered call has a receipt, which
+     * takes memory and a line of the journal: a move, a stale try, and what a commit records. By
+     * default the limit is twice the number of moves, or four times that of a run that records.
      */
     public static Run open(Map<Location, ?> init, Path path, int moves, long receipts) {
         return open(JsonWriter.state(init, "init"), path, moves, receipts);
     }
 
-    /** The same of an opening state [PAIR, ..]. */
+    /** Opens such a run with an opening state [PAIR, ..]. */
     public static Run open(String init, Path path, int moves, long receipts) {
         Objects.requireNonNull(path, "path");
         Storage storage = new Storage(init, moves);
@@ -121,31 +121,30 @@ public final class Run implements AutoCloseable {
     }
 
     /**
-     * The run of a folder, which goes on from what its last segment leaves, also where its process
-     * was killed. All segments are audited first. Nothing is changed or removed. A part has 100,000
-     * moves.
+     * Resumes a folder's run after its last segment, also if its process was killed.
+     * All segments are audited first. Nothing is changed or removed. A part has 100,000 moves.
      *
      * @throws DamagedException if a segment is missing, or isn't the one that was saved
      * @throws AuditException if a segment isn't legal
      * @throws UncheckedIOException if there is no run, if it can't be read or written, if another
      *         run of this or another process is at work there, or if it is one file, as version 0.2
-     *         wrote runs
+     *         wrote
      */
     public static Run resume(Path path) {
         return resume(path, MOVES);
     }
 
-    /** The same, which audits no more than is said. */
+    /** Resumes such a run, and audits no more than the check says. */
     public static Run resume(Path path, Check check) {
         return resume(path, MOVES, UNSAID, check);
     }
 
-    /** The same with so many moves in each further part. */
+    /** Resumes such a run with so many moves in each further part. */
     public static Run resume(Path path, int moves) {
         return resume(path, moves, UNSAID, Check.ALL);
     }
 
-    /** The same; a part ends at rest as that of {@link #open} does. */
+    /** Resumes such a run; a part ends at rest as that of {@link #open} does. */
     public static Run resume(Path path, int moves, long receipts, Check check) {
         Objects.requireNonNull(path, "path");
         Objects.requireNonNull(check, "check");
@@ -164,12 +163,12 @@ public final class Run implements AutoCloseable {
         }
     }
 
-    /** What an import has copied, and how many bytes of an incomplete last part it left out. */
+    /** How much an import copied, and how many bytes of an incomplete part it left out. */
     public record Imported(Auditor.Counts counts, long leftOut) {}
 
     /**
-     * Imports a run of version 0.2, which is one file, into a new folder, from which {@link #resume}
-     * goes on. The file isn't changed. The folder is there as a whole, or not at all.
+     * Imports a run of version 0.2, which is one file, into a new folder.
+     * {@link #resume} goes on from there. The file isn't changed. The folder is complete or absent.
      *
      * @throws AuditException if a part isn't legal, or none is complete
      * @throws UncheckedIOException if there is something at the folder's path; if a file can't be
@@ -202,11 +201,10 @@ public final class Run implements AutoCloseable {
     }
 
     /**
-     * An agent with this number, 0 to 255, which no open agent of the run has: once one is closed,
-     * another may have its number.
+     * Makes an agent of this number, 0 to 255, which no open agent of the run has.
      *
      * @throws IllegalArgumentException for another number
-     * @throws FolugbenException NUMBER if an open agent has it
+     * @throws FolugbenException NUMBER if an agent has it that isn't closed yet
      * @throws RunException if a part of the run couldn't be written
      */
     public RunAgent agent(int number) {
@@ -220,7 +218,7 @@ public final class Run implements AutoCloseable {
     }
 
     /**
-     * Has agents that are made from now on record, or not, as {@link Agent#record} does.
+     * Has agents made from now on record or not, as {@link Agent#record} does.
      *
      * @return this run
      */
@@ -230,8 +228,9 @@ public final class Run implements AutoCloseable {
     }
 
     /**
-     * Has each part end at rest so long after its first move, from now on; this run.
+     * Has each part end at rest so long after its first move, from now on.
      *
+     * @return this run
      * @throws IllegalArgumentException if the time isn't above 0
      */
     public Run every(Duration time) {
@@ -242,9 +241,9 @@ public final class Run implements AutoCloseable {
     }
 
     /**
-     * Saves all moves up to now: they are on the disk when this returns. It ends the part, which
-     * makes a segment, and waits for steps for a tenth of a second: one that lasts longer throws a
-     * {@link PartException}, and play begins again.
+     * Saves all moves up to now: they are on the disk when this returns.
+     * It ends the part, which makes a segment. It waits a tenth of a second for steps: one that
+     * lasts longer throws a {@link PartException}, and play begins again.
      *
      * @throws RunException if a part of the run couldn't be written
      */
@@ -261,23 +260,23 @@ public final class Run implements AutoCloseable {
         expectGoing();
     }
 
-    /** Its folder. */
+    /** Returns the path of its folder. */
     public Path path() {
         return folder;
     }
 
-    /** Such as the run in bank.run, 7 moves saved. */
+    /** Returns a text such as the run in bank.run, 7 moves saved. */
     @Override
     public String toString() {
         return "the run in " + folder + ", " + saved() + " moves saved" + (isGoing() ? "" : ", ended");
     }
 
-    /** How many parts are on the disk. */
+    /** Returns how many parts are on the disk. */
     public long parts() {
         return writer.parts();
     }
 
-    /** How many moves of the run are on the disk. */
+    /** Returns how many moves of the run are on the disk. */
     public long saved() {
         return writer.saved();
     }
@@ -299,7 +298,7 @@ public final class Run implements AutoCloseable {
         return newest;
     }
 
-    /** How many receipts a part keeps before it ends at rest. */
+    /** Returns how many receipts a part keeps before it ends at rest. */
     long receipts() {
         if (receipts != UNSAID)
             return receipts;
@@ -317,8 +316,9 @@ public final class Run implements AutoCloseable {
     }
 
     /**
-     * Waits until an agent may begin in the newest part. Where agents go on by turns, those in a
-     * step end it first, and none waits for a part to be written, so that a seed tells the order.
+     * Waits until an agent may begin in the newest part.
+     * If agents go on by turns, those in a step end it first, and none waits for a part to be
+     * written, so that the order depends on the seed alone.
      */
     void awaitPart() {
         while (Turns.isPlayed() && isGoing() && newest.isOver() && isAnyInStep())
@@ -340,14 +340,14 @@ public final class Run implements AutoCloseable {
         return false;
     }
 
-    /** Takes back what is out in the part, and not in a step, or too long in one, or all of it. */
+    /** Takes back agents of the part that are in no step, or too long in one, or all. */
     void takeBack(Part over, boolean isForced, boolean isLate) {
         for (RunAgent agent : agents())
             if (agent != null)
                 agent.takeBack(over, isForced, isLate);
     }
 
-    /** Releases what is out in the part. */
+    /** Releases the agents that are out in the part. */
     void drop(Part over) {
         for (RunAgent agent : agents())
             if (agent != null)
@@ -365,8 +365,8 @@ public final class Run implements AutoCloseable {
     }
 
     /**
-     * Takes back all agents, whose steps end, saves what was fired, and lets another run have the
-     * folder. It may be called again.
+     * Takes back all agents, saves the fired moves, and frees the folder.
+     * Steps that are under way end. It may be called again.
      *
      * @throws RunException if a part couldn't be written
      */
@@ -379,18 +379,18 @@ public final class Run implements AutoCloseable {
             throw new RunException(failure.part(), failure.getCause());
     }
 
-    /** What the agents of a run have of it: where they are, and whether it goes on. */
+    /** What the agents of a run know of it: where they are, and whether it goes on. */
     interface Chained {
-        /** Whether its agents have gone on to another part. */
+        /** Returns whether its agents have gone on to another part. */
         boolean isOver();
 
-        /** Tells that a step in it is over; with the lock of the step's agent. */
+        /** Notes that a step in it is over; with the lock of the step's agent. */
         void endStep();
 
         /** Throws what has ended the run. */
         void expectGoing();
 
-        /** How many moves of the run come before its own. */
+        /** Returns how many moves of the run come before its own. */
         long before();
     }
 }

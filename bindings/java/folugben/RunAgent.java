@@ -4,23 +4,24 @@ import java.util.List;
 import java.util.function.Function;
 
 /**
- * An agent of a {@link Run}, which goes on by itself from part to part. Any thread may call it;
- * have no two steps of one agent under way at once, as the first ends where the second goes on in
- * the next part. Within a step, wait for no other agent.
+ * An agent of a {@link Run}, which moves on by itself from part to part.
+ *
+ * <p>Any thread may call it. Have no two steps of one agent under way at once, as the first ends
+ * when the second begins in the next part. Within a step, wait for no other agent.
  */
 public final class RunAgent implements Actor {
     private final Run run;
     private final int number;
 
-    /** The lock of all below, which is taken before that of a part. No thread that has it waits. */
+    /** The lock of all below, taken before a part's. No thread that has it waits. */
     private final Object lock = new Object();
-    /** The agent that is out in a part; null where none is. */
+    /** The agent that is out in a part; null if none is. */
     private Agent own;
     private Part part;
-    /** How many of its vain calls the part was told. */
+    /** How many of its vain calls were reported to the part. */
     private int vain;
     private long won;
-    /** Whether its last step is by turns, in which time has no part. */
+    /** Whether its last step is by turns, so that no time limit applies to it. */
     private boolean isByTurns;
     private boolean isRecording;
     private boolean isClosed;
@@ -31,18 +32,19 @@ public final class RunAgent implements Actor {
         this.isRecording = isRecording;
     }
 
-    /** Its number among the agents of the run. */
+    /** Returns its number among the agents of the run. */
     @Override
     public int number() {
         return number;
     }
 
     /**
-     * Begins a step on all moves that are found, in the part that isn't over. A fire that finds the
-     * part full by then replies FULL, which asks to begin another step ({@link
-     * Agent.Reply#shouldRetry}), and which fire throws as a {@link PartException}. So do the
-     * step's other calls, once the part has been full, or has had too many receipts, for a tenth
-     * of a second.
+     * Polls, and begins a step in the part that isn't over.
+     *
+     * <p>A fire that finds the part full by then replies FULL, which asks to begin another step
+     * ({@link Agent.Reply#shouldRetry}), and which fire throws as a {@link PartException}. The
+     * step's other calls throw it too, once the part has been full, or has had too many receipts,
+     * for a tenth of a second.
      *
      * @throws RunException if a part of the run couldn't be written
      */
@@ -62,7 +64,7 @@ public final class RunAgent implements Actor {
     }
 
     /**
-     * Has each commit of a step record what the step read, or not, as {@link Agent#record} does.
+     * Has each commit of a step record its reads or not, as {@link Agent#record} does.
      *
      * <p>A commit then has two receipts, which both count for the end of a part.
      *
@@ -78,8 +80,9 @@ public final class RunAgent implements Actor {
     }
 
     /**
-     * The values of the locations, any number of them, as they are after all moves that are found.
-     * No receipt is made: a look isn't in the journal.
+     * Polls, and returns the values of the locations, any number of them.
+     *
+     * <p>It makes no receipt: a peek isn't in the journal.
      */
     @Override
     public Reading peek(List<Location> locations) {
@@ -91,7 +94,7 @@ public final class RunAgent implements Actor {
         });
     }
 
-    /** All locations that aren't empty with their values, as peek tells some. */
+    /** Polls, and returns all locations that aren't empty with their values. */
     @Override
     public State state() {
         Turns.Player.call(this);
@@ -101,7 +104,7 @@ public final class RunAgent implements Actor {
         });
     }
 
-    /** The same of the locations of one function name alone. */
+    /** Polls, and returns the locations of one function with their values. */
     @Override
     public State scan(String name) {
         Turns.Player.call(this);
@@ -116,11 +119,13 @@ public final class RunAgent implements Actor {
     }
 
     /**
-     * Fires the instructions, at most 4,096, which rest on the reads, at most 256, with the numbers
-     * of the moves that they were read after; the number of the move.
+     * Fires the instructions, at most 4,096, and returns the number of the move.
      *
-     * @throws FolugbenException as a {@link PartException} where something was read in a part that
-     *         is over: read again; as a {@link StaleException}, {@link BusyException} or {@link
+     * <p>They depend on the reads, at most 256, each with the number of moves after which it was
+     * read.
+     *
+     * @throws FolugbenException as a {@link PartException} if something was read in a part that is
+     *         over: read again; as a {@link StaleException}, {@link BusyException} or {@link
      *         ClashException}; as a {@link ManyException}; AHEAD if a number is above that of the
      *         moves that the agent has seen
      * @throws LargeException if the move's line would be longer than an audit reads
@@ -143,7 +148,7 @@ public final class RunAgent implements Actor {
         });
     }
 
-    /** What a fire names in the part that it is in, with the lock. */
+    /** Returns the reads as a fire names them in the part that it is in; with the lock. */
     private List<Named> named(List<Named> reads) {
         long before = part.before();
         long seen = before + own.seen();
@@ -157,8 +162,9 @@ public final class RunAgent implements Actor {
     }
 
     /**
-     * What is done with an agent that is out in a part which isn't over. Where it answers null, the
-     * part is over by then, and it is done in the next one.
+     * Does the work with an agent that is out in a part which isn't over.
+     *
+     * <p>If the work returns null, the part is over by then, and the work is done in the next one.
      */
     private <T> T whereOpen(Function<Agent, T> work) {
         while (true) {
@@ -174,7 +180,11 @@ public final class RunAgent implements Actor {
         }
     }
 
-    /** Whether an agent is out in a part that isn't over; one of a part that is over comes back. */
+    /**
+     * Returns whether an agent is out in a part that isn't over.
+     *
+     * <p>One of a part that is over comes back first, and one of the newest part is checked out.
+     */
     private boolean isOut() {
         run.expectGoing();
         if (isClosed)
@@ -204,7 +214,7 @@ public final class RunAgent implements Actor {
         vain = all;
     }
 
-    /** Gives the agent back that is out, if one is. */
+    /** Returns the agent that is out to its part, if one is. */
     private void putBack() {
         if (own == null)
             return;
@@ -216,10 +226,7 @@ public final class RunAgent implements Actor {
         part.back(number);
     }
 
-    /**
-     * Gives the agent back that is out in the part, if it isn't in a step, or is too long in one, or
-     * in any case.
-     */
+    /** Returns it to the part, if it is in no step, too long in one, or if forced. */
     void takeBack(Part over, boolean isForced, boolean isLate) {
         synchronized (lock) {
             if (own != null && part == over
@@ -228,7 +235,7 @@ public final class RunAgent implements Actor {
         }
     }
 
-    /** Releases the agent that is out in the part, of which nothing is written any more. */
+    /** Releases the agent that is out in the part, which isn't written any more. */
     void drop(Part over) {
         synchronized (lock) {
             if (own == null || part != over)
@@ -239,14 +246,14 @@ public final class RunAgent implements Actor {
         }
     }
 
-    /** Whether it is in a step. */
+    /** Returns whether it is in a step. */
     boolean isInStep() {
         synchronized (lock) {
             return own != null && own.isInStep();
         }
     }
 
-    /** How many moves it fired, in all parts since it was made. */
+    /** Returns how many moves it fired, in all parts since it was made. */
     @Override
     public long won() {
         synchronized (lock) {
@@ -254,7 +261,11 @@ public final class RunAgent implements Actor {
         }
     }
 
-    /** Looks on; how many moves of all parts it has then seen, of this run and those it resumes. */
+    /**
+     * Polls, and returns how many moves of all parts it has then seen.
+     *
+     * <p>Those are the parts of this run and of those that it resumes.
+     */
     @Override
     public long follow() {
         Turns.Player.call(this);
@@ -266,7 +277,7 @@ public final class RunAgent implements Actor {
         return whereOpen(agent -> part.before() + agent.seen());
     }
 
-    /** Such as agent 3 of the run in bank.run, 7 moves saved. */
+    /** Returns a text such as agent 3 of the run in bank.run, 7 moves saved. */
     @Override
     public String toString() {
         return "agent " + number + " of " + run + (isClosed() ? ", closed" : "");
@@ -279,8 +290,10 @@ public final class RunAgent implements Actor {
     }
 
     /**
-     * Releases the agent <b>without</b> giving it back. Where it fired a move in the part that it is
-     * in, that part can't be written, which ends the run.
+     * Releases the agent <b>without</b> returning it to its part.
+     *
+     * <p>If it fired a move in the part that it is in, that part can't be written, which ends the
+     * run.
      */
     public void abandon() {
         synchronized (lock) {
@@ -294,7 +307,7 @@ public final class RunAgent implements Actor {
         }
     }
 
-    /** Gives it back to the run; it may be called again. A step that is under way ends. */
+    /** Returns it to the run; it may be called again. A step that is under way ends. */
     @Override
     public void close() {
         synchronized (lock) {

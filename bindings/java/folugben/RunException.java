@@ -1,9 +1,10 @@
 package folugben;
 
 /**
- * A part of a run can't be written, which ends the run: its journal lacks a move, as an agent was
- * abandoned that fired it, or its segment can't be saved, as where a disk is full. The cause says
- * which. The folder has the parts before it, whole.
+ * Reports that a part of a run can't be written, which ends the run.
+ *
+ * <p>The journal lacks a move, as an agent was abandoned that fired it, or the segment can't be
+ * saved, as if a disk is full. The cause says which. The folder has the complete parts before it.
  */
 public final class RunException extends RuntimeException {
     private static final long serialVersionUID = 1;
@@ -16,7 +17,7 @@ public final class RunException extends RuntimeException {
         this.part = part;
     }
 
-    /** The number of the part, from 0: so many parts are on the disk. */
+    /** Returns the number of the part, from 0: so many parts are on the disk. */
     public long part() {
         return part;
     }

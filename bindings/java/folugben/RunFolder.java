@@ -21,8 +21,10 @@ import java.util.Set;
 import java.util.stream.Stream;
 
 /**
- * The folder of a run, to which this run alone writes: one text file a segment, whose names hold a
- * chain of digests. No file with a segment's name is truncated, removed or changed.
+ * The folder of a run, to which this run alone writes: one text file a segment.
+ *
+ * <p>The files' names hold a chain of digests. No file with a segment's name is truncated, removed
+ * or changed.
  */
 final class RunFolder implements AutoCloseable {
     private static final String NEW = "new";
@@ -56,7 +58,7 @@ final class RunFolder implements AutoCloseable {
         }
     }
 
-    /** A folder with an opening segment; the path leads to an empty one or to nothing. */
+    /** Makes a folder with an opening segment; the path leads to an empty one or to nothing. */
     static RunFolder create(Path path, ByteBuffer opening) throws IOException {
         Path real = real(path);
         try {
@@ -76,7 +78,7 @@ final class RunFolder implements AutoCloseable {
         }
     }
 
-    /** The folder of an earlier run, of which no text is read. */
+    /** Opens the folder of an earlier run; reads no text. */
     static RunFolder reopen(Path path) throws IOException {
         Path real = real(path);
         Segment.of(real); // nothing is created in a folder without a run
@@ -93,7 +95,7 @@ final class RunFolder implements AutoCloseable {
         }
     }
 
-    /** Where the path of a run's folder leads to, be it there or not. */
+    /** Returns where the path of a run's folder leads to, if it exists or not. */
     private static Path real(Path path) throws IOException {
         if (Files.isRegularFile(path))
             throw new FileSystemException(path.toString(), null,
@@ -102,7 +104,7 @@ final class RunFolder implements AutoCloseable {
         return reached(path);
     }
 
-    /** Where a path leads to, be it there or not. */
+    /** Returns where a path leads to, if it exists or not. */
     static Path reached(Path path) throws IOException {
         if (Files.exists(path))
             return path.toRealPath();
@@ -143,7 +145,7 @@ final class RunFolder implements AutoCloseable {
         return path;
     }
 
-    /** The last segment. */
+    /** Returns the last segment. */
     Segment last() {
         return last;
     }
@@ -183,7 +185,7 @@ final class RunFolder implements AutoCloseable {
         }
     }
 
-    /** Expects that the path leads to this folder, with the lock and the last segment. */
+    /** Throws if the path doesn't lead to this folder, with the lock and the last segment. */
     private void expectThere() throws IOException {
         long next = last.number() + 1;
         try {
@@ -210,12 +212,13 @@ final class RunFolder implements AutoCloseable {
     }
 
     /**
-     * The lock that a run has on its folder, by the system's flock of a file in it, as the runs of other
-     * languages have it. It lasts until it is closed or the process ends; Java's own lock of a file
-     * would end as the process closes the file anywhere else.
+     * The lock that a run has on its folder, by the system's flock of a file in it.
+     *
+     * <p>The runs of other languages have the same lock. It lasts until it is closed or the process
+     * ends. Java's own lock of a file would end when the process closes the file anywhere else.
      */
     static final class FileGuard implements AutoCloseable {
-        /** How files are made, which their owner alone reads and writes. */
+        /** The attributes of new files, which their owner alone reads and writes. */
         static final FileAttribute<?> OWN =
                 PosixFilePermissions.asFileAttribute(PosixFilePermissions.fromString("rw-------"));
 
@@ -226,10 +229,10 @@ final class RunFolder implements AutoCloseable {
         private int descriptor;
 
         /**
-         * Takes the lock, and makes its file where there is none.
+         * Takes the lock, and makes its file if there is none.
          *
-         * @throws IOException if another run has it, of this process or another one, or the file can't
-         *         be opened
+         * @throws IOException if another run has it, of this process or another one, or the file
+         *         can't be opened
          */
         FileGuard(Path path) throws IOException {
             this.path = path;
@@ -256,7 +259,7 @@ final class RunFolder implements AutoCloseable {
                     : Posix.fault(path, "locked", number);
         }
 
-        /** What tells the locked file from all others. */
+        /** Returns the identity of the locked file. */
         Object key() {
             return key;
         }

@@ -26,7 +26,7 @@ final class RunImport implements AutoCloseable {
         this.made = made;
     }
 
-    /** Imports it; what is complete, and how many bytes of an incomplete last part were left out. */
+    /** Imports it; returns how much is complete, and the left-out bytes of the last part. */
     static Run.Imported run(Path file, Path folder) throws IOException {
         Path path = RunFolder.reached(folder);
         if (Files.exists(path))
@@ -79,7 +79,7 @@ final class RunImport implements AutoCloseable {
         auditor.end();
     }
 
-    /** A line with its line feed; empty at the end. */
+    /** Returns a line with its line feed; empty at the end. */
     private static byte[] line(InputStream in) throws IOException {
         ByteArrayOutputStream line = new ByteArrayOutputStream();
         for (int next; (next = in.read()) >= 0;) {
@@ -100,7 +100,7 @@ final class RunImport implements AutoCloseable {
         complete += text.length;
     }
 
-    /** The journal without a call that opens as this one does. */
+    /** Returns the journal without a call that opens as this one does. */
     private static ByteBuffer opening(byte[] text) {
         String header = new String(Texts.line(text, 1), StandardCharsets.UTF_8);
         JsonReader.Header told = JsonReader.header(header);
@@ -112,7 +112,7 @@ final class RunImport implements AutoCloseable {
         }
     }
 
-    /** Whether a line behind the first one that isn't complete begins as the header of a part. */
+    /** Returns whether a line after the first incomplete one begins as a part's header. */
     private boolean hasHeaderBehind(Path file) throws IOException {
         byte[] header = "{\"agents\":".getBytes(StandardCharsets.US_ASCII);
         try (InputStream in = new BufferedInputStream(Files.newInputStream(file), 1 << 16)) {

@@ -3,12 +3,13 @@ package folugben;
 import java.util.Objects;
 
 /**
- * A function's name with the number of moves after which all its locations were looked at, those
- * that have a value and those that have none: a move that rests on it is fired only if none of them
- * was written since.
+ * A function's name with the number of moves after which it was scanned.
+ *
+ * <p>A scan covers all its locations, with and without a value. A move that depends on it is fired
+ * only if none of them was written since.
  */
 public record Scanned(String name, long number) {
-    /** Both, if the number is 0 or more. */
+    /** Takes both, if the number is 0 or more. */
     public Scanned {
         Objects.requireNonNull(name, "name");
         if (number < 0)

@@ -13,16 +13,18 @@ import java.util.Set;
 import java.util.function.Supplier;
 
 /**
- * One schedule of a search by dynamic partial-order reduction with source sets and sleep sets: the
- * agents of a plan go on first, and then whoever was at work, unless it is asleep.
+ * One schedule of a search by dynamic partial-order reduction.
  *
- * <p>Two events of two agents depend on each other where one writes what the other reads or writes.
+ * <p>The search uses source sets and sleep sets. The agents of a plan go on first, and then whoever
+ * was at work, unless it is asleep.
+ *
+ * <p>Two events of two agents depend on each other if one writes what the other reads or writes.
  * Schedules in which dependent events have the same order lead to the same answers and states, so
  * one of them is played. What one shows in the order of two dependent events is tried the other way
  * round, unless that was or will be tried elsewhere.
  */
 final class Schedule {
-    /** After so many looks without a move an agent lets others go on. */
+    /** After so many polls without a move an agent lets others go on. */
     private static final int VAIN = 4;
 
     private final Tree tree;
@@ -43,32 +45,36 @@ final class Schedule {
     private List<Throwable> faults = List.of();
     private final String journal;
 
-    /** A look or a fire of an agent, with its further calls up to the next one; the bits of
-     * `before` are the events that come before it in each schedule with the same answers. */
+    /**
+     * A poll or a fire of an agent, with its further calls up to the next one.
+     *
+     * <p>The bits of `before` are the events that come before it in each schedule with the same
+     * answers.
+     */
     record Event(int agent, Noted.Footprint footprint, int calls, boolean isMove, BitSet before) {}
 
-    /** The number of an event before which an agent is to be tried, and that agent. */
+    /** The number of an event before which an agent must be tried, and that agent. */
     private record Reversal(int at, int agent) {}
 
-    /** What is to be tried: how many turns come before, and which agents go on. */
+    /** What must be tried: how many turns come before, and which agents go on. */
     record Plan(int length, List<Integer> agents) {}
 
-    /** What an agent did at a node, the footprint of that, and the node behind it. */
+    /** What an agent did at a node, its footprint, and the node after it. */
     private record After(String key, Noted.Footprint did, Noted.Footprint footprint, Node node) {}
 
-    /** A state of the search, behind some events. */
+    /** A state of the search, after some events. */
     private static final class Node {
-        /** Agents whose next event, which has this footprint, is tried elsewhere where it is first. */
+        /** Agents whose next event, which has this footprint, is tried first elsewhere. */
         private final Map<Integer, Noted.Footprint> asleep;
         private final Map<Integer, After> after = new LinkedHashMap<>();
-        /** Which agents were chosen, or are to be. */
+        /** Which agents were chosen, or must be. */
         private final Set<Integer> chosen = new HashSet<>();
 
         Node(Map<Integer, Noted.Footprint> asleep) {
             this.asleep = asleep;
         }
 
-        /** The node behind the last event of a player. */
+        /** Returns the node after the last event of a player. */
         Node follow(Noted player, Noted.Footprint footprint) {
             After there = after.get(player.number());
             if (there != null) {
@@ -87,9 +93,11 @@ final class Schedule {
     }
 
     /**
-     * What a search knows. What an event reads may depend on what it has read before, so its
-     * footprint has all that the events of its agent have read which were told the same before.
-     * Where that grows, the search begins again with it.
+     * What a search knows.
+     *
+     * <p>What an event reads may depend on what it has read before. So its footprint has all reads
+     * of those events of its agent that had the same answers before. If that grows, the search
+     * begins again with it.
      */
     static final class Tree {
         private record Key(int agent, String told) {}
@@ -176,7 +184,7 @@ final class Schedule {
         return events;
     }
 
-    /** What the works have thrown, each at its place, null where one has thrown nothing. */
+    /** Returns what the works have thrown, each at its place, or null there. */
     List<Throwable> faults() {
         return faults;
     }
@@ -206,7 +214,11 @@ final class Schedule {
         return last;
     }
 
-    /** Whoever was at work; but one who has only looked for a while may wait for another one. */
+    /**
+     * Returns whoever was at work, or another if that one has only polled for a while.
+     *
+     * <p>It may wait for another one.
+     */
     private int usual(List<Integer> awake) {
         int place = awake.indexOf(last);
         if (place < 0)
@@ -250,7 +262,7 @@ final class Schedule {
         before.set(at);
     }
 
-    /** Has an event, with what is behind and doesn't depend on it, tried before another one. */
+    /** Has an event, with what follows it and doesn't depend on it, tried before another one. */
     private void reverse(int at, int now) {
         BitSet window = new BitSet();
         Map<Integer, Integer> firsts = new LinkedHashMap<>();
@@ -272,7 +284,7 @@ final class Schedule {
         }
     }
 
-    /** What is to be tried besides. */
+    /** Returns the plans that must be tried besides. */
     List<Plan> plans() {
         List<Plan> plans = new ArrayList<>();
         for (Reversal it : reversals) {
@@ -304,7 +316,7 @@ final class Schedule {
                 if (left.get(it) > 0)
                     alive.add(it);
             turns.add(alive.indexOf(agent));
-            // Behind the end of a list whoever was at work goes on, or else the first.
+            // After the end of a list whoever was at work goes on, or else the first.
             if (agent != (alive.contains(before) ? before : alive.get(0)))
                 forced = turns.size();
             left.set(agent, left.get(agent) - 1);

@@ -21,8 +21,10 @@ import java.util.regex.Pattern;
 import java.util.stream.Stream;
 
 /**
- * A complete segment of a run, which is a file of its folder. {@code first} is the number of moves
- * before it, {@code digest} that of the chain up to its end.
+ * A complete segment of a run, which is a file of its folder.
+ *
+ * <p>{@code first} is the number of moves before it, {@code digest} that of the chain up to its
+ * end.
  */
 record Segment(long number, long first, long moves, long events, String digest) {
     /** The end of a run that has no segment yet. */
@@ -38,22 +40,22 @@ record Segment(long number, long first, long moves, long events, String digest) 
         void take(byte[] piece, int length);
     }
 
-    /** What gives its text, piece by piece. */
+    /** Writes its text to a sink, piece by piece. */
     interface Source {
         void give(Sink sink) throws IOException;
     }
 
-    /** The name of its file. */
+    /** Returns the name of its file. */
     String name() {
         return String.format(Locale.ROOT, "%08d-%d-%d-%s%s", number, moves, events, digest, SUFFIX);
     }
 
-    /** The number of moves up to its end. */
+    /** Returns the number of moves up to its end. */
     long end() {
         return first + moves;
     }
 
-    /** The segment that comes next, with this text. */
+    /** Returns the next segment, with this text. */
     Segment following(long moves, long events, ByteBuffer text) {
         Segment bare = new Segment(number + 1, end(), moves, events, "");
         MessageDigest all = bare.begun(digest, text.remaining());
@@ -61,7 +63,7 @@ record Segment(long number, long first, long moves, long events, String digest) 
         return new Segment(bare.number, bare.first, moves, events, hex(all));
     }
 
-    /** The digest of all that comes before its text. */
+    /** Returns the digest of all that comes before its text. */
     MessageDigest begun(String previous, long length) {
         String line = previous + " " + number + " " + first + " " + moves + " " + events + " " + length;
         try {
@@ -78,7 +80,7 @@ record Segment(long number, long first, long moves, long events, String digest) 
     }
 
     /**
-     * The segments that are in the folder now, of which no text is read.
+     * Returns the segments that are in the folder now; reads no text.
      *
      * @throws NoSuchFileException if there is none
      * @throws DamagedException if the names aren't those of a run
@@ -96,7 +98,7 @@ record Segment(long number, long first, long moves, long events, String digest) 
         return segments;
     }
 
-    /** The segment behind this one, whose file has the name. */
+    /** Returns the segment after this one, whose file has the name. */
     private Segment named(String name) {
         Matcher told = NAME.matcher(name);
         if (!told.matches())
@@ -114,7 +116,7 @@ record Segment(long number, long first, long moves, long events, String digest) 
     }
 
     /**
-     * Audits the segment, which stands in the folder behind another one.
+     * Audits the segment, which is in the folder after another one.
      *
      * @throws DamagedException if its text isn't the one that was saved
      * @throws AuditException if its text isn't legal
@@ -123,7 +125,7 @@ record Segment(long number, long first, long moves, long events, String digest) 
         audit(sink -> read(folder, before.digest, sink), auditor);
     }
 
-    /** The same of what a source gives, which checks the digest. */
+    /** Audits the text of a source, which checks the digest. */
     void audit(Source source, Auditor auditor) throws IOException {
         source.give((piece, length) -> {}); // the digest comes first
         Auditor.Counts all = auditor.counts();

@@ -7,14 +7,16 @@ import java.util.List;
 import java.util.Set;
 
 /**
- * An agent of a {@link SharedRun}. It begins its steps on a replica in its own process, so that to
- * get and to push takes no round trip. A fire waits for the database.
+ * An agent of a {@link SharedRun}.
+ *
+ * <p>It begins its steps on a replica in its own process, so that to get and to push takes no round
+ * trip. A fire waits for the database.
  */
 public final class SharedAgent implements Actor {
     private final SharedRun run;
     private final SharedWorker worker;
     private final int own;
-    /** What its agents in segments have of it. */
+    /** What its agents in segments know of it. */
     private final Run.Chained chain = new Chain();
 
     /** The lock of all below. */
@@ -74,7 +76,7 @@ public final class SharedAgent implements Actor {
         }
     }
 
-    /** Gives its agent in a segment back, with the lock. */
+    /** Returns its agent in a segment to the worker, with the lock. */
     private void leave() {
         if (agent != null)
             worker.leave(era, agent);
@@ -88,8 +90,9 @@ public final class SharedAgent implements Actor {
     }
 
     /**
-     * Begins a step on the state of this process's replica. Its fire returns once the move is
-     * durable in the log.
+     * Begins a step on the state of this process's replica.
+     *
+     * <p>Its fire returns once the move is durable in the log.
      */
     @Override
     public Step step() {
@@ -101,7 +104,7 @@ public final class SharedAgent implements Actor {
         });
     }
 
-    /** Appends what a step offers to the log; what it came to. */
+    /** Appends the pending move of a step to the log; returns the outcome. */
     Reply fire(Replica.Era era, String call, String scans) {
         Reply reply = worker.answer(era.number, own, call, scans);
         if (reply.isFired())
@@ -124,7 +127,7 @@ public final class SharedAgent implements Actor {
         return now((agent, era) -> agent.peek(locations).plus(era.base));
     }
 
-    /** The value of a prepared location in its own state. */
+    /** Returns the value of a prepared location in its own state. */
     public Peeked peek(PreparedLocation location) {
         return now((agent, era) -> {
             Peeked own = agent.peek(location);
@@ -158,7 +161,7 @@ public final class SharedAgent implements Actor {
         }
     }
 
-    /** Gives it back: its number is free then. It may be called again. */
+    /** Closes it: its number is free then. It may be called again. */
     @Override
     public void close() {
         synchronized (lock) {
@@ -211,7 +214,7 @@ public final class SharedAgent implements Actor {
             return found;
         }
 
-        /** The scans that its fire rests on. */
+        /** Returns the scans that its fire depends on. */
         private String scans() {
             synchronized (scanned) {
                 return JsonWriter.scans(scanned.stream().map(it -> new Scanned(it, own())).toList());
@@ -219,7 +222,7 @@ public final class SharedAgent implements Actor {
         }
 
         /**
-         * The same. It returns once the answer is durable.
+         * Commits as a step of a storage does; returns once the answer is durable.
          *
          * @throws LargeException if the move's line would be longer than an audit reads
          * @throws RunException if the run has ended: whether the move was fired may not be known

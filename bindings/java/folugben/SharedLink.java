@@ -8,8 +8,9 @@ import java.util.concurrent.TimeUnit;
 import java.util.concurrent.locks.ReentrantLock;
 
 /**
- * The connection of a process to the log of a shared run, which is made again where it is lost. One
- * thread at a time uses it.
+ * The connection of a process to the log of a shared run.
+ *
+ * <p>If it is lost, it is made again. One thread at a time uses it.
  */
 final class SharedLink {
     /** How long it tries to reach a server again. */
@@ -35,7 +36,7 @@ final class SharedLink {
         return log.target();
     }
 
-    /** Does what may be done again, over a new connection where one is lost. */
+    /** Does what may be done again, over a new connection if one is lost. */
     <T> T reach(Work<T> work) throws IOException {
         lock.lock();
         try {
@@ -50,7 +51,7 @@ final class SharedLink {
         }
     }
 
-    /** Takes an agent's number; whether no other process has it. */
+    /** Takes an agent's number; returns whether no other process has it. */
     boolean hold(int agent) throws IOException {
         return reach(log -> {
             if (isClosed)
@@ -62,7 +63,7 @@ final class SharedLink {
         });
     }
 
-    /** Lets others have it. */
+    /** Frees the number for others. */
     void let(int agent) throws IOException {
         reach(log -> {
             held.remove(agent);
@@ -90,12 +91,12 @@ final class SharedLink {
             }
     }
 
-    /** Appends calls and reads those behind a place; what was sent and may be there is told. */
+    /** Appends calls and reads those after a place; is notified of what may be there. */
     interface Exchange {
-        /** The calls that are sent now. */
+        /** Returns the calls that are sent now. */
         List<SharedLog.Call> calls();
 
-        /** They may be in the log from now on. */
+        /** Notes that they may be in the log from now on. */
         void sent();
     }
 

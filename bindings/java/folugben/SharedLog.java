@@ -13,18 +13,19 @@ import java.util.zip.Deflater;
 import java.util.zip.Inflater;
 
 /**
- * The log of a shared run, over one connection: fire calls in one order, and the segments that they
- * have made, under the chain of digests.
+ * The log of a shared run, over one connection.
+ *
+ * <p>It has fire calls in one order, and the segments made of them, under the chain of digests.
  */
 final class SharedLog {
-    /** How many calls are appended by one transaction, and read at once. */
+    /** How many calls one transaction appends, and one read returns. */
     static final int BATCH = 500;
     static final int READ = 5_000;
 
     private static final int FORMAT = 1;
     /** Text is compressed in pieces of so many bytes, each by itself. */
     private static final int PIECE = 1 << 20;
-    /** The calls of how many saved segments stay in the log, for a process that is behind. */
+    /** How many saved segments keep their calls in the log, for a slow process. */
     private static final int KEPT = 2;
     private static final String TABLES = """
             create table run(one integer primary key check (one = 1), format integer not null,
@@ -40,8 +41,9 @@ final class SharedLog {
     private static final String SEGMENT = "select number, first_move, moves, events, digest from segment";
 
     /**
-     * A fire call: whose it is, and in which segment its step began, by whose numbers it names what
-     * it rests on.
+     * A fire call: whose it is, and in which segment its step began.
+     *
+     * <p>It names what it depends on by that segment's numbers.
      */
     record Call(byte[] token, long segment, int agent, String call, String scans) {
         private Object[] row() {
@@ -55,7 +57,7 @@ final class SharedLog {
     /** A segment, the one before it, and the place at which it ended. */
     record Ended(Segment segment, Segment before, long place) {}
 
-    /** What makes the opening journal for so many moves. */
+    /** Makes the opening journal for so many moves. */
     interface Opening {
         byte[] journal(int moves);
     }
@@ -75,10 +77,11 @@ final class SharedLog {
     }
 
     /**
-     * Opens a run to write, or makes it where an opening is told.
+     * Opens a run to write, or makes it if an opening is passed.
      *
      * @throws NoSuchFileException if there is no run
-     * @throws MismatchException if the run has another opening state, or was made by another version
+     * @throws MismatchException if the run has another opening state, or was made by another
+     *         version
      */
     static SharedLog open(String target, Opening opening, int moves) throws IOException {
         SharedLog log = new SharedLog(target, Database.connect(target, true, opening != null));
@@ -151,7 +154,7 @@ final class SharedLog {
         return target;
     }
 
-    /** The most moves of a segment. */
+    /** Returns the most moves of a segment. */
     int moves() {
         return moves;
     }
@@ -171,8 +174,9 @@ final class SharedLog {
     }
 
     /**
-     * Appends calls at the next places, except those whose token is there; those behind a place,
-     * which are durable.
+     * Appends calls, except those whose token is there, and reads those after a place.
+     *
+     * <p>Each is appended at the next place. The returned calls are durable.
      *
      * @throws BehindException if the log doesn't have the next one any more
      */
@@ -206,8 +210,9 @@ final class SharedLog {
     }
 
     /**
-     * Saves a segment that ended at a place, unless another process has, and drops calls that nobody
-     * needs.
+     * Saves a segment that ended at a place, unless another process has.
+     *
+     * <p>It drops calls that nobody needs.
      *
      * @throws DamagedException if another process has saved another one
      */
@@ -247,11 +252,11 @@ final class SharedLog {
         return all.toByteArray();
     }
 
-    /** The bytes of a piece; none where they are damaged. */
+    /** Returns the bytes of a piece; none if they are damaged. */
     private static byte[] decompressed(byte[] data) {
         Inflater inflater = new Inflater();
         inflater.setInput(data);
-        byte[] piece = new byte[PIECE + 1]; // its end is seen only where there is room left
+        byte[] piece = new byte[PIECE + 1]; // its end is seen only if there is room left
         try {
             int length = inflater.inflate(piece);
             return inflater.finished() ? Arrays.copyOf(piece, length) : new byte[0];
@@ -262,7 +267,7 @@ final class SharedLog {
         }
     }
 
-    /** The segments that are saved. */
+    /** Returns the segments that are saved. */
     List<Segment> segments() throws IOException {
         List<Segment> segments = new ArrayList<>();
         Segment last = Segment.START;
@@ -288,12 +293,12 @@ final class SharedLog {
         return segment(rows.get(0));
     }
 
-    /** The last segment. */
+    /** Returns the last segment. */
     Ended last() throws IOException {
         return ended(segment(asked("select max(number) from segment")));
     }
 
-    /** A segment with what is before it. */
+    /** Returns a segment with what is before it. */
     Ended ended(Segment segment) throws IOException {
         Segment before =
                 segment.number() == 0 ? Segment.START : segment(segment.number() - 1);
@@ -302,7 +307,7 @@ final class SharedLog {
     }
 
     /**
-     * Gives the text of a segment, piece by piece.
+     * Writes the text of a segment to the sink, piece by piece.
      *
      * @throws DamagedException if it isn't the one that was saved, at its end at the latest
      */

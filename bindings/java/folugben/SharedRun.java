@@ -9,8 +9,7 @@ import java.util.Map;
 import java.util.Objects;
 
 /**
- * A run whose moves are kept in a database, and whose agents may be in many processes, on many
- * machines.
+ * A run whose moves are kept in a database, for agents in many processes.
  *
  * <pre>{@code
  * try (SharedRun run = SharedRun.open(Map.of(Location.of("balance"), 0), "bank.db");
@@ -19,17 +18,18 @@ import java.util.Objects;
  * }
  * }</pre>
  *
- * <p>The target is a file of SQLite, for the processes of one machine, or postgresql://host/base,
- * for those of many; a name behind a # is the schema, one for each run. The JDBC driver is the
- * caller's. The first process opens the run, with its opening state and the number of moves of a
- * segment; others join it. Runs of the Python package are the same.
+ * <p>The processes may be on many machines. The target is a file of SQLite, for the processes of
+ * one machine, or postgresql://host/base, for those of many; a name after a # is the schema, one
+ * for each run. The JDBC driver is the caller's. The first process opens the run, with its opening
+ * state and the number of moves of a segment; others join it. Runs of the Python package are the
+ * same.
  *
  * <p>An answer is returned when its move is durable in the database. No answered move is lost or
  * done twice, whichever process, connection or server dies. All processes have the same states in
  * the same order. Call close().
  */
 public final class SharedRun implements AutoCloseable {
-    /** How many moves a segment has, where nothing else is said. */
+    /** The number of moves in a segment, by default. */
     public static final int MOVES = 10_000;
 
     private final String target;
@@ -42,8 +42,9 @@ public final class SharedRun implements AutoCloseable {
     }
 
     /**
-     * Opens the run, or joins it where it is there. The values of its opening state are such as
-     * {@link Value#of} takes.
+     * Opens the run, or joins it if it is there.
+     *
+     * <p>The values of its opening state are such as {@link Value#of} takes.
      *
      * @throws MismatchException if it has another opening state, or tables of another version
      * @throws DamagedException if there is something else than a run
@@ -56,12 +57,16 @@ public final class SharedRun implements AutoCloseable {
         return open(init, target, MOVES);
     }
 
-    /** The same; where it isn't there yet, a segment has so many moves, 1 to 1,048,576. */
+    /**
+     * Opens the run with so many moves in a segment, or joins it if it is there.
+     *
+     * <p>The number is 1 to 1,048,576; it has no effect on a run that is there.
+     */
     public static SharedRun open(Map<Location, ?> init, String target, int moves) {
         return open(JsonWriter.state(init, "init"), target, moves);
     }
 
-    /** The same of an opening state [PAIR, ..]. */
+    /** Opens or joins such a run with an opening state [PAIR, ..]. */
     public static SharedRun open(String init, String target, int moves) {
         Objects.requireNonNull(init, "init");
         Storage.expectCapacity(moves);
@@ -106,14 +111,15 @@ public final class SharedRun implements AutoCloseable {
         }
     }
 
-    /** Where it is kept. */
+    /** Returns its target. */
     public String target() {
         return target;
     }
 
     /**
-     * An agent with this number, 0 to 255, which no other one has, here or in another process that
-     * lives.
+     * Makes an agent with this number, 0 to 255.
+     *
+     * <p>No other agent has the number, here or in another process that lives.
      *
      * @throws FolugbenException NUMBER if it is in use
      * @throws RunException if the run has ended
@@ -130,7 +136,7 @@ public final class SharedRun implements AutoCloseable {
         }
     }
 
-    /** The number of moves by now, of all processes, and the state after them. */
+    /** Returns the number of moves by now, of all processes, and the state after them. */
     public Actor.State state() {
         worker.follow();
         return worker.state();
@@ -167,7 +173,7 @@ public final class SharedRun implements AutoCloseable {
         }
     }
 
-    /** Writes all that is in the log by now as one file, which {@link Auditor#audit} reads. */
+    /** Writes all of the log by now to one file, which {@link Auditor#audit} reads. */
     public static void save(String target, OutputStream out) {
         read(target, (log, segment, before) -> {
             log.text(segment, before.digest(), (piece, length) -> {}); // the digest comes first
@@ -191,7 +197,7 @@ public final class SharedRun implements AutoCloseable {
         void read(byte[] text);
     }
 
-    /** Reads all segments of a run, and the journals of what is behind the last one. */
+    /** Reads all segments of a run, and the journals of what is after the last one. */
     private static void read(String target, SegmentReader segments, TextReader rest) {
         reaching(() -> {
             SharedLog log = SharedLog.read(target(target));

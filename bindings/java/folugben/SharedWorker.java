@@ -13,18 +13,20 @@ import java.util.concurrent.locks.Condition;
 import java.util.concurrent.locks.ReentrantLock;
 
 /**
- * The thread of a shared run: it appends the calls of this process to the log, and applies the log
- * to the replica. An answer is returned once its call is durable in the log, and applied.
+ * The thread of a shared run, which appends this process's calls to the log.
+ *
+ * <p>It also applies the log to the replica. An answer is returned once its call is durable in the
+ * log, and applied.
  */
 final class SharedWorker {
-    /** How often it looks for calls of other processes, in ns. */
+    /** How often it polls for calls of other processes, in ns. */
     private static final long PAUSE = 10_000_000;
-    /** How long it waits for further calls at most, a quarter of what a transaction takes else. */
+    /** The longest wait for further calls, in ns; else a quarter of a transaction. */
     private static final long MOMENT = 2_000_000;
     private static final int TOKEN = 16;
     private static final SecureRandom RANDOM = new SecureRandom();
 
-    /** A call of an agent that waits for its answer; null is that its segment had ended. */
+    /** A call of an agent that waits for its answer. */
     private static final class Waiter {
         final SharedLog.Call call;
         final CompletableFuture<Replica.Answer> told = new CompletableFuture<>();
@@ -46,7 +48,7 @@ final class SharedWorker {
     private final ReentrantLock lock = new ReentrantLock();
     private final Condition changed = lock.newCondition();
     private volatile Replica replica;
-    /** Calls that are to be appended; those that may be in the log, by their tokens. */
+    /** Calls that must be appended; those that may be in the log, by their tokens. */
     private List<Waiter> waiting = new ArrayList<>();
     private final Map<ByteBuffer, Waiter> sent = new HashMap<>();
     /** How many calls are expected at once, as so many were answered last, and for how long. */
@@ -73,7 +75,7 @@ final class SharedWorker {
         thread.start();
     }
 
-    /** Expects that the run goes on. */
+    /** Throws if the run doesn't go on. */
     void expectGoing() {
         if (fault != null)
             throw broken();
@@ -89,9 +91,9 @@ final class SharedWorker {
         return replica.era();
     }
 
-    // What agents do.
+    // The calls of agents.
 
-    /** Appends a call; its reply, once it is durable. */
+    /** Appends a call; returns its reply, once it is durable. */
     Actor.Reply answer(long segment, int agent, String call, String scans) {
         byte[] token = new byte[TOKEN];
         RANDOM.nextBytes(token);
@@ -108,7 +110,11 @@ final class SharedWorker {
         return answer(waiter);
     }
 
-    /** Waits for it; an interruption is kept for later, as the call can't be taken back. */
+    /**
+     * Waits for the answer; an interruption is kept for later.
+     *
+     * <p>The call can't be taken back.
+     */
     private Actor.Reply answer(Waiter waiter) {
         Replica.Answer told;
         try {
@@ -140,7 +146,7 @@ final class SharedWorker {
         }
     }
 
-    /** An agent of the newest segment, to begin steps with, which the place is told. */
+    /** Returns an agent of the newest segment, which the place then has, to begin steps. */
     Agent come(Replica.Era[] place) {
         lock.lock();
         try {
@@ -151,7 +157,7 @@ final class SharedWorker {
         }
     }
 
-    /** Takes it back. */
+    /** Takes the agent back. */
     void leave(Replica.Era era, Agent agent) {
         lock.lock();
         try {
@@ -161,7 +167,7 @@ final class SharedWorker {
         }
     }
 
-    /** The number of moves that are applied, and the state after them. */
+    /** Returns the number of moves that are applied, and the state after them. */
     Actor.State state() {
         lock.lock();
         try {
@@ -172,7 +178,7 @@ final class SharedWorker {
         }
     }
 
-    /** The connection. */
+    /** Returns the connection. */
     SharedLink link() {
         return link;
     }
@@ -195,7 +201,7 @@ final class SharedWorker {
             throw broken();
     }
 
-    // What the thread does.
+    // The work of the thread.
 
     private void work() {
         try {
@@ -229,7 +235,7 @@ final class SharedWorker {
         try {
             changed.awaitNanos(most);
         } catch (InterruptedException woken) {
-            // Nobody interrupts this thread but to have it look again.
+            // Nobody interrupts this thread except to have it check again.
         }
     }
 
@@ -270,7 +276,7 @@ final class SharedWorker {
         }
     }
 
-    /** Applies calls to the replica. Agents are woken when all is done, as they'd only hinder it. */
+    /** Applies calls to the replica. Agents are woken after all, as they would slow it. */
     private void apply(List<SharedLog.Placed> placed) throws IOException {
         Map<Waiter, Replica.Answer> answered = new HashMap<>();
         try {
@@ -304,7 +310,7 @@ final class SharedWorker {
     private List<SharedLog.Placed> exchange(List<Waiter> first)
             throws IOException, SharedLog.BehindException {
         return link.exchange(new SharedLink.Exchange() {
-            /** At first those that are new, and over another connection all that may be there. */
+            /** First the new ones; over another connection all calls that may be there. */
             private List<Waiter> batch = first;
 
             @Override
@@ -327,14 +333,14 @@ final class SharedWorker {
         });
     }
 
-    /** Goes on from the last segment, where the calls before it were dropped from the log. */
+    /** Goes on from the last segment, if the calls before it were dropped from the log. */
     private void rejoin() throws IOException {
         Replica next = link.reach(log -> new Replica(log, log.last()));
         lock.lock();
         try {
             replica.close();
             replica = next;
-            // What was sent just now is behind that. Of what was sent before, the answer may have
+            // What was sent just now is after that. Of what was sent before, the answer may have
             // been dropped with the call.
             sent.values().removeIf(it -> it.isSent
                     && it.told.completeExceptionally(new UnknownException()));

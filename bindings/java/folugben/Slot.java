@@ -11,7 +11,7 @@ import com.sun.jna.Pointer;
 class Slot extends Memory {
     private static final int BYTES = 16;
 
-    /** Where it is. */
+    /** The address of the slot. */
     final long at = Pointer.nativeValue(this);
 
     /** An empty slot. */
@@ -33,18 +33,18 @@ class Slot extends Memory {
      * between two lists is in none of them.
      */
     static final class AgentSlot extends Slot {
-        /** What these calls are passed and tell. */
+        /** What these calls are passed and return. */
         final Room room = new Room();
 
         /** The slot that was made last for a step, and the one of a step that was over last. */
         private StepSlot made;
         private StepSlot idle;
-        /** Whether the last call was a fire, or the end of a step: what is done next looks on first. */
+        /** Whether the last call was a fire, or the end of a step: the next polls first. */
         private boolean isIdle;
         /** Whether another agent took the state, so that the one that is here is older. */
         private boolean isLent;
 
-        /** A slot for a step: its own, until it gives it back. */
+        /** Returns a slot for a step, which has it to itself until the step returns it. */
         StepSlot takeStep(Step step) {
             StepSlot taken = idle;
             if (taken == null) {
@@ -68,7 +68,7 @@ class Slot extends Memory {
             isIdle = true;
         }
 
-        /** Whether a step has begun and isn't over. */
+        /** Returns whether a step has begun and isn't over. */
         boolean hasStep() {
             for (StepSlot slot = made; slot != null; slot = slot.before)
                 if (slot.owner != null)
@@ -78,7 +78,7 @@ class Slot extends Memory {
 
         /** The slot of a step, and its place among those of the agent. */
         static final class StepSlot extends Slot {
-            /** The step that it is of; null where it is idle. */
+            /** The step that it is of; null if it is idle. */
             private Step owner;
             private StepSlot next;
             /** The one that was made before: what all have keeps them from being collected. */
@@ -90,8 +90,10 @@ class Slot extends Memory {
         }
 
         /**
-         * Takes the state of another agent of the storage, whose lock is held too, if that waits for
-         * nothing in its own: it has fired or ended a step since it last looked, and is in none.
+         * Takes the state of another agent of the storage, if nothing depends on that one.
+         *
+         * <p>That is so if the other, whose lock is held too, has fired or ended a step since its
+         * last poll, and is in no step.
          */
         void takeState(AgentSlot other) {
             if (!isFull() || !other.isFull() || !other.isIdle || other.hasStep())
@@ -102,7 +104,7 @@ class Slot extends Memory {
             isLent = false;
         }
 
-        /** Notes the code of a call that looks on, by which the state is as new as any. */
+        /** Notes the code of a call that polls, after which the state is as new as any. */
         private Code looked(Code code) {
             isIdle = false;
             if (code == Code.DONE)
@@ -110,7 +112,7 @@ class Slot extends Memory {
             return code;
         }
 
-        /** Looks on where the state is older than it was, before it is shown. */
+        /** Polls if the state is older than it was, before it is shown. */
         private Code catchUp() {
             return isLent ? follow() : Code.DONE;
         }
@@ -120,7 +122,7 @@ class Slot extends Memory {
                     (text, out, length, written) -> Calls.asm_read(at, text, locations.length)));
         }
 
-        /** The code of a fire of a move, whose text has so many bytes, over the scans behind it. */
+        /** Fires a move, whose text has so many bytes and has the scans after it. */
         Code fireOver(byte[] both, int move) {
             Code code = room.make(both,
                     (text, out, length, written)
@@ -153,7 +155,7 @@ class Slot extends Memory {
                             -> Calls.asm_peek(at, text, locations.length, out, length, written));
         }
 
-        /** Tells the value into the room, at the first number there. */
+        /** Writes the value into the room, at the first number there. */
         Code peek(PreparedLocation location) {
             Code code = catchUp();
             return code != Code.DONE ? code : room.make(

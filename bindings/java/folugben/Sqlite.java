@@ -20,16 +20,17 @@ import java.util.List;
 import java.util.Properties;
 
 /**
- * A file of SQLite, with a write-ahead log that is flushed at the end of each transaction. Beside it
- * is one for agents' numbers. Only SQLite opens the file: another close in this process would drop
- * SQLite's locks.
+ * A file of SQLite, with a write-ahead log.
+ *
+ * <p>The log is flushed at the end of each transaction. Beside the file is one for agents' numbers.
+ * Only SQLite opens the file: another close in this process would drop SQLite's locks.
  */
 final class Sqlite extends Database.JdbcDatabase {
-    /** What a file has in its header that is a run. */
+    /** The application number in the header of a file that is a run. */
     private static final int APPLICATION = 0x466F6C75;
     /** How long a transaction waits for those of other processes, in ms. */
     private static final int PATIENCE = 60_000;
-    /** Opened to read and write, by the name of a URI, with a mutex, and not made. */
+    /** Flags to open a file that exists by the name of a URI, to read and write, with a mutex. */
     private static final int OPEN = 0x2 | 0x40 | 0x10000;
 
     private static final int PERM = 3;
@@ -42,7 +43,7 @@ final class Sqlite extends Database.JdbcDatabase {
     private final Path path;
     private final Object key;
     private final Connection connection;
-    /** The locks of agents' numbers; null where nothing is written. */
+    /** The locks of agents' numbers; null if nothing is written. */
     private final ByteLocks agents;
 
     Sqlite(Path path, boolean writes, boolean makes) throws IOException {
@@ -82,7 +83,11 @@ final class Sqlite extends Database.JdbcDatabase {
         }
     }
 
-    /** Has it write ahead; SQLite doesn't wait for another process that is about to do so too. */
+    /**
+     * Turns on the write-ahead log.
+     *
+     * <p>SQLite doesn't wait for another process that is about to do so too.
+     */
     private void writeAhead() throws IOException {
         long end = System.nanoTime() + PATIENCE * 1_000_000L;
         while (true)
@@ -208,14 +213,18 @@ final class Sqlite extends Database.JdbcDatabase {
     }
 
     /**
-     * Locks of single bytes of a file that belong to the open file, as those of Java's FileChannel
-     * belong to the process. They end with the process.
+     * Locks of single bytes of a file that belong to the open file.
+     *
+     * <p>The locks of Java's FileChannel belong to the process. The locks here end with the
+     * process.
      */
     static final class ByteLocks {
         private static final int SET_LOCK_OF_OPEN_FILE = 37;
         private static final short WRITE = 1;
         private static final short UNLOCK = 2;
-        /** Of a struct flock: its size, and where it has the first byte and the number of bytes. */
+        /**
+         * Of a struct flock: its size, and the place of the first byte and of the number of bytes.
+         */
         private static final int SIZE = 32;
         private static final int START = 8;
         private static final int LENGTH = 16;
@@ -228,7 +237,7 @@ final class Sqlite extends Database.JdbcDatabase {
             descriptor = Posix.open(path, Posix.MADE_WITHOUT_LINKS);
         }
 
-        /** Locks a byte; whether nobody else has it. */
+        /** Locks a byte; returns whether nobody else has it. */
         boolean lock(int at) throws IOException {
             return set(WRITE, at);
         }
@@ -248,7 +257,7 @@ final class Sqlite extends Database.JdbcDatabase {
             throw Posix.fault(path, "locked", number);
         }
 
-        /** Lets go of all of them; it may be called again. */
+        /** Frees all of them; it may be called again. */
         void close() {
             if (descriptor >= 0)
                 Posix.call("close", descriptor);

@@ -1,6 +1,6 @@
 package folugben;
 
-/** A named location was written since it was read; nothing was fired. */
+/** Reports that a named location was written since it was read; nothing was fired. */
 public final class StaleException extends ConflictException {
     private static final long serialVersionUID = 1;
 
@@ -8,7 +8,7 @@ public final class StaleException extends ConflictException {
         super(Code.STALE, 0, answer, "", answer);
     }
 
-    /** The least such location. */
+    /** Returns the smallest such location. */
     public Location at() {
         return JsonReader.objection(answer()).at();
     }

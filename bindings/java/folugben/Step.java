@@ -6,12 +6,13 @@ import java.util.Objects;
 import java.util.SortedMap;
 
 /**
- * A transaction of an agent: it gets values and pushes moves in any order, and commits.
+ * A transaction of an agent: it reads values, pushes moves and commits.
  *
- * <p>All calls see one state, and the moves pushed before. A commit fires one move that does what
- * the pushed ones do in turn. {@link Agent#step} begins a step. Calls take and return objects, or
- * texts: JSON in the forms of docs/FORMATS.md. A text with a lone surrogate is an
- * IllegalArgumentException. Any thread may call it; a call waits for the agent's other calls.
+ * <p>Reads and pushes come in any order. All calls see one state, and the moves pushed before. A
+ * commit fires one move that does what the pushed ones do in turn. {@link Agent#step} begins a
+ * step. Calls take and return objects, or texts: JSON in the forms of docs/FORMATS.md. A text with
+ * a lone surrogate is an IllegalArgumentException. Any thread may call it; a call waits for the
+ * agent's other calls.
  *
  * <pre>{@code
  * try (Step step = agent.step()) {
@@ -19,11 +20,11 @@ import java.util.SortedMap;
  *     long there = step.get(count).asLong();
  *     step.push(Instruction.put(count, there + 1));
  *     step.push(Instruction.put(twice, 2 * step.get(count).asLong())); // 2 * (there + 1)
- *     step.commit(); // throws a ConflictException where the step is to be begun again
+ *     step.commit(); // throws a ConflictException if the step must be begun again
  * }
  * }</pre>
  *
- * <p>Where the agent has moved past the step's version, as by read, fire, follow, stands or another
+ * <p>If the agent has moved past the step's version, as by read, fire, follow, stands or another
  * step, calls that get or push throw MOVED: begin another step. No garbage collector releases a
  * step: call close().
  */
@@ -43,7 +44,7 @@ public sealed class Step extends StepCalls implements AutoCloseable permits Shar
      * Returns {"number":N,"values":[VALUE, ..]} of the locations [LOC, ..].
      *
      * <p>The values are seen through the pushed moves. A location is tracked, and the commit names
-     * it, where its value comes from the state; what a pushed move put there depends on nothing.
+     * it, if its value comes from the state; what a pushed move put there depends on nothing.
      *
      * @throws FolugbenException MOVED; MANY if more than 256 would be tracked
      */
@@ -133,7 +134,7 @@ public sealed class Step extends StepCalls implements AutoCloseable permits Shar
     /**
      * Returns the number there, and makes no object.
      *
-     * <p>The location is tracked as by get, also where the value is of another kind.
+     * <p>The location is tracked as by get, also if the value is of another kind.
      *
      * @throws IllegalStateException if the value is no number
      */
@@ -297,7 +298,7 @@ public sealed class Step extends StepCalls implements AutoCloseable permits Shar
     }
 
     /**
-     * What a commit would offer now: the one move, and each location that it would name.
+     * What a commit would fire now: the one move, and the locations that it names.
      *
      * <p>Agent.fire takes both. The functions that were scanned aren't in it.
      */
@@ -314,7 +315,7 @@ public sealed class Step extends StepCalls implements AutoCloseable permits Shar
         }
     }
 
-    /** Returns what a commit would offer now. */
+    /** Returns what a commit would fire now. */
     public Offer offer() {
         return JsonReader.offer(offerText()).plus(before());
     }
@@ -338,16 +339,16 @@ public sealed class Step extends StepCalls implements AutoCloseable permits Shar
     }
 
     /**
-     * Fires one move that does what the pushed moves do in turn, unless the step is stale.
+     * Fires one move that does what the pushed moves do in turn, if it isn't stale.
      *
-     * <p>It is stale where a location was written since that is tracked, is of a scanned function,
-     * or has partial updates of one pushed move and another one writes it too. What one move alone
-     * adds, removes or increments is judged when it is fired: it clashes where it doesn't fit.
-     * Where the move fires, the step is over; else it stays until it is closed. Stale and clash are
-     * replies, which ask to begin again ({@link Agent.Reply#shouldRetry}).
+     * <p>The step is stale if a location was written since that is tracked, is of a scanned
+     * function, or has partial updates of one pushed move and another one writes it too. What one
+     * move alone adds, removes or increments is judged when it is fired: it clashes if it doesn't
+     * fit. If the move fires, the step is over; else it stays until it is closed. Stale and clash
+     * are replies, which ask to begin again ({@link Agent.Reply#shouldRetry}).
      *
-     * @throws FolugbenException MANY if more than 256 locations would be named and functions
-     *         were scanned
+     * @throws FolugbenException MANY if more than 256 locations would be named and functions were
+     *         scanned
      * @throws LargeException on a run, if the line of the move, or of the read that is recorded,
      *         would be longer than an audit reads
      */
@@ -358,7 +359,7 @@ public sealed class Step extends StepCalls implements AutoCloseable permits Shar
     /**
      * Commits as tryCommit does, and returns the number of the fired move, from 1 up.
      *
-     * @throws ConflictException if the step is to be begun again, as {@link Agent#play} does: as a
+     * @throws ConflictException if the step must be begun again, as {@link Agent#play} does: as a
      *         {@link StaleException}, {@link BusyException}, {@link CommitClashException}, {@link
      *         CommitMovedException} or {@link PartException}
      * @throws FolugbenException as a {@link FullException} or {@link ManyException}
@@ -379,7 +380,7 @@ public sealed class Step extends StepCalls implements AutoCloseable permits Shar
         return commit();
     }
 
-    /** Such as a step of agent 3 at 7, 2 moves pushed. */
+    /** Returns a text such as a step of agent 3 at 7, 2 moves pushed. */
     @Override
     public String toString() {
         synchronized (agent.slot) {

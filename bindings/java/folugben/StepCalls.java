@@ -3,26 +3,26 @@ package folugben;
 import java.util.List;
 import java.util.Objects;
 
-/** What a step has, and its calls on the library, with the lock of its agent. */
+/** A step's fields, and its calls on the library, with the lock of its agent. */
 abstract sealed class StepCalls permits Step {
     static final byte[] NO_INSTRUCTIONS = {'[', ']'};
     final Agent agent;
     final Room room;
     final int number;
     final long before;
-    /** How many bytes it was passed and has returned, of which a run's journal gets at most these. */
+    /** How many bytes it was passed and returned, as a limit of its lines in a journal. */
     long size;
     private boolean isPushed;
-    /** Whether a commit may name locations of whose values nothing was returned. */
+    /** Whether a commit may name locations whose values weren't returned. */
     boolean namesMore;
-    /** The step's slot, until the step is over: the agent then has it for another. */
+    /** The step's slot, until the step is over: the agent then uses it for another. */
     final Slot.AgentSlot.StepSlot slot;
     void end() {
         Turns.here().over(self());
         agent.slot.giveStep(slot, self());
         agent.endStep();
     }
-    /** Whether it could be committed, and nothing was pushed. */
+    /** Returns whether it could be committed, and nothing was pushed. */
     boolean isIdle() {
         synchronized (agent.slot) {
             return !isOver() && Calls.asm_depth(slot.at) == 0;
@@ -31,26 +31,26 @@ abstract sealed class StepCalls permits Step {
     boolean isOver() {
         return !slot.isOf(self());
     }
-    /** The slot of a step that isn't over. */
+    /** Returns the slot of a step that isn't over. */
     Slot slot() {
         agent.expectGoing();
         if (isOver())
             throw FolugbenException.closed("the step is over: it was fired or closed");
         return slot;
     }
-    /** How many moves of the run come before those of its storage. */
+    /** Returns how many moves of the run come before those of its storage. */
     long before() {
         return before;
     }
-    /** The number of moves of its storage that its state is after. */
+    /** Returns the number of moves of its storage that its state is after. */
     int own() {
         return number;
     }
-    /** Whether its agent, if that is one of a run, has to go on to another part. */
+    /** Returns whether its agent, if that is one of a run, must go on to another part. */
     boolean isPast() {
         return agent.isPast();
     }
-    /** A call on an agent and a step that is passed a text and tells one. */
+    /** A call on an agent and a step that is passed a text and writes one. */
     interface Call {
         int call(long agent, long step, long text, long len, long out, long room,
                 long written);
@@ -78,7 +78,7 @@ abstract sealed class StepCalls permits Step {
         player.hears(told.text());
         return told.text();
     }
-    /** Gets the value into the agent's room, whose lock is held. */
+    /** Reads and tracks the value into the agent's room, whose lock is held. */
     void take(PreparedLocation location, Turns.Player player) {
         Objects.requireNonNull(location, "location");
         long step = slot().at;
@@ -106,19 +106,21 @@ abstract sealed class StepCalls permits Step {
         player.pushes(self());
     }
     /**
-     * Notes what a push returned, with the lock. Where it is refused, or another move is pushed
-     * already, the commit may name locations that have partial updates.
+     * Notes what a push returned, with the lock.
+     *
+     * <p>If it is refused, or another move is pushed already, the commit may name locations that
+     * have partial updates.
      */
     private Calls.Told pushed(Calls.Told told) {
         namesMore |= told.code() != Code.DONE || isPushed;
         isPushed = true;
         return told;
     }
-    /** A call on an agent, a step and a move that tells a text. */
+    /** A call on an agent, a step and a move that writes a text. */
     interface MoveCall {
         int call(long agent, long step, long move, long out, long room, long written);
     }
-    /** A slot holds no move of no instructions: their text is pushed. */
+    /** Pushes the text of a move of no instructions, as a slot holds no such move. */
     void grow(MoveCall call, Call textCall, Move move) {
         Objects.requireNonNull(move, "move");
         Calls.Told told;
@@ -174,7 +176,7 @@ abstract sealed class StepCalls permits Step {
         }
     }
 
-    /** The step itself. */
+    /** Returns the step itself. */
     final Step self() {
         return (Step) this;
     }
@@ -187,7 +189,7 @@ abstract sealed class StepCalls permits Step {
         }
     }
 
-    /** Expects that the lines of a commit are short enough for a run's journal; with the lock. */
+    /** Throws if the lines of a commit are too long for a run's journal; with the lock. */
     private void expectLines() {
         String offer = offered();
         Texts.Lines.expectCall(Texts.utf8(offer, "call"));
@@ -201,7 +203,7 @@ abstract sealed class StepCalls permits Step {
         Texts.Lines.expectRead(places.length, told.text());
     }
 
-    /** The reply to a commit. */
+    /** Returns the reply to a commit. */
     final Actor.Reply commits() {
         Turns.Player player = Turns.Player.look(this);
         player.fires(self());
@@ -215,7 +217,7 @@ abstract sealed class StepCalls permits Step {
         }
     }
 
-    /** What a scan finds. */
+    /** Returns what a scan finds. */
     final Actor.State scanned(String name) {
         byte[] text = Texts.utf8(name, "name");
         Turns.Player player = Turns.Player.call(this);

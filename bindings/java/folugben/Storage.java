@@ -26,13 +26,13 @@ public final class Storage implements AutoCloseable {
     /** The storage's slot, and the lock of the calls on it. */
     private final Slot slot = new Slot();
 
-    /** Where the journal is written when it is closed; null for nowhere. */
+    /** The path of the journal that is written at the close; null for none. */
     private final Path path;
 
-    /** Those that were made and not given back, by their numbers; with the lock of the slot. */
+    /** Agents that were made and not returned, by number; with the lock of the slot. */
     private final Agent[] agents = new Agent[AGENTS];
 
-    /** Whether agents that are made or taken record. */
+    /** Whether agents that are made or checked out record. */
     private volatile boolean isRecording;
 
     /** The agent that each thread has played last. */
@@ -98,9 +98,9 @@ public final class Storage implements AutoCloseable {
     }
 
     /**
-     * Has agents that are made or taken from now on record, or not, as {@link Agent#record} does.
+     * Has agents that are made or checked out from now on record, or not.
      *
-     * <p>The storages of {@link #next} and {@link Agent#goOn} do as this one.
+     * <p>See {@link Agent#record}. The storages of {@link #next} and {@link Agent#goOn} do so too.
      *
      * @return this storage
      */
@@ -137,7 +137,7 @@ public final class Storage implements AutoCloseable {
     }
 
     /**
-     * Checks out an agent that was returned, to go on where it was, with its receipts.
+     * Checks out an agent that was returned, to go on from its state, with its receipts.
      *
      * <p>A journal that was closed before is discarded.
      *
@@ -165,7 +165,7 @@ public final class Storage implements AutoCloseable {
         return before == null ? null : before.get();
     }
 
-    /** What is expected of the code of a call on it, with its lock. */
+    /** Throws if the code of a call on it isn't DONE; with its lock. */
     private void expect(Code code) {
         if (code == Code.EMPTY && !slot.isFull())
             throw FolugbenException.closed("the storage was closed");
@@ -202,7 +202,7 @@ public final class Storage implements AutoCloseable {
         agents[agent.number()] = null;
     }
 
-    /** Takes the agent back, if it is there and this isn't closed; whether this isn't closed. */
+    /** Returns the agent to this, if both are open; false if this is closed. */
     boolean takesBack(Agent agent) {
         synchronized (slot) {
             synchronized (agent.slot) {
@@ -214,9 +214,9 @@ public final class Storage implements AutoCloseable {
     }
 
     /**
-     * Returns the journal of the agents that were returned, as each is when it is closed.
+     * Returns the journal of the agents that were returned, or closed.
      *
-     * @throws FolugbenException MISSING if it lacks a move; for good, where its agent was abandoned
+     * @throws FolugbenException MISSING if it lacks a move; for good, if its agent was abandoned
      */
     public String closeJournal() {
         synchronized (slot) {
@@ -227,7 +227,7 @@ public final class Storage implements AutoCloseable {
         }
     }
 
-    /** The same as bytes in the room, which stay there until its next call. */
+    /** Returns the same as bytes in the room, which stay there until its next call. */
     ByteBuffer closeJournal(Room room) {
         synchronized (slot) {
             closeAll();
@@ -245,7 +245,7 @@ public final class Storage implements AutoCloseable {
         expect(code);
     }
 
-    /** Which agents that fired have to be given back, with the lock of the slot. */
+    /** Returns which agents that fired must be returned, with the lock of the slot. */
     private String whoIsOut(int move) {
         List<String> numbers = new ArrayList<>();
         boolean isAbandoned = false;
@@ -267,8 +267,8 @@ public final class Storage implements AutoCloseable {
     /**
      * Opens a storage for 1 to 1,048,576 moves that goes on where this one was closed.
      *
-     * <p>Its opening state is what the journal's moves leave. Its agents and numbers start again.
-     * The journals of both, one after the other, are one run.
+     * <p>Its opening state is the state after the journal's moves. Its agents and numbers start
+     * again. The journals of both, one after the other, are one run.
      *
      * @throws FolugbenException NO_JOURNAL if no journal was closed since an agent was returned
      */
@@ -291,7 +291,7 @@ public final class Storage implements AutoCloseable {
         }
     }
 
-    /** The storage that goes on from the agent's own state. */
+    /** Opens the storage that goes on from the agent's own state. */
     static Storage behind(Agent agent, int capacity) {
         expectCapacity(capacity);
         Storage next = new Storage((Path) null).record(agent.storage.isRecording);
@@ -326,7 +326,7 @@ public final class Storage implements AutoCloseable {
         }
     }
 
-    /** Such as a storage, 3 moves. */
+    /** Returns a text such as a storage, 3 moves. */
     @Override
     public String toString() {
         synchronized (slot) {

@@ -9,11 +9,11 @@ import java.util.Objects;
 import java.util.stream.Collectors;
 import java.util.stream.Stream;
 
-/** What is looked at in the texts of a caller before the library gets them. */
+/** Checks of a caller's texts before the library gets them. */
 final class Texts {
     private Texts() {}
 
-    /** The line with this number, from 1 up, without its line feed. */
+    /** Returns the line with this number, from 1 up, without its line feed. */
     static byte[] line(byte[] text, long number) {
         int begin = 0;
         for (long left = number; left > 1; left--) begin = lineEnd(text, begin) + 1;
@@ -25,7 +25,7 @@ final class Texts {
         return at;
     }
 
-    /** The text in UTF-8; an exception names the argument that is null or has no such text. */
+    /** Returns the text in UTF-8; an exception names an argument that is null or has none. */
     static byte[] utf8(String text, String name) {
         try {
             return unicode(text, name).getBytes(StandardCharsets.UTF_8);
@@ -36,7 +36,11 @@ final class Texts {
         }
     }
 
-    /** The text, if it has no lone surrogate: getBytes would put a question mark in its place. */
+    /**
+     * Returns the text, if it has no lone surrogate.
+     *
+     * <p>In place of one getBytes would put a question mark.
+     */
     static String unicode(String text, String name) {
         Objects.requireNonNull(text, name);
         for (int at = 0; at < text.length(); at++) {
@@ -50,8 +54,10 @@ final class Texts {
     }
 
     /**
-     * The text, which as far as brackets and strings tell is one value of JSON, so that within a
-     * longer text it is that value too. What else isn't JSON in it is found by the library.
+     * Returns the text, if by its brackets and strings it is one value of JSON.
+     *
+     * <p>So it is that value within a longer text too. Other faults of its JSON are found by the
+     * library.
      */
     static String oneValue(String text, String name) {
         int end = behindValue(text, behindSpace(unicode(text, name), 0));
@@ -60,7 +66,7 @@ final class Texts {
         return text;
     }
 
-    /** How deep brackets are nested in a text, outside of strings. */
+    /** Returns how deep brackets are nested in a text, outside of strings. */
     static int depth(String text) {
         int deepest = 0;
         int depth = 0;
@@ -85,7 +91,7 @@ final class Texts {
         return at;
     }
 
-    /** The index behind the value that begins at this index; -1 if none begins there, or ends. */
+    /** Returns the index after the value that begins here; -1 if none begins here, or ends. */
     private static int behindValue(String text, int at) {
         int depth = 0;
         do {
@@ -118,7 +124,11 @@ final class Texts {
         return -1;
     }
 
-    /** Behind a number, true, false or null: up to a space or a sign that sets values apart. */
+    /**
+     * Returns the index after a number, true, false or null.
+     *
+     * <p>That is up to a space or a sign that separates values.
+     */
     private static int behindWord(String text, int at) {
         int end = at;
         while (end < text.length() && " \t\n\r,:[]{}\"".indexOf(text.charAt(end)) < 0) end++;
@@ -127,17 +137,21 @@ final class Texts {
 
     /** How long the lines of a run's journals may be, so that an audit reads each of them. */
     static final class Lines {
-        /** How many bytes a line may have, its line feed apart: what an audit reads, and is written. */
+        /**
+         * How many bytes a line may have without its line feed: what an audit reads.
+         *
+         * <p>No longer line is written.
+         */
         static final int LIMIT = Integer.getInteger("folugben.line", 1_073_741_824);
         /** What a line has at most besides its call and the location of its reply, or its state. */
         private static final int ROOM = 120;
 
-        /** Of a call of fewer bytes no line is too long, whatever its characters are escaped to. */
+        /** No line of a call of fewer bytes is too long, whatever its characters are escaped to. */
         static final int SHORT = LIMIT / 16;
 
         private Lines() {}
 
-        /** Expects that the line of a fire is short enough, whatever its reply is. */
+        /** Throws if the line of a fire may be too long, whatever its reply is. */
         static void expectCall(byte[] call) {
             if (2L * call.length + ROOM <= LIMIT)
                 return;
@@ -152,7 +166,7 @@ final class Texts {
                 throw LargeException.line("the move", length);
         }
 
-        /** The same of a move that rests on these reads. */
+        /** Throws so for a move that depends on these reads. */
         static void expectCall(List<Instruction> move, List<Named> reads) {
             String call = "{\"fire\":" + JsonWriter.move(move, "instructions") + ",\"reads\":"
                     + JsonWriter.reads(reads) + "}";
@@ -160,14 +174,14 @@ final class Texts {
                 expectCall(Texts.utf8(call, "call"));
         }
 
-        /** Expects that the line of a read is short enough, with locations of so many bytes. */
+        /** Throws if the line of a read is too long, with locations of so many bytes. */
         static void expectRead(long locations, String answer) {
             long length = locations + bytes(answer) + ROOM;
             if (length > LIMIT)
                 throw LargeException.line("the read", length);
         }
 
-        /** Expects that a journal may open with a state whose text has so many bytes. */
+        /** Throws if a journal can't open with a state whose text has so many bytes. */
         static void expectState(long length) {
             if (length + ROOM > LIMIT)
                 throw LargeException.line("the state", length + ROOM);
@@ -213,12 +227,12 @@ final class Texts {
         }
     }
 
-    /** Arguments as they were at one time: a collection may be changed by others while it is read. */
+    /** Copies of arguments: a collection may be changed by others while it is read. */
     static final class Copies {
         private Copies() {}
 
         /**
-         * What is in the collection, which is asked once for all of it.
+         * Returns the items of the collection, which is asked once for all of it.
          *
          * @throws NullPointerException which names the argument, and which item of it is null
          */

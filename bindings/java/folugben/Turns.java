@@ -10,9 +10,9 @@ import java.util.concurrent.locks.Lock;
 import java.util.concurrent.locks.ReentrantLock;
 import java.util.function.Supplier;
 
-/** Threads of which one at a time goes on, up to its next turn; a choice tells which. */
+/** Threads of which one at a time goes on, up to its next turn, by a choice. */
 final class Turns {
-    /** How many plays are under way, so that calls of others cost no more than a look at this. */
+    /** How many plays are under way, so that calls outside of plays check this alone. */
     private static final AtomicInteger PLAYS = new AtomicInteger();
     private static final ThreadLocal<Player> HERE = new ThreadLocal<>();
     /** How long works are waited for, in ms, when their play was interrupted. */
@@ -20,18 +20,18 @@ final class Turns {
 
     private final Lock lock = new ReentrantLock();
     private final Choice choice;
-    /** Of each number that hasn't ended: what it waits on for its turn. */
+    /** For each number that hasn't ended, the condition on which it waits for its turn. */
     private final Condition[] turns;
     private final boolean[] waits;
     private final boolean[] isAlive;
-    /** Whose turn it is; -1 for nobody's. */
+    /** The number whose turn it is; -1 for none. */
     private int now = -1;
     private final int most;
     private int taken;
     /** What ended all works, unless they have ended by themselves. */
     private RuntimeException fault;
 
-    /** Turns of so many threads, at most so many. */
+    /** Prepares turns of so many threads, at most so many turns in all. */
     Turns(int count, Choice choice, int most) {
         this.choice = choice;
         this.most = most;
@@ -46,18 +46,18 @@ final class Turns {
 
     /** Chooses who goes on, of the numbers that haven't ended, in ascending order. */
     interface Choice {
-        /** One of the numbers; what it throws ends all works. */
+        /** Returns one of the numbers; what it throws ends all works. */
         int of(List<Integer> numbers);
     }
 
-    /** What the works answered or threw, each at its place. */
+    /** What the works returned or threw, each at its place. */
     record Told<R>(List<R> values, List<Throwable> faults) {
         private static <R> Told<R> none(int count) {
             return new Told<>(new ArrayList<>(Collections.nCopies(count, null)),
                     new ArrayList<>(Collections.nCopies(count, null)));
         }
 
-        /** What the works answered; the first exception of one is thrown. */
+        /** Returns what the works returned; throws the first exception of one. */
         List<R> orThrow() {
             for (Throwable thrown : faults) {
                 if (thrown instanceof Error error)
@@ -69,7 +69,7 @@ final class Turns {
         }
     }
 
-    /** Plays each work with its agent on a thread of its own; what ended all of them is thrown. */
+    /** Plays each work with its agent on its own thread; throws what ended all of them. */
     <A, R> Told<R> play(List<? extends A> agents,
             List<? extends Interleave.Work<? super A, ? extends R>> works,
             List<? extends Player> players) {
@@ -100,7 +100,7 @@ final class Turns {
             await(player.number());
             told.values.set(player.number(), work.get());
         } catch (Stopped end) {
-            // What has stopped it is told.
+            // The result reports what has stopped it.
         } catch (RuntimeException | Error thrown) {
             told.faults.set(player.number(), thrown);
         } finally {
@@ -140,7 +140,7 @@ final class Turns {
         }
     }
 
-    /** Who plays on this thread; nobody where it isn't played by turns, or stands still. */
+    /** Returns who plays on this thread; nobody if it isn't played, or is still. */
     static Player here() {
         if (PLAYS.get() == 0)
             return Player.NOBODY;
@@ -148,7 +148,7 @@ final class Turns {
         return player == null || player.isStill ? Player.NOBODY : player;
     }
 
-    /** Does something in which no call takes a turn, as others may wait for locks that are held. */
+    /** Does the work with no turns in it, as others may wait for locks that are held. */
     static <T> T still(Supplier<T> work) {
         Player player = here();
         if (player == Player.NOBODY)
@@ -161,7 +161,7 @@ final class Turns {
         }
     }
 
-    /** Whether this thread is played by turns. */
+    /** Returns whether this thread is played by turns. */
     static boolean isPlayed() {
         return PLAYS.get() != 0 && HERE.get() != null;
     }
@@ -223,8 +223,9 @@ final class Turns {
     }
 
     /**
-     * Chooses who goes on, once all wait that haven't ended: whoever was at work has come to wait or
-     * ended by then, so that the order depends on the choice alone.
+     * Chooses who goes on, once all that haven't ended wait.
+     *
+     * <p>Whoever was at work waits or has ended by then, so the order depends on the choice alone.
      */
     private void choose() {
         List<Integer> waiting = alive();
@@ -245,11 +246,13 @@ final class Turns {
     }
 
     /**
-     * Who plays a work by turns. A search of schedules notes what a call has read and written, and what
-     * it told; this one notes nothing.
+     * Plays a work by turns.
+     *
+     * <p>A search of schedules notes what a call has read and written, and what it returned. This
+     * one notes nothing.
      */
     static class Player {
-        /** Of a thread that isn't played by turns. */
+        /** The player of a thread that isn't played by turns. */
         static final Player NOBODY = new Player(null, -1);
 
         final Turns turns;
@@ -262,7 +265,7 @@ final class Turns {
             this.number = number;
         }
 
-        /** Takes the turn of a call of an agent that looks at what others did, or that writes. */
+        /** Takes the turn of a call of an agent that polls or writes. */
         static Player look(Object it) {
             Player player = Turns.here();
             if (player != NOBODY)
@@ -278,7 +281,7 @@ final class Turns {
             return player;
         }
 
-        /** Its number among the works. */
+        /** Returns its number among the works. */
         final int number() {
             return number;
         }
@@ -300,13 +303,13 @@ final class Turns {
         /** Notes that a prepared location was read. */
         void reads(PreparedLocation location) {}
 
-        /** Notes that the named reads [NAMED, ..] were looked at. */
+        /** Notes that the named reads [NAMED, ..] were validated. */
         void readsNamed(String reads) {}
 
         /** Notes that everything may have been read. */
         void readsAll() {}
 
-        /** Notes what depends on more than can be noted. */
+        /** Notes a dependency on more than can be noted. */
         void depends() {}
 
         /** Notes that an agent has scanned a function. */
@@ -327,10 +330,10 @@ final class Turns {
         /** Notes the reply to the fire of a step. */
         void fired(Actor.Reply reply) {}
 
-        /** Notes what was told, but for numbers of moves. */
+        /** Notes what a call returned, except numbers of moves. */
         void hears(String told) {}
 
-        /** Notes the value that was told into a room. */
+        /** Notes the value that a call wrote into a room. */
         void hears(Room room) {}
 
         /** Notes what a call has thrown. */

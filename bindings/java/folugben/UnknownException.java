@@ -1,8 +1,9 @@
 package folugben;
 
 /**
- * Whether a move of a shared run was fired isn't known: the process was away while others saved
- * several segments.
+ * Reports that it isn't known whether a move of a shared run was fired.
+ *
+ * <p>The process was away while others saved several segments.
  */
 public final class UnknownException extends RuntimeException {
     private static final long serialVersionUID = 1;

@@ -12,10 +12,11 @@ import java.util.TreeMap;
 import java.util.TreeSet;
 
 /**
- * What a location has: an element, a set or a bag. Values are immutable, and equal if they have the
- * same content, in whichever order a set or a bag was given. Each is one of the records {@link
- * Element.Undef}, {@link Element.Bool}, {@link Element.Num}, {@link Element.Text}, {@link
- * Element.ListOf}, {@link SetOf} and {@link BagOf}.
+ * The value of a location: an element, a set or a bag.
+ *
+ * <p>Values are immutable, and equal if they have the same content, in whichever order a set or a
+ * bag was passed. Each is one of the records {@link Element.Undef}, {@link Element.Bool}, {@link
+ * Element.Num}, {@link Element.Text}, {@link Element.ListOf}, {@link SetOf} and {@link BagOf}.
  *
  * <p>The factories take plain objects, and throw an IllegalArgumentException for one that is no
  * value, or is beyond a limit of docs/FORMATS.md.
@@ -26,7 +27,7 @@ public sealed interface Value permits Element, Value.SetOf, Value.BagOf {
 
     /** A set, whose elements are kept in ascending order. */
     record SetOf(Set<Element> elements) implements Value {
-        /** A copy of the elements. */
+        /** Copies the elements. */
         public SetOf {
             SortedSet<Element> kept = new TreeSet<>(Elements.ORDER);
             kept.addAll(Texts.Copies.of(elements, "elements"));
@@ -41,7 +42,7 @@ public sealed interface Value permits Element, Value.SetOf, Value.BagOf {
 
     /** A bag: how often each element is there, 1 to 4294967295 times, in ascending order. */
     record BagOf(Map<Element, Long> counts) implements Value {
-        /** A copy of the counts, if they are in range. */
+        /** Copies the counts, if they are in range. */
         public BagOf {
             SortedMap<Element, Long> kept = new TreeMap<>(Elements.ORDER);
             Objects.requireNonNull(counts, "counts")
@@ -49,7 +50,7 @@ public sealed interface Value permits Element, Value.SetOf, Value.BagOf {
             counts = Collections.unmodifiableSortedMap(kept);
         }
 
-        /** How often the element is there; 0 if it isn't. */
+        /** Returns how often the element is there; 0 if it isn't. */
         public long count(Element element) {
             return counts.getOrDefault(element, 0L);
         }
@@ -59,7 +60,7 @@ public sealed interface Value permits Element, Value.SetOf, Value.BagOf {
             return "bag " + Texts.Words.counted(counts);
         }
 
-        /** The count or the amount, if it is in range. */
+        /** Returns the count or the amount, if it is in range. */
         static long inRange(long count) {
             if (count < 1 || count > MAX_COUNT)
                 throw new IllegalArgumentException(
@@ -69,10 +70,12 @@ public sealed interface Value permits Element, Value.SetOf, Value.BagOf {
     }
 
     /**
-     * A value; of a java.util.Set a set of its elements; of a Map a bag, in which each key is as
-     * often as its Integer or Long says; else the element {@link Element#of}.
+     * Returns the value of an object.
      *
-     * @throws IllegalArgumentException for what is no value; if an element stands twice; for a
+     * <p>A java.util.Set becomes a set of its elements. A Map becomes a bag, in which each key is
+     * as often as its Integer or Long says. Another object becomes the element {@link Element#of}.
+     *
+     * @throws IllegalArgumentException for what is no value; if an element occurs twice; for a
      *         count that isn't 1 to 4294967295; or as Element.of
      */
     static Value of(Object value) {
@@ -86,9 +89,9 @@ public sealed interface Value permits Element, Value.SetOf, Value.BagOf {
     }
 
     /**
-     * A set of these, each of which is an element as {@link Element#of} takes it.
+     * Returns a set of these, each an element as {@link Element#of} takes it.
      *
-     * @throws IllegalArgumentException if an element stands twice, or as Element.of
+     * @throws IllegalArgumentException if an element occurs twice, or as Element.of
      */
     static Value set(Object... elements) {
         return setOf(Elements.each(elements, "elements"));
@@ -103,11 +106,12 @@ public sealed interface Value permits Element, Value.SetOf, Value.BagOf {
     }
 
     /**
-     * A bag, in which each key, an element as {@link Element#of} takes it, is as often as its
-     * Integer or Long says.
+     * Returns a bag, in which each key is as often as its Integer or Long says.
+     *
+     * <p>A key is an element as {@link Element#of} takes it.
      *
      * @throws IllegalArgumentException for a count that isn't 1 to 4294967295 or no such object; if
-     *         an element stands twice, as 1 and 1L are one; or as Element.of
+     *         an element occurs twice, as 1 and 1L are one; or as Element.of
      */
     static Value bag(Map<?, ?> counts) {
         SortedMap<Element, Long> kept = new TreeMap<>(Elements.ORDER);
@@ -121,7 +125,7 @@ public sealed interface Value permits Element, Value.SetOf, Value.BagOf {
     }
 
     /**
-     * The value of a text.
+     * Returns the value of a text.
      *
      * @throws IllegalArgumentException if it is none
      */
@@ -129,18 +133,18 @@ public sealed interface Value permits Element, Value.SetOf, Value.BagOf {
         return JsonReader.parsed(text, "value", JsonReader::value);
     }
 
-    /** Its text, as the storage writes it. */
+    /** Returns its text, as the storage writes it. */
     default String json() {
         return JsonWriter.text(this);
     }
 
-    /** Whether it is undef, as a location that has nothing is. */
+    /** Returns whether it is undef, as an empty location is. */
     default boolean isUndef() {
         return this instanceof Element.Undef;
     }
 
     /**
-     * Its number.
+     * Returns its number.
      *
      * @throws IllegalStateException if it is something else, as of each of these calls
      */
@@ -150,28 +154,28 @@ public sealed interface Value permits Element, Value.SetOf, Value.BagOf {
         throw Texts.Words.isNo("number", this);
     }
 
-    /** Its text, without quotes. */
+    /** Returns its text, without quotes. */
     default String asText() {
         if (this instanceof Element.Text text)
             return text.value();
         throw Texts.Words.isNo("text", this);
     }
 
-    /** Its truth. */
+    /** Returns its truth. */
     default boolean asBoolean() {
         if (this instanceof Element.Bool bool)
             return bool.value();
         throw Texts.Words.isNo("boolean", this);
     }
 
-    /** The items of the list. */
+    /** Returns the items of the list. */
     default List<Element> asList() {
         if (this instanceof Element.ListOf list)
             return list.items();
         throw Texts.Words.isNo("list", this);
     }
 
-    /** The elements of the set, in ascending order. */
+    /** Returns the elements of the set, in ascending order. */
     default Set<Element> asSet() {
         if (this instanceof SetOf set)
             return set.elements();
@@ -179,8 +183,10 @@ public sealed interface Value permits Element, Value.SetOf, Value.BagOf {
     }
 
     /**
-     * Whether the set or the bag has the element, as {@link Element#of} takes it. The set that asSet
-     * tells has Elements, and answers by a ClassCastException where it is asked for an Integer.
+     * Returns whether the set or the bag has the element.
+     *
+     * <p>It is as {@link Element#of} takes it. The set that asSet returns has Elements, and throws
+     * a ClassCastException if it is asked for an Integer.
      *
      * @throws IllegalArgumentException as Element.of
      */
@@ -192,7 +198,7 @@ public sealed interface Value permits Element, Value.SetOf, Value.BagOf {
         throw Texts.Words.isNo("set or bag", this);
     }
 
-    /** The elements of the bag with their counts, in ascending order. */
+    /** Returns the elements of the bag with their counts, in ascending order. */
     default Map<Element, Long> asBag() {
         if (this instanceof BagOf bag)
             return bag.counts();

@@ -19,7 +19,7 @@ import java.util.function.IntFunction;
 public final class Engine {
     private Engine() {}
 
-    /** Plays the rule of a program on a step, and fires it; whether it did anything. */
+    /** Plays the rule of a program on a step, and fires it; returns whether it did anything. */
     private static boolean playOnce(Actor actor, Machine.Program program) {
         try (Step step = actor.step()) {
             if (!program.rule().play(step))
@@ -33,7 +33,7 @@ public final class Engine {
         return true;
     }
 
-    /** Plays the program until it is over, or something was thrown by another one. */
+    /** Plays the program until it is over, or another one has thrown. */
     static void live(Actor actor, Machine.Program program, AtomicReference<Throwable> fault) {
         while (fault.get() == null && !program.isOver().test(actor))
             if (!playOnce(actor, program))
@@ -41,8 +41,9 @@ public final class Engine {
     }
 
     /**
-     * Plays all programs, each with the agent of its number, which is closed then. What a rule
-     * throws, such as a clash of its own updates, ends all and is thrown.
+     * Plays all programs, each with the agent of its number, which is closed then.
+     *
+     * <p>An exception of a rule, such as a clash of its own updates, ends all and is thrown.
      */
     public static void play(IntFunction<? extends Actor> agents, List<Machine.Program> programs) {
         AtomicReference<Throwable> fault = new AtomicReference<>();
@@ -69,7 +70,7 @@ public final class Engine {
             throw (RuntimeException) fault.get();
     }
 
-    /** The journal of a machine on a storage for so many moves. */
+    /** Returns the journal of a machine on a storage for so many moves. */
     public static String onStorage(Machine machine, int capacity) {
         try (Storage storage = Storage.open(machine.init(), capacity)) {
             play(number -> storage.agent(number), machine.programs());
@@ -82,7 +83,11 @@ public final class Engine {
         play(number -> run.agent(number), machine.programs());
     }
 
-    /** The journal of a machine whose agents go on by turns: the same for the same seed. */
+    /**
+     * Returns the journal of a machine whose agents go on by turns.
+     *
+     * <p>It is the same for the same seed.
+     */
     public static String byTurns(Map<Location, ?> init, List<Machine.Program> programs, long seed) {
         try (Storage storage = Storage.open(init, 10_000)) {
             List<Actor> actors = new ArrayList<>();

@@ -9,18 +9,18 @@ import java.util.function.Predicate;
 
 /** An opening state, the programs of agents, and what holds in each state. */
 public interface Machine {
-    /** A rule that is played in step after step, and what tells when its agent is done with it. */
+    /** A rule that is played in step after step, and a test whether its agent is done. */
     record Program(Rule rule, Predicate<Actor> isOver) {}
 
-    /** The opening state. */
+    /** Returns the opening state. */
     Map<Location, ?> init();
 
-    /** A program for each agent. */
+    /** Returns a program for each agent. */
     List<Program> programs();
 
-    /** Whether what is to hold does so in a state. */
+    /** Returns whether the claim holds in a state. */
     boolean holds(Map<Location, Value> state);
 
-    /** What that is, in words. */
+    /** Returns the claim in words. */
     String claim();
 }

@@ -9,7 +9,7 @@ import java.nio.file.Path;
 import java.util.List;
 import java.util.stream.Stream;
 
-/** Runs both machines, each on a run whose file is audited, and looks at each of its states. */
+/** Runs both machines, each on a run that is audited, and checks all states. */
 public final class Main {
     private Main() {}
 
@@ -43,7 +43,7 @@ public final class Main {
             throw new IllegalStateException("not so: " + machine.claim());
     }
 
-    /** A folder and all that is in it, in order. */
+    /** Returns a folder and all that is in it, in order. */
     private static List<Path> sorted(Path folder) throws IOException {
         try (Stream<Path> all = Files.walk(folder)) {
             return all.sorted().toList();

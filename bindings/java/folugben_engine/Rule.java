@@ -4,8 +4,10 @@ import folugben.Move;
 import folugben.Step;
 
 /**
- * A rule of an abstract state machine, which is played on a step. Each kind defines one of the two
- * calls, and the other one follows. Both answer whether the rule has updates.
+ * A rule of an abstract state machine, which is played on a step.
+ *
+ * <p>Each kind defines one of the two calls, and the other one follows. Both return whether the
+ * rule has updates.
  */
 public interface Rule {
     /** Adds its updates to a move; nothing stays pushed. A sequence is played for that as a dry run. */
@@ -41,13 +43,17 @@ public interface Rule {
         boolean addTo(Move all, Step step);
     }
 
-    /** What comes to a value, as {@link folugben.Value#of} takes it, by what a step sees. */
+    /**
+     * A term, whose value depends on what a step sees.
+     *
+     * <p>The value is as {@link folugben.Value#of} takes it.
+     */
     @FunctionalInterface
     public interface Term {
-        /** Its value. */
+        /** Returns its value. */
         Object of(Step see);
 
-        /** A term that is this value, whatever is seen. */
+        /** Returns a term that is this value, whatever is seen. */
         static Term value(Object value) {
             return see -> value;
         }

@@ -42,7 +42,7 @@ public final class Rules {
         return made(see -> Instruction.remove(at, Element.of(term.of(see))));
     }
 
-    /** Raises a number, on which it rests in no other way. */
+    /** Adds to a number, and depends on it in no other way. */
     public static Rule raise(Location at, long by) {
         return made(see -> Instruction.inc(at, by));
     }
@@ -69,7 +69,7 @@ public final class Rules {
         };
     }
 
-    /** Comes to another rule by what is seen. */
+    /** A rule that becomes another one by what is seen. */
     private record Derived(Function<Step, Rule> comesTo) implements Rule {
         @Override
         public boolean addTo(Move all, Step step) {
@@ -82,12 +82,12 @@ public final class Rules {
         }
     }
 
-    /** Does one where the condition comes to true, and else the other one. */
+    /** Does one if the condition is true, and else the other one. */
     public static Rule when(Rule.Term condition, Rule then, Rule otherwise) {
         return new Derived(see -> (boolean) condition.of(see) ? then : otherwise);
     }
 
-    /** Does it where the condition comes to true. */
+    /** Does it if the condition is true. */
     public static Rule when(Rule.Term condition, Rule then) {
         return when(condition, then, skip());
     }
@@ -104,7 +104,11 @@ public final class Rules {
                 .map(it -> body.apply(it.getKey(), it.getValue())).toList();
     }
 
-    /** Does what is made of one location of that name, which is drawn; the other where none is so. */
+    /**
+     * Does what is made of one location of that name, which is drawn; else the other.
+     *
+     * <p>The other is done if the condition holds for none.
+     */
     public static Rule choose(Random random, String name, BiPredicate<Location, Value> where,
             BiFunction<Location, Value, Rule> body, Rule otherwise) {
         return new Derived(see -> {

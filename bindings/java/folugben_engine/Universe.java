@@ -16,8 +16,9 @@ import java.util.Random;
 import java.util.TreeMap;
 
 /**
- * A universe that grows: each agent imports nodes, whose numbers no other one takes, and hangs each
- * below the last one of some agent.
+ * A universe that grows: each agent imports nodes, whose numbers are its own.
+ *
+ * <p>No other agent takes them. It hangs each node below the last one of some agent.
  */
 public final class Universe implements Machine {
     private final int agents;

@@ -1,4 +1,4 @@
-/* What folugben_bind of quick.c does where two class loaders, each with a library of its own, share it: a method keeps the call
+/* What folugben_bind of quick.c does if two class loaders, each with a library of its own, share it: a method keeps the call
  * of the library that came first. There is no JVM here, only its function that takes the methods. */
 #include <jni.h>
 #include <stdint.h>
@@ -51,7 +51,7 @@ int main(void) {
         EXPECT(folugben_bind(&env, NULL, count, call) == 0 && times == 2 * count + 1);
         EXPECT(strcmp(taken.name, name) == 0);
         void *method = taken.fnPtr;
-        /* The class of another library stays as it was; one of the same library is bound too. */
+        /* The class of another library is unchanged; one of the same library is bound too. */
         EXPECT(folugben_bind(&env, NULL, count, other) == 1 && times == 2 * count + 1);
         EXPECT(folugben_bind(&env, NULL, count, call) == 0 && times == 2 * count + 2);
         EXPECT(taken.fnPtr == method);

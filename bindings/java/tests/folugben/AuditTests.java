@@ -130,7 +130,7 @@ final class AuditTests {
                 Code.LONG_LINE.text() + ": a line of more than 1,073,741,824 bytes (part 1)");
     }
 
-    /** What comes before a fault is taken, and is told again for what isn't. */
+    /** What comes before a fault is taken; the fault is reported again for what isn't. */
     static void faultsStay() {
         List<String> parts = parts(2, 2);
         String wrong = parts.get(0) + parts.get(1).replace("\"fired\":2", "\"fired\":1");
@@ -159,7 +159,7 @@ final class AuditTests {
                 () -> new Auditor().feed(new byte[2], 1, 2));
     }
 
-    /** A storage that goes on from an agent's own state, and an agent that is taken out again. */
+    /** A storage goes on from an agent's own state, and an agent is checked out again. */
     static void agentsGoOnAndAreTaken() {
         try (Storage storage = Storage.open(Map.of(COUNT, 0), 2); Agent other = storage.agent(1)) {
             Agent agent = storage.agent(0);

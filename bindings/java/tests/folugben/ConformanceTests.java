@@ -10,8 +10,8 @@ import java.util.List;
 import java.util.Map;
 
 /**
- * The table of calls and answers that every package gives: bindings/conformance says what its lines
- * are. The calls are done twice, the second time by agents that record.
+ * The table of calls and answers that every package returns: bindings/conformance says what its
+ * lines are. The calls are done twice, the second time by agents that record.
  */
 final class ConformanceTests {
     private final boolean isRecording;
@@ -139,7 +139,7 @@ final class ConformanceTests {
         return "[" + (told.calls() - recorded) + "," + told.moves() + "]";
     }
 
-    /** How many reads were recorded by the agents that were given back. */
+    /** How many reads were recorded by the agents that were returned. */
     private int recorded() {
         return agents.entrySet()
                 .stream()
@@ -148,7 +148,7 @@ final class ConformanceTests {
                 .sum();
     }
 
-    /** Commits; where the agent has moved on, without recording, as nothing was done then. */
+    /** Commits; if the agent has moved on, without recording, as nothing was done then. */
     private long committed(String own, Step step) {
         Agent agent = agents.get(own);
         boolean hasMoved = isRecording && agent.peek(List.of()).number() != step.number();

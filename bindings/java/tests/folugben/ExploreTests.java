@@ -15,7 +15,7 @@ import java.util.TreeMap;
 import java.util.function.Predicate;
 import java.util.function.Supplier;
 
-/** Tests of the search for the schedule that breaks what is to hold. */
+/** Tests of the search for a schedule that breaks an invariant. */
 final class ExploreTests {
     private static final Location COUNT = Location.of("count");
 
@@ -25,7 +25,7 @@ final class ExploreTests {
         return Storage.open(Map.of(COUNT, 0), 100);
     }
 
-    /** An update that rests on nothing. */
+    /** An update that depends on nothing. */
     private static Object lost(Agent agent) {
         long there = agent.read(List.of(COUNT)).value(COUNT).asLong();
         return agent.fire(List.of(Instruction.put(COUNT, there + 1)), List.of());
@@ -146,7 +146,7 @@ final class ExploreTests {
                 () -> Explorer.of(ExploreTests::counting, Collections.singletonList(null)));
     }
 
-    /** Four steps of each of three agents, at a location of its own but for one. */
+    /** Four steps of each of three agents, at a location of its own except for one. */
     private static void mostlyDifferentLocationsTakeFewSchedules() {
         Location all = Location.of("x", "all");
         Map<Location, Integer> init = new TreeMap<>(Map.of(all, 0));
@@ -168,7 +168,7 @@ final class ExploreTests {
         equal(told.toString(), "108 schedules hold, which are all");
     }
 
-    /** What works are told, and what they leave, in random programs: nothing is missed. */
+    /** The results and final states of random programs: nothing is missed. */
     private static void noOutcomeIsMissed() {
         int played = 0;
         int naively = 0;

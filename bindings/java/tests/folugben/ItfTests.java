@@ -101,7 +101,7 @@ final class ItfTests {
             nt":"2"}]},[]],[{"#tup":[{"#bigint":"1"}]},{"#set":[]}]]}}]}
             """;
 
-    /** A journal whose reply is another than that of a storage of one thread. */
+    /** A journal whose reply differs from that of a sequential storage. */
     private static final String ILLEGAL = """
             {"agents":1,"capacity":1,"events":1,"init":[[["a"],"x"]],"version":2}
             {"agent":0,"call":{"fire":[["put",["n"],1]],"reads":[]},"reply":{"fired":7}}
@@ -127,7 +127,7 @@ final class ItfTests {
             l","source":""},"vars":[],"states":[{"#meta":{"index":0}}]}
             """;
 
-    /** What it writes where no state is in the range. */
+    /** What it writes if no state is in the range. */
     private static final String NONE = """
             {"#meta":{"format":"ITF","format-description":"https://apalache-mc.org/docs/adr/015adr-trace.htm\
             l","source":""},"vars":["b","n","s","z"],"states":[]}

@@ -14,7 +14,7 @@ import java.util.Map;
 import java.util.Random;
 import java.util.TreeMap;
 
-/** Tests of the calls that take and give objects, and of their texts. */
+/** Tests of the calls that take and return objects, and of their texts. */
 final class ObjectTests {
     private static final int ROUNDS = 400;
     private static final Location X = Location.of("x");
@@ -27,7 +27,9 @@ final class ObjectTests {
         return state.getOrDefault(location, Element.undef());
     }
 
-    /** Every call tells of a random state what it was opened with, in the text that it has here. */
+    /**
+     * Every call returns the random state that it was opened with, in the text that it has here.
+     */
     static void states() {
         for (int round = 0; round < ROUNDS; round++) {
             Randoms random = new Randoms(round);
@@ -109,7 +111,7 @@ final class ObjectTests {
         throw new IllegalStateException("a text that is cut off is read");
     }
 
-    /** What a move comes to, as a reply: the updates, or what clashes. */
+    /** The expected result of a move, as a reply: the updates, or what clashes. */
     static Object foreseen(Map<Location, Value> state, List<Instruction> move) {
         try {
             return Moves.aggregate(state, move);
@@ -118,7 +120,7 @@ final class ObjectTests {
         }
     }
 
-    /** Random moves are pushed and fired as Moves foresees, and the journal tells them. */
+    /** Random moves are pushed and fired as Moves expects, and the journal has them. */
     static void moves() {
         int fired = 0;
         for (int round = 0; round < ROUNDS; round++) {
@@ -185,7 +187,7 @@ final class ObjectTests {
         equal(composed > ROUNDS / 4, true);
     }
 
-    /** Whole numbers of 64 bits stay as they are, where a double would round them. */
+    /** Integers of 64 bits are exact, though a double would round them. */
     static void numbers() {
         long[] numbers = {Long.MIN_VALUE, Long.MIN_VALUE + 1, -(1L << 53) - 1, (1L << 53) + 1,
                 1_000_000_000_000_000_001L, Long.MAX_VALUE - 1, Long.MAX_VALUE};

@@ -21,14 +21,14 @@ import java.util.Map;
 import java.util.concurrent.Callable;
 import java.util.function.Consumer;
 
-/** Tests of odd use: nothing is lost or mixed up by it, and it is told what is wrong. */
+/** Tests of odd use: nothing is lost or mixed up by it, and errors say what is wrong. */
 final class OddTests {
     private static final Location X = Location.of("x");
     private static final Location Y = Location.of("y");
 
     private OddTests() {}
 
-    /** A list that tells other items each time that it is asked. */
+    /** A list that returns other items each time that it is asked. */
     private static <T> List<T> changing(T first, T later) {
         return new AbstractList<>() {
             private int times;
@@ -311,7 +311,7 @@ final class OddTests {
         equal(isSo.call(), true);
     }
 
-    /** Where JNA is in a parent of the class loader, that is let go as the page on Java tells. */
+    /** If JNA is in a parent of the class loader, that is freed as the page on Java says. */
     static void classLoadersAreLetGo() throws Exception {
         WeakReference<ClassLoader> own = loaded();
         collectUntil(() -> own.get() == null);
@@ -321,7 +321,7 @@ final class OddTests {
     /** A class loader has a library of its own, which is unloaded with it, and others go on. */
     static void librariesAreUnloaded() throws Exception {
         String key = "jna.library.path";
-        // Where it is set, both loaders share the library of quick.c, as it is found by its name.
+        // If it is set, both loaders share the library of quick.c, as it is found by its name.
         CopiedLibrary.named(copy -> CopiedLibrary.with(key, System.getProperty(key, ""), () -> {
             WeakReference<ClassLoader> own = loaded();
             equal(CopiedLibrary.isLoaded(copy.toString()), true);
@@ -334,7 +334,7 @@ final class OddTests {
         }
     }
 
-    /** What is taken out of a jar lies in no folder once it is loaded. */
+    /** What is unpacked from a jar is in no folder once it is loaded. */
     static void nothingIsLeftOfJars() throws IOException {
         equal(CopiedLibrary.isLoaded("/jna\\d+\\.tmp"), false);
     }

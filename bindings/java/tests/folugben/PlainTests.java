@@ -19,7 +19,7 @@ final class PlainTests {
 
     private PlainTests() {}
 
-    /** Each value is told as it is with texts, by each call. */
+    /** Each call returns each value as it does with texts. */
     static void values() {
         for (int round = 0; round < ROUNDS; round++) {
             Randoms random = new Randoms(round);
@@ -59,7 +59,7 @@ final class PlainTests {
         }
     }
 
-    /** Each call returns the plain value; where that is null, the value is of no such kind. */
+    /** Each call returns the plain value; if that is null, the value is of no such kind. */
     private static void plain(String kind, Value value, Object wanted, Supplier<?>... calls) {
         for (Supplier<?> call : calls)
             if (wanted != null)
@@ -317,7 +317,7 @@ final class PlainTests {
         }
     }
 
-    /** What tryFire tells of each reply. */
+    /** What tryFire returns for each reply. */
     static void fires() {
         try (Storage storage = Storage.open(Map.of(X, 1), 2); Agent agent = storage.agent(0);
                 Agent rival = storage.agent(1); PreparedLocation x = X.prepare();

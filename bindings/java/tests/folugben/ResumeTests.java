@@ -49,7 +49,7 @@ final class ResumeTests {
             transfer(agent, i + agent.number(), 3 * i + 1, 1 + i % 70);
     }
 
-    /** The numbers of the run in a folder, whose accounts have the sum that they had. */
+    /** The counts of the run in a folder, whose accounts have the sum that they had. */
     private static Auditor.Counts audited(Path path) {
         try (Auditor auditor = new Auditor()) {
             auditor.feed(path);
@@ -121,7 +121,7 @@ final class ResumeTests {
         }
     }
 
-    /** Resuming tells that the segment is at fault, and leaves each file as it is. */
+    /** Resuming reports that the segment is at fault, and leaves each file unchanged. */
     private static void isDamaged(Path path, long segment, Run.Check check) throws IOException {
         List<Path> files = RunTests.files(path);
         try {
@@ -189,7 +189,7 @@ final class ResumeTests {
         isDamaged(path, 0, Run.Check.LAST);
     }
 
-    /** A text that isn't legal is refused though its digest is right. */
+    /** A text that isn't legal is refused even if its digest is right. */
     private static void illegalSegmentsAreRefused(Path path) throws IOException {
         small(path);
         List<Segment> segments = Segment.of(path);
@@ -209,7 +209,7 @@ final class ResumeTests {
             }
     }
 
-    /** What is no run: a folder of a run that was killed as it was made, another one, and a file. */
+    /** No run: a folder of a run that was killed as it was made, another one, and a file. */
     private static void otherPathsAreRefused(Path path) throws IOException {
         Files.createDirectory(path);
         Files.createFile(path.resolve("lock"));
@@ -228,7 +228,7 @@ final class ResumeTests {
         equal(Files.size(path), 10L);
     }
 
-    /** A process that is killed leaves whole segments. */
+    /** A process that is killed leaves complete segments. */
     private static void killedRunsAreResumed(Path path) throws Exception {
         Random random = new Random();
         for (int times = Integer.getInteger("folugben.kills", 3); times > 0; times--) {
@@ -265,7 +265,7 @@ final class ResumeTests {
         return new String(process.getInputStream().readAllBytes(), StandardCharsets.UTF_8);
     }
 
-    /** Runs of the Python package are gone on with, and it goes on with those of this one. */
+    /** This package resumes runs of the Python package, and Python resumes runs of this one. */
     private static void pythonReadsAndWritesTheSame(Path path) throws IOException {
         if (System.getProperty("folugben.python") == null) {
             System.out.println("left out: runs of Python (no -Dfolugben.python=FOLDER)");

@@ -18,7 +18,7 @@ import java.util.Collections;
 import java.util.List;
 import java.util.Map;
 
-/** Tests of how runs end: as they are closed, and where a part can't be written. */
+/** Tests of how runs end: by a close, and when a part can't be written. */
 final class RunEndTests {
     private static final Location COUNT = Location.of("count");
 
@@ -73,7 +73,7 @@ final class RunEndTests {
         agents.forEach(RunAgent::close);
     }
 
-    /** A part that lacks a move ends the run; what was whole stays. */
+    /** A part that lacks a move ends the run; what was complete stays. */
     private static void lostAgentsEndTheRun(Path path) {
         Run run = RunTests.open(path, 2);
         RunAgent agent = run.agent(0);
@@ -108,7 +108,7 @@ final class RunEndTests {
 
     /** The run of a process whose files can't grow beyond 64 blocks, as on a full disk. */
     private static void fullDisksEndTheRun(Path path) throws Exception {
-        // Such a process can't take the library out of a jar either.
+        // Such a process can't unpack the library from a jar either.
         CopiedLibrary.named(copy -> equal(
                 OtherProcess.start("ulimit -f 64 && exec ", "fill", path).waitFor(), 0));
         equal(RunTests.counted(path, 50), new Auditor.Counts(6, 50, 50));
@@ -227,7 +227,7 @@ final class RunEndTests {
             }
             agent.record(false);
             RunTests.count(agent);
-            // The state is too long for the part that comes next: the move that comes there is refused.
+            // The state is too long for the next part: the move that comes there is refused.
             equal(refused(Code.LONG_LINE, agent::step).getClass(), kind);
             equal(agent.won(), 4L);
             equal(Auditor.audit(path).moves(), 0L);
@@ -302,7 +302,7 @@ final class RunEndTests {
         System.out.println("stress " + seconds + " s: " + told);
     }
 
-    /** Stresses so many runs, each for so many seconds: 20 and 30, where nothing else is said. */
+    /** Stresses so many runs, each for so many seconds: 20 and 30 by default. */
     public static void main(String[] arguments) throws Exception {
         int runs = arguments.length > 0 ? Integer.parseInt(arguments[0]) : 20;
         int seconds = arguments.length > 1 ? Integer.parseInt(arguments[1]) : 30;

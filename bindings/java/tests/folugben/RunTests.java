@@ -18,7 +18,7 @@ import java.util.concurrent.CountDownLatch;
 import java.util.concurrent.atomic.AtomicReference;
 import java.util.stream.Stream;
 
-/** Tests of runs without end: agents that go on from part to part. */
+/** Tests of endless runs: agents that go on from part to part. */
 final class RunTests {
     private static final Location COUNT = Location.of("count");
     /** Whether the runs record; the reads that they record aren't counted. */
@@ -26,7 +26,7 @@ final class RunTests {
 
     private RunTests() {}
 
-    /** What is done with the path of a run, whose folder isn't there yet. */
+    /** Uses the path of a run, whose folder doesn't exist yet. */
     interface OnFile {
         void use(Path path) throws Exception;
     }
@@ -234,7 +234,7 @@ final class RunTests {
         equal(told.calls(), told.moves() + 1);
     }
 
-    /** No step and no number goes on in another part than its own. */
+    /** No step and no number is valid in another part than its own. */
     private static void partsAreApart(Path path) {
         try (Run run = open(path, 2); RunAgent slow = run.agent(0); RunAgent agent = run.agent(1)) {
             List<Named> first = slow.peek(List.of(COUNT)).named();
@@ -313,7 +313,7 @@ final class RunTests {
         }
     }
 
-    /** One who stays in a step is waited for a tenth of a second, and then begins anew. */
+    /** A run waits a tenth of a second for one who stays in a step, who then begins again. */
     private static void stepsThatLastAreEnded(Path path) throws Exception {
         try (Run run = open(path, 1000, 3); RunAgent agent = run.agent(0);
                 RunAgent lasting = run.agent(1)) {

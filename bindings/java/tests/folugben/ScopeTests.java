@@ -62,7 +62,7 @@ final class ScopeTests {
         }
     }
 
-    /** A fire that isn't looked at is thrown where it fired nothing. */
+    /** A fire whose reply is ignored throws if it fired nothing. */
     static void fires() {
         try (Storage storage = open(); Agent agent = storage.agent(0); Agent rival = storage.agent(1)) {
             try (Step step = agent.step()) {
@@ -199,7 +199,7 @@ final class ScopeTests {
             }
         }
 
-        /** Commits a random step: what its gets returned where the agent was answered; else null. */
+        /** Commits a random step: what its gets returned if the agent was answered; else null. */
         private static Map<Location, Value> step(Agent agent, List<Location> places, Randoms random) {
             try (Step step = agent.step()) {
                 Map<Location, Value> got = new HashMap<>();

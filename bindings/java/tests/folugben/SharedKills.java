@@ -14,8 +14,10 @@ import java.util.Map;
 import java.util.Random;
 
 /**
- * Kills processes that work on one shared run, for longer than a test may take; each third one is of
- * Python where -Dfolugben.python names its package. Nothing that was answered is lost or done twice.
+ * Kills processes that work on one shared run, for longer than a test may take.
+ *
+ * <p>Each third one is of Python if -Dfolugben.python names its package. Nothing that was answered
+ * is lost or done twice.
  *
  * <p>usage: SharedKills sqlite|servers KILLS [PROCESSES AGENTS TIMES]; with servers it kills the
  * server too, now and then.

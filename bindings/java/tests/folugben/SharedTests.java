@@ -20,7 +20,7 @@ import java.util.List;
 import java.util.Map;
 import java.util.concurrent.Callable;
 
-/** Tests of shared runs, over SQLite, and over PostgreSQL where that is installed. */
+/** Tests of shared runs, over SQLite, and over PostgreSQL if that is installed. */
 final class SharedTests {
     static final Location COUNT = Location.of("count");
     private static final Map<Location, Long> INIT = Map.of(COUNT, 0L);
@@ -32,7 +32,7 @@ final class SharedTests {
 
     private SharedTests() {}
 
-    /** A test of a run that isn't there yet. */
+    /** A test of a run that doesn't exist yet. */
     interface OnTarget {
         void use(String target) throws Exception;
     }
@@ -45,7 +45,7 @@ final class SharedTests {
         });
     }
 
-    /** What the call throws, or what that is caused by where it can't be told by itself. */
+    /** What the call throws, or its cause if it can't be compared by itself. */
     static Throwable faultOf(Callable<?> call) throws Exception {
         try {
             call.call();
@@ -288,7 +288,7 @@ final class SharedTests {
         equal(told.getMessage().contains("read-only"), true);
     }
 
-    /** Processes, one of them of Python where that is there, work on one run, and two are killed. */
+    /** Processes, one of them of Python if that is there, work on one run, and two are killed. */
     private static void processesThatAreKilled(String target) throws Exception {
         SharedKills.run(target, null, 2, 3, 2, 5);
     }

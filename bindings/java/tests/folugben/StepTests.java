@@ -8,7 +8,7 @@ import static folugben.Test.Checks.refusedAt;
 import java.util.Collections;
 import java.util.List;
 
-/** Tests of looks, steps, moves without an agent, and runs that go on. */
+/** Tests of peeks, steps, moves without an agent, and runs that go on. */
 final class StepTests {
     private static final String TWICE = "[[\"put\",[\"x\"],{\"set\":[1,1]}]]";
     private static final String INIT = "[[[\"s\"],{\"set\":[1]}],[[\"x\"],7],[[\"y\",1],\"one\"]]";
@@ -119,20 +119,20 @@ final class StepTests {
             agent.give();
             String journal = storage.closeJournal();
             equal(Storage.check(journal), new Storage.Checked(1, 1));
-            // What the step put itself isn't named, nor what a scan alone told.
+            // What the step put itself isn't named, nor what a scan alone returned.
             String named = "[[\"s\"],0],[[\"x\"],0]";
             equal(journal.endsWith("\"reads\":[" + named + "]},\"reply\":{\"fired\":1}}\n"), true);
         }
     }
 
-    /** The call is refused with this code and this answer, which the message tells too. */
+    /** The call is refused with this code and this answer, which the message has too. */
     static void told(Code code, String answer, Runnable call) {
         FolugbenException error = refused(code, call);
         equal(error.answer(), answer);
         equal(error.getMessage(), code.text() + ": " + answer);
     }
 
-    /** The same of a call on a step, which is as it was. */
+    /** The same of a call on a step, which is unchanged. */
     static void objection(Step step, Code code, String answer, Runnable call) {
         int depth = step.depth();
         String seen = step.get("[[\"x\"],[\"s\"]]");
@@ -180,7 +180,7 @@ final class StepTests {
         }
     }
 
-    /** What is seen isn't named, and an offer tells what is. */
+    /** What is seen isn't named, and an offer has what is. */
     static void sees() {
         Location x = Location.of("x");
         Location y = Location.of("y", 1);
@@ -248,7 +248,7 @@ final class StepTests {
         }
     }
 
-    /** What one move alone adds rests on nothing, and clashes where it fits no longer. */
+    /** What one move alone adds depends on nothing, and clashes if it doesn't fit any more. */
     static void restingOnNothing() {
         String one = "[[\"bagremove\",[\"b\"],1,1]]";
         try (Storage storage = new Storage("[[[\"b\"],{\"bag\":[[1,2]]}],[[\"x\"],7]]", 8);
@@ -363,7 +363,7 @@ final class StepTests {
                 () -> Moves.aggregate("[]", TWICE));
     }
 
-    /** A run goes on in a storage that opens with what the one before left. */
+    /** A run goes on in a storage that opens with the state after the one before. */
     static void goingOn() {
         Storage storage = new Storage(INIT, 1);
         refused(Code.NO_JOURNAL, () -> storage.next(1));

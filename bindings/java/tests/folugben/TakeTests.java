@@ -93,7 +93,7 @@ final class TakeTests {
                     });
             equal(storage.moves(), 160);
             Agent last = agents.get(15);
-            // What an agent has looked at is what it shows, whoever acts after it.
+            // What an agent has peeked at is what it shows, whoever acts after it.
             equal(last.follow(), 160);
             agents.get(3).fire(List.of(Instruction.put(X, 7)), List.of());
             equal(last.peek(List.of(X)), new Reading(160, List.of(X), List.of(Value.of(160))));

@@ -185,7 +185,7 @@ public final class Test {
         }
     }
 
-    /** Whether calls go past JNA, where it is said what is wanted. */
+    /** Whether calls bypass JNA, if a wanted answer is passed. */
     static void quick() {
         String wanted = System.getProperty("folugben.quick");
         if (wanted != null)
@@ -270,14 +270,14 @@ public final class Test {
             throw new IllegalStateException("not refused: code " + code);
         }
 
-        /** The call is refused with this number, which the message tells too, as what it counts. */
+        /** The call is refused with this number, which the message has too, as what it counts. */
         static void refusedAt(Code code, long number, String told, Runnable call) {
             FolugbenException error = refused(code, call);
             equal(error.number(), number);
             equal(error.getMessage(), code.text() + told);
         }
 
-        /** The call throws an exception of this class, which tells this. */
+        /** The call throws an exception of this class with this text. */
         static void thrown(Class<? extends RuntimeException> kind, String told, Runnable call) {
             try {
                 call.run();
@@ -289,7 +289,7 @@ public final class Test {
             throw new IllegalStateException("not thrown: " + told);
         }
 
-        /** The call is refused by an IllegalArgumentException, which tells this. */
+        /** The call is refused by an IllegalArgumentException with this text. */
         static void refusedValue(String told, Runnable call) {
             thrown(IllegalArgumentException.class, told, call);
         }
@@ -344,7 +344,7 @@ public final class Test {
             }
         }
 
-        /** The library in the jar, or else where JNA finds it. */
+        /** The library in the jar, or else the one that JNA finds. */
         private static byte[] bytes() throws IOException {
             String inJar = "/" + Platform.RESOURCE_PREFIX + "/" + System.mapLibraryName("folugben");
             try (InputStream in = CopiedLibrary.class.getResourceAsStream(inJar)) {

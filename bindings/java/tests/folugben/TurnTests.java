@@ -45,7 +45,7 @@ final class TurnTests {
         });
     }
 
-    /** It rests on nothing, so that it may overwrite what another one does meanwhile. */
+    /** It depends on nothing, so that it may overwrite what another one does meanwhile. */
     private static void unguarded(Agent agent, Location from, Location to) {
         agent.follow();
         Reading seen = agent.peek(List.of(from, to));
@@ -123,7 +123,7 @@ final class TurnTests {
         }
     }
 
-    /** A list tells the turns; behind its end one after the other plays to its own. */
+    /** A list says whose turn it is; after its end each in turn plays to its own end. */
     static void aListTellsTheTurns() {
         try (Storage storage = new Storage("[]", 100)) {
             List<Agent> agents = List.of(storage.agent(0), storage.agent(1), storage.agent(2));

@@ -29,7 +29,7 @@ final class ValueTests {
 
     private ValueTests() {}
 
-    /** Equal by content, and so with equal hashes, in whichever order it was given. */
+    /** Equal by content, and so with equal hashes, in whichever order it was passed. */
     static void same(Object one, Object other) {
         equal(one, other);
         equal(one.hashCode(), other.hashCode());
@@ -126,7 +126,7 @@ final class ValueTests {
         refusedValue("a text has a lone surrogate at index 0", () -> Element.list("\ude00a"));
     }
 
-    /** What an object was made of, and what it tells, can't change it. */
+    /** Changes of what an object was made of, or returns, can't change it. */
     static void immutable() {
         List<Element> items = new ArrayList<>(List.of(Element.of(1)));
         Set<Element> elements = new HashSet<>(items);
@@ -242,7 +242,7 @@ final class ValueTests {
             clash(B, Cause.SHORT, Instruction.bagRemove(B, 2, 1));
             clash(B, Cause.LARGE, Instruction.bagAdd(B, 1, 1));
             clash(X, Cause.LARGE, Instruction.inc(X, 1));
-            // The least of several.
+            // The smallest of several.
             clash(B, Cause.SHORT, Instruction.inc(X, 1), Instruction.bagRemove(B, 2, 1));
         }
 
@@ -272,7 +272,7 @@ final class ValueTests {
             }
         }
 
-        /** The codes of the header, by name, where it is known where that lies; else none. */
+        /** The codes of the header, by name, if its place is known; else none. */
         private static Map<String, Integer> ofHeader() {
             String root = System.getProperty("folugben.root");
             Map<String, Integer> codes = new java.util.TreeMap<>();

@@ -260,7 +260,7 @@ public final class EngineTests {
                 .explore();
     }
 
-    /** Fires what a rule comes to, which then rests on nothing that its step saw. */
+    /** Fires the updates of a rule, which then depend on nothing that its step saw. */
     private static Object blindly(Agent agent, Rule rule) {
         List<Instruction> move;
         try (Step step = agent.step()) {
