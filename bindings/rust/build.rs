@@ -1,5 +1,5 @@
-//! Finds libfolugben.a: in the folder that `FOLUGBEN_LIB_DIR` names, beside the crate as the files of a release have it, where
-//! `./build_c` leaves it in a checkout, or by pkg-config.
+//! Finds libfolugben.a: in the folder that `FOLUGBEN_LIB_DIR` names, beside the crate as in the files of a release, in the place
+//! to which `./build_c` writes it in a checkout, or by pkg-config.
 use std::path::PathBuf;
 use std::process::Command;
 use std::{env, fs};

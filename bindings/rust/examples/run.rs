@@ -1,5 +1,5 @@
-//! A bank for as long as it is told, whose journal goes to a folder; it goes on where an earlier run of the folder has ended,
-//! also where that was killed: `cargo run --example run -- FOLDER [SECONDS]`
+//! A bank that runs for a given time, whose journal goes to a folder; it goes on after an earlier run of the folder, also if that
+//! was killed: `cargo run --example run -- FOLDER [SECONDS]`
 use folugben::{Check, Error, Location, RunAgent, RunOptions, audit_run};
 use std::env;
 use std::path::PathBuf;

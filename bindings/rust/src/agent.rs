@@ -112,7 +112,7 @@ impl Agent {
         unsafe { sys::asm_won(self.slots.agent()) }
     }
 
-    /// How many of its looks found no further move.
+    /// How many of its polls found no further move.
     #[must_use]
     pub fn misses(&self) -> u64 {
         // SAFETY: the slots are held by this agent, no call is at work on them, and the texts and numbers outlive the call.
@@ -138,10 +138,10 @@ impl Agent {
         Ok(number)
     }
 
-    /// Begins a step, plays the rule on it and fires it, and begins again at each [`Error::Conflict`].
+    /// Plays the rule on a step and fires it, and begins again at each [`Error::Conflict`].
     ///
-    /// A rule that pushes nothing fires nothing. What it got is of one state all the same. Between tries in vain other
-    /// threads run, and the agent sleeps for up to a millisecond after some.
+    /// A rule that pushes nothing fires nothing; what it read is of one state all the same. Between vain tries other threads run,
+    /// and the agent sleeps for up to a millisecond after some.
     ///
     /// # Errors
     ///
@@ -186,12 +186,13 @@ impl Agent {
         answer(&self.last_answer()?, Reading::of)
     }
 
-    /// Fires the move, unless one of the at most 256 named locations was written since the number at which it is named, and
-    /// answers the move's number.
+    /// Fires the move, unless a named location was written since, and returns its number.
+    ///
+    /// At most 256 locations are named, each at a number of moves since which it must not have been written.
     ///
     /// # Errors
     ///
-    /// - [`Error::Conflict`]: a named location was written since, or too many offers were lost; so read again.
+    /// - [`Error::Conflict`]: a named location was written since, or too many attempts to append failed; so read again.
     /// - [`Error::Clash`]: the updates clash.
     /// - [`Error::Range`]: a number is above [`Agent::seen`].
     /// - [`Error::Full`], [`Error::Many`], [`Error::Refused`], [`Error::Memory`].
@@ -199,8 +200,10 @@ impl Agent {
         self.fire_over(instructions, reads, &[])
     }
 
-    /// Fires the move as [`Agent::fire`] does, unless a location of one of these functions was written since the number
-    /// that [`Agent::scan`] returned, including one that had no value. Both together are at most 256.
+    /// Fires the move as [`Agent::fire`] does, and depends on whole functions too.
+    ///
+    /// It doesn't fire if a location of one of these functions was written since the number that [`Agent::scan`] returned,
+    /// including one that had no value. Locations and functions together are at most 256.
     ///
     /// # Errors
     ///
@@ -254,7 +257,9 @@ impl Agent {
         Ok(text)
     }
 
-    /// Takes in what the other agent has seen, so that its further answers come after all of the other's so far.
+    /// Learns what the other agent has seen.
+    ///
+    /// Its further answers then come after all of the other's so far.
     ///
     /// # Errors
     ///
@@ -288,8 +293,9 @@ impl Agent {
         Ok(number)
     }
 
-    /// Polls, and checks that none of the named locations was written since. It leaves no receipt, and a fire may still be
-    /// stale, by a move that comes in between.
+    /// Polls, and checks that none of the named locations was written since.
+    ///
+    /// It leaves no receipt, and a fire may still be stale, by a move that comes in between.
     ///
     /// # Errors
     ///
@@ -314,12 +320,14 @@ impl Agent {
         }
     }
 
-    /// Opens a storage for `capacity` moves that goes on where the agent's own is full: its opening state is what all moves
-    /// leave, its agents and numbers start again. No journal is needed, and no other agent waits.
+    /// Opens a storage for `capacity` moves that goes on where the agent's own is full.
+    ///
+    /// Its opening state is the state after all moves; its agents and numbers start again. No journal is needed, and no other
+    /// agent waits.
     ///
     /// # Errors
     ///
-    /// - [`Error::NotFull`]: the agent's own state is at fewer moves than its storage has room for. Where that is full,
+    /// - [`Error::NotFull`]: the agent's own state is at fewer moves than its storage has room for. If that is full,
     ///   [`Agent::follow`] brings the state there.
     /// - [`Error::Range`]: the capacity is outside 1 to 1,048,576.
     /// - [`Error::Memory`].
@@ -339,7 +347,7 @@ impl Agent {
         }
     }
 
-    /// Lets the agent go without giving it back: its moves stand, but its storage can't be closed if it fired any.
+    /// Frees the agent without returning it: its moves stay, but its storage can't be closed if it fired any.
     pub fn abandon(self) {
         self.slots.leave().free();
     }

@@ -7,11 +7,11 @@ use crate::sys;
 use crate::value::{Location, Value};
 use std::{fmt, io};
 
-/// How much of a run there is.
+/// The counts of a run.
 #[derive(Clone, Copy, Debug, Default, PartialEq, Eq)]
 #[non_exhaustive]
 pub struct Counts {
-    /// How many parts are whole.
+    /// How many parts are complete.
     pub parts: u64,
     /// How many calls were answered, in all parts.
     pub calls: u64,
@@ -30,7 +30,7 @@ impl Counts {
         self.moves += more.moves;
     }
 
-    /// How much more it is than before.
+    /// Returns how much more it is than before.
     pub(crate) fn since(self, before: Counts) -> Counts {
         let Counts { parts, calls, moves } = before;
         Counts { parts: self.parts - parts, calls: self.calls - calls, moves: self.moves - moves }
@@ -43,11 +43,11 @@ impl fmt::Display for Counts {
     }
 }
 
-/// What is wrong with a run, first of all. Parts and calls count from 0, lines from 1 in their part.
+/// The first fault of a run. Parts and calls count from 0, lines from 1 in their part.
 #[derive(Clone, Copy, Debug, PartialEq, Eq)]
 #[non_exhaustive]
 pub enum AuditError {
-    /// The answer of the call isn't the one that a storage of one thread gives there.
+    /// The answer of the call differs from that of a sequential storage.
     Illegal {
         /// The part's number.
         part: u64,
@@ -61,7 +61,7 @@ pub enum AuditError {
         /// Why it is none.
         fault: JournalError,
     },
-    /// The part opens with another state than the one before it leaves.
+    /// The part opens with another state than the one after the part before it.
     Apart {
         /// The part's number.
         part: u64,
@@ -76,7 +76,7 @@ pub enum AuditError {
 }
 
 impl AuditError {
-    /// What a code of the audit tells, but `DONE`, and `LONG_LINE`, which comes without numbers.
+    /// Returns the fault of a code of the audit, except `DONE`, and `LONG_LINE`, which comes without numbers.
     fn of(code: i32, numbers: sys::AuditNumbers) -> AuditError {
         let sys::AuditNumbers { parts: part, calls, .. } = numbers;
         let journal = |fault| AuditError::Journal { part, fault };
@@ -108,7 +108,7 @@ impl fmt::Display for AuditError {
 
 impl std::error::Error for AuditError {}
 
-/// The kind is `InvalidData`, or `OutOfMemory`; [`io::Error::downcast`] gives the error back.
+/// The kind is `InvalidData`, or `OutOfMemory`; [`io::Error::downcast`] returns the error again.
 impl From<AuditError> for io::Error {
     fn from(error: AuditError) -> io::Error {
         match error {
@@ -118,11 +118,13 @@ impl From<AuditError> for io::Error {
     }
 }
 
-/// Checks a run of any length as its bytes are written to it, in pieces of any size: journals one behind the other, the
-/// parts of the run, each of which opens with the state that the one before it leaves. It holds that state and one line.
+/// Checks a run of any length as its bytes are written, in pieces of any size.
 ///
-/// The first fault is told at the line feed of its line, by the writing that would take it (`write_all`, [`io::copy`]), as an
-/// [`io::Error`] that holds an [`AuditError`]; and then by all further writes and by [`Auditor::finish`].
+/// A run is a sequence of journals, its parts, each of which opens with the state after the one before it. The auditor holds
+/// that state and one line.
+///
+/// The first fault is reported at the line feed of its line, by the write that would take it (`write_all`, [`io::copy`]), as
+/// an [`io::Error`] that holds an [`AuditError`]; and then by all further writes and by [`Auditor::finish`].
 ///
 /// ```
 /// use folugben::{Auditor, Storage};
@@ -154,25 +156,26 @@ pub struct Auditor {
 }
 
 impl Auditor {
-    /// An auditor that has read nothing.
+    /// Makes an auditor that has read nothing.
     #[must_use]
     pub fn new() -> Auditor {
         Auditor { slot: Held::empty(), counts: Counts::default(), fault: None }
     }
 
-    /// How much was found right so far.
+    /// Returns the counts that were found right so far.
     #[must_use]
     pub fn counts(&self) -> Counts {
         self.counts
     }
 
-    /// What is told if nothing more is written: how much of the run there is, where it is whole and legal. More may be written
-    /// after that.
+    /// Returns the counts of a run that ends here, complete and legal.
+    ///
+    /// More may be written after that.
     ///
     /// # Errors
     ///
-    /// - [`AuditError::Journal`] with `Cut` or `NotJson`: the last part or line isn't whole.
-    /// - The fault that was told before.
+    /// - [`AuditError::Journal`] with `Cut` or `NotJson`: the last part or line isn't complete.
+    /// - The fault that was reported before.
     pub fn finish(&self) -> Result<Counts, AuditError> {
         if let Some(fault) = self.fault {
             return Err(fault);
@@ -188,7 +191,9 @@ impl Auditor {
         }
     }
 
-    /// The state that the moves so far leave, in ascending order of locations; none before a part has begun.
+    /// Returns the state after the moves so far, in ascending order of locations.
+    ///
+    /// It is none before a part has begun.
     ///
     /// # Errors
     ///
@@ -208,7 +213,7 @@ impl Auditor {
         }
     }
 
-    /// Passes the bytes on: the code, and how many were taken.
+    /// Passes the bytes on; returns the code, and how many were taken.
     fn feed(&mut self, bytes: &[u8]) -> (i32, usize, sys::AuditNumbers) {
         let (mut taken, mut numbers) = (0, sys::AuditNumbers::default());
         // SAFETY: the slot is held by this auditor, and the bytes and numbers outlive the call.
@@ -229,7 +234,7 @@ impl io::Write for Auditor {
             sys::MEMORY if taken == 0 => return Err(AuditError::Memory.into()),
             sys::MEMORY => {}
             code => {
-                // What stands before the fault is counted.
+                // What is before the fault is counted.
                 if let (sys::DONE, _, numbers) = self.feed(&[]) {
                     self.counts = Counts::of(numbers);
                 }
@@ -238,7 +243,7 @@ impl io::Write for Auditor {
                     code => AuditError::of(code, numbers),
                 };
                 self.fault = Some(fault);
-                // A write that took bytes says so; the next one, of those behind, tells the fault.
+                // A write that took bytes says so; the next one, of those after them, reports the fault.
                 if taken == 0 {
                     return Err(fault.into());
                 }

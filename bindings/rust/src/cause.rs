@@ -12,7 +12,7 @@ pub enum Cause {
     Two,
     /// Instructions of two of these: sets, bags, numbers.
     Mixed,
-    /// The value that is there is no set, no bag or no number.
+    /// The present value is no set, no bag or no number.
     Kind,
     /// An element is added to a set and removed from it.
     Both,
@@ -61,12 +61,12 @@ pub enum Conflict {
     Stale(Location),
     /// Something was written since that the step's moves don't fit.
     Clash {
-        /// The least location whose updates clash.
+        /// The smallest location whose updates clash.
         at: Location,
         /// Why they do.
         cause: Cause,
     },
-    /// 64 offers in a row were lost to other agents.
+    /// 64 attempts to append in a row were lost to other agents.
     Busy,
     /// The part of a run in which the step began has ended.
     Past,
@@ -93,7 +93,7 @@ pub struct OutOfRange {
     pub what: &'static str,
     /// The number.
     pub value: u64,
-    /// The least one that is allowed.
+    /// The smallest one that is allowed.
     pub least: u64,
     /// The greatest one that is allowed.
     pub most: u64,
@@ -126,7 +126,7 @@ impl fmt::Display for OutOfRange {
 #[derive(Clone, Copy, Debug, PartialEq, Eq)]
 #[non_exhaustive]
 pub enum Limit {
-    /// At most 256 locations and functions in a read, a fire or a step's read set: how many there were, where that is known.
+    /// At most 256 locations and functions in a read, a fire or a step's read set: how many there were, if that is known.
     Places(Option<usize>),
     /// At most 4,096 instructions in a move, or in the one move of a step.
     Instructions,

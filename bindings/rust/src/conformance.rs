@@ -78,7 +78,7 @@ impl Replayer {
         *self = Replayer { storage: Some(storage), ..Replayer::new(is_recording) };
     }
 
-    /// Commits; where the agent has moved on, without recording, as nothing was done then.
+    /// Commits; if the agent has moved on, without recording, as nothing was done then.
     fn commit(&mut self, number: u8) -> Told {
         let (is_recording, begun) = (self.is_recording, self.begun.get(&number).copied());
         let agent = self.agent(number)?;
@@ -200,7 +200,7 @@ impl Replayer {
             "get" => return self.step(number, |it| Ok(it.get_each(&places(next())?)?.as_slice().json())),
             "see" => return self.step(number, |it| Ok(it.see(&places(next())?)?.as_slice().json())),
             "get_all" => return self.step(number, |it| Ok(it.scan(&next().text().unwrap())?.as_slice().json())),
-            // The step of an agent that was given back is gone with it.
+            // The step of an agent that was returned is gone with it.
             "depth" if !self.agents.contains_key(&number) => return Ok("0".to_owned()),
             "depth" => return self.step(number, |it| Ok(it.depth().to_string())),
             "offer" => {
@@ -261,7 +261,7 @@ fn of_audit(error: &AuditError) -> (&'static str, Vec<u64>) {
     }
 }
 
-/// The code of a call's error; what it is said to be where the table has that as an answer.
+/// Returns the code of a call's error; what it is said to be if the table has that as an answer.
 fn of_call(error: &Error) -> Result<(&'static str, Vec<u64>), String> {
     let clash = |at: &Location, cause: Cause| format!("{{\"clash\":[{},\"{cause:?}\"]}}", at.json());
     Ok(match error {

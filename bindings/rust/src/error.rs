@@ -19,7 +19,7 @@ pub enum Error {
     Conflict(Conflict),
     /// The updates clash at the location: those of a push on what the step sees, or those of a fire without a step.
     Clash {
-        /// The least location whose updates clash.
+        /// The smallest location whose updates clash.
         at: Location,
         /// Why they do.
         cause: Cause,
@@ -28,7 +28,7 @@ pub enum Error {
     Full,
     /// A move or a state would make a line of a run's journal longer than the 1,073,741,824 bytes that an audit reads.
     TooLong,
-    /// The agent hasn't looked on to the end of a full storage.
+    /// The agent hasn't polled to the end of a full storage.
     NotFull,
     /// Out of memory; the call may be made again.
     Memory,
@@ -144,7 +144,7 @@ impl From<Conflict> for Error {
     }
 }
 
-/// What an audit told through a reader or a writer is [`Error::Audit`] again; else it is [`Error::File`].
+/// What an audit reported through a reader or a writer is [`Error::Audit`] again; else it is [`Error::File`].
 impl From<io::Error> for Error {
     fn from(error: io::Error) -> Error {
         match error.downcast::<AuditError>() {
@@ -198,7 +198,7 @@ fn nests_too_deep(text: &[u8]) -> bool {
     })
 }
 
-/// The error of a code that comes without more.
+/// Returns the error of a code that comes without more.
 pub(crate) fn plain(code: i32) -> Error {
     match code {
         sys::MEMORY => Error::Memory,
@@ -212,7 +212,7 @@ pub(crate) fn plain(code: i32) -> Error {
     }
 }
 
-/// Ok where the code is that of what was done.
+/// Returns `Ok` for the code of success.
 pub(crate) fn done(code: i32) -> Result<(), Error> {
     match code {
         sys::DONE => Ok(()),
@@ -233,7 +233,7 @@ pub(crate) fn answer<T>(text: &[u8], form: impl FnOnce(Json) -> Option<T>) -> Re
     read(text).and_then(form).ok_or_else(|| Error::Refused(format!("an unknown answer: {}", text.escape_ascii())))
 }
 
-/// The error that the text of an answer tells: {"stale":LOC}, {"clash":[LOC,CAUSE]} or {"large":LOC}.
+/// Returns the error of an answer's text: {"stale":LOC}, {"clash":[LOC,CAUSE]} or {"large":LOC}.
 pub(crate) fn of_text(code: i32, text: &[u8]) -> Error {
     let told = answer(text, |it| match code {
         sys::STALE => it.member("stale")?.location().map(|at| Conflict::Stale(at).into()),

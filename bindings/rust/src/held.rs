@@ -41,7 +41,7 @@ impl Drop for Held {
     }
 }
 
-/// Makes a call that writes a text, again with more room where there is too little, and answers its code with the text.
+/// Makes a call that writes a text, again with more room if there is too little; returns its code with the text.
 pub(crate) fn told(mut call: impl FnMut(*mut u8, usize, *mut usize) -> i32) -> (i32, Vec<u8>) {
     thread_local! {
         static KEPT: Cell<Vec<u8>> = const { Cell::new(Vec::new()) };

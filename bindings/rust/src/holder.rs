@@ -51,7 +51,7 @@ impl Holder<'_> {
         }
     }
 
-    /// Counts bytes of what the step has pushed and got, which a line of a run's journal may have.
+    /// Counts bytes of what the step has pushed and read, which a line of a run's journal may have.
     pub(crate) fn count(&self, size: usize) {
         if let Holder::Lent(lent) = self {
             lent.count(size);
@@ -66,7 +66,7 @@ impl Holder<'_> {
     }
 }
 
-/// Fires what the agent's step has pushed, behind a receipt of what the step read if the agent is recording.
+/// Fires what the agent's step has pushed, after a receipt of what the step read if the agent is recording.
 ///
 /// A commit that records isn't `MOVED`: a step borrows its agent, so the agent's own state is at the step's version.
 pub(crate) fn commit(agent: &Agent) -> Result<u32, Error> {

@@ -13,9 +13,9 @@ pub enum Instruction {
     Add(Location, Element),
     /// The set there loses the element.
     Remove(Location, Element),
-    /// The bag there gets the element so many times, which is at least once.
+    /// The bag there gets the element so many times, at least once.
     BagAdd(Location, Element, u32),
-    /// The bag there loses the element so many times, which is at least once.
+    /// The bag there loses the element so many times, at least once.
     BagRemove(Location, Element, u32),
     /// The number there grows by so much.
     Inc(Location, i64),
@@ -40,9 +40,10 @@ impl Instruction {
     }
 }
 
-/// Instructions that are carried out at once: each location gets one value by all of them, or they clash.
+/// Instructions that are carried out at once.
 ///
-/// A move has at most 4,096 instructions; a call that is passed more answers [`Error::Refused`](crate::Error::Refused).
+/// Each location gets one value by all of them, or they clash. A move has at most 4,096 instructions; a call that is passed more
+/// returns [`Error::Refused`](crate::Error::Refused).
 ///
 /// ```
 /// use folugben::{Location, Move};

@@ -8,7 +8,7 @@ use crate::value::{Location, Value};
 use std::fmt;
 use std::io;
 
-/// Whether each answer in a journal is the one that a storage of one thread gives there.
+/// Whether each answer in a journal is that of a sequential storage.
 #[derive(Clone, Copy, Debug, PartialEq, Eq)]
 pub enum Legality {
     /// Each is.
@@ -63,7 +63,7 @@ impl fmt::Display for JournalError {
 
 impl std::error::Error for JournalError {}
 
-/// What `replay`, `check` and `trace` of a journal that the storage closed can't answer but for want of memory.
+/// What `replay`, `check` and `trace` of a journal that the storage closed can't return except for want of memory.
 impl From<JournalError> for Error {
     fn from(error: JournalError) -> Error {
         match error {
@@ -102,7 +102,7 @@ impl Journal {
         self.text
     }
 
-    /// Writes the whole text.
+    /// Writes the complete text.
     ///
     /// # Errors
     ///
@@ -111,7 +111,7 @@ impl Journal {
         output.write_all(&self.text)
     }
 
-    /// Whether each answer is the one that a storage of one thread gives there.
+    /// Checks whether each answer is that of a sequential storage.
     ///
     /// # Errors
     ///
@@ -126,7 +126,9 @@ impl Journal {
         }
     }
 
-    /// The state that its moves leave, in ascending order of locations. The journal isn't checked.
+    /// Returns the state after its moves, in ascending order of locations.
+    ///
+    /// The journal isn't checked.
     ///
     /// # Errors
     ///
@@ -143,7 +145,9 @@ impl Journal {
         }
     }
 
-    /// Its trace, legal or not: what each of its calls did, in the form that a viewer takes.
+    /// Returns its trace, legal or not: what each of its calls did.
+    ///
+    /// It has the form that a viewer takes.
     ///
     /// # Errors
     ///
@@ -193,8 +197,9 @@ fn is_ok(code: i32, told: &[u8], instructions: &[&Move]) -> Result<(), Error> {
     Err(Error::Refused("the state isn't one".to_owned()))
 }
 
-/// The updates of the move on the state, in ascending order of locations; the state needs the locations of partial updates
-/// alone.
+/// Returns the updates of the move on the state, in ascending order of locations.
+///
+/// The state needs only the locations of partial updates.
 ///
 /// # Errors
 ///

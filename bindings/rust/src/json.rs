@@ -158,7 +158,7 @@ impl ToJson for Instruction {
     }
 }
 
-/// A JSON value as the library writes one: its numbers are whole.
+/// A JSON value as the library writes one: its numbers are integers.
 #[derive(Debug, PartialEq)]
 pub(crate) enum Json {
     Null,

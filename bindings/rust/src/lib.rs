@@ -5,8 +5,8 @@
 //! This is a safe crate over the library for C, in which every function is proved to meet its contract; what this crate adds
 //! isn't proved, only tested.
 //!
-//! An agent works in steps. All that a step gets is of one state; what it pushes is seen by what comes after, and is fired as
-//! one move. [`Agent::play`] begins again where another agent wrote first:
+//! An agent works in steps. All that a step gets is of one state; its later calls see what it pushes, which is fired as one
+//! move. [`Agent::play`] begins again if another agent wrote first:
 //!
 //! ```
 //! use folugben::{Error, Location, MoveNumber, Storage, Value};
@@ -50,8 +50,8 @@
 //! # }
 //! ```
 //!
-//! But for the threads that write the files of a run, no thread is begun; a storage ends with its last agent, and nothing is
-//! kept elsewhere. Don't use any of this in the child of a fork of a process with threads.
+//! Except the threads that write the files of a run, no thread is begun; a storage ends with its last agent, and nothing is
+//! stored elsewhere. Don't use any of this in the child of a fork of a process with threads.
 
 mod agent;
 mod audit;

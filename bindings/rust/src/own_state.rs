@@ -14,10 +14,10 @@ impl Agent {
         if self.slots.is_behind() { self.poll().map(drop) } else { Ok(()) }
     }
 
-    /// The values of the locations in its own state, without a look and without a receipt.
+    /// Returns the values of the locations in its own state.
     ///
-    /// Only where the last call was a commit or a fire, and another agent has acted in this thread since, it polls first; so for
-    /// all that shows its own state.
+    /// It leaves no receipt. It polls first only if the last call was a commit or a fire, and another agent has acted in this
+    /// thread since. The same holds for all that shows its own state.
     ///
     /// # Errors
     ///
@@ -38,7 +38,9 @@ impl Agent {
         Ok(told)
     }
 
-    /// The value of a prepared location in its own state, with the number of moves of that state.
+    /// Returns the value of a prepared location in its own state, with its number.
+    ///
+    /// The number is that of the moves of that state.
     ///
     /// # Errors
     ///
@@ -70,7 +72,7 @@ impl Agent {
         Ok((number.into(), answer(&text, Json::pairs)?))
     }
 
-    /// All locations of a function in its own state, with the number of moves of that state.
+    /// Returns all locations of a function in its own state, with its number of moves.
     ///
     /// # Errors
     ///

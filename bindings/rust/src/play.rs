@@ -15,7 +15,7 @@ const LONGEST_SLEEP: u32 = 10;
 #[derive(Clone, Debug, PartialEq, Eq)]
 #[non_exhaustive]
 pub struct Played<T> {
-    /// The number of the move that was fired; none where the rule pushed nothing, so that nothing was fired.
+    /// The number of the move that was fired; none if the rule pushed nothing, so that nothing was fired.
     pub number: Option<MoveNumber>,
     /// What the rule returned.
     pub result: T,
@@ -33,7 +33,7 @@ pub enum Outcome {
     Conflict(Conflict),
 }
 
-/// How long a play begins again after conflicts: for ever, unless something else is said.
+/// How long a play begins again after conflicts: for ever by default.
 ///
 /// ```
 /// use folugben::{Error, Patience, Storage};
@@ -65,13 +65,13 @@ impl Patience {
         Patience::default()
     }
 
-    /// The same, but the rule is played so many times at most, and once at least.
+    /// Limits the number of times that the rule is played; it is played once at least.
     #[must_use]
     pub fn tries(self, tries: u32) -> Patience {
         Patience { tries: Some(tries), ..self }
     }
 
-    /// The same, but the rule isn't played again once that has passed.
+    /// Has the rule not be played again once that time has passed.
     #[must_use]
     pub fn timeout(self, timeout: Duration) -> Patience {
         Patience { timeout: Some(timeout), ..self }
@@ -110,7 +110,7 @@ pub(crate) enum Attempt<T> {
 }
 
 impl<T> Attempt<T> {
-    /// Commits the step, of which the rule returned the result; nothing where it pushed nothing.
+    /// Commits the step, whose rule returned the result; nothing if it pushed nothing.
     pub(crate) fn of(result: T, step: Step<'_>) -> Result<Attempt<T>, Error> {
         match step.pushed() {
             Ok(0) => return Ok(Attempt::Unfired(result)),

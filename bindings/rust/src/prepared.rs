@@ -59,9 +59,10 @@ pub(crate) fn value_of(head: &sys::Value, bytes: &[u8]) -> Result<Value, Error> 
     })
 }
 
-/// A move that is gathered at prepared locations, instruction by instruction; of lists, sets and bags alone a text is made.
+/// A move that is gathered at prepared locations, instruction by instruction.
 ///
-/// What [`Step::pop_move`](crate::Step::pop_move) answers counts as one instruction, and more can be gathered behind it.
+/// A text is made of lists, sets and bags alone. What [`Step::pop_move`](crate::Step::pop_move) returns counts as one
+/// instruction, and more can be gathered after it.
 pub struct PreparedMove {
     len: usize,
     /// How many bytes its text has, about; of a popped move nothing is known.

@@ -1,19 +1,18 @@
-//! Runs without end.
+//! Endless runs.
 //!
-//! A run is a chain of storages, its parts, of which steps begin in the newest one. What holds at each moment, whatever threads
-//! do:
+//! A run is a chain of storages, its parts, of which steps begin in the newest one. Invariants, whatever threads do:
 //!
-//! 1. *A part has ended* once a further one is open behind it, once it is to come to rest, or once the run ends. No agent
-//!    enters a part that has ended. One that came to rest goes on where its state is too long to open a further part.
+//! 1. *A part has ended* once a further one is open after it, once it must come to rest, or once the run ends. No agent
+//!    enters a part that has ended. One that came to rest goes on if its state is too long to open a further part.
 //! 2. *The next part is opened* by an agent that has seen all moves of a full part, or by the writer once a part that has ended
-//!    is at rest and its journal made. So it opens with what all moves of the part leave, and none is fired there later.
+//!    is at rest and its journal made. So it opens with the state after all moves of the part, and none is fired there later.
 //! 3. *A part has ended before any agent is in the next one.* Whoever learns of a move of that finds its own part ended when it
 //!    begins a step, and begins it in the newest part.
-//! 4. *An agent comes back* as its step ends, or as it begins one, where its part has ended; where it does neither, the writer
-//!    takes it: at once between two steps, after 0.1 s in a step. So a part that has ended comes to rest, whatever becomes of
-//!    its steps.
+//! 4. *An agent comes back* as its step ends, or as it begins one, if its part has ended; if it does neither, the writer takes
+//!    it: at once between two steps, after 0.1 s in a step. So a part that has ended comes to rest, whatever becomes of its
+//!    steps.
 //! 5. *Only the writer saves*, the oldest part first, once that has ended and all its agents came back. A file has the name
-//!    of a segment once it is whole and on the disk, and is never changed. After an error nothing more is saved.
+//!    of a segment once it is complete and on the disk, and is never changed. After an error nothing more is saved.
 //! 6. *Nobody waits for an agent.* Agents wait for the writer alone, holding no lock: while two parts that have ended aren't
 //!    saved, and while a part comes to rest.
 //!
@@ -55,16 +54,16 @@ use std::time::Duration;
 
 /// How many agents a run has at most.
 const AGENTS: usize = 256;
-/// How many moves a part has room for, where nothing else is said.
+/// How many moves a part has room for, by default.
 const MOVES: u32 = 100_000;
 
-/// What of an earlier run is audited before it goes on.
+/// What is audited of an earlier run before it is resumed.
 #[derive(Clone, Copy, Debug, Default, PartialEq, Eq)]
 pub enum Check {
     /// All segments.
     #[default]
     All,
-    /// The last segment alone; of the others the names are looked at.
+    /// The last segment alone; of the others only the names are checked.
     Last,
 }
 
@@ -90,38 +89,43 @@ pub struct RunOptions {
 }
 
 impl RunOptions {
-    /// Parts of 100,000 moves.
+    /// Makes options for parts of 100,000 moves.
     pub fn new() -> RunOptions {
         RunOptions { moves: MOVES, receipts: None, every: None, is_recording: false }
     }
 
-    /// A part ends after so many moves, 1 to 1,048,576.
+    /// Has a part end after so many moves, 1 to 1,048,576.
     pub fn moves(self, moves: u32) -> RunOptions {
         RunOptions { moves, ..self }
     }
 
-    /// A part ends where its agents have more receipts than that: one of each fire, also in vain, and one of each read that a
-    /// commit records. By default that is twice the number of moves, or four times that of a run that records.
+    /// Has a part end if its agents have more receipts than that.
+    ///
+    /// There is one of each fire, also in vain, and one of each read that a commit records. By default the limit is twice the
+    /// number of moves, or four times that of a run that records.
     pub fn receipts(self, receipts: u64) -> RunOptions {
         RunOptions { receipts: Some(receipts), ..self }
     }
 
-    /// A part ends so long after its first move.
+    /// Has a part end so long after its first move.
     pub fn every(self, every: Duration) -> RunOptions {
         RunOptions { every: Some(every), ..self }
     }
 
-    /// The agents of the run record what their steps read, or not, as [`Agent::set_recording`](crate::Agent::set_recording) does.
+    /// Has the run's agents record what their steps read, or not.
+    ///
+    /// See [`Agent::set_recording`](crate::Agent::set_recording).
     pub fn record(self, is_recording: bool) -> RunOptions {
         RunOptions { is_recording, ..self }
     }
 
-    /// Opens a run with this state in a folder that isn't there yet, or is empty. It begins with a segment without a move, so
-    /// that it may be resumed from then on.
+    /// Opens a run with this state in a folder that is new or empty.
+    ///
+    /// It begins with a segment without a move, so that it may be resumed from then on.
     ///
     /// # Errors
     ///
-    /// - [`Error::File`]: of the kind `AlreadyExists` where there is a run or anything else; or the folder can't be written.
+    /// - [`Error::File`]: of the kind `AlreadyExists` if there is a run or anything else; or the folder can't be written.
     /// - [`Error::InUse`]: another process makes a run there.
     /// - [`Error::TooLong`]: the state is too long for a line.
     /// - [`Error::Range`]: the number of moves is out of its range.
@@ -139,13 +143,14 @@ impl RunOptions {
         self.start(storage, folder)
     }
 
-    /// Goes on with an earlier run from the end of its last segment, also where its process was killed. Nothing is cut or
-    /// removed.
+    /// Resumes a run from the end of its last segment, also if its process was killed.
+    ///
+    /// Nothing is cut or removed.
     ///
     /// # Errors
     ///
-    /// - [`Error::File`]: of the kind `NotFound` where there is no run, of the kind `NotADirectory` where the path leads to a
-    ///   file, which [`import_run`] may import; or the folder can't be read or written.
+    /// - [`Error::File`]: of the kind `NotFound` if there is no run, of the kind `NotADirectory` if the path leads to a file,
+    ///   which [`import_run`] may import; or the folder can't be read or written.
     /// - [`Error::InUse`]: another run is at work in the folder.
     /// - [`Error::Damaged`]: a segment is missing, or isn't the one that was saved.
     /// - [`Error::Audit`]: a segment isn't legal.
@@ -185,9 +190,9 @@ impl Default for RunOptions {
     }
 }
 
-/// A run without end, in a folder: each part of it is saved as one text file, a segment.
+/// An endless run in a folder: each part of it is saved as a text file, a segment.
 ///
-/// Its agents fire moves as those of a [`Storage`] do. Where a part ends, as it is full or as [`RunOptions`] say, they go on in
+/// Its agents fire moves as those of a [`Storage`] do. When a part ends, as it is full or as [`RunOptions`] say, they go on in
 /// the next one by themselves, and a thread of the run saves the part before its memory is released. At most three parts are in
 /// memory, however long the run is. The runs of Python and Java have the same folder, and each goes on with the others'.
 ///
@@ -222,7 +227,7 @@ impl Default for RunOptions {
 /// # }
 /// ```
 ///
-/// A run that is dropped is closed, but no error is reported: so [`Run::close`] it. Where a part can't be saved, the run
+/// A run that is dropped is closed, but no error is reported: so [`Run::close`] it. If a part can't be saved, the run
 /// ends: each further call on it and its agents is [`Error::Ended`] with the part. What was saved before is complete.
 #[must_use = "a run is closed when it is let go"]
 pub struct Run {
@@ -245,7 +250,7 @@ impl Run {
         RunOptions::new().moves(moves).open(state, path)
     }
 
-    /// Goes on with an earlier run, with parts of 100,000 moves, as [`RunOptions::resume`] does.
+    /// Resumes a run, with parts of 100,000 moves, as [`RunOptions::resume`] does.
     ///
     /// # Errors
     ///
@@ -278,13 +283,15 @@ impl Run {
         Ok(seats.into_iter().map(|seat| RunAgent { core: Arc::clone(&self.core), seat }).collect())
     }
 
-    /// Its folder.
+    /// Returns the path of its folder.
     #[must_use]
     pub fn path(&self) -> &Path {
         &self.path
     }
 
-    /// How much of the run is on the disk. Each move with a number up to `moves` is safe, also from a power failure.
+    /// Returns how much of the run is on the disk.
+    ///
+    /// Each move with a number up to `moves` is safe, also from a power failure.
     #[must_use]
     pub fn saved(&self) -> Counts {
         self.core.saved()
@@ -304,10 +311,10 @@ impl Run {
         self.core.flush()
     }
 
-    /// Ends the run: gives all agents back, saves what was fired, and answers how much is on the disk.
+    /// Ends the run: returns all agents, saves the fired moves, and returns the counts.
     ///
-    /// It waits for no step: one that goes on fires nothing once this has returned, and its next call is [`Error::Closed`], as
-    /// those of all agents are.
+    /// Those are the counts of what is on the disk. It waits for no step: one that goes on fires nothing once this has returned,
+    /// and its next call is [`Error::Closed`], as those of all agents are.
     ///
     /// # Errors
     ///

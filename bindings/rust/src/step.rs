@@ -13,8 +13,10 @@ use crate::value::{Element, Location, Value};
 use std::fmt;
 use std::slice;
 
-/// A transaction of an agent: it gets values and pushes moves in any order, all of which see one state and the moves pushed
-/// before; and it commits one move that does what these do in turn.
+/// A transaction of an agent: it gets values, pushes moves and commits.
+///
+/// Gets and pushes come in any order. All see one state and the moves pushed before. The commit fires one move that does what
+/// these do in turn.
 ///
 /// It borrows its agent. A step that is dropped without [`Step::commit`] has done nothing.
 #[must_use = "a step does nothing until it is committed"]
@@ -54,8 +56,9 @@ impl Step<'_> {
         self.look(sys::asm_get, places)
     }
 
-    /// Returns what [`Step::get_each`] returns, of any number of locations, and tracks nothing: the step commits though another
-    /// agent has written there since. It is for what is only shown.
+    /// Returns what [`Step::get_each`] returns, of any number of locations; tracks nothing.
+    ///
+    /// So the step commits even if another agent has written there since. It is for what is only shown.
     ///
     /// # Errors
     ///
@@ -101,9 +104,10 @@ impl Step<'_> {
         value_of(&head, &bytes)
     }
 
-    /// Scans a function: returns all its locations, ascending. The step then depends on the whole function: a write to
-    /// any location of it, including one that had no value, makes the commit stale. It counts as one of 256, however many
-    /// locations it has.
+    /// Scans a function: returns all its locations, ascending.
+    ///
+    /// The step then depends on the whole function: a write to any location of it, including one that had no value, makes the
+    /// commit stale. It counts as one of 256, however many locations it has.
     ///
     /// # Errors
     ///
@@ -117,7 +121,7 @@ impl Step<'_> {
         answer(&text, Json::pairs)
     }
 
-    /// Pushes the move: what comes after it sees what it leaves.
+    /// Pushes the move; later calls see its effect.
     ///
     /// # Errors
     ///
@@ -125,17 +129,20 @@ impl Step<'_> {
     ///
     /// - [`Error::Clash`]: its updates clash on what is seen.
     /// - [`Error::Deep`]: 64 moves are pushed already.
-    /// - [`Error::Many`]: the one move of all would have more than 4,096 instructions, or the step depend on more than 256 places.
+    /// - [`Error::Many`]: the one move of all would have more than 4,096 instructions, or the step depend on more than 256
+    ///   places.
     /// - [`Error::Large`], [`Error::Refused`], [`Error::Memory`].
     pub fn push(&mut self, instructions: &Move) -> Result<(), Error> {
         self.grow(sys::asm_push, instructions.instructions())
     }
 
-    /// The same, but the move joins the one that was pushed last, and is popped with it; so it is never too deep.
+    /// Joins the move to the one that was pushed last, with which it is popped.
+    ///
+    /// So it is never too deep.
     ///
     /// # Errors
     ///
-    /// Those of [`Step::push`] but [`Error::Deep`].
+    /// Those of [`Step::push`] except [`Error::Deep`].
     pub fn extend(&mut self, instructions: &Move) -> Result<(), Error> {
         self.grow(sys::asm_extend, instructions.instructions())
     }
@@ -263,10 +270,10 @@ impl Step<'_> {
         })
     }
 
-    /// As [`Step::pop`], and answers the one move that does what the popped ones do in turn, which
-    /// [`Step::push_prepared`] and [`Step::extend_prepared`] take, of any step.
+    /// Pops as [`Step::pop`] does, and returns one move for the popped ones.
     ///
-    /// A move that nothing joined is unchanged.
+    /// It does what they do in turn. [`Step::push_prepared`] and [`Step::extend_prepared`] take it, of any step. A move that
+    /// nothing joined is unchanged.
     ///
     /// # Errors
     ///
@@ -284,8 +291,10 @@ impl Step<'_> {
         })
     }
 
-    /// What [`Step::commit`] would offer by now: the one move, and each location that it would name with its number, which
-    /// [`Agent::fire`](crate::Agent::fire) takes. A commit also depends on the functions of [`Step::scan`], which aren't in it.
+    /// Returns what [`Step::commit`] would fire now: the one move, and the named locations.
+    ///
+    /// [`Agent::fire`](crate::Agent::fire) takes both; each location has its number. A commit also depends on the functions of
+    /// [`Step::scan`], which aren't in it.
     ///
     /// # Errors
     ///
@@ -306,8 +315,9 @@ impl Step<'_> {
         self.agent.with(|agent| Ok(unsafe { sys::asm_depth(agent.slots.step()) }))
     }
 
-    /// Commits: fires one move that does what the pushed ones do in turn, unless something was written since that the step rests
-    /// on, and answers the move's number.
+    /// Commits the step, unless it is stale, and returns the number of the fired move.
+    ///
+    /// It fires one move that does what the pushed ones do in turn, unless something was written since on which the step depends.
     ///
     /// # Errors
     ///

@@ -19,7 +19,7 @@ const AGENTS: usize = 256;
 /// What a storage and its agents share.
 pub(crate) struct Shared {
     slots: Mutex<Slots>,
-    /// Whether agents that are made or taken record.
+    /// Whether agents that are made or checked out record.
     is_recording: AtomicBool,
 }
 
@@ -33,7 +33,7 @@ struct Slots {
 
 impl Shared {
     fn slots(&self) -> MutexGuard<'_, Slots> {
-        // A call that panicked left the slots as the library did, which is whole.
+        // A call that panicked left the slots as the library did, in a complete state.
         self.slots.lock().unwrap_or_else(PoisonError::into_inner)
     }
 
@@ -41,7 +41,7 @@ impl Shared {
         self.is_recording.load(Ordering::Relaxed)
     }
 
-    /// Gives the agent back, or keeps it until there is memory.
+    /// Returns the agent, or keeps it until there is memory.
     pub(crate) fn give(&self, agent: Arc<AgentSlots>) {
         let mut slots = self.slots();
         // SAFETY: the storage is held under its lock, the agent by this thread, and the texts and numbers outlive the call.
@@ -138,7 +138,7 @@ impl Storage {
 
     pub(crate) fn of(storage: Held) -> Result<Storage, Error> {
         let mut waiting = Vec::new();
-        // Letting an agent go can't be refused memory.
+        // Freeing an agent can't be refused memory.
         waiting.try_reserve_exact(AGENTS).map_err(|_| Error::Memory)?;
         Ok(Storage {
             shared: Arc::new(Shared {
@@ -148,14 +148,16 @@ impl Storage {
         })
     }
 
-    /// Has agents that are made or taken from now on record, or not, as [`Agent::set_recording`] does.
+    /// Has agents that are made or checked out from now on record, or not.
     ///
-    /// The storages of [`Storage::next`] and [`Agent::go_on`] do as this one.
+    /// See [`Agent::set_recording`]. The storages of [`Storage::next`] and [`Agent::go_on`] do as this one.
     pub fn set_recording(&self, is_recording: bool) {
         self.shared.is_recording.store(is_recording, Ordering::Relaxed);
     }
 
-    /// Makes an agent with this number. A storage has one agent of each number for its whole life.
+    /// Makes an agent with this number.
+    ///
+    /// A storage has one agent of each number for its whole life.
     ///
     /// # Errors
     ///
@@ -170,13 +172,14 @@ impl Storage {
         Agent::new(agent, &self.shared, number)
     }
 
-    /// Checks out the agent with this number again, which was returned: it goes on where it was, with its receipts.
+    /// Checks out the agent with this number, which was returned, again.
     ///
-    /// A journal that was made before is discarded, so [`Storage::next`] needs a further [`Storage::close`].
+    /// It goes on where it was, with its receipts. A journal that was made before is discarded, so [`Storage::next`] needs a
+    /// further [`Storage::close`].
     ///
     /// # Errors
     ///
-    /// - [`Error::NotGiven`]: no agent with this number was returned, or it was taken since.
+    /// - [`Error::NotGiven`]: no agent with this number was returned, or it was checked out since.
     /// - [`Error::Memory`].
     pub fn take(&self, number: impl Into<AgentNumber>) -> Result<Agent, Error> {
         let number = number.into();
@@ -210,7 +213,7 @@ impl Storage {
         Ok(numbers.zip(made).map(|(number, agent)| self.holder(agent, number)).collect())
     }
 
-    /// How many moves were fired. It looks along all of them.
+    /// Returns how many moves were fired. It polls all of them.
     #[must_use]
     pub fn moves(&self) -> u32 {
         let mut moves = 0;
@@ -220,7 +223,9 @@ impl Storage {
         moves
     }
 
-    /// Makes the journal of the agents that were returned. It may be made again, when more agents have come back.
+    /// Makes the journal of the agents that were returned.
+    ///
+    /// It may be made again, when more agents have come back.
     ///
     /// # Errors
     ///
@@ -242,10 +247,10 @@ impl Storage {
         Ok(Journal::from(text))
     }
 
-    /// Opens a storage that goes on where this one was closed: its opening state is what the moves of the journal leave, its
-    /// agents and numbers start again.
+    /// Opens a storage that goes on where this one was closed.
     ///
-    /// Moves that were fired after `close` are in neither journal.
+    /// Its opening state is the state after the moves of the journal; its agents and numbers start again. Moves that were fired
+    /// after `close` are in neither journal.
     ///
     /// # Errors
     ///
@@ -272,7 +277,7 @@ impl Storage {
         agent.is_of(&self.shared)
     }
 
-    /// Gives the agent back, as letting it go does.
+    /// Returns the agent to this storage, as a drop does.
     ///
     /// # Errors
     ///

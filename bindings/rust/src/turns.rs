@@ -1,12 +1,12 @@
 //! Agents that one thread plays by turns.
 //!
-//! Each agent follows all moves in a state of its own. Where one thread plays several, the one that is about to poll takes the
-//! state of the one that acted last, so that each move is followed about once, and not once for each agent. What keeps that right:
+//! Each agent follows all moves in a state of its own. If one thread plays several, the one that is about to poll takes the state
+//! of the one that acted last, so that each move is followed about once, and not once for each agent. What keeps that right:
 //!
 //! 1. *A thread makes a call on an agent's slots only while the slots name that thread.* The first call in another thread has
 //!    them name that one, which waits while their state is taken.
-//! 2. *A state is taken only from an agent whose slots name the taker's own thread*, and no call of which is at work there.
-//! 3. *Only the state of an agent whose last call was a commit, a fire or the end of a step is taken.* So no step is in it, and
+//! 2. *A state is taken only from an agent whose slots name the taker's own thread*, and no call of which is at work there. 3.
+//! *Only the state of an agent whose last call was a commit, a fire or the end of a step is taken.* So no step is in it, and
 //!    what an agent has followed to is what it peeks at, whatever other agents do.
 use crate::held::Held;
 use crate::sys;
@@ -17,7 +17,7 @@ use std::{ptr, thread};
 
 /// A thread remembers the last agents of so many storages.
 const STORAGES: usize = 8;
-/// No thread: the agent was given back or abandoned.
+/// No thread: the agent was returned or abandoned.
 const NOWHERE: usize = 0;
 /// Beside a thread: the state is being taken there.
 const TAKING: usize = 1;
@@ -29,7 +29,7 @@ struct Last {
 }
 
 thread_local! {
-    /// Its address stands for the thread, as long as that lives.
+    /// Its address identifies the thread, as long as that lives.
     static HERE: u64 = const { 0 };
     /// The latest first.
     static LAST: RefCell<Vec<Last>> = const { RefCell::new(Vec::new()) };
@@ -43,7 +43,7 @@ fn here() -> usize {
 pub(crate) struct AgentSlots {
     agent: Held,
     step: Held,
-    /// Where its storage is, which is only compared.
+    /// The address of its storage, which is only compared.
     storage: usize,
     /// The thread that made the last call on them.
     thread: AtomicUsize,

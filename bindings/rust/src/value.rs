@@ -15,7 +15,7 @@ pub enum Element {
     Undef,
     /// True or false.
     Bool(bool),
-    /// A whole number.
+    /// An integer.
     Num(i64),
     /// A text.
     Text(String),
@@ -61,7 +61,7 @@ pub enum Value {
     Plain(Element),
     /// A set of elements.
     Set(BTreeSet<Element>),
-    /// A bag of elements: how often each is there, which is once at least.
+    /// A bag of elements: how often each is there, at least once.
     Bag(BTreeMap<Element, u32>),
 }
 

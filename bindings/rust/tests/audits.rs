@@ -1,4 +1,4 @@
-//! Audits: pieces of any size, each fault, and what stands on the way.
+//! Audits: pieces of any size, each fault, and what is in the way.
 #![allow(clippy::cast_possible_truncation, reason = "no test has so many")]
 use folugben::{AuditError, Auditor, JournalError, Location, Storage, Value, audit};
 use std::io::{self, Read, Write};
@@ -24,7 +24,7 @@ fn two_parts() -> (Vec<u8>, Vec<u8>) {
     (storage.close().unwrap().into_bytes(), next.close().unwrap().into_bytes())
 }
 
-/// What is told of the run, written in pieces of this size.
+/// Returns the result of the audit of the run, written in pieces of this size.
 fn told(run: &[u8], size: usize) -> Result<folugben::Counts, AuditError> {
     let mut auditor = Auditor::new();
     for piece in run.chunks(size) {

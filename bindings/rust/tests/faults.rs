@@ -15,7 +15,7 @@ use std::sync::OnceLock;
 use std::thread;
 use std::time::Duration;
 
-/// The name of the variable by which a test tells its child what to do, and in which folder.
+/// The name of the variable by which a test passes its child the task, and the folder.
 const TASK: &str = "FOLUGBEN_TEST_TASK";
 
 /// The library that notes calls and has them fail.
@@ -84,7 +84,7 @@ fn plays(path: &Path) {
     });
 }
 
-/// Kills a process so often, and goes on with its run: the moves that there are in the end.
+/// Kills a process so often, and goes on with its run; returns the number of moves in the end.
 fn kill(times: u64) -> u64 {
     let room = Room::new("killed");
     let (mut draw, mut moves) = (Draw(77), 0);
@@ -132,7 +132,7 @@ fn a_run_that_is_killed_300_times_is_resumed() {
     println!("{} moves", kill(300));
 }
 
-/// Saves some segments, and notes how many are told to be saved.
+/// Saves some segments, and notes how many are reported as saved.
 fn notes(path: &Path) {
     let tell = |parts: u64| {
         use std::io::Write;
@@ -150,7 +150,7 @@ fn notes(path: &Path) {
     }
 }
 
-/// Resumes from so many states that a power failure may leave: how many of them lost what was told to be saved.
+/// Resumes from so many states that a power failure may leave; returns how many of them lost what was reported as saved.
 fn fail(times: u64, notes_folder: bool) -> u64 {
     let (mut draw, mut lost, mut tried) = (Draw(4), 0, 0);
     while tried < times {
@@ -175,7 +175,7 @@ fn fail(times: u64, notes_folder: bool) -> u64 {
     lost
 }
 
-/// Whether a run goes on with all that was told to be saved.
+/// Whether a run goes on with all that was reported as saved.
 fn is_whole(left: &crashes::Left, path: &Path) -> bool {
     let _ = fs::remove_dir_all(path);
     if let Some(files) = &left.files {

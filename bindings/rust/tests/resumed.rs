@@ -40,7 +40,7 @@ fn a_resumed_run_goes_on_where_it_was_closed() {
         assert_eq!(run.close().map(numbers), Ok((5, 16, 16)));
         assert!(room.bytes().starts_with(&before));
         assert_eq!(room.audited().1, [(count(), 16.into())]);
-        // Where nothing is played, nothing is saved.
+        // If nothing is played, nothing is saved.
         let before = room.segments();
         Run::resume(room.path(), check).unwrap().close().unwrap();
         assert_eq!(room.segments(), before);
@@ -102,7 +102,7 @@ fn what_is_no_run_is_refused_and_stays() {
     fs::write(room.path().join("notes"), "").unwrap();
     assert_eq!(kind(Run::open([], room.path(), 5).err()).0, ErrorKind::AlreadyExists);
     fs::remove_file(room.path().join("notes")).unwrap();
-    // What a run leaves that was killed as it was made is none.
+    // The rest of a run that was killed as it was made is no run.
     fs::write(room.path().join("new"), "[").unwrap();
     fs::write(room.path().join("lock"), "").unwrap();
     assert_eq!(kind(Run::resume(room.path(), Check::All).err()).0, ErrorKind::NotFound);
@@ -146,7 +146,7 @@ fn a_segment_that_is_illegal_is_told_with_its_number() {
     assert_eq!(resume_with(&room, &text, 5, 5), [None, None]);
 }
 
-/// In a process of its own, where a line may have 16 MiB, and not 1 GiB.
+/// In a process of its own, in which a line may have 16 MiB, and not 1 GiB.
 #[test]
 fn too_long_lines_are_refused_and_nothing_is_lost() {
     let mut command = Command::new(env::current_exe().unwrap());

@@ -121,7 +121,7 @@ fn a_number_has_one_agent_at_a_time() {
     let mut agent = run.agent(7).unwrap();
     assert_eq!(add_one(&mut agent), Ok(2));
     assert_eq!(agent.step().unwrap().part(), 1);
-    // No number is taken where one is in use.
+    // No number is taken if one is in use.
     assert_eq!((agent.number().get(), run.agents(8).err()), (7, Some(Error::NumberTaken(7.into()))));
     assert_eq!(run.agents(7).unwrap().len(), 7);
     assert_eq!(run.close().map(numbers), Ok((2, 2, 2)));
@@ -264,7 +264,7 @@ fn rules_take_steps_of_runs_and_of_storages() {
     assert_eq!(run.close().map(numbers), Ok((2, 1, 1)));
 }
 
-/// Plays, abandons steps, holds them open, is let go and made again, until the run is closed: the numbers of its moves.
+/// Plays, abandons steps, holds them open, is dropped and made again, until the run is closed; returns the numbers of its moves.
 fn come_and_go(run: &Run, mut agent: RunAgent, mut draw: Draw) -> Vec<u64> {
     let (number, mut fired) = (agent.number(), Vec::new());
     loop {

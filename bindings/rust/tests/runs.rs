@@ -199,7 +199,7 @@ fn an_agent_that_stays_in_a_step_stops_no_saving() {
     assert_eq!(step.get(count()), Err(PAST));
 }
 
-/// Has each of the agents begin a step that rests on the count, then the last one raise it, and then the others fire in vain.
+/// Has each of the agents begin a step that depends on the count, then the last one raise it, and then the others fire in vain.
 fn stale_tries(agents: &mut [RunAgent], last: &mut RunAgent) -> Result<u64, Error> {
     let mut steps = Vec::new();
     for agent in agents {

@@ -220,7 +220,7 @@ fn calls_are_made_as_a_thread_ends() {
     assert_eq!(storage.close().unwrap().replay().unwrap(), [(count(), 8.into())]);
 }
 
-/// The JSON of elements and of a value, written apart from the crate.
+/// The JSON of elements and of a value, written independently of the crate.
 fn json_of(items: &[Element]) -> String {
     let one = |it: &Element| match it {
         Element::Undef => "null".to_owned(),
@@ -259,7 +259,7 @@ fn place(number: u64) -> Location {
     Location::new("x").arg(i64::try_from(number).unwrap())
 }
 
-/// Commits steps that get some places and put to one: the lines that a journal has to have of what they got.
+/// Commits steps that get some places and put to one; returns the lines that a journal must have of what they got.
 fn recorded_steps(mut agent: Agent, values: &[Value]) -> Vec<String> {
     let (number, most) = (agent.number(), values.len() as u64);
     let mut draw = Draw(77 + u64::from(number.get()));

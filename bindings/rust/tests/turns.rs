@@ -52,7 +52,7 @@ fn what_was_followed_to_stays() {
     raise(&mut one);
     assert_eq!(one.follow().unwrap(), 1);
     raise(&mut other);
-    // It was in no step, but whoever looks without a poll has the state that it looked at before.
+    // It was in no step, but whoever peeks without a poll has the state that it saw before.
     assert_eq!(one.peek(&[count()]).unwrap().number, 1);
     assert_eq!(one.scan("count").unwrap().1, [(count(), 1.into())]);
     let told = one.read(&[count()]).unwrap();
@@ -215,7 +215,7 @@ fn many_storages_take_turns_in_one_thread() {
     }
     drop(agents.pop());
     drop(storages);
-    // A storage may lie where another one was.
+    // A storage may have the address of an earlier one.
     for _ in 0..30 {
         let again = storage(5);
         for agent in &mut again.agents(3).unwrap() {

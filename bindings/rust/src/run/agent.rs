@@ -13,8 +13,9 @@ use std::fmt;
 use std::ops::{Deref, DerefMut};
 use std::sync::Arc;
 
-/// Who reads the state of a [`Run`](crate::Run) and fires moves on it, in any one thread at a time. It goes on from part to
-/// part by itself, and is returned when it is dropped.
+/// Reads the state of a [`Run`](crate::Run) and fires moves on it.
+///
+/// It is used in any one thread at a time. It moves on from part to part by itself, and is returned when it is dropped.
 pub struct RunAgent {
     pub(crate) core: Arc<Core>,
     pub(crate) seat: Arc<Seat>,
@@ -61,8 +62,9 @@ impl RunAgent {
         Ok(RunStep { step: Step { agent: Holder::Lent(Lent::new(&self.core, &self.seat, begun)), number } })
     }
 
-    /// Plays the rule until it fires, as [`Agent::play`](crate::Agent::play) does. The number of the move is that among all moves
-    /// of the run, from 1 up.
+    /// Plays the rule until it fires, as [`Agent::play`](crate::Agent::play) does.
+    ///
+    /// The number of the move is that among all moves of the run, from 1 up.
     ///
     /// # Errors
     ///
@@ -72,7 +74,7 @@ impl RunAgent {
         self.play_with(Patience::new(), rule)
     }
 
-    /// The same, as long as the patience lasts.
+    /// Plays the rule so, as long as the patience lasts.
     ///
     /// # Errors
     ///
@@ -86,7 +88,7 @@ impl RunAgent {
             let mut step = self.step()?;
             match rule(&mut step) {
                 Ok(result) => Ok(Attempt::of(result, step.step)?),
-                // Its agent was given back meanwhile, whatever the rule makes of that.
+                // Its agent was returned meanwhile, whatever the rule makes of that.
                 Err(_) if step.is_past() => Ok(Attempt::Vain(Conflict::Past.into())),
                 Err(error) => Err(error),
             }
@@ -107,10 +109,10 @@ impl RunAgent {
         }
     }
 
-    /// The values of the locations in its own state, with the number of moves of the run up to that.
+    /// Returns the values of the locations in its own state, with its number of moves.
     ///
-    /// It doesn't poll. Where its part has ended since, while it was in no step, its state is that at the beginning of the
-    /// newest part.
+    /// Those are moves of the run. It doesn't poll. If its part has ended since, while it was in no step, its state is that at
+    /// the beginning of the newest part.
     ///
     /// # Errors
     ///
@@ -150,8 +152,9 @@ impl RunAgent {
         }
     }
 
-    /// Lets the agent go without giving it back. If it fired a move in its part, the run ends there, with
-    /// [`EndCause::Missing`](crate::EndCause::Missing).
+    /// Frees the agent without returning it.
+    ///
+    /// If it fired a move in its part, the run ends there, with [`EndCause::Missing`](crate::EndCause::Missing).
     pub fn abandon(self) {
         self.seat.abandon(&self.core);
     }
@@ -192,12 +195,14 @@ impl RunStep<'_> {
         self.lent().map_or(0, |it| it.part().number)
     }
 
-    /// Whether its agent was given back, as its part has ended.
+    /// Whether its agent was returned, as its part has ended.
     fn is_past(&self) -> bool {
         self.lent().is_some_and(|it| it.with(|_| Ok(())) == Err(Conflict::Past.into()))
     }
 
-    /// Commits as [`Step::commit`] does. The number is that among all moves of the run, from 1 up.
+    /// Commits as [`Step::commit`] does, and returns the number of the move.
+    ///
+    /// It is that among all moves of the run, from 1 up.
     ///
     /// # Errors
     ///

@@ -92,7 +92,7 @@ impl RunFolder {
         Ok(opened)
     }
 
-    /// Where its symbolic links lead to.
+    /// Returns the path without symbolic links.
     pub(crate) fn path(&self) -> &Path {
         &self.path
     }
@@ -180,7 +180,7 @@ pub(crate) fn sync_folder(folder: &Path) -> io::Result<()> {
     File::open(folder)?.sync_all()
 }
 
-/// Where a path leads to, whether something is there or not.
+/// Returns where a path leads to, whether something is there or not.
 pub(crate) fn real(path: &Path) -> io::Result<PathBuf> {
     if path.exists() {
         return path.canonicalize();

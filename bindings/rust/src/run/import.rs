@@ -15,13 +15,13 @@ const HEADER: &[u8] = b"{\"agents\":";
 
 /// Imports a run of version 0.2, which is one file, into a new folder.
 ///
-/// Answers the counts of its complete parts, and how many bytes of an incomplete last part were left out. The file isn't
-/// changed. The folder is there as a whole, or not at all.
+/// Returns the counts of its complete parts, and how many bytes of an incomplete last part were left out. The file isn't changed.
+/// The folder is complete or absent.
 ///
 /// # Errors
 ///
 /// - [`Error::Audit`]: a part isn't legal, or none is complete.
-/// - [`Error::File`]: of the kind `AlreadyExists` where there is something at the folder's path; or a file can't be read or
+/// - [`Error::File`]: of the kind `AlreadyExists` if there is something at the folder's path; or a file can't be read or
 ///   written.
 /// - [`Error::InUse`]: another process imports there.
 pub fn import_run(file: impl AsRef<Path>, folder: impl AsRef<Path>) -> Result<(Counts, u64), Error> {
@@ -43,7 +43,7 @@ pub fn import_run(file: impl AsRef<Path>, folder: impl AsRef<Path>) -> Result<(C
     told
 }
 
-/// The folder in which the run is made; what an import that was killed has left there is removed.
+/// Returns the folder in which the run is made; what an import that was killed has left there is removed.
 fn beside(path: &Path) -> Result<PathBuf, Error> {
     let name = path.file_name().ok_or_else(|| io::Error::from(io::ErrorKind::InvalidFilename))?;
     let made = path.with_file_name(format!(".{}.import", name.to_string_lossy()));
@@ -81,7 +81,7 @@ fn imported(source: &mut File, made: &Path) -> Result<(Counts, u64), Error> {
     Ok((folder.counts(), source.metadata()?.len() - end))
 }
 
-/// Passes each complete part on, with how much it has; the fault behind them.
+/// Passes each complete part on, with how much it has; returns the fault after them.
 fn each_part(
     source: &File,
     mut take: impl FnMut(&[u8], Counts) -> Result<(), Error>,
@@ -118,7 +118,7 @@ fn is_of_a_crash(fault: AuditError) -> bool {
     matches!(fault, AuditError::Journal { fault, .. } if !matches!(fault, JournalError::Memory | JournalError::Version))
 }
 
-/// Whether a line behind the one at this place begins as the header of a part does.
+/// Whether a line after the one at this place begins as the header of a part does.
 fn has_header_behind(source: &mut File, start: u64) -> io::Result<bool> {
     source.seek(SeekFrom::Start(start))?;
     let mut lines = BufReader::new(source).split(b'\n').skip(1);

@@ -8,7 +8,7 @@ use crate::storage::Storage;
 use std::env;
 use std::sync::LazyLock;
 
-/// How many bytes a line may have, its line feed apart.
+/// How many bytes a line may have without its line feed.
 const LINE: usize = 1_073_741_824;
 /// What a line has at most besides its call and the location of its reply.
 const ROOM: usize = 120;
@@ -29,7 +29,7 @@ pub(crate) fn expect_state(storage: &Storage) -> Result<(), Error> {
     events(storage.close()?.as_bytes()).map(drop)
 }
 
-/// How many events a journal has, which are the lines behind its header.
+/// Returns how many events a journal has, which are the lines after its header.
 pub(crate) fn events(journal: &[u8]) -> Result<u64, Error> {
     let mut lines = 0;
     for line in journal.split_inclusive(|it| *it == b'\n') {

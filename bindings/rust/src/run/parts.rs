@@ -79,7 +79,7 @@ pub(crate) struct Core {
 type Guard<'a> = MutexGuard<'a, State>;
 
 impl Core {
-    /// A run of which so much is saved, and whose first further part is the storage.
+    /// Makes a run of which so much is saved, and whose first further part is the storage.
     pub(crate) fn new(storage: Storage, limits: Limits, saved: Counts) -> Core {
         let mut state = State {
             parts: VecDeque::new(),
@@ -117,9 +117,9 @@ impl Core {
         self.lock().goes_on()
     }
 
-    // What agents do. Who has the lock of a seat takes that of the state, and never the other way round.
+    // The calls of agents. Whoever has the lock of a seat takes that of the state, and never the other way round.
 
-    /// A seat with this number, which no agent in use has.
+    /// Returns a seat with this number, which no agent in use has.
     pub(crate) fn seat(&self, number: AgentNumber) -> Result<Arc<Seat>, Error> {
         let mut state = self.lock();
         state.goes_on()?;
@@ -132,7 +132,7 @@ impl Core {
         }
     }
 
-    /// Seats with the numbers from 0 up, all of them or none.
+    /// Returns seats with the numbers from 0 up, all of them or none.
     pub(crate) fn seats(&self, count: usize) -> Result<Vec<Arc<Seat>>, Error> {
         let mut state = self.lock();
         state.goes_on()?;
@@ -149,7 +149,7 @@ impl Core {
         self.lock().seats.remove(&number);
     }
 
-    /// An agent in the newest part; none where that has ended.
+    /// Returns an agent in the newest part; none if that has ended.
     pub(crate) fn enter(&self, number: AgentNumber) -> Result<Option<(Agent, Arc<Part>)>, Error> {
         let mut state = self.lock();
         state.goes_on()?;
@@ -174,7 +174,7 @@ impl Core {
         self.changed.notify_all();
     }
 
-    /// Has the part end where it has too many receipts.
+    /// Has the part end if it has too many receipts.
     pub(crate) fn end_heavy(&self, part: &Part) {
         if !part.is_heavy(self.limits.receipts) {
             return;
@@ -194,7 +194,7 @@ impl Core {
         }
     }
 
-    /// Opens a part behind the agent's own, which is full, unless too many wait for the writer.
+    /// Opens a part after the agent's own, which is full, unless too many wait for the writer.
     pub(crate) fn go_on(&self, agent: &Agent, part: &Part) -> Result<(), Error> {
         let mut state = self.lock();
         let is_behind = state.parts.len() > WAITING;
@@ -212,7 +212,7 @@ impl Core {
         Ok(())
     }
 
-    /// Waits until a step may begin in the newest part, or a further one may be opened behind it.
+    /// Waits until a step may begin in the newest part, or a further one may be opened after it.
     pub(crate) fn await_part(&self) -> Result<(), Error> {
         let mut state = self.lock();
         loop {
@@ -225,7 +225,7 @@ impl Core {
         }
     }
 
-    // What the run does.
+    // The calls of the run.
 
     /// Ends the newest part, if it has moves, and waits until all up to it are on the disk.
     pub(crate) fn flush(&self) -> Result<Counts, Error> {
@@ -267,9 +267,9 @@ impl Core {
         }
     }
 
-    // What the writer does.
+    // The calls of the writer.
 
-    /// The oldest part, once it has ended and all its agents came back.
+    /// Returns the oldest part, once it has ended and all its agents came back.
     pub(crate) fn due(&self) -> Option<Arc<Part>> {
         let mut state = self.lock();
         loop {
@@ -295,7 +295,7 @@ impl Core {
         }
     }
 
-    /// Ends the newest part if its first move was fired long enough ago; how long that will take.
+    /// Ends the newest part if its first move was fired long enough ago; returns how long that will take.
     fn end_by_time(&self, state: &mut State) -> Option<Duration> {
         let every = self.limits.every?;
         let last = state.parts.back().filter(|it| !it.is_long && !it.part.has_ended())?;
@@ -307,7 +307,7 @@ impl Core {
         Some(left)
     }
 
-    /// Gives the agents back that are in the part, and in no step or for too long in one.
+    /// Takes back the agents that are in the part, and in no step or for too long in one.
     fn take_back<'a>(&'a self, state: Guard<'a>, part: &Part, is_late: bool) -> Guard<'a> {
         let seats: Vec<_> = state.seats.values().cloned().collect();
         drop(state);
@@ -317,7 +317,8 @@ impl Core {
         self.lock()
     }
 
-    /// Opens a part behind one that has ended at rest and whose journal was closed; whether it is the last one. None where the
+    /// Opens a part after one that has ended at rest and whose journal was closed; returns whether it is the last one. None if
+    /// the
     /// state is too long, so that the part goes on until it is full.
     pub(crate) fn go_on_at_rest(&self, part: &Part) -> Result<Option<bool>, Error> {
         let mut state = self.lock();

@@ -1,4 +1,4 @@
-//! Where the agents of a run are.
+//! The places of a run's agents.
 use crate::agent::Agent;
 use crate::cause::Conflict;
 use crate::error::Error;
@@ -65,7 +65,7 @@ impl Seat {
         self.place.lock().unwrap_or_else(PoisonError::into_inner)
     }
 
-    /// Begins a step in the newest part; none where that has ended, or is full. A step that was forgotten ends.
+    /// Begins a step in the newest part; returns none if that has ended, or is full. A step that was forgotten ends.
     pub(crate) fn begin(&self, core: &Core) -> Result<Option<Begun>, Error> {
         let mut place = self.lock();
         place.end_step(core);
@@ -87,7 +87,7 @@ impl Seat {
         Ok(Some(Begun { number, part, step: place.steps }))
     }
 
-    /// Looks on: how many moves of the run it has then seen; none where the newest part has ended, or is full.
+    /// Polls, and returns how many moves of the run it has then seen; none if the newest part has ended, or is full.
     pub(crate) fn follow(&self, core: &Core) -> Result<Option<u64>, Error> {
         let mut place = self.lock();
         place.end_step(core);
@@ -100,8 +100,9 @@ impl Seat {
         Ok(Some(player.part.before + u64::from(number)))
     }
 
-    /// What the call tells of the agent's own state, in the newest part, with the number of moves before that; none where that
-    /// has ended.
+    /// Makes a call on the agent's own state in the newest part. Returns the number of moves before that part with the result;
+    /// none
+    /// if the part has ended.
     pub(crate) fn tell<T>(
         &self,
         core: &Core,
@@ -113,7 +114,7 @@ impl Seat {
         Ok(Some((player.part.before, call(&player.agent)?)))
     }
 
-    /// The agent, in a part that hasn't ended; one in a part that has ended is given back.
+    /// Returns the agent, in a part that hasn't ended; one in a part that has ended is returned to it first.
     fn come_in<'a>(&self, place: &'a mut Place, core: &Core) -> Result<Option<&'a mut Player>, Error> {
         core.goes_on()?;
         if place.player.as_ref().is_some_and(|it| it.part.has_ended()) {
@@ -128,7 +129,7 @@ impl Seat {
         Ok(place.player.as_mut())
     }
 
-    /// Gives the agent back, if it is in the part, and in no step unless that has taken too long.
+    /// Returns the agent to its storage, if it is in the part, and in no step unless that has taken too long.
     pub(crate) fn take_back(&self, core: &Core, part: &Part, is_late: bool) {
         let mut place = self.lock();
         let is_there = place.player.as_ref().is_some_and(|it| it.part.number == part.number);
@@ -137,12 +138,12 @@ impl Seat {
         }
     }
 
-    /// Gives the agent back, if it is in a part.
+    /// Returns the agent to its storage, if it is in a part.
     pub(crate) fn clear(&self, core: &Core) {
         self.lock().give_back(core);
     }
 
-    /// Frees the agent, if it is in a part, without giving it back.
+    /// Frees the agent, if it is in a part, without returning it.
     pub(crate) fn abandon(&self, core: &Core) {
         let mut place = self.lock();
         if let Some(Player { agent, part }) = place.player.take() {
@@ -153,7 +154,7 @@ impl Seat {
 }
 
 impl Place {
-    /// Ends the step, if there is one; where its part has ended, its agent is given back.
+    /// Ends the step, if there is one; if its part has ended, its agent is returned.
     fn end_step(&mut self, core: &Core) {
         if !mem::take(&mut self.is_in_step) {
             return;
@@ -174,16 +175,16 @@ impl Place {
     }
 }
 
-/// The agent of a seat, for as long as a step goes on.
+/// The agent of a seat, as long as a step goes on.
 pub(crate) struct Lent<'a> {
     core: &'a Core,
     seat: &'a Seat,
     begun: Begun,
-    /// How many bytes of text it has pushed and got, about.
+    /// About how many bytes of text it has pushed and read.
     size: Cell<usize>,
     /// Whether a pushed move may have partial updates.
     is_partial: Cell<bool>,
-    /// Whether a commit may name locations of whose values nothing was returned.
+    /// Whether a commit may name locations whose values weren't returned.
     names_more: Cell<bool>,
 }
 
@@ -201,7 +202,7 @@ impl<'a> Lent<'a> {
         &self.begun.part
     }
 
-    /// Calls the agent; [`Conflict::Past`] where it was given back since.
+    /// Calls the agent; [`Conflict::Past`] if it was returned since.
     pub(crate) fn with<T>(&self, call: impl FnOnce(&Agent) -> Result<T, Error>) -> Result<T, Error> {
         let place = self.seat.lock();
         match &place.player {

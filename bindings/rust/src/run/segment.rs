@@ -12,7 +12,7 @@ pub(crate) const NO_FOLLOW: i32 = 0o400_000;
 const SUFFIX: &str = ".journal";
 const PIECE: usize = 1 << 16;
 
-/// Where the first segments of a run end.
+/// The end of the first segments of a run.
 #[derive(Clone)]
 pub(crate) struct End {
     pub(crate) counts: Counts,
@@ -20,19 +20,19 @@ pub(crate) struct End {
 }
 
 impl End {
-    /// Where no segment is yet.
+    /// The end if there is no segment yet.
     pub(crate) fn start() -> End {
         End { counts: Counts::default(), digest: "0".repeat(64) }
     }
 
-    /// The segment that comes next, with this text.
+    /// Returns the next segment, with this text.
     pub(crate) fn following(&self, more: Counts, text: &[u8]) -> Segment {
         let mut digest = self.begun(more, text.len() as u64);
         digest.update(text);
         Segment { before: self.clone(), more, digest: digest.hex() }
     }
 
-    /// The digest of all that comes before the text of the next segment.
+    /// Returns the digest of all that comes before the text of the next segment.
     fn begun(&self, more: Counts, length: u64) -> Sha256 {
         let (End { counts, digest: before }, Counts { moves, calls, .. }) = (self, more);
         let mut digest = Sha256::new();
@@ -40,7 +40,7 @@ impl End {
         digest
     }
 
-    /// The segment behind this end, whose file has the name.
+    /// Returns the segment after this end, whose file has the name.
     fn named(&self, name: &str) -> Result<Segment, Error> {
         let next = self.counts.parts;
         let Some((number, more, digest)) = parsed(name) else {
@@ -75,7 +75,7 @@ impl Segment {
         self.before.counts.parts
     }
 
-    /// The name of its file.
+    /// Returns the name of its file.
     pub(crate) fn name(&self) -> String {
         let Counts { moves, calls, .. } = self.more;
         format!("{:08}-{moves}-{calls}-{}{SUFFIX}", self.number(), self.digest)
@@ -87,7 +87,7 @@ impl Segment {
         End { counts, digest: self.digest.clone() }
     }
 
-    /// Audits the segment of the folder, behind what the auditor has audited.
+    /// Audits the segment of the folder, after what the auditor has audited.
     pub(crate) fn audit(&self, folder: &Path, auditor: &mut Auditor) -> Result<(), Error> {
         self.read(folder, &mut io::sink())?; // the digest comes first
         let mut wanted = auditor.counts();
@@ -127,7 +127,7 @@ impl Segment {
     }
 }
 
-/// The segments that are in the folder now, of which no text is read.
+/// Returns the segments that are in the folder now; reads no text.
 pub(crate) fn segments(folder: &Path) -> Result<Vec<Segment>, Error> {
     let mut names = Vec::new();
     for entry in fs::read_dir(folder)? {
@@ -176,7 +176,7 @@ pub(crate) fn damaged(segment: u64, why: String) -> Error {
     Error::Damaged { segment, why }
 }
 
-/// Audits the run in a folder, also while it goes on: how much of it is saved.
+/// Audits the run in a folder, also while it goes on; returns how much is saved.
 ///
 /// # Errors
 ///
@@ -192,7 +192,7 @@ pub fn audit_run(folder: impl AsRef<Path>) -> Result<Counts, Error> {
 }
 
 impl AuditError {
-    /// The same, of another part.
+    /// Returns the same, of another part.
     fn of_part(self, number: u64) -> AuditError {
         match self {
             AuditError::Illegal { call, .. } => AuditError::Illegal { part: number, call },

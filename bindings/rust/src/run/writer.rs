@@ -12,7 +12,7 @@ use std::panic::resume_unwind;
 use std::ptr;
 use std::thread;
 
-/// Tells the run that its writer has ended, however it ends.
+/// Reports to the run that its writer has ended, however it ends.
 struct Writer<'a>(&'a Core);
 
 impl Drop for Writer<'_> {
@@ -31,7 +31,7 @@ impl Drop for Writer<'_> {
 pub(crate) fn save_parts(core: &Core, folder: RunFolder) {
     hold_size_signal();
     let _writer = Writer(core);
-    // It is closed before the run is told that this thread has ended.
+    // It is closed before the run learns that this thread has ended.
     let mut folder = folder;
     while let Some(part) = core.due() {
         match save(core, &part, &mut folder) {
@@ -42,7 +42,7 @@ pub(crate) fn save_parts(core: &Core, folder: RunFolder) {
     }
 }
 
-/// Saves the part, unless it is the last one and nothing was called in it; false where it goes on.
+/// Saves the part, unless it is the last one and nothing was called in it; returns false if it goes on.
 fn save(core: &Core, part: &Part, folder: &mut RunFolder) -> Result<bool, Error> {
     let journal = part.storage.close()?;
     let calls = events(journal.as_bytes())?;
@@ -72,7 +72,7 @@ pub(crate) fn apart<T: Send>(work: impl FnOnce() -> T + Send) -> T {
     thread::scope(|threads| threads.spawn(work).join()).unwrap_or_else(|panic| resume_unwind(panic))
 }
 
-/// Has this thread never get SIGXFSZ, which kills the process where a file becomes larger than the system's limit.
+/// Blocks SIGXFSZ in this thread, which kills the process if a file becomes larger than the system's limit.
 fn hold_size_signal() {
     let mut signals = sys::SignalSet::default();
     // SAFETY: the set is as large as the system's, and no other thread has it.

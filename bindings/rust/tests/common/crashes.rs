@@ -18,7 +18,7 @@ enum Change {
     Unlink(String),
 }
 
-/// How much a state has: how many segments were told to be saved, and the files, which are none where the folder is none.
+/// How much a state has: how many segments were reported as saved, and the files, which are none if the folder is none.
 pub struct Left {
     pub told: u64,
     pub files: Option<Vec<(String, Vec<u8>)>>,

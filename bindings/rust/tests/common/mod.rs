@@ -5,7 +5,7 @@ use std::fs;
 use std::io::Write;
 use std::path::{Path, PathBuf};
 
-/// A path of the test's own, at which nothing is; what is then made there goes with it.
+/// A path of the test's own, at which nothing is; what is then made there is removed with it.
 pub struct Room(PathBuf);
 
 impl Room {
@@ -38,7 +38,7 @@ impl Room {
         self.segments().iter().flat_map(|it| fs::read(it).unwrap()).collect()
     }
 
-    /// What an audit of the folder tells, and the state that the run leaves.
+    /// The result of an audit of the folder, and the state after the run.
     pub fn audited(&self) -> (Counts, Vec<(Location, Value)>) {
         let mut auditor = Auditor::new();
         auditor.write_all(&self.bytes()).unwrap();
@@ -62,7 +62,7 @@ pub fn open(room: &Room, moves: u32) -> Run {
     Run::open([(count(), 0.into())], room.path(), moves).unwrap()
 }
 
-/// Adds 1 to the count, by a step that rests on it: the move's number.
+/// Adds 1 to the count, by a step that depends on it; returns the move's number.
 pub fn add_one(agent: &mut RunAgent) -> Result<u64, Error> {
     agent.play(|step| step.put(count(), step.get(count())?.as_num().unwrap() + 1)).map(fired)
 }
