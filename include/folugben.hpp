@@ -1,19 +1,19 @@
 // folugben.hpp: the abstract storage of a CoreASM engine, for C++20, over folugben.h.
 //
 // An element, a set, a bag and a value are values of their own. Each other class owns a slot on the heap, which is released with
-// it; it can be moved, and not copied. What was moved from is empty: a call on it throws code::empty, and a `try_` call answers
-// that. An agent is returned to its storage when it is destroyed, so that its moves are in the next journal. What folugben.h
-// says of threads holds: an object is used in one thread at a time, except a storage, which has a lock of its own. A storage
-// that is copied is one storage, which two objects share.
+// it; it can be moved, and not copied. What was moved from is empty: a call on it throws code::empty, and a `try_` call returns
+// that. An agent is returned to its storage when it is destroyed, so that its moves are in the next journal. What folugben.h says
+// of threads holds: an object is used in one thread at a time, except a storage, which has a lock of its own. A storage that is
+// copied is one storage, which two objects share.
 //
-// The calls whose name begins with `try_` are noexcept, and answer a code, or an `outcome`; those beside them throw an error in its
-// place. A `conflict` alone means: begin the step again. A step goes on with its agent wherever that moves, and is refused with
+// The calls whose name begins with `try_` are noexcept, and return a code, or an `outcome`; those beside them throw an error
+// instead. A `conflict` alone means: begin the step again. A step goes on with its agent wherever that moves, and is refused with
 // code::empty once that is returned.
 //
-// Each agent follows all moves in a state of its own. Where one thread plays several agents of a storage by turns, the one that
-// is about to poll takes the state of the one that polled last there, if that has ended its step or fired since and is in no
-// other step. So each move is followed about once, and not once for each agent. Whoever was taken the state polls before it is
-// shown again by `peek`, `state`, `scan` and `go_on`, which else don't poll; so it never goes back.
+// Each agent follows all moves in a state of its own. If one thread plays several agents of a storage by turns, the one that is
+// about to poll takes the state of the one that polled last there, if that has ended its step or fired since and is in no other
+// step. So each move is followed about once, and not once for each agent. An agent whose state was taken polls before it is shown
+// again by `peek`, `state`, `scan` and `go_on`, which otherwise don't poll; so it never goes back.
 //
 //    folugben::storage storage(R"([[["count"],0]])", 1000);
 //    folugben::agent agent = storage.make_agent(0);
@@ -57,7 +57,7 @@
 
 namespace folugben {
 
-// What calls answer, as folugben.h says.
+// What calls return, as folugben.h says.
 enum class [[nodiscard]] code : std::int32_t {
     done = ASM_DONE,
     stale = ASM_STALE,
@@ -97,7 +97,7 @@ enum class [[nodiscard]] code : std::int32_t {
     long_move = ASM_LONG_MOVE,
 };
 
-// What a code means, in a line of English.
+// Returns what a code means, in a line of English.
 inline std::string meaning(code of) {
     std::array<std::uint8_t, 256> text;
     std::size_t written = 0;
@@ -106,8 +106,8 @@ inline std::string meaning(code of) {
     return {reinterpret_cast<const char *>(text.data()), written};
 }
 
-// Why a call wasn't done: its code, and the text of its answer where there is one, such as {"stale":["count"]}. Nothing was
-// fired or lost.
+// Reports why a call wasn't done: its code, and the text of its answer if there is one, such as {"stale":["count"]}. Nothing
+// was fired or lost.
 class error : public std::runtime_error {
   public:
     error(folugben::code why, std::string text)
@@ -120,13 +120,13 @@ class error : public std::runtime_error {
     std::string text_;
 };
 
-// A commit that met another agent's moves: begin the step again, as `play` does. Its code is code::stale, code::clash or code::busy,
-// or code::moved of an agent that records. It is all that a loop by hand catches.
+// Reports a commit that met another agent's moves: begin the step again, as `play` does. Its code is code::stale, code::clash or
+// code::busy, or code::moved of an agent that records. It is all that a loop by hand catches.
 class conflict : public error {
   public:
     using error::error;
 };
-// What a commit came to: with code::done the number of the move. A conflict is code::stale, code::clash or code::busy, or
+// The outcome of a commit: with code::done the number of the move. A conflict is code::stale, code::clash or code::busy, or
 // code::moved of an agent that records: begin the step again.
 struct [[nodiscard]] outcome {
     folugben::code code = folugben::code::done;
@@ -137,7 +137,7 @@ struct [[nodiscard]] outcome {
                code == folugben::code::moved;
     }
 };
-// A push whose updates clash on what the step sees; and a fire of a move without a step, which would clash again.
+// Reports a push whose updates clash on what the step sees; or a fire of a move without a step, which would clash again.
 class clash : public error {
   public:
     using error::error;
@@ -146,7 +146,7 @@ class full : public error {
   public:
     using error::error;
 };
-// A move was fired by an agent that wasn't returned; `number()` is the move's number.
+// Reports a move of an agent that wasn't returned; `number()` is the move's number.
 class missing : public error {
   public:
     explicit missing(std::uint32_t number) : error(folugben::code::missing, "move " + std::to_string(number)), number_(number) {}
@@ -155,8 +155,8 @@ class missing : public error {
   private:
     std::uint32_t number_;
 };
-// The first thing that is wrong with a run: in which part, and at which call of it (code::illegal, both from 0 up), or at
-// which line of it (code::not_json and code::shape, from 1 up; else 0).
+// Reports the first thing that is wrong with a run: in which part, and at which call of it (code::illegal, both from 0 up), or
+// at which line of it (code::not_json and code::shape, from 1 up; else 0).
 class audit_error : public error {
   public:
     audit_error(folugben::code why, const asm_audit_numbers &told) : error(why, place(why, told)), told_(told) {}
@@ -188,7 +188,7 @@ inline const std::uint8_t *bytes(std::string_view text) noexcept { return reinte
     }
 }
 
-// A number is out of its range.
+// Throws for a number that is out of its range.
 [[noreturn]] inline void fail_range(code it, std::string_view what, std::uint64_t number, std::uint64_t least, std::uint64_t most) {
     throw error(it, std::string(what) + " is " + std::to_string(number) + ", and has to be " + std::to_string(least) + " to " +
                                  std::to_string(most));
@@ -200,7 +200,7 @@ inline std::string ahead_of(std::uint32_t seen) {
     return "a number is above the " + std::to_string(seen) + " moves that the agent has seen";
 }
 
-// Whether a list in the text is nested too deep. A text nested deeper than any may be is else said to be no JSON.
+// Returns whether a list in the text is nested too deep. A text nested deeper than any may be is otherwise reported as no JSON.
 inline bool nests_too_deep(std::string_view text) noexcept {
     int depth = 0;
     bool is_in_text = false, is_escaped = false;
@@ -216,7 +216,7 @@ inline bool nests_too_deep(std::string_view text) noexcept {
     return false;
 }
 
-// The slot of what was moved from, which is empty: calls that would fill it aren't made.
+// Returns the slot of what was moved from, which is empty: calls that would fill it aren't made.
 template <class Handle> Handle *nothing() noexcept {
     thread_local Handle empty{};
     return &empty;
@@ -240,7 +240,7 @@ template <class Handle> class held {
     std::unique_ptr<Handle, release> at_;
 };
 
-// Makes a call that writes a text, again with more room where there is too little. The text is then the call's, with any code.
+// Makes a call that writes a text, again with more room if there is too little. The text is then the call's, with any code.
 template <class Call> code told(Call call, std::string &text) {
     text.resize(256);
     for (;;) {
@@ -262,7 +262,7 @@ inline std::string explained(std::int32_t form, std::string_view refused) {
     return nests_too_deep(refused) ? "lists nest at most 8 deep" : text;
 }
 
-// The text between two others.
+// Returns the text between two others.
 inline std::string within(std::string_view before, std::string_view text, std::string_view behind) {
     std::string whole;
     whole.reserve(before.size() + text.size() + behind.size());
@@ -335,12 +335,12 @@ class element {
     asm_kind kind() const noexcept { return static_cast<asm_kind>(it_.index()); }
     bool is_undef() const noexcept { return it_.index() == 0; }
     bool is_true() const noexcept { return it_ == decltype(it_)(true); }
-    // The number; `otherwise` where it is none.
+    // Returns the number; `otherwise` if it is none.
     std::int64_t number(std::int64_t otherwise = 0) const noexcept {
         const auto *it = std::get_if<std::int64_t>(&it_);
         return it ? *it : otherwise;
     }
-    // The text and the list; empty where it is none.
+    // Return the text and the list; empty if it is none.
     const std::string &text() const noexcept {
         static const std::string none;
         const auto *it = std::get_if<std::string>(&it_);
@@ -364,7 +364,7 @@ class element {
         default: out += "null";
         }
     }
-    // undef, false, true, numbers, texts by their bytes, and lists, of which a shorter one comes first.
+    // Orders undef, false, true, numbers, texts by their bytes, and lists, of which a shorter one comes first.
     friend std::strong_ordering operator<=>(const element &one, const element &other) noexcept {
         if (auto by_kind = one.it_.index() <=> other.it_.index(); by_kind != 0 || one.is_undef()) return by_kind;
         if (one.kind() == ASM_KIND_BOOL) return one.is_true() <=> other.is_true();
@@ -520,13 +520,13 @@ class value {
     asm_kind kind() const noexcept { return static_cast<asm_kind>(head_.kind); }
     bool is_undef() const noexcept { return head_.kind == ASM_KIND_UNDEF; }
     bool is_true() const noexcept { return head_.kind == ASM_KIND_BOOL && head_.number == 1; }
-    // The number; `otherwise` where it is none.
+    // Returns the number; `otherwise` if it is none.
     std::int64_t number(std::int64_t otherwise = 0) const noexcept {
         return head_.kind == ASM_KIND_NUM ? head_.number : otherwise;
     }
-    // The text of a text, or the JSON of a list, a set or a bag; else empty.
+    // Returns the text of a text, or the JSON of a list, a set or a bag; else empty.
     const std::string &text() const noexcept { return bytes_; }
-    // The same as an element, a set and a bag; of any other kind code::shape.
+    // Return the same as an element, a set and a bag; of any other kind code::shape.
     folugben::element as_element() const {
         switch (kind()) {
         case ASM_KIND_UNDEF: return nullptr;
@@ -552,7 +552,7 @@ class value {
     std::string bytes_;
 };
 
-// A location with its value, as scans tell it.
+// A location with its value, as scans return it.
 struct entry {
     std::string name;
     list args;
@@ -576,7 +576,7 @@ inline value read_value(reader &from) {
     return value({kind, 0}, std::string(text.substr(0, text.size() - from.left().size())));
 }
 
-// The entries of a text [PAIR, ..].
+// Returns the entries of a text [PAIR, ..].
 inline std::vector<entry> entries(std::string_view text) {
     std::vector<entry> all;
     reader from(text);
@@ -605,7 +605,7 @@ class location {
         prepare(detail::json_of(name, list{element(args)...}));
     }
     location(std::string_view name, const list &args) { prepare(detail::json_of(name, args)); }
-    // Of its JSON, such as ["account","anna",7].
+    // Returns the location of its JSON, such as ["account","anna",7].
     static location of_json(std::string_view json) {
         location it;
         it.prepare(json);
@@ -640,14 +640,14 @@ class operand {
     operand(const list &items) : kind_(ASM_KIND_LIST), own_(detail::json_of(items)) {}
     operand(const set &elements) : kind_(ASM_KIND_SET), own_(detail::json_of(elements)) {}
     operand(const bag &counts) : kind_(ASM_KIND_BAG), own_(detail::json_of(counts)) {}
-    // A list, a set or a bag, as the kind says, such as {"set":[1,2]}.
+    // Returns a list, a set or a bag, as the kind says, such as {"set":[1,2]}.
     static operand of_json(asm_kind kind, std::string_view json) noexcept {
         operand it;
         it.kind_ = kind;
         it.text_ = json;
         return it;
     }
-    // Where and why the JSON is refused.
+    // Returns where and why the JSON is refused.
     std::string refusal() const {
         if (kind_ < ASM_KIND_LIST) return {};
         return detail::explained(ASM_FORM_MOVE, detail::within("{\"fire\":[[\"put\",[\"at\"],", text(), "]],\"reads\":[]}"));
@@ -666,7 +666,7 @@ class operand {
 };
 
 // A move, gathered instruction by instruction. A refused instruction leaves it unchanged. What is popped into it counts as one
-// instruction, and more can be gathered behind that.
+// instruction, and more can be gathered after that.
 class instructions {
   public:
     [[nodiscard]] code try_instruct(asm_verb verb, const location &at, const operand &what, std::uint32_t amount = 0) noexcept {
@@ -681,8 +681,8 @@ class instructions {
     instructions &bag_add(const location &at, const operand &what, std::uint32_t n) { return with(ASM_BAGADD, at, what, n); }
     instructions &bag_remove(const location &at, const operand &what, std::uint32_t n) { return with(ASM_BAGREMOVE, at, what, n); }
     instructions &inc(const location &at, std::int64_t by) { return with(ASM_INC, at, by); }
-    // Appends the other's instructions: it is then the move that does what both do at once. What is more than 4,096 instructions is
-    // code::long_move, and itself, or what was moved from, code::empty; then nothing changes.
+    // Appends the other's instructions: it is then the move that does what both do at once. More than 4,096 instructions are
+    // code::long_move; itself, or what was moved from, is code::empty; then nothing changes.
     [[nodiscard]] code try_unite(const instructions &other) noexcept {
         if (!slot_ || !other.slot_ || &other == this) return code::empty;
         if (other.size_ == 0) return code::done;
@@ -726,7 +726,7 @@ struct shared {
     held<struct asm_storage> storage;
     std::mutex lock;
     std::vector<held<struct asm_agent>> waiting; // agents that were freed when there was no memory to return them
-    bool is_recording = false;                   // what agents that are made or taken do; under the lock
+    bool is_recording = false;                   // what agents that are made or checked out do; under the lock
 
     shared() { waiting.reserve(256); }
     void give(held<struct asm_agent> agent) noexcept {
@@ -753,17 +753,17 @@ class seat {
     seat(const seat &) = delete;
     seat &operator=(const seat &) = delete;
 
-    // The agent, for one call.
+    // Returns the agent, for one call.
     struct asm_agent *get() const noexcept {
         claim(here());
         return slot_.get();
     }
-    // Whether agents that the storage makes or takes record.
+    // Returns whether agents that the storage makes or checks out record.
     bool storage_records() const {
         std::lock_guard<std::mutex> guard(of_->lock);
         return of_->is_recording;
     }
-    // Which storage it is of, for comparisons.
+    // Returns its storage, for comparisons.
     const shared *storage() const noexcept { return storage_; }
     void give() noexcept {
         claim(nowhere);
@@ -781,14 +781,14 @@ class seat {
     bool is_recording() const noexcept { return is_recording_.load(std::memory_order_relaxed); }
     // Nothing more is done with its state until it polls again.
     void act() noexcept { has_acted_.store(true, std::memory_order_relaxed); }
-    // Before its state is shown without a poll: polls where another agent took it.
+    // Polls, before its state is shown without a poll, if another agent took it.
     code catch_up(const std::shared_ptr<seat> &own) noexcept {
         if (!is_behind_.load(std::memory_order_relaxed)) return code::done;
         begin_turn(own);
         std::uint32_t number = 0;
         return code{asm_follow(get(), &number)};
     }
-    // Before a poll of `own`, which is this: takes the state of the agent that polled last in this thread, if that has acted.
+    // Takes the state of the agent that polled last in this thread, if that has acted; before a poll of `own`, which is this.
     void begin_turn(const std::shared_ptr<seat> &own) noexcept {
         claim(here());
         if (const auto other = replace_last(own)) take_state(*other);
@@ -807,12 +807,12 @@ class seat {
         std::array<last, 8> all{};
         ~last_ones() { is_over() = true; }
     };
-    // Whether this thread remembers no agents any more, as its objects are being destroyed.
+    // Returns whether this thread remembers no agents any more, as its objects are being destroyed.
     static bool &is_over() noexcept {
         thread_local bool it = false;
         return it;
     }
-    // An even number that stands for this thread, as long as that lives.
+    // Returns an even number that identifies this thread, as long as that lives.
     static std::uintptr_t here() noexcept {
         thread_local std::uint64_t it = 0;
         return reinterpret_cast<std::uintptr_t>(&it);
@@ -825,7 +825,7 @@ class seat {
             std::this_thread::yield();
         }
     }
-    // Has this be the last agent of its storage in this thread: the one before, if that is another and still there.
+    // Makes this the last agent of its storage in this thread; returns the one before, if that is another and still there.
     static std::shared_ptr<seat> replace_last(const std::shared_ptr<seat> &own) noexcept {
         if (is_over()) return nullptr;
         thread_local last_ones ones;
@@ -880,7 +880,7 @@ class open_step {
     std::shared_ptr<seat> seat_;
 };
 
-// What the last answered call of an agent was answered.
+// Returns the answer to the last answered call of an agent.
 inline std::string answer(struct asm_agent *agent) {
     std::string text;
     done(told([&](auto *out, auto room, auto *written) { return asm_answer(agent, out, room, written); }, text));
@@ -889,7 +889,7 @@ inline std::string answer(struct asm_agent *agent) {
 
 } // namespace detail
 
-// All that a step gets is of one state; what it pushes is seen by what comes after, and is fired as one move.
+// A transaction. All that a step gets is of one state; later calls see what it pushes, which is fired as one move.
 class step {
   public:
     std::uint32_t number() const noexcept { return number_; }
@@ -897,18 +897,18 @@ class step {
 
     [[nodiscard]] code try_get(const location &at, value &what) noexcept;
     value get(const location &at);
-    // {"number":N,"values":[VALUE, ..]} of locations [LOC, ..].
+    // Returns {"number":N,"values":[VALUE, ..]} of locations [LOC, ..].
     std::string get_json(std::string_view locations);
-    // The same, but nothing is got: a commit fires though another agent has written there since.
+    // Returns the same, and tracks nothing: a commit fires even if another agent has written there since.
     std::string see_json(std::string_view locations);
-    // All locations of a function with their values, ascending. The step depends on the whole function.
+    // Returns all locations of a function with their values, ascending. The step depends on the whole function.
     std::vector<entry> scan(std::string_view name) { return detail::entries(scan_json(name)); }
-    // The same as [PAIR, ..].
+    // Returns the same as [PAIR, ..].
     std::string scan_json(std::string_view name);
     [[deprecated("named scan")]] std::vector<entry> get_all(std::string_view name) { return scan(name); }
     [[deprecated("named scan_json")]] std::string get_all_json(std::string_view name) { return scan_json(name); }
 
-    // `text` is that of a refusal, such as {"clash":[LOC,CAUSE]}.
+    // Pushes the move; `text` is that of a refusal, such as {"clash":[LOC,CAUSE]}.
     [[nodiscard]] code try_push(const instructions &move, std::string &text) noexcept;
     void push(const instructions &move) {
         std::string text;
@@ -921,12 +921,12 @@ class step {
         const code it = try_extend(move, text);
         detail::done(it, std::move(text));
     }
-    // The moves [INSTR, ..], with sets, bags and lists.
+    // Pushes the move [INSTR, ..], which may have sets, bags and lists.
     void push_json(std::string_view move);
     void extend_json(std::string_view move);
     [[nodiscard]] code try_pop() noexcept { return code{asm_pop(slot_.get())}; }
     void pop() { detail::done(try_pop()); }
-    // The same, and the one move that does what the popped ones do in turn, in the place of what `move` has.
+    // Does the same; the one move that does what the popped ones do in turn replaces the content of `move`.
     [[nodiscard]] code try_pop_move(instructions &move) noexcept {
         if (!move.slot_) return code::empty;
         const code it{asm_pop_move(slot_.get(), move.get())};
@@ -939,12 +939,13 @@ class step {
         return move;
     }
 
-    // {"fire":[INSTR, ..],"reads":[NAMED, ..]}: what a commit would offer and name by now, which agent::fire_json takes. The
+    // Returns {"fire":[INSTR, ..],"reads":[NAMED, ..]}: what a commit would fire and name by now, which agent::fire_json takes.
+    // The
     // functions that were scanned aren't in it.
     std::string offer_json();
 
-    // Commits: fires one move that does what the pushed ones do in turn. Where it was done the step is over. `commit` answers the
-    // move's number, and throws `conflict` where the step is to be begun again.
+    // Commits: fires one move that does what the pushed ones do in turn. With code::done the step is over. `commit` returns the
+    // move's number, and throws `conflict` if the step must be begun again.
     outcome try_commit() noexcept;
     std::uint32_t commit();
     [[deprecated("named try_commit")]] [[nodiscard]] code try_fire(asm_numbers &numbers) noexcept;
@@ -967,8 +968,8 @@ class step {
     std::uint32_t number_ = 0;
 };
 
-// What a play has done: the number of the fired move, which is 0 where the rule pushed nothing, so that nothing was fired; how often
-// it was begun again; and what the rule returned.
+// The result of a play: the number of the fired move, which is 0 if the rule pushed nothing, so that nothing was fired; how
+// often it was begun again; and what the rule returned.
 template <class Result> struct played {
     std::uint32_t number;
     unsigned retries;
@@ -981,7 +982,7 @@ template <> struct played<void> {
     bool has_fired() const noexcept { return number != 0; }
 };
 
-// How long a play begins again after conflicts: for ever, unless a number of tries (once is tried at least) or a time is given.
+// How long a play begins again after conflicts: for ever, unless a number of tries (at least one is made) or a time is set.
 // Then its last conflict is thrown.
 struct patience {
     unsigned tries = 0; // 0: any number
@@ -1008,8 +1009,8 @@ class agent {
     // Has each commit of a step record what the step read, or not, which is the default. A commit that records first adds a
     // receipt of a read: the locations that its move names, with their values at the step's version. So the journal shows what
     // the move was computed from, and `check` judges that too. What `scan` found stays out of the journal, and so does what
-    // `see_json` returned. Each commit then takes about twice the receipts. Where the agent has moved past the step's version,
-    // as by `follow` within the step, the commit is a conflict (code::moved), and `play` begins again.
+    // `see_json` returned. Each commit then takes about twice the receipts. If the agent has moved past the step's version, as by
+    // `follow` within the step, the commit is a conflict (code::moved), and `play` begins again.
     void record(bool is_recording) noexcept {
         if (seat_) seat_->record(is_recording);
     }
@@ -1027,8 +1028,9 @@ class agent {
         return it;
     }
 
-    // Begins a step, hands it to the rule and commits it, and begins again where that is a conflict, as long as the patience lasts:
-    // agent.play(rule, {.tries = 3}). A rule that pushes nothing fires nothing. What the rule throws ends it, and nothing is fired.
+    // Begins a step, passes it to the rule and commits it, and begins again if that is a conflict, as long as the patience lasts:
+    // agent.play(rule, {.tries = 3}). A rule that pushes nothing fires nothing. What the rule throws ends it, and nothing is
+    // fired.
     template <class Rule> auto play(Rule &&rule, patience most = {}) -> played<std::invoke_result_t<Rule &, step &>> {
         using result = std::invoke_result_t<Rule &, step &>;
         const auto begun = std::chrono::steady_clock::now();
@@ -1069,7 +1071,7 @@ class agent {
         detail::done(try_peek(at, number, what));
         return what;
     }
-    // Its own state, ascending by locations; and the same as [PAIR, ..].
+    // Return its own state, ascending by locations; and the same as [PAIR, ..].
     std::vector<entry> state() { return detail::entries(state_json()); }
     std::string state_json() {
         detail::done(catch_up());
@@ -1079,7 +1081,7 @@ class agent {
                                   text));
         return text;
     }
-    // The same of one function alone, with its state's version, under which a fire names the scan.
+    // Returns the same of one function alone, with its state's version, under which a fire names the scan.
     std::vector<entry> scan(std::string_view name, std::uint32_t &number) { return detail::entries(scan_json(name, number)); }
     std::string scan_json(std::string_view name, std::uint32_t &number) {
         detail::done(catch_up());
@@ -1092,8 +1094,9 @@ class agent {
         return text;
     }
 
-    // The answer to a read of [LOC, ..], and to a fire of {"fire":[INSTR, ..],"reads":[NAMED, ..]}, which may depend on the whole
-    // functions of [[NAME,NUMBER], ..] too.
+    // Return the answer to a read of [LOC, ..], and to a fire of {"fire":[INSTR, ..],"reads":[NAMED, ..]}, which may depend on
+    // the
+    // whole functions of [[NAME,NUMBER], ..] too.
     std::string read_json(std::string_view locations) {
         begin_turn();
         const code it{asm_read(get(), detail::bytes(locations), locations.size())};
@@ -1131,23 +1134,24 @@ class agent {
         if (it == code::ahead) text = detail::ahead_of(seen());
         detail::done(it, std::move(text));
     }
-    // What the last answered call was answered.
+    // Returns the answer to the last answered call.
     std::string answer() { return detail::answer(get()); }
 
-    // Takes in what the other agent of the same storage has seen.
+    // Learns what the other agent of the same storage has seen.
     void learn(agent &other) {
         if (get_of() != other.get_of()) detail::fail(code::other, {});
         detail::done(asm_learn(get(), other.get()));
     }
 
-    // A storage for 1 to 1,048,576 moves that goes on where the agent's own is full and the agent has looked on to its end, as
-    // `follow` does: it opens with what all moves leave, and its agents and numbers start again. No other agent waits. Else it is
-    // code::not_full.
+    // Opens a storage for 1 to 1,048,576 moves that goes on from the agent's own state, which is full; the agent has polled to
+    // its
+    // end, as `follow` does. It opens with the state after all moves, and its agents and numbers start again. No other agent
+    // waits. Otherwise it is code::not_full.
     storage go_on(std::uint32_t capacity);
 
-    // Lets the agent go without giving it back: what it fired is missing in each journal.
+    // Frees the agent without returning it: what it fired is missing in each journal.
     void abandon() noexcept { asm_free_agent(get()); }
-    // For one call of folugben.h, in this thread.
+    // Returns the agent for one call of folugben.h, in this thread.
     struct asm_agent *get() const noexcept { return seat_ ? seat_->get() : detail::nothing<struct asm_agent>(); }
 
   private:
@@ -1173,7 +1177,7 @@ class agent {
     } catch (const std::bad_alloc &) {
         return code::memory;
     }
-    // Commits a play's step, with the number of its move; false where it is to be begun again.
+    // Commits a play's step, with the number of its move; returns false if it must be begun again.
     static bool ends(step &it, std::uint32_t &number) {
         if (it.depth() == 0) return true;
         it.last_ = it.try_commit();
@@ -1301,7 +1305,7 @@ inline std::uint32_t step::commit() {
     return last_.number;
 }
 
-// How a journal was judged: legal with the numbers of its calls and moves, or the first wrong call.
+// The verdict on a journal: legal with the numbers of its calls and moves, or the first wrong call.
 struct legality {
     bool is_legal;
     std::uint64_t calls; // of an illegal one the number of the first wrong call, from 0 up
@@ -1317,7 +1321,7 @@ inline legality check(std::string_view journal) {
     return told;
 }
 
-// The state [PAIR, ..] that the moves of a journal leave; it isn't checked.
+// Returns the state [PAIR, ..] after the moves of a journal, which isn't checked.
 inline std::string replay_json(std::string_view journal) {
     std::string text;
     std::uint64_t line = 0;
@@ -1331,7 +1335,7 @@ inline std::string replay_json(std::string_view journal) {
     return text;
 }
 
-// The updates [PAIR, ..] of the move [INSTR, ..] on the state [PAIR, ..]; throws `clash`.
+// Returns the updates [PAIR, ..] of the move [INSTR, ..] on the state [PAIR, ..]; throws `clash`.
 inline std::string aggregate_json(std::string_view state, std::string_view move) {
     std::string text;
     const code it = detail::told(
@@ -1347,7 +1351,7 @@ inline std::string aggregate_json(std::string_view state, std::string_view move)
     return text;
 }
 
-// The one move [INSTR, ..] that does what the first and then the second do; throws `clash`, and code::large.
+// Returns the one move [INSTR, ..] that does what the first and then the second do; throws `clash`, and code::large.
 inline std::string compose_json(std::string_view first, std::string_view second) {
     std::string text;
     const code it = detail::told(
@@ -1363,7 +1367,7 @@ inline std::string compose_json(std::string_view first, std::string_view second)
     return text;
 }
 
-// Where and why a text of the form is refused; empty where it isn't.
+// Returns where and why a text of the form is refused; empty if it isn't.
 inline std::string explain(asm_form form, std::string_view text) { return detail::explained(form, text); }
 
 // The state of an abstract state machine, on which the agents of many threads fire moves without locks.
@@ -1377,14 +1381,14 @@ class storage {
         detail::done(it);
     }
 
-    // Has agents that are made or taken from now on record, or not, as agent::record does. The storages of `next` and
+    // Has agents that are made or checked out from now on record, or not, as agent::record does. The storages of `next` and
     // agent::go_on do as this one.
     void record(bool is_recording) {
         std::lock_guard<std::mutex> guard(own().lock);
         own().is_recording = is_recording;
     }
 
-    // A storage makes one agent of each number, 0 to 255.
+    // Makes an agent. A storage makes one of each number, 0 to 255.
     agent make_agent(std::uint32_t number) {
         auto seat = std::make_shared<detail::seat>(shared_);
         std::lock_guard<std::mutex> guard(own().lock);
@@ -1395,8 +1399,9 @@ class storage {
         return made(std::move(seat));
     }
 
-    // The agent with this number that was returned, to go on where it was; code::no_agent where none was, or it was taken since. The
-    // journal of an earlier `close` is discarded.
+    // Checks out the agent with this number that was returned, to go on where it was; code::no_agent if none was, or it was
+    // checked
+    // out since. The journal of an earlier `close` is discarded.
     agent take(std::uint32_t number) {
         auto seat = std::make_shared<detail::seat>(shared_);
         std::lock_guard<std::mutex> guard(own().lock);
@@ -1413,7 +1418,7 @@ class storage {
         return moves;
     }
 
-    // The journal of the agents that were returned, as each is when it is destroyed.
+    // Returns the journal of the agents that were returned, as each is when it is destroyed.
     std::string close() {
         std::uint32_t number = 0;
         std::string text;
@@ -1427,7 +1432,7 @@ class storage {
         return text;
     }
 
-    // Opens a storage with what the moves of the closed journal leave; its agents and numbers start again.
+    // Opens a storage with the state after the moves of the closed journal; its agents and numbers start again.
     storage next(std::uint32_t capacity) {
         storage it;
         std::lock_guard<std::mutex> guard(own().lock);
@@ -1462,13 +1467,14 @@ inline storage agent::go_on(std::uint32_t capacity) {
     return it;
 }
 
-// Checks a run of any length as its bytes come, in pieces of any size: journals one behind the other, the parts of the run, each
-// of which opens with the state that the one before it leaves. It holds that state and one line. The first fault is told at the
-// line feed of its line, and again by each further call.
+// Checks a run of any length as its bytes come, in pieces of any size: journals one after the other, the parts of the run. Each
+// opens with the state after the one before it. It holds that state and one line. The first fault is reported at the line feed of
+// its line, and again by each further call.
 class auditor {
   public:
-    // Takes the bytes, all of them with code::done; with any other code `taken` of them. `told` has the numbers so far, or those
-    // of the fault. After code::memory the bytes that weren't taken may be passed again.
+    // Reads the bytes, all of them with code::done; with any other code `taken` of them. `told` has the counts so far, or those
+    // of
+    // the fault. After code::memory the bytes that weren't taken may be passed again.
     [[nodiscard]] code try_feed(std::span<const std::uint8_t> bytes, std::size_t &taken, asm_audit_numbers &told) noexcept {
         taken = 0;
         if (!slot_) return code::empty;
@@ -1482,7 +1488,9 @@ class auditor {
         told = at_;
         return fault_;
     }
-    // Throws `audit_error` at the first fault; and std::bad_alloc, after which it isn't known how many bytes were taken.
+    // Reads the bytes; throws `audit_error` at the first fault; and std::bad_alloc, after which it isn't known how many bytes
+    // were
+    // taken.
     void feed(std::span<const std::uint8_t> bytes) {
         std::size_t taken = 0;
         asm_audit_numbers told{};
@@ -1490,7 +1498,7 @@ class auditor {
     }
     void feed(std::string_view bytes) { feed(std::span(detail::bytes(bytes), bytes.size())); }
 
-    // How many parts are whole, how many calls were judged right, and how many moves they fired, in front of a fault too.
+    // Returns how many parts are complete, how many calls were judged right, and how many moves they fired, before a fault too.
     asm_audit_numbers counts() {
         if (!slot_) detail::fail(code::empty, {});
         std::size_t taken = 0;
@@ -1498,7 +1506,7 @@ class auditor {
         detail::done(asm_audit(slot_.get(), nullptr, 0, &taken, &told));
         return told;
     }
-    // The same of a run that ends here; throws `audit_error` where its last part or line isn't whole. More may be fed.
+    // Returns the same of a run that ends here; throws `audit_error` if its last part or line isn't complete. More may be fed.
     asm_audit_numbers end() {
         asm_audit_numbers told{};
         if (!slot_) detail::fail(code::empty, {});
@@ -1507,7 +1515,7 @@ class auditor {
         judge(it == code::empty ? code::cut : it, told);
         return told;
     }
-    // The state that the moves so far leave, and the same as [PAIR, ..]; code::no_part before a part has begun.
+    // Return the state after the moves so far, and the same as [PAIR, ..]; code::no_part before a part has begun.
     std::vector<entry> state() { return detail::entries(state_json()); }
     std::string state_json() {
         if (!slot_) detail::fail(code::empty, {});

@@ -135,7 +135,7 @@ class replayer {
         steps_.insert_or_assign(number(of[0]), std::move(it));
         return std::to_string(begun);
     }
-    // Commits; where the agent has moved on, without recording, as nothing was done then.
+    // Commits; if the agent has moved on, without recording, as nothing was done then.
     std::string commit(const words &of) {
         const std::uint32_t before = steps_.at(number(of[0])).number();
         const bool has_moved = is_recording_ && number(peek({of[0], "[]"}).substr(10)) != before;
@@ -152,7 +152,7 @@ class replayer {
         folugben::detail::done(it.code);
         return member("fired", std::to_string(it.number));
     }
-    // How many reads were recorded by the agents that were given back.
+    // How many reads were recorded by the agents that were returned.
     std::uint64_t recorded() const {
         std::uint64_t all = 0;
         for (const auto &[number, agent] : agents_)

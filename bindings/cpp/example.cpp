@@ -1,4 +1,4 @@
-// Eight threads move money between accounts; none is lost, and the journal tells each move.
+// Eight threads move money between accounts; none is lost, and the journal has each move.
 #include <folugben.hpp>
 
 #include <cstdio>

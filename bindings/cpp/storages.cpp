@@ -257,7 +257,7 @@ std::string reading(std::uint32_t number, const std::string &values) {
 const std::vector<std::string> VALUES = {"null", "true", "false", "-7", "9223372036854775807", R"("")", R"("a \"\\ \u0001")",
                                          R"({"list":[1,{"list":[]}]})", R"({"set":[null,1,"a"]})", R"({"bag":[[1,2],["a",4294967295]]})"};
 
-// Commits steps that get some places and put to one: the lines that a journal has to have of what they got.
+// Commits steps that get some places and put to one; returns the lines that a journal must have of what they got.
 std::vector<std::string> recorded_steps(folugben::agent agent, std::uint64_t number) {
     std::vector<std::string> lines;
     std::uint64_t draw = number + 1;
@@ -340,7 +340,7 @@ void moved_commits_are_conflicts() {
     leave(std::move(rival));
     const std::string read = R"({"agent":0,"call":{"read":[["count"]]},"reply":{"number":4,"values":[7]}})";
     WANTED(lines_of(storage.close(), R"({"agent":0,"call":{"read")") == std::vector<std::string>{read});
-    // Storages that go on do as this one, and agents that are taken too.
+    // Storages that go on do as this one, and agents that are checked out too.
     folugben::storage next = storage.next(1);
     leave(next.make_agent(0));
     next.take(0).play([&](folugben::step &it) { it.push(folugben::instructions().put(count, it.get(count))); });

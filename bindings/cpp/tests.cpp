@@ -71,7 +71,7 @@ void lists_sets_and_bags_are_operands() {
     step.push(move.put(at, folugben::operand::of_json(ASM_KIND_BAG, R"({"bag":[["e",2]]})"))
                   .add(set, folugben::operand::of_json(ASM_KIND_LIST, R"({"list":[true]})")));
     WANTED(step.get(at).text() == R"({"bag":[["e",2]]})" && step.get(set).text() == R"({"set":[1,{"list":[true]}]})");
-    // What was told is put as it is.
+    // What was returned is put unchanged.
     for (const char *told : {"null", "true", "-7", R"("a text")", R"({"list":[1]})", R"({"set":[]})", R"({"bag":[[1,2]]})"}) {
         step.push_json(std::string(R"([["put",["x"],)") + told + "]]");
         folugben::value value = step.get(at);
@@ -127,7 +127,7 @@ void sets_bags_and_scans_are_read() {
     WANTED(all.size() == 4 && number == 1 && all.size() == agent.state().size() && agent.scan("none", number).empty());
     folugben::step step = agent.begin();
     for (const folugben::entry &it : step.scan("it")) {
-        // What was told of each leads there again, and is put as it is.
+        // The returned text of each leads there again, and is put unchanged.
         const folugben::location at(it.name, it.args);
         WANTED(it.name == "it" && agent.peek(at) == it.value);
         step.extend(folugben::instructions().put(at, it.value));

@@ -156,7 +156,7 @@ void agents_go_between_threads_by_turns() {
     WANTED(told.is_legal && told.moves == fired);
 }
 
-// Plays where the objects of a thread end.
+// Plays at the end of a thread, when its objects are destroyed.
 struct plays_last {
     std::vector<folugben::agent> agents;
     ~plays_last() {
@@ -186,7 +186,7 @@ void many_storages_take_turns_in_one_thread() {
         for (auto &it : agents) WANTED(raise(it[random() % 3]) == i);
     agents.clear();
     storages.clear();
-    // A storage may lie where another one was.
+    // A storage may have the address of an earlier one.
     for (int i = 0; i < 30; ++i) {
         folugben::storage again(ZERO, 5);
         for (auto &it : agents_of(again, 0, 3)) raise(it);

@@ -1,4 +1,4 @@
-// What the tests want, and a line where that isn't so.
+// Checks of the tests, each of which writes a line if it fails.
 #ifndef WANTED_HPP
 #define WANTED_HPP
 
