@@ -1,7 +1,7 @@
 """The abstract storage of a CoreASM engine, for Python.
 
-A Storage is opened with a state; each Agent of it works in steps, in a thread of its own. All that a step reads is of one
-state; what it writes is seen by what comes after that, and is fired as one move, which alone stands in the journal:
+A Storage is opened with a state. Each Agent of it works in steps, in its own thread. All reads of a step are of one state.
+What the step writes is visible to its later reads, and is fired as one move. Only that move is recorded in the journal:
 
     with Storage({"count": 0}, 1000) as storage:
         with storage.agent(0) as agent, agent.step() as step:
@@ -10,54 +10,56 @@ state; what it writes is seen by what comes after that, and is fired as one move
             step.commit()
         journal = storage.close_journal()
 
-A location is a tuple ("name", argument, ..). Where one location is wanted the name alone will do, but not in a list of them, as
-`read`, `peek` and `get` take. Values are None, truths, whole numbers and texts; a list is a tuple, a set a frozenset, and a bag a
-Counter. Input may also be written as JSON has it (docs/FORMATS.md): a location as a list, and {"list": [..]}, {"set": [..]} and
-{"bag": [[element, count], ..]}. Texts are Unicode.
+A location is a tuple ("name", argument, ..). Where one location is expected, the name alone is enough, but not in a list of
+locations, as `read`, `peek` and `get` take. Values are None, truths, integers and texts; a list is a tuple, a set a frozenset,
+and a bag a Counter. Input may also be written as in JSON (docs/FORMATS.md): a location as a list, and {"list": [..]},
+{"set": [..]} and {"bag": [[element, count], ..]}. Texts are Unicode.
 
-An agent may also read locations and fire moves that name what they depend on; each such call stands in the journal:
+An agent may also read locations and fire moves that name what they depend on. The journal records each such call:
 
     number, (count,) = agent.read([("count",)])
     agent.fire([("put", "count", count + 1)], reads=[("count", number)])
 
-The journal tells of a step its fire alone. With `Storage(.., record=True)`, or `Run(.., record=True)`, each commit also records what
-the step got of the state, as a read before the fire, so that `check` and `audit` judge what a `get` returned. What scans found stays
-out of the journal. A commit that records raises `CommitMovedError` where its agent has gone on since the step began; it is a
-`ConflictError`, and `play` begins again.
+Of a step, the journal records only the fire. With `Storage(.., record=True)`, or `Run(.., record=True)`, each commit also
+records the step's tracked reads as a read before the fire, so that `check` and `audit` validate the values that `get`
+returned. The journal never records what scans returned. A commit that records raises `CommitMovedError` if its agent has
+moved on since the step began. It is a `ConflictError`, and `play` begins again.
 
-For annotations there are the types `Value`, `Element`, `Place` and `Update`: a location as a tuple or a list is a Place.
+The types `Value`, `Element`, `Place` and `Update` are for annotations: a location as a tuple or a list is a Place.
 
-A Location is prepared once, and a Move is gathered, for steps that write and read no text, which are quicker:
+A Location is prepared once, and a Move collects instructions. Steps that use them write and read no text, and are faster:
 
     count, move = Location("count"), Move()
     with agent.step() as step:
         step.push(move.clear().put(count, step[count] + 1))
         step.commit()
 
-Any thread may call a Storage, an Agent, a Step, a Location or a Move, and so may signal handlers and finalizers: a call is done
-or not begun. Short calls keep the interpreter's lock. Closes, journals, states, long texts, and an agent that is far behind
-release it; a thread that comes to what is in such a call waits for its end. Of the header's calls only asm_agents has no method
-here: call `Storage.agent` for each number. A storage makes one agent of each number.
+Any thread may call a Storage, an Agent, a Step, a Location or a Move, and so may signal handlers and finalizers: a call is
+either done completely or not begun. Short calls keep the interpreter's lock. Closes, journals, states, long texts, and an
+agent that is far behind release it; a thread that calls an object in use by such a call waits for the end of that call. Of
+the header's calls only asm_agents has no method here: call `Storage.agent` for each number. A storage creates one agent of
+each number.
 
-A storage has room for 1,048,576 moves at most. A Run goes on without an end: its agents go from one storage to the next by
-themselves, and its folder has the journals of all of them, which `audit` checks in memory that doesn't grow:
+A storage has room for at most 1,048,576 moves. A Run has no end: its agents go from one storage to the next by themselves.
+Its folder has the journals of all of them, which `audit` checks in bounded memory:
 
     with Run("count.run", init={"count": 0}) as run, run.agent(0) as agent:
         agent.play(lambda step: step.inc("count", 1))
     calls, moves, parts = audit("count.run")
 
-The journal tells every move: where an agent that fired was freed and not given back, `close_journal` raises `MissingError` for
-good. A `with` gives its agent back.
+The journal has every move. If an agent that fired was freed instead of returned to the storage, `close_journal` raises
+`MissingError` from then on. A `with` returns its agent.
 
-Errors say where and why. The items of a list that was passed are counted from 1 (location 2, read 1), what is within one is
-written as in Python, from 0 (instructions[0][2]), and calls, parts and moves are counted as journals do.
+Errors report the place and the cause. The items of a list argument are counted from 1 (location 2, read 1). Items within
+one are written as in Python, from 0 (instructions[0][2]). Calls, parts and moves are counted as in journals.
 
-A run's own calls are Python: a signal handler or a finalizer that makes one in the midst of another one of its thread raises
-`NestedError`, and nothing is done.
+The calls of a Run are written in Python. A signal handler or a finalizer that makes one during another one of its thread
+raises `NestedError`, and nothing is done.
 
-The storage tells true from 1 and false from 0, but in Python True == 1 and False == 0, and equal keys are one: {True, 1} has one
-item. A set or a bag that has both is read as {"set": [True, 1]} or {"bag": [..]}, and is written so. Likewise ("f", True) and
-("f", 1) are two locations, and a value that was read as true equals 1; compare by `is True` where both may occur.
+The storage distinguishes true from 1 and false from 0, but in Python True == 1 and False == 0, and equal keys are one:
+{True, 1} has one item. A set or a bag that has both is read as {"set": [True, 1]} or {"bag": [..]}, and is written so.
+Likewise ("f", True) and ("f", 1) are two locations, and a value that was read as true equals 1; compare by `is True` where
+both may occur.
 """
 import warnings
 from typing import TYPE_CHECKING
@@ -100,7 +102,7 @@ __all__ = [
 ]
 
 if not TYPE_CHECKING:
-    # Names that were others before; they go with the next version.
+    # Former names, deprecated; the next version removes them.
     _BEFORE = {name.removesuffix("Error"): name for name in __all__ if name.endswith("Error") and name != "Error"} | {
         "Retry": "ConflictError",
     }

@@ -1,4 +1,4 @@
-"""Runs and journals on the command line: python -m folugben COMMAND .., of which --help tells."""
+"""Run the commands on runs and journals: python -m folugben COMMAND .. (--help)."""
 import argparse
 import json
 import os
@@ -23,7 +23,7 @@ def _check(journal: bytes, out: TextIO) -> bool:
 
 
 class _Progress:
-    """Tells on a terminal how much of a file was read, once a second."""
+    """Show on a terminal how much of a file was read, once a second."""
 
     def __init__(self, file: str) -> None:
         self._size = os.path.getsize(file) if os.path.isfile(file) else 0
@@ -42,7 +42,7 @@ class _Progress:
 
 
 def _audit(file: str, _: int | None, out: TextIO) -> bool:
-    """Of a file of any length, of which one line at a time is held."""
+    """Check a file of any length, with one line in memory at a time."""
     progress = _Progress(file) if sys.stderr.isatty() else None
     try:
         calls, moves, parts = audit(sys.stdin.buffer if file == "-" else file, progress)
@@ -109,7 +109,7 @@ _Work = Callable[[str, int | None, TextIO], bool]
 
 
 def _whole(work: Callable[[bytes, TextIO], bool]) -> _Work:
-    """The work on a journal, which is read as a whole."""
+    """Return the command that does some work on a journal, read completely."""
 
     def on_file(file: str, number: int | None, out: TextIO) -> bool:
         if number is None and is_stored(file):
@@ -136,7 +136,7 @@ COMMANDS: dict[str, tuple[_Work, str]] = {
     "perfetto": (_whole(_written(write_perfetto)), "the run as Chrome's trace events, for Perfetto"),
     "view": (_whole(_written(write_page)), "a page that shows the run in a browser; --output names its file"),
 }
-# Those that take stored runs alone.
+# Commands that accept only stored runs.
 ON_RUNS = ("verify", "save", "follow")
 
 
@@ -191,7 +191,7 @@ def _work_on(asked: argparse.Namespace, out: TextIO) -> int:
 
 
 def _expect_apart(output: Path, files: list[str]) -> None:
-    """Expect an output that is none of the inputs, and in none of the runs that are read."""
+    """Check that an output is none of the inputs, and in none of the runs read."""
     for file in files:
         if output.exists() and os.path.exists(file) and output.samefile(file):
             raise OSError(f"{file} is read, so it can't be written: name another output")
@@ -200,7 +200,10 @@ def _expect_apart(output: Path, files: list[str]) -> None:
 
 
 def main(words: list[str] | None = None) -> int:
-    """The exit status: 0, or 1 where a run or a journal is illegal, damaged or none, or 2 where a file or a word is refused."""
+    """Return the exit status: 0, 1 or 2.
+
+    It is 1 if a run or a journal is illegal, damaged or none, and 2 if a file or an argument is refused.
+    """
     asked = _words().parse_args(words)
     try:
         if asked.command == "import":

@@ -1,4 +1,4 @@
-"""Audits: runs of any length, which are checked as their bytes come."""
+"""Audits of runs of any length, checked as their bytes arrive."""
 from typing import Any, NamedTuple
 
 from ._core import Audit
@@ -9,7 +9,7 @@ from ._texts import owned
 
 
 class Counts(NamedTuple):
-    """What an audit has counted: the calls that were judged, the moves that were fired, and the parts that are whole."""
+    """Counts of an audit: the checked calls, the fired moves, and the complete parts."""
 
     calls: int
     moves: int
@@ -17,15 +17,17 @@ class Counts(NamedTuple):
 
 
 class Auditor(Audit):
-    """Checks a run of any length as it comes: its parts are journals, one behind the other, each of which opens with the state
-    that the one before it leaves. It holds that state and one line.
+    """Checks a run of any length as it arrives.
+
+    The parts of a run are journals, one after the other. Each opens with the state at the end of the part before it. The
+    auditor holds that state and one line.
 
         auditor = Auditor()
         for chunk in chunks:
             auditor.feed(chunk)             # raises the first wrong answer at once
-        calls, moves, parts = auditor.end() # raises where the last part isn't complete
+        calls, moves, parts = auditor.end() # raises if the last part isn't complete
 
-    What is wrong is a `BadJournalError` with the part, and the call or the line. Each further call raises it again.
+    An error is a `BadJournalError` with the part, and the call or the line. Each further call raises it again.
     """
 
     def __init__(self) -> None:
@@ -36,11 +38,13 @@ class Auditor(Audit):
         self._take(b"")
 
     def feed(self, chunk: Text) -> Counts:
-        """Takes the next bytes, or characters, any number of them. What the audit has counted so far.
+        """Check the next bytes or characters, any number; return the counts so far.
 
-        `BadJournalError` at the first wrong answer, the first fault, or the first part that opens with another state; a line of more
-        than 1,073,741,824 bytes is such a fault too. After a `MemoryError` what wasn't taken is kept, and the next call begins with
-        it: `feed(b"")` tries again.
+        After a `MemoryError` the input that wasn't checked is retained, and the next call begins with it: `feed(b"")` retries.
+
+        Raises:
+            BadJournalError: at the first wrong answer, the first fault, or the first part that opens with another state; a line
+                of more than 1,073,741,824 bytes is such a fault too.
         """
         text = exact(chunk, "what an audit takes")
         self._expect_sound()
@@ -53,14 +57,17 @@ class Auditor(Audit):
 
     @property
     def counts(self) -> Counts:
-        """What it has counted so far, with the calls and the moves of a part that isn't complete yet."""
+        """Return the counts so far, including the calls and moves of an incomplete part."""
         self._expect_sound()
         return self._counts
 
     def end(self) -> Counts:
-        """What it has counted, where no further byte comes. `BadJournalError` where the last part isn't complete.
+        """Return the counts at the end of the input.
 
-        The audit is unchanged, and may be fed on.
+        The audit is unchanged, and accepts further input.
+
+        Raises:
+            BadJournalError: the last part isn't complete.
         """
         self._expect_sound()
         code, parts, calls, moves = self._told()
@@ -69,7 +76,11 @@ class Auditor(Audit):
         return Counts(calls, moves, parts)
 
     def state(self) -> list[Any]:
-        """The state that the moves so far leave, as a list of pairs. `Error` with the code NO_PART where no part has begun."""
+        """Return the state after the moves so far, as a list of pairs.
+
+        Raises:
+            Error: no part has begun; the code is NO_PART.
+        """
         self._expect_sound()
         pairs: list[Any] = owned(self._state())
         return pairs

@@ -1,4 +1,4 @@
-"""The databases that shared runs are kept in: a file of SQLite, or a schema of a PostgreSQL server."""
+"""Databases of shared runs: a SQLite file, or a schema of a PostgreSQL server."""
 import contextlib
 import ctypes
 import errno
@@ -16,17 +16,17 @@ from typing import Any, Protocol
 from ._errors import DamagedError
 from ._folder import sync_folder
 
-# What a file of SQLite has in its header that is a run.
+# The marker in the header of a SQLite file that is a run.
 _APPLICATION = 0x466F6C75
 # How long a transaction waits for those of other processes.
 _SECONDS = 60.0
-# A lock of one byte of a file that belongs to the open file, as those of Java's FileChannel belong to the process.
+# A lock on one byte of a file that belongs to the open file, as locks of Java's FileChannel belong to the process.
 _OFD_SETLK = 37
 
 
-# The calls behind a place.
+# The calls after a place.
 _SINCE = "select place, token, segment, agent, call, scans from call where place > ? order by place limit ?"
-# Appends calls in PostgreSQL, and returns what is behind a place: of those that it has appended the place and the token alone.
+# Append calls in PostgreSQL; return what is after a place. For calls that it has appended it returns only place and token.
 _APPEND = """prepare folugben_append(bigint, bigint, bytea[], bigint[], integer[], text[], text[]) as
     with own as (
         insert into call select (select coalesce(max(place), 0) from call) + at, token, segment, agent, call, scans
@@ -38,11 +38,14 @@ _APPEND = """prepare folugben_append(bigint, bigint, bytea[], bigint[], integer[
 
 
 class Lost(Exception):
-    """The connection to a server is lost; whether what was sent is done isn't known."""
+    """The connection to a server is lost; it is unknown whether what was sent is done."""
 
 
 class Database(Protocol):
-    """A connection for one thread at a time; its statements have ? for each value. Each call raises `Lost` where it is lost."""
+    """A connection for one thread at a time.
+
+    Its statements have ? for each value. Each call raises `Lost` if the connection is lost.
+    """
 
     # The type of bytes.
     blob: str
@@ -54,38 +57,53 @@ class Database(Protocol):
         """Insert rows by as few statements as possible."""
 
     def append(self, calls: Sequence[Sequence[Any]], since: int, most: int) -> list[Any]:
-        """Append calls to the log, but those whose token is there; return up to so many rows behind a place, once all is on the
-        disk. A row of a call that was appended now may have its place and its token alone."""
+        """Append calls to the log, except those whose token is there; return later rows.
+
+        Return at most the given number of rows after a place, once all is on the disk. A row of a call that this call appended
+        may have only its place and its token.
+        """
 
     def transaction(self) -> contextlib.AbstractContextManager[None]:
-        """Run what is done within as one transaction, alone, that is on the disk at the end."""
+        """Run the body as one transaction, alone, that is on the disk at the end."""
 
     def has_run(self) -> bool:
-        """Return whether the tables of a run are there; `DamagedError` where others are."""
+        """Return whether the tables of a run are there.
+
+        Raises:
+            DamagedError: other tables are there.
+        """
 
     def make(self) -> None:
-        """Make what has to be there before the tables, in a transaction."""
+        """Create, in a transaction, what the tables require."""
 
     def hold(self, agent: int) -> bool:
-        """Take the number of an agent for this process, as long as it lives. Return whether nobody else has it."""
+        """Reserve the number of an agent for the lifetime of this process.
+
+        Return whether no other process has it.
+        """
 
     def let(self, agent: int) -> None:
-        """Let others have the number."""
+        """Release the number for others."""
 
     def close(self) -> None:
-        """Close the connection; it may be called again."""
+        """Close the connection; closing again has no effect."""
 
     def leave(self) -> None:
-        """Drop it in the child of a fork: to close it would end what the parent does."""
+        """Drop the connection in the child of a fork.
+
+        Closing it would end what the parent does.
+        """
 
 
 def connect(target: str | os.PathLike[str], writes: bool = True, makes: bool = False) -> Database:
-    """Connect to postgresql://.. or to a file of SQLite, which is made where `makes` is told.
+    """Connect to postgresql://.. or to a SQLite file.
+
+    The file is created if `makes` is set.
 
     Raises:
         ConnectionError: the server doesn't answer.
         FileNotFoundError: there is no file.
-        OSError: the file can't be opened, or not be written.
+        OSError: the file can't be opened or written.
         DamagedError: the file is another one.
     """
     if is_server(target):
@@ -94,12 +112,15 @@ def connect(target: str | os.PathLike[str], writes: bool = True, makes: bool = F
 
 
 def is_server(target: object) -> bool:
-    """Whether a target is the name of a PostgreSQL server."""
+    """Return whether a target is the name of a PostgreSQL server."""
     return isinstance(target, str) and target.startswith(("postgresql:", "postgres:"))
 
 
 def is_database(path: str | os.PathLike[str]) -> bool:
-    """Whether a file is one of SQLite. Only SQLite opens it: another close in this process would drop SQLite's locks."""
+    """Return whether a file is a SQLite file.
+
+    Only SQLite opens it: another close in this process would drop SQLite's locks.
+    """
     try:
         connection = sqlite3.connect(f"{pathlib.Path(path).resolve().as_uri()}?mode=rw", uri=True)
         try:
@@ -112,7 +133,12 @@ def is_database(path: str | os.PathLike[str]) -> bool:
 
 @contextlib.contextmanager
 def reaching(target: object) -> Iterator[None]:
-    """Raises a `ConnectionError` where the connection is lost, and an `OSError` or `DamagedError` for a file that is no good."""
+    """Convert errors of the database.
+
+    Raises:
+        ConnectionError: the connection is lost.
+        OSError, DamagedError: the file can't be used.
+    """
     try:
         yield
     except Lost as error:
@@ -122,12 +148,15 @@ def reaching(target: object) -> Iterator[None]:
 
 
 def _keep(connection: object) -> None:
-    """Has an object never be finalized."""
+    """Prevent an object from ever being finalized."""
     ctypes.pythonapi.Py_IncRef(ctypes.py_object(connection))
 
 
 class Sqlite:
-    """A file, with a write-ahead log that is flushed at the end of each transaction. Beside it is one for agents' numbers."""
+    """A file, with a write-ahead log that is flushed at the end of each transaction.
+
+    Beside it is a file for agents' numbers.
+    """
 
     blob = "blob"
 
@@ -156,7 +185,10 @@ class Sqlite:
         return sqlite3.connect(uri, _SECONDS, isolation_level=None, check_same_thread=False, uri=True)
 
     def _set_log(self) -> None:
-        """Has it write ahead; SQLite doesn't wait for another process that is about to do so too."""
+        """Switch to a write-ahead log.
+
+        SQLite doesn't wait for another process that is about to do the same.
+        """
         end = time.monotonic() + _SECONDS
         while True:
             try:
@@ -182,7 +214,7 @@ class Sqlite:
             ((last,),) = self._db.execute("select coalesce(max(place), 0) from call")
             rows: list[Any] = [(last + at, *call) for at, call in enumerate(calls, 1)]
             added = self._db.executemany("insert into call values (?, ?, ?, ?, ?, ?) on conflict (token) do nothing", rows)
-            # Where that place was the last one, and no call was there, these are all that is behind it.
+            # If that place was the last one, and no call was there, these are all the rows after it.
             if last != since or added.rowcount != len(rows):
                 rows = self.run(_SINCE, (since, most))
             self._db.execute("commit")
@@ -249,7 +281,7 @@ class Sqlite:
 
 
 def _as_os_error(error: sqlite3.Error, target: object) -> OSError | DamagedError:
-    """The error of a file that SQLite can't open or write."""
+    """Return the error of a file that SQLite can't open or write."""
     code = getattr(error, "sqlite_errorcode", 0) & 0xFF
     if code in (sqlite3.SQLITE_NOTADB, sqlite3.SQLITE_CORRUPT):
         return DamagedError(0, f"{error}: {target}")
@@ -259,7 +291,10 @@ def _as_os_error(error: sqlite3.Error, target: object) -> OSError | DamagedError
 
 
 class Postgres:
-    """A schema of a PostgreSQL database, as in postgresql://host/base#schema, which is folugben where none is told."""
+    """A schema of a PostgreSQL database, named as in postgresql://host/base#schema.
+
+    Without a name it is folugben.
+    """
 
     blob = "bytea"
 
@@ -275,7 +310,7 @@ class Postgres:
             except driver.ProgrammingError as error:
                 raise ValueError(f"{server} is no name of a server: {str(error).strip()}") from error
             self._db.autocommit, self._is_prepared = True, False
-            # In psycopg 3 this one takes several statements at once, as those of psycopg 2 do.
+            # In psycopg 3 this one accepts several statements at once, as those of psycopg 2 do.
             self._cursor = driver.ClientCursor(self._db) if hasattr(driver, "ClientCursor") else self._db.cursor()
             self.run("select set_config('search_path', quote_ident(?), false), set_config('synchronous_commit', 'on', false)",
                      (self._schema,))
@@ -283,12 +318,12 @@ class Postgres:
     def run(self, sql: str, values: Sequence[Any] = ()) -> list[Any]:
         try:
             self._cursor.execute(sql.replace("?", "%s"), values)
-            # psycopg 3 is at the first result then, psycopg 2 at the last.
+            # Here psycopg 3 is at the first result, psycopg 2 at the last.
             while hasattr(self._cursor, "pgresult") and self._cursor.nextset():
                 pass
             return list(self._cursor.fetchall()) if self._cursor.description else []
         except self._driver.Error as error:
-            # psycopg 2 may raise the base class for a server that is gone, before it knows its connection as closed.
+            # psycopg 2 may raise the base class for a server that is gone, before it marks its connection as closed.
             is_lost = isinstance(error, (self._driver.OperationalError, self._driver.InterfaceError))
             if is_lost or type(error) is self._driver.DatabaseError or self._db.closed:
                 raise Lost(str(error)) from error
@@ -304,11 +339,11 @@ class Postgres:
         if not calls:
             return self.run(_SINCE, (since, most))
         if not self._is_prepared:
-            # Each query goes by a key, whatever the statistics say of a table that was empty just now.
+            # Each query uses a key, whatever the statistics say of a table that was empty just now.
             self.run(f"set enable_seqscan = off; set plan_cache_mode = force_generic_plan; {_APPEND}")
             self._is_prepared = True
-        # All is sent at once, as a round trip may take longer than a flush. The server commits before it says that the last of the
-        # statements is done.
+        # All is sent at once, as a round trip may take longer than a flush. The server commits before it reports that the last
+        # statement is done.
         sql = """select pg_advisory_xact_lock(hashtext('folugben'), hashtext(?));
             execute folugben_append(?, ?, ?::bytea[], ?::bigint[], ?::integer[], ?::text[], ?::text[])"""
         return self.run(sql, (self._schema, since, most, *map(list, zip(*calls))))
@@ -327,7 +362,7 @@ class Postgres:
             raise
 
     def has_run(self) -> bool:
-        # What to_regclass tells may be kept from before a lock was waited for.
+        # The answer of to_regclass may be cached from before the wait for a lock.
         return self.run("select count(*) from pg_tables where schemaname = ? and tablename = 'run'", (self._schema,)) != [(0,)]
 
     def make(self) -> None:
@@ -350,9 +385,9 @@ class Postgres:
 
 
 def _driver() -> Any:
-    """The module by which Python connects to PostgreSQL: psycopg 3 or 2.
+    """Return the module by which Python connects to PostgreSQL: psycopg 3 or 2.
 
-    Where psycopg 3 is written in Python alone, an append takes four times the processor time of psycopg 2.
+    If psycopg 3 is written in Python alone, an append takes four times the processor time of psycopg 2.
     """
     found = []
     for name in "psycopg", "psycopg2":

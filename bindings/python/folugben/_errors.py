@@ -1,4 +1,4 @@
-"""The exceptions of calls that weren't answered, or whose move wasn't fired or pushed."""
+"""Exceptions of calls that weren't answered, or whose move wasn't fired or pushed."""
 import json
 import operator
 from collections.abc import Iterable
@@ -12,16 +12,16 @@ CODES = frozenset(Code)
 _SAID = frozenset({
     Code.NOT_JSON, Code.SHAPE, Code.CAPACITY, Code.AGENTS, Code.AHEAD, Code.OPERAND, Code.NO_FORM, Code.MANY, Code.LONG_MOVE,
 })
-# What the library says of a text, and what that is of the values which the text was made of.
+# The library's message about a text, and the message about the values from which the text was made.
 _OF_VALUES = {
     "are an array": "are a list or a tuple", "is an array of": "is a tuple or a list of", "an object is": "a dict is",
     'a list is written {"list":[..]}': 'a list is a tuple, or written {"list":[..]}',
 }
 
-# A text in UTF-8, or as Python has it.
+# A text in UTF-8, or as a Python str.
 Text: TypeAlias = bytes | bytearray | memoryview | str
 
-# What the numbers of an error mean, for the codes that have some.
+# The meaning of an error's numbers, for the codes that have numbers.
 NUMBERS: dict[int, str] = {
     Code.BUSY: "the agent had seen {} moves at the start of the call and {} at its end",
     Code.MISSING: "move {}",
@@ -30,7 +30,7 @@ NUMBERS: dict[int, str] = {
     Code.SHAPE: "line {}",
 }
 
-# A MOVE of which the instructions, or the named reads, are a part.
+# A MOVE that contains the instructions, or the declared reads.
 INSTRUCTIONS = b'{"fire":%b,"reads":[]}'
 READS = b'{"fire":[],"reads":%b}'
 
@@ -48,16 +48,16 @@ _CAUSES = {
 
 
 def error_text(code: int) -> str:
-    """What a code means, in a line."""
+    """Return the meaning of a code, in one line."""
     code = int.__index__(operator.index(code))
     return _core.told(ERROR_TEXT, code if -(2**31) <= code < 2**31 else -1)[1].decode()
 
 
 class Error(Exception):
-    """A call that wasn't answered, with its code, and its numbers where the code has some.
+    """A call that wasn't answered, with its code, and its numbers if the code has any.
 
-    Of a text that was refused `said` tells where and why, as `explain` does; of a move that was, at which location; and of
-    named reads and scans that were, which is named at a number that the agent hasn't seen.
+    `said` reports, for a refused text, where and why, as `explain` does; for a refused move, at which location; and for
+    refused declared reads and scans, which one is named at a number that the agent hasn't seen.
     """
 
     _said_alone = _SAID
@@ -77,14 +77,14 @@ class Error(Exception):
 
 
 class ConflictError(Error):
-    """Other agents were quicker: begin what was tried again, as `Agent.play` does.
+    """Other agents were faster: begin what was attempted again, as `Agent.play` does.
 
-    It is what a retry loop by hand catches. A clash of a push, or of an agent's fire, is none.
+    A retry loop written by hand catches this one. A clash of a push, or of an agent's fire, is not a `ConflictError`.
     """
 
 
 class StaleError(ConflictError):
-    """A named location was written since it was read; `at` is the least such location."""
+    """A named location was written since it was read; `at` is the smallest one."""
 
     at: tuple[Any, ...]
     cause = None
@@ -95,7 +95,7 @@ class ClashError(Error):
 
     at: tuple[Any, ...]
     cause: str
-    # What is there, where that is of another kind.
+    # The present value, if it is of another kind.
     there: str | None = None
 
     def __str__(self) -> str:
@@ -104,25 +104,34 @@ class ClashError(Error):
 
 
 class CommitClashError(ClashError, ConflictError):
-    """A commit of a step clashes, as another agent wrote there since the step began."""
+    """The commit of a step clashes: another agent wrote there since the step began."""
 
 
 class LargeError(Error):
-    """An amount or a sum of composed updates is too large, at the location `at`; or a journal has too many calls."""
+    """A number is too large.
+
+    Either an amount or a sum of composed updates is too large, at the location `at`, or a journal has too many calls.
+    """
 
     at: tuple[Any, ...] | None = None
 
 
 class FullError(Error):
-    """As many moves were fired as the capacity."""
+    """The storage is full: the number of fired moves has reached the capacity."""
 
 
 class BusyError(ConflictError):
-    """64 offers were lost; `numbers` are how many moves had been seen at the start and at the end."""
+    """64 attempts to append were lost.
+
+    `numbers` are how many moves had been seen at the start and at the end.
+    """
 
 
 class ManyError(Error):
-    """More than 256 locations are read, got, scanned by a name or named, or a composed move has more than 4,096 instructions."""
+    """More than 256 locations are read, tracked, scanned by name or named in one call.
+
+    Or a composed move has more than 4,096 instructions.
+    """
 
 
 class DeepError(Error):
@@ -130,21 +139,28 @@ class DeepError(Error):
 
 
 class MovedError(Error):
-    """The agent's own state doesn't stand at the number of the step, as it has moved on since: begin another step."""
+    """The agent has moved past the number of the step: begin another step."""
 
 
 class CommitMovedError(MovedError, ConflictError):
-    """A commit records what its step got, and its agent has gone on since the step began; nothing was done."""
+    """A commit records the tracked reads of its step, and its agent has moved on.
+
+    The agent moved on since the step began; nothing was done.
+    """
 
 
 class PastError(ConflictError):
-    """The part of the run has ended in which the step was begun, or a location was read that a fire names: begin anew."""
+    """The part of the step or of a declared read has ended: begin again.
+
+    It is the part of the run in which the step was begun, or a location was read that a fire names.
+    """
 
 
 class BrokenError(RuntimeError):
-    """A run has ended, as its part with the number `part` couldn't be written; what stands before that in its file is whole.
+    """A run has ended, as its part with the number `part` couldn't be written.
 
-    The cause is `MissingError` where an agent was abandoned that had fired, an `OSError` where a write failed.
+    What comes before that part in its file is complete. The cause is `MissingError` if an agent was abandoned that had fired,
+    and an `OSError` if a write failed.
     """
 
     def __init__(self, part: int, cause: BaseException) -> None:
@@ -157,7 +173,10 @@ class BrokenError(RuntimeError):
 
 
 class DamagedError(RuntimeError):
-    """What is stored of a run isn't what the run has written; `segment` is the number of the first segment concerned."""
+    """What is stored of a run isn't what the run has written.
+
+    `segment` is the number of the first segment concerned.
+    """
 
     def __init__(self, segment: int, said: str) -> None:
         super().__init__(segment, said)
@@ -168,11 +187,17 @@ class DamagedError(RuntimeError):
 
 
 class MismatchError(ValueError):
-    """A shared run has another opening state than it was told, or tables of another version."""
+    """A shared run has another opening state, or tables of another version.
+
+    The opening state is compared with the given one.
+    """
 
 
 class UnknownError(RuntimeError):
-    """Whether a move of a shared run was fired isn't known: the process was away while others saved several segments."""
+    """It is unknown whether a move of a shared run was fired.
+
+    The process was away while others saved several segments.
+    """
 
     def __str__(self) -> str:
         return "whether the move was fired isn't known, as this process was away while others saved several segments"
@@ -205,19 +230,19 @@ class BadJournalError(Error):
 
     @property
     def call(self) -> int | None:
-        """The number of the first call whose answer is wrong, from 0 up in its part, where the journal is illegal."""
+        """The first call with a wrong answer, from 0 in its part, if it is illegal."""
         return self.numbers[0] if self.code == Code.ILLEGAL else None
 
     @property
     def line(self) -> int | None:
-        """The number of the line that is at fault, from 1 up in its part, where it is one line's."""
+        """The faulty line, counted from 1 in its part, if the fault is in one line."""
         return self.numbers[0] if self.code in (Code.NOT_JSON, Code.SHAPE) else None
 
     def __str__(self) -> str:
         return super().__str__() if self.part is None else f"part {self.part}: {super().__str__()}"
 
 
-# The exceptions of codes that have one of their own.
+# Codes that have an exception of their own.
 KINDS: dict[int, type[Error]] = {
     Code.STALE: StaleError, Code.CLASH: ClashError, Code.FULL: FullError, Code.BUSY: BusyError, Code.MANY: ManyError,
     Code.LONG_MOVE: ManyError, Code.MISSING: MissingError, Code.LARGE: LargeError, Code.MOVED: MovedError, Code.DEEP: DeepError,
@@ -225,7 +250,10 @@ KINDS: dict[int, type[Error]] = {
 
 
 def expect(code: int, kind: type[Error] | None = None, numbers: Iterable[int] = (), said: str = "") -> None:
-    """Raises what the code says, as an exception of this kind or of its own, unless it is DONE."""
+    """Raise the error of a code, unless it is DONE.
+
+    The exception is of the given kind, or else of the kind of the code.
+    """
     if code == Code.MEMORY:
         raise MemoryError
     if code != Code.DONE:
@@ -234,7 +262,7 @@ def expect(code: int, kind: type[Error] | None = None, numbers: Iterable[int] = 
 
 
 def refusal(code: int, text: bytes, clash: type[ClashError] = ClashError) -> StaleError | ClashError | LargeError:
-    """The exception of a code whose text tells a location, and of a clash the cause."""
+    """Return the exception of a code whose text is a location, for a clash with cause."""
     ((kind, told),) = _core.owned(text).items()
     at, *cause = told if kind == "clash" else (told,)
     said = ", ".join([_core.encoded(at, "place").decode(), *cause])
@@ -249,7 +277,7 @@ def refusal(code: int, text: bytes, clash: type[ClashError] = ClashError) -> Sta
 
 
 def as_conflict(error: Error) -> Error:
-    """The error of a commit that was answered as a fire."""
+    """Return the error of a commit that was answered as a fire."""
     if type(error) is not ClashError:
         return error
     clash = CommitClashError(error.code, said=error.said)
@@ -258,7 +286,10 @@ def as_conflict(error: Error) -> Error:
 
 
 def ahead(reads: Iterable[Any], seen: int, scans: Iterable[Any] = ()) -> Error:
-    """The exception of named reads and of scans of which one has a number above that of the moves which the agent has seen."""
+    """Return the exception of declared reads and scans with a number that is too high.
+
+    One of them has a number above that of the moves that the agent has seen.
+    """
     for kind, those in ("read", reads), ("scan", scans):
         for place, (at, number) in enumerate(those, 1):
             if number > seen:
@@ -268,7 +299,7 @@ def ahead(reads: Iterable[Any], seen: int, scans: Iterable[Any] = ()) -> Error:
 
 
 def exact(text: Text, name: str) -> bytes:
-    """The bytes of a text, whatever a subclass tells of its own length and of its encoding."""
+    """Return the bytes of a text, ignoring a subclass's own length and encoding."""
     if isinstance(text, str):
         try:
             return str.encode(text)
@@ -280,7 +311,10 @@ def exact(text: Text, name: str) -> bytes:
 
 
 def explain(form: int, text: Text) -> str:
-    """Where and why a text isn't of a form, LOCATIONS, MOVE, STATE, EVENT or SCRIPT; empty for a text that is."""
+    """Return where and why a text isn't of a form; empty for a text that is.
+
+    The form is LOCATIONS, MOVE, STATE, EVENT or SCRIPT.
+    """
     form, text = int.__index__(operator.index(form)), exact(text, "a text")
     if form not in frozenset(TextForm):
         raise Error(Code.NO_FORM, said=f"a form is one of TextForm, 0 to {len(TextForm) - 1}, and not {form}")
@@ -290,7 +324,10 @@ def explain(form: int, text: Text) -> str:
 
 
 def refused_number(text: bytes) -> str:
-    """Where in a text the first number is that is none of 64 bits, as [0][2]["set"][1]; empty where there is none."""
+    """Return where a text has its first number outside 64 bits, as [0][2]["set"][1].
+
+    The result is empty if there is none.
+    """
 
     def found(value: Any, path: str) -> str:
         if isinstance(value, float) or isinstance(value, int) and not -(2**63) <= value < 2**63:
@@ -303,7 +340,7 @@ def refused_number(text: bytes) -> str:
 
 
 def is_json(text: bytes) -> bool:
-    """Whether a text is JSON, which the library doesn't read where it nests too deep."""
+    """Return whether a text is JSON; the library doesn't read it if it nests too deep."""
     try:
         json.loads(text)
     except (ValueError, RecursionError) as error:
@@ -312,7 +349,10 @@ def is_json(text: bytes) -> bool:
 
 
 def expect_read(code: int, form: int, text: bytes) -> None:
-    """Raises what the code of a call says that was passed values, as a text of this form, unless it is DONE."""
+    """Raise the error of a call that was passed values as a text of this form.
+
+    Nothing is raised for the code DONE.
+    """
     if code == Code.NOT_JSON and is_json(text):
         expect(Code.SHAPE, said="lists nest at most 8 deep")
     if code in (Code.NOT_JSON, Code.SHAPE):
@@ -326,7 +366,10 @@ def expect_read(code: int, form: int, text: bytes) -> None:
 
 
 def expect_scans(code: int, scans: Iterable[Any]) -> None:
-    """Raises what the code of a fire says of which the move is read: SHAPE where one of these is no scan."""
+    """Raise the error of a fire whose move is read.
+
+    For SHAPE, the error names the first of the scans that is none.
+    """
     if code == Code.SHAPE:
         for place, scan in enumerate(scans, 1):
             if not is_scan(scan):
@@ -335,7 +378,7 @@ def expect_scans(code: int, scans: Iterable[Any]) -> None:
 
 
 def is_scan(value: Any) -> bool:
-    """Whether the value of a text is a function's name with a number of moves."""
+    """Return whether the value of a text is a function's name with a number of moves."""
     if not isinstance(value, list) or len(value) != 2:
         return False
     name, number = value
@@ -343,6 +386,6 @@ def is_scan(value: Any) -> bool:
 
 
 def expect_part(code: int, move: bytes, part: bytes) -> None:
-    """The same of a text that is a part of a MOVE: INSTRUCTIONS or READS."""
-    # Where it isn't JSON, the byte is told, counted from its own beginning.
+    """The same for a text that is a part of a MOVE: INSTRUCTIONS or READS."""
+    # If it isn't JSON, the byte is reported, counted from its own beginning.
     expect_read(code, TextForm.MOVE, move % part if code == Code.SHAPE else part)

@@ -1,8 +1,10 @@
-"""A search for the schedule that breaks an invariant: dynamic partial-order reduction by source sets, with sleep sets.
+"""Search for a schedule that breaks an invariant.
 
-Two events of two agents depend on each other where one writes what the other reads or writes. Schedules in which dependent
-events have the same order lead to the same answers and the same states, so one of them is played. What a schedule shows in
-the order of two dependent events is tried the other way round, unless that was or will be tried elsewhere.
+The search is dynamic partial-order reduction by source sets, with sleep sets.
+
+Two events of two agents depend on each other if one writes what the other reads or writes. Schedules in which dependent
+events have the same order lead to the same answers and the same states, so only one of them is played. Where a schedule
+has two dependent events in an order, the other order is tried too, unless it was or will be tried elsewhere.
 """
 import time
 from collections.abc import Callable, Iterator, Sequence
@@ -18,7 +20,7 @@ from ._turns import EndlessError, Turns, interleave, play_all
 if TYPE_CHECKING:
     from . import Agent, Storage
 
-# After so many looks without a move an agent lets others go on.
+# After this many polls without a move an agent lets others run.
 _VAIN = 4
 
 Make: TypeAlias = "Callable[[], Storage]"
@@ -26,14 +28,19 @@ Program: TypeAlias = "Callable[[Agent], object]"
 
 
 class DiffersError(RuntimeError):
-    """The programs did something else in the same schedule, as where they draw at random, or share more than the storage."""
+    """The programs did something else in the same schedule.
+
+    For example, they draw at random, or share more than the storage.
+    """
 
 
 class Explored(NamedTuple):
-    """What a search has found: that all schedules hold (`is_exhaustive`), or the turns that break something, if not None.
+    """The result of a search.
 
-    `interleave` plays the turns again, and `journal` is what they leave; `broken` says what doesn't hold, and `error` is what
-    a program has raised.
+    Either all schedules hold (`is_exhaustive`), or the turns that break something are there, if not None.
+
+    `interleave` plays the turns again, and `journal` is the journal of that schedule; `broken` says what doesn't hold, and
+    `error` is what a program has raised.
     """
 
     schedules: int
@@ -53,17 +60,17 @@ class Explored(NamedTuple):
 
 
 class _Node(NamedTuple):
-    """A state of the search, behind some events."""
+    """A state of the search, after some events."""
 
     # Agents whose next event, which has this footprint, is tried elsewhere in each schedule in which it comes first here.
     asleep: dict[int, Footprint]
-    # Of each agent what it did here, the footprint of that, and the node behind it, in the order in which they were chosen.
+    # For each agent: what it did here, the footprint of that, and the node after it, in the order in which they were chosen.
     after: "dict[int, tuple[tuple[bytes, Footprint], Footprint, _Node]]"
-    # Which agents were chosen, or are to be.
+    # Which agents were chosen, or must be.
     chosen: set[int]
 
     def follow(self, player: Noted, footprint: Footprint) -> "_Node":
-        """Return the node behind the last event of a player."""
+        """Return the node after the last event of a player."""
         there, did = self.after.get(player.number), (player.key, player.now)
         if there is None:
             others = self.asleep | {it: own for it, (_, own, _) in self.after.items()}
@@ -75,8 +82,11 @@ class _Node(NamedTuple):
 
 
 class _Tree:
-    """What a search knows. What an event reads may depend on what it has read before, so its footprint has all that the
-    events of its agent have read which were told the same before. Where that grows, the search begins again with it."""
+    """What a search knows.
+
+    What an event reads may depend on what it has read before. So its footprint has all reads of those events of its agent
+    that had the same answers before. If that grows, the search begins again with it.
+    """
 
     def __init__(self, footprints: dict[tuple[int, bytes], Footprint]) -> None:
         self.root, self.footprints, self.has_grown = _Node({}, {}, set()), footprints, False
@@ -102,14 +112,14 @@ class _Blocked(Exception):
 
 
 class _Play:
-    """One schedule: the agents of a plan go on first, and then whoever was at work, unless it is asleep."""
+    """One schedule: a plan's agents run first, then the current one, unless asleep."""
 
     def __init__(self, make: Make, programs: Sequence[Program], tree: _Tree, plan: list[int], turns: int) -> None:
         self._plan, self._tree, self._node, self._begun, self._last = plan[::-1], tree, tree.root, 0, -1
         self.events: list[Event] = []
         # The nodes before the events, and the turns of each agent before its first event.
         self._nodes, self.begins, self._is_open = [tree.root], [0] * len(programs), False
-        # The numbers of events before which an agent is to be tried, and that agent.
+        # The numbers of events before which an agent must be tried, and that agent.
         self._reversals: list[tuple[int, int]] = []
         self._turns = Turns(len(programs), self._choose, turns)
         self.players = [Noted(self._turns, number) for number in range(len(programs))]
@@ -126,7 +136,7 @@ class _Play:
             self.journal = storage.close_journal()
 
     def _choose(self, alive: list[int]) -> int:
-        # At first each agent goes on up to its first event.
+        # At first each agent runs up to its first event.
         if self._begun < len(self.players):
             self._begun += 1
             return self._begun - 1
@@ -145,7 +155,10 @@ class _Play:
         return self._last
 
     def _usual(self, awake: list[int]) -> int:
-        """Whoever was at work; but who has only looked for a while may wait for another one, and the next one goes on then."""
+        """Return the current agent, or the next one if that has only polled for a while.
+
+        An agent that only polls may wait for another one.
+        """
         if self._last not in awake:
             return awake[0]
         is_waiting = len(self.events) >= _VAIN and all(it.agent == self._last and not it.is_move for it in self.events[-_VAIN:])
@@ -153,7 +166,7 @@ class _Play:
         return others[0] if is_waiting and others else self._last
 
     def _end_event(self) -> None:
-        """Notes the event of whoever was at work, all of which is known by now, and the races that it ends."""
+        """Record the event of the current agent, now complete, and the races that it ends."""
         if not self._is_open:
             if not self.events:
                 self.begins = [it.calls for it in self.players]
@@ -174,7 +187,10 @@ class _Play:
             self._reverse(at, now)
 
     def _reverse(self, at: int, now: int) -> None:
-        """Has an event, with what is behind it and doesn't depend on it, tried before another one, unless that is done."""
+        """Schedule an event to be tried before another one, unless that is done.
+
+        The events after it that don't depend on it are tried with it.
+        """
         window = [it for it in range(at + 1, now + 1) if it == now or not self.events[it].before >> at & 1]
         bits, firsts = sum(1 << it for it in window), dict[int, int]()
         for it in window:
@@ -186,7 +202,7 @@ class _Play:
             self._reversals.append((at, initials[0]))
 
     def plans(self) -> Iterator[tuple[int, list[int]]]:
-        """Yield what is to be tried: how many turns come before it, and the plan by which an agent goes on then."""
+        """Yield what to try: the number of turns before it, and the plan from there."""
         for at, agent in self._reversals:
             before = self.events[:at]
             yield sum(it.calls for it in before), [*(it.agent for it in before), agent]
@@ -196,24 +212,24 @@ def explore(
     make: Make, programs: Sequence[Program], invariant: Invariant | None = None, *, at_end: Invariant | None = None,
     schedules: int = 10_000, seconds: float = 60.0, turns: int = 10_000,
 ) -> Explored:
-    """Search for a schedule of the programs that breaks the invariant, the shortest first.
+    """Search for a schedule of the programs that breaks the invariant, shortest first.
 
         explored = explore(lambda: Storage(INIT, 100), [collect] * 3, lambda values: sum(values.values()) == 300)
         assert explored.is_exhaustive, explored
 
-    Each schedule plays on a new storage from `make`, and each program with the agent of its place. Of schedules that differ
-    only in the order of calls that don't depend on each other one is played. The invariant gets the values of each state, by
-    the location, as `states` yields them; `at_end` gets those of the last one. Each returns False or raises an
-    AssertionError where it doesn't hold. A program that raises is a finding too.
+    Each schedule plays on a new storage from `make`, and each program with the agent of its position. Of schedules that differ
+    only in the order of calls that don't depend on each other, only one is played. The invariant receives the values of each
+    state, by the location, as `states` yields them; `at_end` receives those of the last one. If one doesn't hold, it returns
+    False or raises an AssertionError. A program that raises is a finding too.
 
-    The programs may share nothing but the storage, and must do the same in the same schedule: a number of a move may be
-    named in a fire, and not be computed with.
+    The programs must share nothing except the storage, and must do the same in the same schedule. They may name the number of
+    a move in a fire, but must not compute with it.
 
-    The search ends at the first finding, after so many schedules or seconds, or when it has tried all.
+    The search ends at the first finding, after the given number of schedules or seconds, or when it has tried all.
 
     Raises:
-        EndlessError: a schedule hasn't ended after so many turns, as where agents wait for each other. Who looks again and again is
-            made to wait for others, but then there is no end of schedules.
+        EndlessError: a schedule hasn't ended after the given number of turns, for example because agents wait for each other.
+            An agent that polls again and again is made to wait for others, but then the number of schedules is infinite.
         DiffersError: the programs did something else in the same schedule.
     """
     end, holds, played, pushed = time.monotonic() + seconds, Holds(invariant, at_end), 0, 0
@@ -238,7 +254,10 @@ def explore(
 
 
 def _replayed(make: Make, programs: Sequence[Program], breach: Breach, play: _Play, most: int) -> tuple[list[int], bytes]:
-    """The turns of a finding, and the journal that they leave: those up to it, where all programs end behind that."""
+    """Return the turns of a finding, and the journal of that schedule.
+
+    The turns are those up to the finding, if all programs end after it.
+    """
     rest = [event for event in play.events if event not in breach.events]
     for events in breach.events, breach.events + rest:
         turns, is_ended = listed(events, play.events, play.begins), True

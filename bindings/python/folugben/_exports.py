@@ -1,4 +1,7 @@
-"""Journals in the forms of other tools: a table, the Informal Trace Format, Chrome's trace events, and the page."""
+"""Export journals to other tools: tables, ITF, Chrome trace events, and the page.
+
+ITF is the Informal Trace Format.
+"""
 import csv
 import html
 import json
@@ -14,9 +17,9 @@ from ._functions import check, trace
 from ._library import Code
 from ._texts import encoded
 
-# How many characters the states in the Informal Trace Format may have.
+# The largest number of characters of the states in the Informal Trace Format.
 ITF_LIMIT = 1 << 30
-# The page that shows a run, in a package that is installed, and what makes it in a checkout.
+# The page that shows a run, in an installed package, and what makes it in a checkout.
 PAGE = pathlib.Path(__file__).with_name("run.html")
 JOIN = pathlib.Path(__file__).parents[3] / "viewer" / "join"
 
@@ -26,16 +29,19 @@ def _text(value: Any) -> str:
 
 
 def _cell(value: Any) -> str:
-    """The value as JSON without a semicolon, at which some tables part cells; it is only in texts, where JSON can escape it."""
+    """Return the value as JSON without a semicolon, at which some tables split cells.
+
+    A semicolon occurs only in texts, where JSON can escape it.
+    """
     return _text(value).replace(";", "\\u003b")
 
 
 def write_csv(journal: bytes, out: TextIO) -> None:
     """Write a table with a row for each change of each move.
 
-    A row has the move's number, its agent, the function, its arguments, and the old and the new value as JSON. Of a set or a
-    bag that stays one, the new value is what changes, as a trace has it (`added` and `removed`, or `counts`), and the old one
-    is left out. The opening state comes first, as move 0 of no agent.
+    A row has the move's number, its agent, the function, its arguments, and the old and the new value as JSON. For a set or a
+    bag that stays one, the new value is the change, as in a trace (`added` and `removed`, or `counts`), and the old value is
+    left out. The opening state comes first, as move 0 of no agent.
     """
     lines, table = trace(journal), csv.writer(out, lineterminator="\n")
     table.writerow(["move", "agent", "function", "arguments", "old", "new"])
@@ -51,7 +57,10 @@ def write_csv(journal: bytes, out: TextIO) -> None:
 
 
 def _itf(value: Any) -> Any:
-    """The value as the Informal Trace Format has it; undef, which that hasn't, is a record without fields."""
+    """Return the value as in the Informal Trace Format.
+
+    The format has no undef, so undef is a record without fields.
+    """
     if value is None:
         return {}
     if isinstance(value, int) and not isinstance(value, bool):
@@ -67,8 +76,10 @@ def _itf(value: Any) -> Any:
 
 
 class _Held:
-    """What a location holds in the Informal Trace Format. Of a set or a bag each member is kept as a text, so that a change
-    costs what it changes."""
+    """The value of a location in the Informal Trace Format.
+
+    Each member of a set or a bag is held as a text, so that a change costs time in proportion to its size.
+    """
 
     def __init__(self, at: list[Any], value: Any) -> None:
         self._at, self._value = _text({"#tup": list(map(_itf, at[1:]))}), value
@@ -105,7 +116,10 @@ class _Held:
 
 
 def _moments(journal: bytes) -> Iterator[tuple[dict[str, Any], dict[str, dict[str, _Held]]]]:
-    """The meta data of each state, and what it holds by function and location; it is one dict, which each move changes."""
+    """Yield the metadata of each state, and its content by function and location.
+
+    The content is one dict, which each move changes.
+    """
     lines = trace(journal)
     held: dict[str, dict[str, _Held]] = {}
 
@@ -128,10 +142,11 @@ def _moments(journal: bytes) -> Iterator[tuple[dict[str, Any], dict[str, dict[st
 
 
 def write_itf(journal: bytes, out: TextIO, source: str = "", first: int = 0, last: int | None = None) -> None:
-    """Write the run in the Informal Trace Format of Apalache and Quint: a state for each move, from the first one to the last.
+    """Write the run in the Informal Trace Format of Apalache and Quint.
 
-    In a state each function is a map from the tuples of its arguments to its values. Each state is complete, as the format has
-    no other, so the output grows with the moves times the size of the state.
+    The output has one state for each move, from the first to the last. In a state each function is a map from the tuples of
+    its arguments to its values. Each state is complete, as the format requires, so the output grows with the number of moves
+    times the size of the state.
 
     Raises:
         TooLongError: the states have more than 1,073,741,824 characters.
@@ -176,8 +191,11 @@ def _slices(journal: bytes) -> Iterator[dict[str, Any]]:
 
 
 def write_perfetto(journal: bytes, out: TextIO) -> None:
-    """The run as Chrome's trace events, which Perfetto shows: an agent is a thread, a call a slice, and an arrow goes from the
-    move that made a fire stale to that fire. A call takes ten microseconds, as the journal tells no time."""
+    """Write the run as Chrome's trace events, which Perfetto shows.
+
+    An agent is a thread, and a call a slice. An arrow goes from the move that made a fire stale to that fire. A call takes ten
+    microseconds, as the journal has no times.
+    """
     out.write('{"traceEvents":[\n')
     for i, it in enumerate(_slices(journal)):
         out.write(",\n" * (i > 0) + _text(it))
@@ -185,7 +203,7 @@ def write_perfetto(journal: bytes, out: TextIO) -> None:
 
 
 def _page() -> str:
-    """The page without a run."""
+    """Return the page without a run."""
     if PAGE.is_file():
         return PAGE.read_text(encoding="utf-8")
     if not JOIN.is_file():
@@ -206,7 +224,7 @@ def write_page(journal: bytes, out: TextIO, name: str = "run") -> None:
 
 
 def judged(journal: bytes) -> tuple[bool, str]:
-    """Whether a journal is legal, and the line that tells it."""
+    """Return whether a journal is legal, and the line that reports it."""
     try:
         calls, moves = check(journal)
     except BadJournalError as bad:

@@ -1,4 +1,4 @@
-"""The folder of a run: one text file a segment, whose names hold a chain of digests."""
+"""The folder of a run: one text file per segment, named with a chain of digests."""
 import contextlib
 import errno
 import fcntl
@@ -14,7 +14,7 @@ from ._errors import DamagedError
 
 # How many bytes of a file are read at once.
 CHUNK = 1 << 20
-# What comes before the first segment's digest.
+# The chain's value before the first segment's digest.
 NO_DIGEST = "0" * 64
 _NEW, _LOCK, _SUFFIX = "new", "lock", ".journal"
 _NUMBER = "(0|[1-9][0-9]*)"
@@ -22,7 +22,10 @@ _NAME = re.compile(rf"([0-9]{{8}})-{_NUMBER}-{_NUMBER}-([0-9a-f]{{64}})\.journal
 
 
 class Segment(NamedTuple):
-    """A complete segment. `first` is the number of moves before it, `digest` that of the chain up to its end."""
+    """A complete segment.
+
+    `first` is the number of moves before it, `digest` that of the chain up to its end.
+    """
 
     number: int
     first: int
@@ -53,13 +56,13 @@ START = Segment(-1, 0, 0, 0, NO_DIGEST)
 
 
 def begun_digest(segment: Segment, previous: str, length: int) -> "hashlib._Hash":
-    """Return the digest of all that comes before the text of a segment."""
+    """Return the digest of everything before the text of a segment."""
     line = f"{previous} {segment.number} {segment.first} {segment.moves} {segment.events} {length}\n"
     return hashlib.sha256(line.encode())
 
 
 class RunFolder:
-    """A run's folder, to read: also while another process writes there."""
+    """A run's folder, for reading, also while another process writes there."""
 
     def __init__(self, path: str | os.PathLike[str]) -> None:
         self.path = pathlib.Path(os.path.realpath(path))
@@ -91,10 +94,10 @@ class RunFolder:
         return segments
 
     def text(self, segment: Segment, previous: str) -> Iterator[bytes]:
-        """Yield the text of a segment, behind the one with the previous digest.
+        """Yield the text of a segment, after the one with the previous digest.
 
         Raises:
-            DamagedError: the text isn't the one that was saved, at its end at the latest.
+            DamagedError: the text isn't the one that was saved; raised at the end of the text at the latest.
         """
         try:
             fd = os.open(segment.name, os.O_RDONLY | os.O_CLOEXEC | os.O_NOFOLLOW, dir_fd=self._fd)
@@ -110,11 +113,11 @@ class RunFolder:
             raise DamagedError(segment.number, "its text isn't the one that was saved")
 
     def rest(self, last: Segment) -> list[bytes]:
-        """Return what is behind the last segment: nothing is."""
+        """Return what is after the last segment: nothing."""
         return []
 
     def close(self) -> None:
-        """Close the folder; it may be called again."""
+        """Close the folder; closing again has no effect."""
         if self._fd >= 0:
             fd, self._fd = self._fd, -1
             os.close(fd)
@@ -127,7 +130,7 @@ class RunFolder:
 
 
 class RunWriter(RunFolder):
-    """A run's folder that this process alone writes to."""
+    """A run's folder to which only this process writes."""
 
     def __init__(self, path: pathlib.Path) -> None:
         super().__init__(path)
@@ -136,7 +139,7 @@ class RunWriter(RunFolder):
             self._lock = os.open(_LOCK, os.O_RDWR | os.O_CREAT | os.O_CLOEXEC | os.O_NOFOLLOW, 0o600, dir_fd=self._fd)
             fcntl.flock(self._lock, fcntl.LOCK_EX | fcntl.LOCK_NB)
             self._expect_there()
-            # What an earlier, killed run has renamed is flushed before it is reported.
+            # An earlier, killed run may have renamed files: its work is flushed before it is reported.
             os.fsync(self._fd)
             sync_folder(self.path.parent)
         except BaseException as error:
@@ -150,7 +153,7 @@ class RunWriter(RunFolder):
         """Create a run with an opening segment.
 
         Raises:
-            FileExistsError: the path leads to a run, or to something else than an empty folder.
+            FileExistsError: the path leads to a run, or to something other than an empty folder.
             BlockingIOError: another process creates a run there.
         """
         real = pathlib.Path(os.path.realpath(path))
@@ -168,7 +171,9 @@ class RunWriter(RunFolder):
 
     @classmethod
     def resumed(cls, path: str | os.PathLike[str]) -> tuple["RunWriter", list[Segment]]:
-        """Open an earlier run to go on with it. Return it with its segments, of which no text was read.
+        """Open an earlier run to continue it.
+
+        Return it with its segments, of which no text was read.
 
         Raises:
             FileNotFoundError: there is no run.
@@ -189,7 +194,10 @@ class RunWriter(RunFolder):
         return writer, segments
 
     def save(self, text: memoryview, moves: int, events: int) -> None:
-        """Save the next segment; it is on the disk when this returns. After an error nothing more may be saved."""
+        """Save the next segment; it is on the disk when this returns.
+
+        After an error nothing more may be saved.
+        """
         now = self.last.following(moves, events, text)
         if now.number >= 10**8:
             raise OSError(errno.EFBIG, "a run has at most 100,000,000 segments", str(self.path))
@@ -242,16 +250,16 @@ class RunWriter(RunFolder):
             raise DamagedError(number, f"{self.path}: what the run has written was removed") from error
 
     def close(self) -> None:
-        """Let another run have the folder; it may be called again."""
+        """Release the folder to other runs; releasing again has no effect."""
         if self._lock >= 0:
             lock, self._lock = self._lock, -1
-            # A child of a fork may have a copy, by which it would be locked on.
+            # A child of a fork may have a copy, which would hold the lock.
             fcntl.flock(lock, fcntl.LOCK_UN)
             os.close(lock)
         super().close()
 
     def leave(self) -> None:
-        """Close the copies that the child of a fork has; the parent's run goes on."""
+        """Close the copies in the child of a fork; the parent's run continues."""
         if self._lock >= 0:
             lock, self._lock = self._lock, -1
             os.close(lock)
@@ -271,7 +279,7 @@ def _opened(path: pathlib.Path) -> int:
 
 
 def _expect_empty(path: pathlib.Path) -> None:
-    """Expect a folder without anything but what a run leaves that was killed while it was created."""
+    """Check that a folder has nothing but the remains of a run killed during creation."""
     if not stat.S_ISDIR(os.stat(path).st_mode):
         raise FileExistsError(errno.EEXIST, "there is a file", str(path))
     names = set(os.listdir(path)) - {_NEW, _LOCK}

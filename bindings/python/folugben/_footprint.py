@@ -1,4 +1,7 @@
-"""What the calls of an agent read and write, by which a search knows which of them depend on each other."""
+"""What the calls of an agent read and write.
+
+A search derives from it which calls depend on each other.
+"""
 import hashlib
 from collections.abc import Iterable, Iterator
 from contextlib import contextmanager
@@ -8,13 +11,16 @@ from ._errors import ClashError, Error, FullError
 from ._texts import encoded
 from ._turns import WRITES, Played, Player, Turns
 
-# The calls that look at what other agents did, or write. All others stay within what their agent has looked at.
+# The calls that see what other agents did, or write. All others depend only on what their agent has seen.
 _COMMITS = frozenset({"commit", "try_commit", "fire", "try_fire"})
 _LOOKS = _COMMITS | {"step", "read", "follow", "stands", "learn"}
 
 
 class Footprint:
-    """The locations that an event reads and writes, and the functions that it scans, as texts; it may read everything."""
+    """The locations that an event reads and writes, and the functions that it scans.
+
+    All are texts. The event may also read everything.
+    """
 
     def __init__(self) -> None:
         self.reads, self.scans = set[str](), set[str]()
@@ -30,7 +36,7 @@ class Footprint:
             self.written.add(name_of(place))
 
     def meets(self, other: "Footprint") -> bool:
-        """Whether the order of the two matters: one writes what the other reads or writes."""
+        """Return whether the order matters: one writes what the other reads or writes."""
         return self._disturbs(other) or other._disturbs(self) or not self.writes.isdisjoint(other.writes)
 
     def _disturbs(self, other: "Footprint") -> bool:
@@ -49,18 +55,18 @@ class Footprint:
 
 
 def name_of(place: Any) -> str:
-    """The name of a location's function."""
+    """Return the name of a location's function."""
     name: str = place if isinstance(place, str) else getattr(place, "place", place)[0]
     return name
 
 
 def text_of(place: Any) -> str:
-    """The text of a location, prepared or not."""
+    """Return the text of a location, prepared or not."""
     return encoded(getattr(place, "place", place), "place").decode()
 
 
 def _without_number(name: str, is_step: bool, told: Any) -> Any:
-    """What a call has told, but for numbers of moves."""
+    """Return the answer of a call, except numbers of moves."""
     if name in ("read", "peek", "state") or name == "scan" and not is_step:
         return told[1]
     if name in _COMMITS:
@@ -69,15 +75,18 @@ def _without_number(name: str, is_step: bool, told: Any) -> Any:
 
 
 class Noted(Player):
-    """Takes a turn at each look and each fire only, and notes what is done from there to the next one, an event."""
+    """Takes a turn only at each poll and each fire, and records events.
+
+    An event is what is done from one such turn to the next one.
+    """
 
     def __init__(self, turns: Turns, number: int) -> None:
         super().__init__(turns, number)
-        # The event at work, of how many calls it is, and whether it has fired; before the first one it is the beginning.
+        # The current event, its number of calls, and whether it has fired; before the first one it is the beginning.
         self.now, self.calls, self.is_move = Footprint(), 1, False
-        # A digest of all that the agent was told before this event, and by now: what the program does next depends on it.
+        # A digest of all answers to the agent before this event, and of those by now: the program's next action depends on it.
         self.key = self._told = b""
-        # Whether all that was noted of an event was noted within it.
+        # Whether everything recorded for an event was recorded within it.
         self.is_exact = True
         # The step that is open, and the functions that it scanned.
         self._step: Played | None = None
@@ -91,7 +100,7 @@ class Noted(Player):
             if is_step and it is not self._step:
                 self._depend()
         else:
-            # Whether a step goes on behind another look of its agent depends on all that others do.
+            # Whether a step continues after another poll of its agent depends on everything that others do.
             is_mixed = self._step is not None and it is not self._step
             self.now.reads_all |= is_mixed
             self._turns.wait(self.number)
@@ -110,7 +119,7 @@ class Noted(Player):
 
     @contextmanager
     def _expecting(self) -> Iterator[None]:
-        """Notes what a refusal depends on."""
+        """Record what a refusal depends on."""
         try:
             yield
         except Error as error:
@@ -150,7 +159,7 @@ class Noted(Player):
         return self._fired([it[1] for it in instructions], lambda: it.own.fire(instructions, named, over))
 
     def _fired(self, places: list[Any], fire: Any) -> Any:
-        # It counts as written also where the fire is refused: an event has to do the same wherever it comes.
+        # It counts as written even if the fire is refused: an event must have the same footprint wherever it comes.
         self.now.write(places)
         number = fire()
         self.is_move = number > 0
@@ -174,7 +183,7 @@ class Noted(Player):
             self.now.scans.update(self._scanned)
         told = call(*words, **named)
         if name in ("push", "extend", *WRITES):
-            # A partial update is taken or refused by the value that it changes.
+            # A partial update is accepted or refused by the value that it changes.
             self.now.read(at for word, at, *_ in it.own.offer()["fire"] if word != "put")
         return told
 

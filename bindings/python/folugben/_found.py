@@ -1,17 +1,19 @@
-"""What a search looks for in a schedule: a state in which an invariant doesn't hold, or an error of a program."""
+"""What a search looks for in a schedule: a broken invariant, or a program's error."""
 from collections.abc import Callable, Iterator, Mapping, Sequence
 from typing import Any, NamedTuple, TypeAlias
 
 from ._footprint import Footprint
 from ._runs import by_place, states_by_text
 
-# What has to hold in a state: where it doesn't, it returns False or raises an AssertionError.
+# The condition on a state: if it doesn't hold, it returns False or raises an AssertionError.
 Invariant: TypeAlias = Callable[[Mapping[tuple[Any, ...], Any]], object]
 
 
 class Event(NamedTuple):
-    """A look or a fire of an agent, with its further calls up to the next one; the bits of `before` are the events that come
-    before it in each schedule that leads to the same answers."""
+    """A poll or a fire of an agent, with its further calls up to the next one.
+
+    The bits of `before` are the events that come before it in each schedule that leads to the same answers.
+    """
 
     agent: int
     footprint: Footprint
@@ -21,7 +23,7 @@ class Event(NamedTuple):
 
 
 class Breach(NamedTuple):
-    """What doesn't hold, behind these events."""
+    """What doesn't hold, after these events."""
 
     events: list[Event]
     broken: str
@@ -29,7 +31,7 @@ class Breach(NamedTuple):
 
 
 class Holds:
-    """What has to hold in each state, and in the last one."""
+    """The conditions on each state, and on the last one."""
 
     def __init__(self, invariant: Invariant | None, at_end: Invariant | None) -> None:
         self._invariant, self._at_end = invariant, at_end
@@ -37,7 +39,10 @@ class Holds:
         self._known: dict[str, str | None] = {}
 
     def breach(self, events: list[Event], errors: Mapping[int, BaseException], journal: bytes) -> Breach | None:
-        """What doesn't hold in a schedule, and in those in which its dependent events have the same order."""
+        """Return what doesn't hold in a schedule, or in an equivalent one.
+
+        Schedules are equivalent if their dependent events have the same order.
+        """
         for number in sorted(errors):
             return Breach(events, f"agent {number} raised {errors[number]!r}", errors[number])
         moments = [dict(values) for _, values in states_by_text(journal)]
@@ -55,7 +60,7 @@ class Holds:
         return None
 
     def is_broken(self, journal: bytes) -> bool:
-        """Whether something doesn't hold in this very schedule."""
+        """Return whether something doesn't hold in this very schedule."""
         values: dict[str, Any] = {}
         for _, values in states_by_text(journal):
             if self._invariant is not None and self._told(values) is not None:
@@ -71,7 +76,7 @@ class Holds:
 
 
 def _refused(holds: Invariant, values: dict[str, Any]) -> str | None:
-    """Why something doesn't hold, or None where it does."""
+    """Return why something doesn't hold, or None if it does."""
     try:
         told = holds(by_place(values))
     except AssertionError as error:
@@ -80,7 +85,12 @@ def _refused(holds: Invariant, values: dict[str, Any]) -> str | None:
 
 
 def _cuts(events: Sequence[Event], moves: list[int], moments: list[dict[str, Any]]) -> Iterator[tuple[list[int], dict[str, Any]]]:
-    """Yield the states between moves in all schedules in which dependent events have the same order, with the moves before."""
+    """Yield the states between moves in equivalent schedules, with the moves before.
+
+    All equivalent schedules are covered.
+
+    Schedules are equivalent if their dependent events have the same order.
+    """
     needed = [[it for it in moves if events[move].before >> it & 1] for move in moves]
     seen, layer = {frozenset[int]()}, [frozenset[int]()]
     while layer:
@@ -96,7 +106,10 @@ def _cuts(events: Sequence[Event], moves: list[int], moments: list[dict[str, Any
 
 
 def _values(events: Sequence[Event], moves: list[int], moments: list[dict[str, Any]], cut: frozenset[int]) -> dict[str, Any]:
-    """The values behind some of the moves: each location has that of the last of them which writes it."""
+    """Return the values after some of the moves.
+
+    Each location has the value of the last of them that writes it.
+    """
     values = dict(moments[0])
     for count, move in enumerate(moves, 1):
         if move in cut:
@@ -109,7 +122,7 @@ def _values(events: Sequence[Event], moves: list[int], moments: list[dict[str, A
 
 
 def _up_to(events: Sequence[Event], moves: list[int]) -> list[Event]:
-    """These moves and all events that come before them."""
+    """Return these moves and all events that come before them."""
     bits = 0
     for move in moves:
         bits |= events[move].before | 1 << move
@@ -117,7 +130,10 @@ def _up_to(events: Sequence[Event], moves: list[int]) -> list[Event]:
 
 
 def listed(some: list[Event], events: list[Event], begins: list[int]) -> list[int]:
-    """The turns, as `interleave` takes them, by which some of the events of a schedule come first."""
+    """Return the turns by which some of the events of a schedule come first.
+
+    They are in the form that `interleave` takes.
+    """
     left, due = list(begins), list(begins)
     for event in events:
         left[event.agent] += event.calls
@@ -130,7 +146,7 @@ def listed(some: list[Event], events: list[Event], begins: list[int]) -> list[in
     for agent in order:
         alive = [it for it, count in enumerate(left) if count > 0]
         turns.append(alive.index(agent))
-        # Behind the end of a list whoever was at work goes on, or else the first.
+        # After the end of a list the current agent continues, or else the first.
         if agent != (last if last in alive else alive[0]):
             forced = len(turns)
         left[agent] -= 1

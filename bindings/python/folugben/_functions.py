@@ -1,4 +1,4 @@
-"""What is told of journals and of moves, without a storage."""
+"""Functions on journals and on moves, without a storage."""
 from collections.abc import Iterable, Iterator, Sequence
 from typing import Any
 
@@ -9,12 +9,15 @@ from ._texts import Form, decoded, encoded, owned
 
 
 def version() -> int:
-    """The version of the library: a million for each major one, a thousand for each minor one."""
+    """Return the version of the library.
+
+    It is a million for each major one, a thousand for each minor one.
+    """
     return _core.version()
 
 
 def _told(call: int, journal: Text) -> tuple[bytes, int, int]:
-    """What a call on a journal told: a text, and two numbers."""
+    """Return the answer of a call on a journal: a text, and two numbers."""
     text = exact(journal, "a journal")
     code, told, number, moves = _core.told(call, 0, text)
     said = ""
@@ -25,44 +28,57 @@ def _told(call: int, journal: Text) -> tuple[bytes, int, int]:
 
 
 def check(journal: Text) -> tuple[int, int]:
-    """The numbers of calls and of moves of a journal that is legal. `BadJournalError` where it isn't, or is none."""
+    """Return the numbers of calls and of moves of a legal journal.
+
+    Raises:
+        BadJournalError: the journal isn't legal, or is none.
+    """
     return _told(CHECK, journal)[1:]
 
 
 def replay(journal: Text) -> list[Any]:
-    """The state that the moves of a journal leave, as a list of pairs."""
+    """Return the state after the moves of a journal, as a list of pairs."""
     pairs: list[Any] = owned(_told(REPLAY, journal)[0])
     return pairs
 
 
 def trace(journal: Text) -> Iterator[dict[str, Any]]:
-    """What each call of a journal did, whether it is legal or not: the objects of its trace as JSON, the header first.
+    """Return what each call of a journal did, whether it is legal or not.
 
-    An event has `right` where a storage of one thread gives another answer, and `updates` where its move was fired: the page
-    on formats has them. `BadJournalError` where it is no journal, before the first object.
+    The result is the objects of its trace as JSON, the header first. An event has `right` if a sequential storage returns
+    another answer, and `updates` if its move was fired (docs/FORMATS.md).
+
+    Raises:
+        BadJournalError: it is no journal; raised before the first object.
     """
     return map(decoded, _told(TRACE, journal)[0].split(b"\n")[:-1])
 
 
 def aggregate(state: Iterable[Form], instructions: Sequence[Form]) -> list[Any]:
-    """The updates of a move on a state: the locations that it writes with their new values, as a list of pairs, ascending.
+    """Return the updates of a move on a state: written locations and their new values.
 
-    The value None leaves a location empty. The state, a list of pairs, needs the locations of partial updates alone. `ClashError`
-    where the updates clash, with the least location that does.
+    The result is a list of pairs, ascending. The value None leaves a location empty. The state, a list of pairs, needs only the
+    locations of partial updates.
+
+    Raises:
+        ClashError: the updates clash; the error has the smallest location that does.
     """
     old, move = encoded(list(state), "state"), encoded(instructions, "instructions")
     code, told, *_ = _core.told(AGGREGATE, 0, old, move)
-    # The code is that of the state where that is at fault.
+    # The code is that of the state if the fault is there.
     if code in (Code.NOT_JSON, Code.SHAPE) and explain(TextForm.STATE, old):
         expect_read(code, TextForm.STATE, old)
     return _answered(code, told, move)
 
 
 def compose(first: Sequence[Form], second: Sequence[Form]) -> list[Any]:
-    """One move that does what the first and then the second do, wherever the first fires.
+    """Return one move that does what the first and then the second do.
 
-    `ClashError` and `LargeError` where on no state both fire: updates clash, or an amount or a sum of increments is too large.
-    `ManyError` where it would have more than 4,096 instructions.
+    It does so wherever the first fires.
+
+    Raises:
+        ClashError, LargeError: on no state do both fire: updates clash, or an amount or a sum of increments is too large.
+        ManyError: it would have more than 4,096 instructions.
     """
     one, two = encoded(first, "first"), encoded(second, "second")
     code, told, *_ = _core.told(COMPOSE, 0, one, two)
@@ -72,7 +88,7 @@ def compose(first: Sequence[Form], second: Sequence[Form]) -> list[Any]:
 
 
 def _answered(code: int, told: bytes, move: bytes) -> list[Any]:
-    """What a call on a move told, or raises what its code says."""
+    """Return the answer of a call on a move, or raise the error of its code."""
     expect(code, said="the one move would have more than 4,096 instructions") if code == Code.LONG_MOVE else None
     if code in (Code.CLASH, Code.LARGE):
         raise refusal(code, told)

@@ -1,4 +1,4 @@
-"""What guards the calls on a run."""
+"""Guards of the calls on a run."""
 import functools
 import os
 import sys
@@ -13,19 +13,22 @@ _R = TypeVar("_R")
 
 
 class NestedError(RuntimeError):
-    """A call on a run by a signal handler or a finalizer, in the midst of another one of its thread; nothing was done."""
+    """A signal handler or a finalizer called a run during another call of its thread.
+
+    Nothing was done.
+    """
 
 
 class ForkedError(RuntimeError):
-    """A call in the child of a fork on what its parent has made; nothing was done.
+    """A call in the child of a fork used an object of its parent; nothing was done.
 
-    The child has a copy of the parent's memory, so that nothing which it fires comes to the parent, and a lock that another
-    thread of the parent held is never released. Make storages in the child itself, or start it by `spawn`.
+    The child has a copy of the parent's memory. So nothing that it fires reaches the parent, and a lock that another thread of
+    the parent held is never released. Create storages in the child itself, or start it by `spawn`.
     """
 
 
 class _ForkedLock:
-    """The lock, in the child of a fork, of what the parent has made."""
+    """The lock, in the child of a fork, of the objects that the parent created."""
 
     def __enter__(self) -> NoReturn:
         raise ForkedError("this was made in the parent of this process, and a fork's child has a copy of it alone")
@@ -35,7 +38,7 @@ class _ForkedLock:
 
 
 class Locked:
-    """What has a lock of its own, by which its calls are stopped in the child of a fork."""
+    """An object with a lock, by which its calls are stopped in the child of a fork."""
 
     _lock: AbstractContextManager[Any]
 
@@ -44,7 +47,7 @@ class Locked:
         _locked.add(self)
 
     def _is_copied(self) -> None:
-        """Is called in the child."""
+        """Runs in the child."""
         self._lock = _ForkedLock()
 
 
@@ -61,7 +64,7 @@ os.register_at_fork(after_in_child=_stop_after_fork)
 
 
 def is_in_call(depth: int = 1) -> bool:
-    """Whether a thread is in a call at so many frames above this one."""
+    """Return whether a thread is in a call, this many frames above this one."""
     frame: FrameType | None = sys._getframe(depth)
     while frame is not None:
         if frame.f_code is _call_code:
@@ -71,7 +74,7 @@ def is_in_call(depth: int = 1) -> bool:
 
 
 def one_call(method: Callable[_P, _R]) -> Callable[_P, _R]:
-    """A method of a run that is one call: its thread makes no other before it ends.
+    """Make a method of a run one call: its thread makes no other before it ends.
 
     Python runs signal handlers and finalizers between any two lines of a method, which may hold a lock.
     """

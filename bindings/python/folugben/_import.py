@@ -20,7 +20,7 @@ def import_run(file: str | os.PathLike[str], folder: str | os.PathLike[str]) -> 
     """Import a run of version 0.2, which is one file, into a new folder.
 
     Return the counts of its complete parts, and how many bytes of an incomplete last part were left out. The file isn't
-    changed. The folder is there as a whole, or not at all.
+    changed. The import creates the complete folder or nothing.
 
     Raises:
         BadJournalError: a part isn't legal, or none is complete.
@@ -61,7 +61,7 @@ def _imported(source: BinaryIO, made: pathlib.Path) -> tuple[Counts, int]:
 
 
 def _parts(source: BinaryIO) -> Iterator[tuple[bytes, Counts]]:
-    """Yield each complete part with what was counted up to its end."""
+    """Yield each complete part with the counts up to its end."""
     with Auditor() as auditor:
         lines: list[bytes] = []
         parts = 0
@@ -75,14 +75,14 @@ def _parts(source: BinaryIO) -> Iterator[tuple[bytes, Counts]]:
 
 
 def _opening(text: bytes) -> bytes:
-    """The journal without a call that opens as this one does."""
+    """Return the journal without a call that opens as this one does."""
     header = decoded(text.split(b"\n", 1)[0])
     with Storage(header["init"], header["capacity"]) as storage:
         return storage.close_journal()
 
 
 def _has_header(source: BinaryIO, start: int) -> bool:
-    """Whether a line behind this place begins as the header of a part does."""
+    """Return whether a line after this place begins as the header of a part does."""
     source.seek(start)
     source.readline()
     return any(line.startswith(HEADER) for line in source)

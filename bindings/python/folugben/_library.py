@@ -22,7 +22,7 @@ class TextForm(IntEnum):
     LOCATIONS, MOVE, STATE, EVENT, SCRIPT = range(5)
 
 
-# The kinds of values: those above TEXT are told by texts of JSON. What an instruction does.
+# The kinds of values: those above TEXT are passed as texts of JSON. What an instruction does.
 UNDEF, BOOL, NUM, TEXT, LIST, SET, BAG = range(7)
 PUT, ADD, REMOVE, BAGADD, BAGREMOVE, INC = range(6)
 # The calls of `_core.told`.
@@ -30,7 +30,7 @@ CHECK, REPLAY, TRACE, AGGREGATE, COMPOSE, EXPLAIN, ERROR_TEXT = range(7)
 
 
 def expect_version() -> None:
-    """Expect the library to have the version that this package was written for."""
+    """Check that the library has the version that this package was written for."""
     if _core.version() != WRITTEN_FOR:
         raise ImportError(f"the library has version {_core.version()}, and this package was written for {WRITTEN_FOR}")
 

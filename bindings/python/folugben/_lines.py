@@ -1,4 +1,4 @@
-"""How long the lines of a run's journals may be, so that an audit reads each of them."""
+"""Limits on the lines of a run's journals, so that an audit reads each of them."""
 from typing import TYPE_CHECKING, Any
 
 from ._errors import TooLongError
@@ -8,9 +8,9 @@ from ._texts import decoded, encoded
 if TYPE_CHECKING:
     from ._core import Agent
 
-# How many bytes a line may have, its line feed apart: what an audit reads, and what is written.
+# How many bytes a line may have without its line feed: what an audit reads, and what is written.
 LINE_LIMIT = 1_073_741_824
-# What a line has at most besides its call and the location of its reply, or besides its state.
+# The most that a line has besides its call and the location of its reply, or besides its state.
 ROOM = 120
 # A call of fewer bytes is never written longer than a line may be, whatever its characters are escaped to.
 SHORT = LINE_LIMIT // 16
@@ -22,7 +22,11 @@ def too_long(what: str, length: int) -> TooLongError:
 
 
 def expect_call(call: bytes) -> None:
-    """Expect that the line of a fire is short enough, whatever its reply is; `TooLongError` otherwise."""
+    """Check that the line of a fire is short enough, whatever its reply is.
+
+    Raises:
+        TooLongError: the line may be too long.
+    """
     if 2 * len(call) + ROOM <= LINE_LIMIT:
         return
     told: dict[str, Any] = decoded(call)
@@ -33,20 +37,32 @@ def expect_call(call: bytes) -> None:
 
 
 def expect_recorded(call: bytes, agent: "Agent") -> None:
-    """Expect that the line of the read is short enough which the commit of such a call records; `TooLongError` otherwise."""
+    """Check the length of the read that the commit of such a call records.
+
+    Raises:
+        TooLongError: the line may be too long.
+    """
     length = agent._peek_length([at for at, _ in decoded(call)["reads"]]) + ROOM
     if length > LINE_LIMIT:
         raise too_long("what the step got", length)
 
 
 def expect_state(length: int) -> None:
-    """Expect that a journal may open with a state whose text is so long; `TooLongError` otherwise."""
+    """Check that a journal may open with a state whose text has this length.
+
+    Raises:
+        TooLongError: the line would be too long.
+    """
     if length + ROOM > LINE_LIMIT:
         raise too_long("the state", length + ROOM)
 
 
 def expect_lines(journal: memoryview) -> None:
-    """Expect that all lines of a journal are short enough; `TooLongError` otherwise."""
+    """Check that all lines of a journal are short enough.
+
+    Raises:
+        TooLongError: a line is too long.
+    """
     if len(journal) > LINE_LIMIT:
         longest = max(map(len, bytes(journal).split(b"\n")))
         if longest > LINE_LIMIT:

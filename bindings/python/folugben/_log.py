@@ -1,4 +1,7 @@
-"""The log of a shared run: fire calls in one order, and the segments that they have made, under the chain of digests."""
+"""The log of a shared run: ordered fire calls, and the segments made of them.
+
+The segments are under the chain of digests.
+"""
 import contextlib
 import os
 import zlib
@@ -10,11 +13,11 @@ from ._errors import DamagedError, MismatchError
 from ._folder import START, Segment, begun_digest
 
 _FORMAT = 1
-# Text is compressed in pieces of so many bytes, each by itself.
+# Text is compressed in pieces of this many bytes, each by itself.
 _PIECE = 1 << 20
 # How many calls are appended by one transaction, and read at once.
 BATCH, READ = 500, 5_000
-# The calls of how many saved segments stay in the log, for a process that is behind.
+# The calls of this many saved segments stay in the log, for a process that is behind.
 _KEPT = 2
 _TABLES = """
 create table run(one integer primary key check (one = 1), format integer not null, moves integer not null, joined bigint not null);
@@ -28,7 +31,10 @@ create table call(place bigint primary key, token {blob} not null unique, segmen
 
 
 class Call(NamedTuple):
-    """A fire call: whose it is, and in which segment its step began, by whose numbers it names what it rests on."""
+    """A fire call: its agent, and the segment in which its step began.
+
+    The numbers of that segment name what the call depends on.
+    """
 
     token: bytes
     segment: int
@@ -45,7 +51,10 @@ class Placed(NamedTuple):
 
 
 class Behind(Exception):
-    """Calls that this process hasn't applied were dropped from the log, as their segments are saved."""
+    """Calls that this process hasn't applied were dropped from the log.
+
+    Their segments are saved.
+    """
 
 
 class Log:
@@ -57,12 +66,14 @@ class Log:
 
     @classmethod
     def opened(cls, target: str | os.PathLike[str], opening: Callable[[int], bytes] | None, moves: int) -> "Log":
-        """Open a run to write, or make it where an opening is told: what returns its opening journal for so many moves.
+        """Open a run for writing, or create it if an opening is passed.
+
+        The opening is a function that returns the opening journal for a capacity in moves.
 
         Raises:
             FileNotFoundError: there is no run.
             MismatchError: the run has another opening state, or was made by another version.
-            ConnectionError, OSError, Damaged: as of `connect`.
+            ConnectionError, OSError, DamagedError: as of `connect`.
         """
         log = cls(target, connect(target, makes=opening is not None))
         try:
@@ -75,7 +86,7 @@ class Log:
 
     @classmethod
     def reading(cls, target: str | os.PathLike[str]) -> "Log":
-        """Open a run to read."""
+        """Open a run for reading."""
         log = cls(target, connect(target, writes=False))
         try:
             log._check()
@@ -119,7 +130,9 @@ class Log:
         self.database = connect(self.target)
 
     def exchange(self, calls: list[Call], applied: int) -> list[Placed]:
-        """Append calls at the next places, but those whose token is there; return those behind a place, which are durable.
+        """Append calls at the next places, except those whose token is there.
+
+        Return the calls after a place, which are durable.
 
         Raises:
             Behind: the log doesn't have the next one any more.
@@ -129,7 +142,7 @@ class Log:
         for row in self.database.append(calls, applied, READ):
             token = bytes(row[1])
             found.append(Placed(row[0], own.get(token) or Call(token, *row[2:])))
-        # Of calls that were appended twice the later place stays empty.
+        # Of a call that was appended twice the later place stays empty.
         if found and found[0].place > applied + 1:
             self._expect_not_behind(applied)
         return found
@@ -146,7 +159,9 @@ class Log:
         return int(place)
 
     def save(self, segment: Segment, text: bytes, last_place: int) -> None:
-        """Save a segment that ended at a place, unless another process has, and drop calls that nobody needs.
+        """Save a segment that ended at a place, and drop calls that nobody needs.
+
+        Nothing is saved if another process has saved the segment.
 
         Raises:
             DamagedError: another process has saved another one.
@@ -185,13 +200,20 @@ class Log:
         raise DamagedError(number, "its row is missing")
 
     def ended(self, segment: Segment | None = None) -> tuple[Segment, Segment, int]:
-        """Return a segment, the last one unless another is told, with the one before it, and the place at which it ended."""
+        """Return a segment, with the one before it, and the place at which it ended.
+
+        Without a number it is the last segment.
+        """
         which = "(select max(number) from segment)" if segment is None else str(segment.number)
         ((number, place),) = self.database.run(f"select number, last_place from segment where number = {which}")
         return self.segment(number), self.segment(number - 1) if number else START, int(place)
 
     def text(self, segment: Segment, previous: str) -> Iterator[bytes]:
-        """Yield the text of a segment; `DamagedError` where it isn't the one that was saved, at its end at the latest."""
+        """Yield the text of a segment.
+
+        Raises:
+            DamagedError: the text isn't the one that was saved; raised at its end at the latest.
+        """
         rows = self.database.run("select length from segment where number = ?", (segment.number,))
         digest, place, length = begun_digest(segment, previous, rows[0][0] if rows else 0), 0, 0
         while rows and length < rows[0][0]:
@@ -208,5 +230,5 @@ class Log:
             raise DamagedError(segment.number, "its text isn't the one that was saved")
 
     def close(self) -> None:
-        """Close the connection; it may be called again."""
+        """Close the connection; closing again has no effect."""
         self.database.close()

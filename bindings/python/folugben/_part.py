@@ -11,9 +11,9 @@ from ._turns import here
 if TYPE_CHECKING:
     from ._parts import Chain
 
-# How long a part that has ended, or is to end, waits for an agent in a step.
+# How long a part that has ended, or must end, waits for an agent in a step.
 PATIENCE = 0.1
-# After so many receipts an agent has them counted with those of all.
+# An agent adds its receipts to the common count after this many.
 _EACH = 32
 
 
@@ -24,16 +24,24 @@ class PartStep(Step):
 
     @property
     def is_taken(self) -> bool:
-        """Whether another thread has given its agent back, as its part has ended or was to end."""
+        """Whether another thread has returned its agent, at the end of its part.
+
+        The part has ended or had to end.
+        """
         return self._agent._is_taken
 
     def offer(self) -> dict[str, Any]:
-        """The same, with numbers of the run."""
+        """Return the same, with numbers of the run."""
         offer, base = super().offer(), self._agent.part.base
         return offer | {"reads": tuple((at, base + number) for at, number in offer["reads"])}
 
     def commit(self) -> int:
-        """The same as of any step; `PastError` where its part has ended, `TooLongError` where a line of the journal would be too long."""
+        """Commit as any step does.
+
+        Raises:
+            PastError: its part has ended.
+            TooLongError: a line of the journal would be too long.
+        """
         self._try()
         try:
             return super().commit()
@@ -41,7 +49,10 @@ class PartStep(Step):
             raise PastError(Code.FULL, said="the part of the run has ended, so begin another step") from None
 
     def try_commit(self) -> int:
-        """The same, but 0 where the step is to be begun again, also where its part has ended."""
+        """Commit the same way, but return 0 if the step must be begun again.
+
+        It returns 0 also if the part of the step has ended.
+        """
         try:
             self._try()
             return super().try_commit()
@@ -72,12 +83,12 @@ class PartAgent(Agent):
         self._base = part.base
 
     def begin(self) -> PartStep:
-        """Begins a step."""
+        """Begin a step."""
         self.is_by_turns = here.is_by_turns
         return PartStep(self)
 
     def tried(self, receipts: int = 1) -> None:
-        """Counts the receipts that a call leaves."""
+        """Count the receipts that a call leaves."""
         self._tries += receipts
         if self._tries >= _EACH:
             self._tries, tries = 0, self._tries
@@ -91,17 +102,17 @@ class PartAgent(Agent):
 
 
 class Part:
-    """A part: its storage, the agents that came into it, and the one behind it."""
+    """A part: its storage, the agents that came into it, and the part after it."""
 
     def __init__(self, chain: "Chain", number: int, base: int, capacity: int, storage: Storage) -> None:
         self.chain, self.number, self.base, self.capacity, self.storage = chain, number, base, capacity, storage
         self.agents: dict[int, PartAgent] = {}
-        # An agent that has seen as many moves goes on: all of the part, or 0 where that ends at rest.
+        # An agent that has seen this many moves continues in the next part: all moves of the part, or 0 if it ends at rest.
         self.most = capacity
         self.next: Part | None = None
-        # How many calls left receipts; when its first move was noticed; when agents in steps are given back.
+        # How many calls left receipts; when its first move was noticed; when agents in steps are returned.
         self.tries, self.begun, self.until = 0, 0.0, 0.0
-        # Whether a move is missing, so that no part comes behind it; whether it is on the disk; whether
+        # Whether a move is missing, so that no part comes after it; whether it is on the disk; whether
         # it ends at rest though agents are played by turns.
         self.is_last = self.is_written = self.is_forced = False
 
@@ -112,13 +123,16 @@ class Part:
         return self.is_written or self.next is not None
 
     def end_at_rest(self, is_forced: bool = False) -> None:
-        """Has it end before it is full: agents that come wait, and those in steps are given back in a while."""
+        """End the part before it is full.
+
+        Agents that come wait, and those in steps are returned after a while.
+        """
         if self.most > 0:
             self.most, self.until = 0, time.monotonic() + PATIENCE
         self.is_forced = self.is_forced or is_forced
 
     def go_on(self) -> None:
-        """Has it go on until it is full."""
+        """Continue the part until it is full."""
         self.most, self.tries, self.begun, self.is_forced = self.capacity, 0, 0.0, False
 
     def missing(self, move: int) -> MissingError:

@@ -1,29 +1,31 @@
-"""The parts of a run: storages, each of which opens with the state that the one before leaves, and the thread that saves them.
+"""The parts of a run: a chain of storages, and the thread that saves them.
 
-What always holds, whichever thread goes on when:
+Each storage opens with the state at the end of the one before it.
 
-- The newest part is the last one whose storage is open. Agents come into the newest part alone.
-- A part has ended as soon as a further one is open behind it. That is opened only where no more can be fired in the part: its
-  storage is full, or all its agents were given back. So each move of the run is in one part, and each part opens with what all
-  moves before it leave.
-- An agent is given back to its part before it comes into another one: it is never in two.
-- A step that has begun goes on in its part, with the state that it saw, until the part has ended and `PATIENCE` has passed.
-  Then its agent is given back, and the step raises `PastError`. Agents that are played by turns are waited for, until two further
-  parts have ended.
-- An agent that is between two steps may be given back by another thread. Its own thread finds the slot empty, as any call looks
-  there under the agent's lock, and comes into the newest part.
+Invariants, for every interleaving of threads:
+
+- The newest part is the last one whose storage is open. Agents enter only the newest part.
+- A part has ended as soon as a further one is open after it. The further one is opened only when no move can be fired in the
+  part any more: its storage is full, or all its agents were returned. So each move of the run is in one part, and each part
+  opens with the state after all moves before it.
+- An agent is returned to its part before it enters another one: it is never in two.
+- A step that has begun continues in its part, with the state that it saw, until the part has ended and `PATIENCE` has passed.
+  Then its agent is returned, and the step raises `PastError`. The chain waits for agents that are played by turns until two
+  further parts have ended.
+- Another thread may return an agent that is between two steps. The agent's own thread finds the slot empty, as every call
+  checks it under the agent's lock, and enters the newest part.
 - An agent waits for another thread only while that opens a part, while two ended parts wait for the writer, or while a part
   comes to rest. So there are at most three parts in memory, and by turns five.
-- Only the writer saves, the oldest part first, once that has ended and all its agents are given back. The storage is released
+- Only the writer saves, the oldest part first, once that has ended and all its agents are returned. The storage is released
   when its journal is on the disk, and then the next part is the oldest.
-- After a fault nothing more is saved: no segment is behind one that is missing.
+- After a fault nothing more is saved: no segment follows a missing one.
 
-What is the case is asked of the slots, which the library fills and empties as a whole. So a signal handler that raises between
-any two lines leaves nothing half done: the next call goes on from there. While a call is on a slot it may look empty: so an
-agent's is looked at under its lock, and that a storage was opened is kept, once it was seen.
+The slots are the only record of the state; the library fills and empties each of them atomically. So a signal handler that
+raises between any two lines leaves nothing half done: the next call continues from there. While a call is on a slot it may
+look empty: so an agent's slot is checked under its lock, and the fact that a storage was opened is stored once it was seen.
 
-Locks are taken in this order: the chain's, a storage's, an agent's. No call of an agent on its own slot takes the chain's while
-it has its own.
+Locks are acquired in this order: the chain's, a storage's, an agent's. No call of an agent on its own slot acquires the
+chain's lock while it holds the agent's own.
 """
 import atexit
 import contextlib
@@ -41,11 +43,11 @@ from ._lines import expect_lines, expect_state
 from ._part import PATIENCE, Part, PartAgent
 from ._turns import here
 
-# The chains of runs that go on, which the end of the program closes.
+# The chains of active runs, which the end of the program closes.
 _chains: "weakref.WeakSet[Chain]" = weakref.WeakSet()
 # How long an agent waits at once.
 _MOMENT = 0.002
-# How often the writer looks whether agents have come to rest in a part that has ended, and whether one has.
+# How often the writer checks whether agents have come to rest in a part that has ended, and whether a part has ended.
 _SOON, _LATER = 0.02, 1.0
 # How many ended parts may wait for the writer.
 _WAITING = 2
@@ -57,7 +59,7 @@ class Chain(Locked):
 
     def __init__(self, folder: RunWriter, storage: Storage, moves: int, tries: int, every: float | None) -> None:
         self._folder, self._moves, self._tries, self._every = folder, moves, tries, every
-        # The lock itself is taken, as a condition's own methods aren't fit for a signal handler that raises.
+        # The lock itself is acquired, as a condition's own methods aren't safe for a signal handler that raises.
         lock = threading.RLock()
         self._changed = threading.Condition(lock)
         self._locked_by(lock)
@@ -77,7 +79,7 @@ class Chain(Locked):
         _chains.discard(self)
 
     def expect_going(self) -> None:
-        """Raises where the run has ended."""
+        """Raise an error if the run has ended."""
         if self._fault is not None:
             raise BrokenError(*self._fault)
         if self.is_closing:
@@ -89,11 +91,14 @@ class Chain(Locked):
             part = part.next
         return part
 
-    # What agents do.
+    # Calls of agents.
 
     @one_call
     def come(self, own: int, before: PartAgent | None) -> PartAgent:
-        """Has an agent in the newest part; where it is there and has seen all its moves, a further one is opened."""
+        """Bring an agent into the newest part, and return it.
+
+        If it is there and has seen all its moves, a further part is opened.
+        """
         while True:
             with self._lock:
                 agent = self._come_at_once(own, before)
@@ -104,7 +109,7 @@ class Chain(Locked):
             time.sleep(_MOMENT)
 
     def _come_at_once(self, own: int, before: PartAgent | None) -> PartAgent | None:
-        """The same, or None where another thread has to go on before."""
+        """Do the same; return None if another thread must act before."""
         self.expect_going()
         newest = self.newest()
         if before is not None and before.part is newest and before._is_full:
@@ -123,7 +128,10 @@ class Chain(Locked):
         return self._into(self.newest(), own)
 
     def _take_by_turns(self) -> None:
-        """Gives back who stays in a step, by turns, of a part that too many have come behind: time has no part in it."""
+        """Return to the storage agents that stay in a step, by turns, of an old part.
+
+        Too many parts have come after an old part. Time has no influence on it.
+        """
         part, newest, ended = self._oldest, self.newest(), list[Part]()
         while part is not newest and part.next is not None:
             ended.append(part)
@@ -133,7 +141,7 @@ class Chain(Locked):
             self._is_left(part)
 
     def _is_at_end(self, agent: PartAgent) -> bool:
-        """Looks on: whether it has seen as many moves as its part has room for."""
+        """Poll the log; return whether the agent has seen its part's capacity of moves."""
         return agent.follow() == agent.part.capacity
 
     def _open_behind(self, agent: PartAgent) -> None:
@@ -145,10 +153,10 @@ class Chain(Locked):
         self._changed.notify_all()
 
     def _is_behind(self) -> bool:
-        """Whether so many ended parts wait for the writer that no further one may be opened."""
+        """Return whether too many ended parts wait for the writer to open another one."""
         part, waiting = self._oldest, 0
         while part.next is not None:
-            # By turns none comes to rest while another one waits, so nobody waits for such a part.
+            # By turns no part comes to rest while another one waits, so nobody waits for such a part.
             waiting += not here.is_by_turns or self._is_left(part)
             part = part.next
         return waiting >= _WAITING
@@ -167,14 +175,14 @@ class Chain(Locked):
 
     @one_call
     def leave(self, agent: PartAgent) -> None:
-        """Gives an agent back."""
+        """Return an agent to its storage."""
         with self._lock:
             agent.__exit__(None, None, None)
             self._changed.notify_all()
 
     @one_call
     def abandon(self, agent: PartAgent) -> None:
-        """Releases an agent, whose moves are missing."""
+        """Release an agent, whose moves are missing."""
         with self._lock:
             agent.is_abandoned = agent.is_abandoned or agent._is_full
             agent.free()
@@ -182,7 +190,7 @@ class Chain(Locked):
 
     @one_call
     def count(self, part: Part, tries: int) -> None:
-        """Counts calls that left receipts in a part, which comes to rest where they are too many."""
+        """Count calls that left receipts in a part; too many bring it to rest."""
         with self._lock:
             part.tries += tries
             if part.tries > self._tries:
@@ -190,7 +198,7 @@ class Chain(Locked):
 
     @one_call
     def state(self) -> tuple[int, bytes]:
-        """The number of moves of the run by now, and the text of the state after them."""
+        """Return the number of moves of the run by now, and the text of their state."""
         with self._lock:
             self.expect_going()
             part = self.newest()
@@ -198,7 +206,10 @@ class Chain(Locked):
             return part.base + number, text
 
     def _last_state(self, part: Part) -> tuple[int, bytes]:
-        """The number of moves of a part and the state after them, by an agent that isn't held, which stays so for its thread."""
+        """Return the number of moves of a part and the state after them.
+
+        It uses an agent that isn't held, which stays so for its thread.
+        """
         idle = (own for own, agent in part.agents.items() if not agent.is_abandoned and not agent._is_full)
         own = next(idle, None)
         if own is None:
@@ -209,19 +220,22 @@ class Chain(Locked):
     # A part that ends before it is full.
 
     def _is_rested(self, part: Part, is_flush: bool = False) -> bool:
-        """Ends a part if all its agents are between two steps. Whether that is done, or is given up."""
+        """End a part if all its agents are between two steps.
+
+        Return whether that is done, or is given up.
+        """
         if part.is_last or self._is_behind():
             return False
         if self._is_left(part):
             try:
                 self._end_at_rest(part)
             except TooLongError:
-                # It goes on until it is full.
+                # It continues until it is full.
                 part.go_on()
                 if is_flush:
                     raise
             return not part.is_last
-        # Where agents are played by turns, none comes to rest while another one waits.
+        # If agents are played by turns, none comes to rest while another one waits.
         if here.is_by_turns and not part.is_forced:
             part.go_on()
             return True
@@ -229,7 +243,7 @@ class Chain(Locked):
 
     def _end_at_rest(self, part: Part) -> None:
         expect_state(len(self._last_state(part)[1]))
-        # The writer comes to a move that is missing and tells it, once the parts before it are written.
+        # The writer finds and reports a missing move, once the parts before it are written.
         part.is_last = part.storage._close() > 0
         if not part.is_last:
             further = Part(self, part.number + 1, part.base + part.moves(), self._moves, part.storage.next(self._moves))
@@ -237,17 +251,17 @@ class Chain(Locked):
         self._changed.notify_all()
 
     def _is_left(self, part: Part) -> bool:
-        """Whether no agent is in a part, once those are given back that may be."""
+        """Return the agents that may be returned; return whether none is left in the part."""
         return all([agent._leave(self._may_take(agent)) for agent in part.agents.values()])
 
     def _may_take(self, agent: PartAgent) -> bool:
-        """Whether an agent that is in a step may be given back by another thread than its own."""
+        """Return whether another thread may return an agent that is in a step."""
         is_waited_for = agent.is_by_turns and not agent.part.is_forced
         return self.is_closing or not is_waited_for and time.monotonic() > agent.part.until
 
     @one_call
     def flush(self) -> None:
-        """Ends the newest part if it has moves, and waits until it is on the disk."""
+        """End the newest part if it has moves, and wait until it is on the disk."""
         with self._lock:
             self.expect_going()
             part = self.newest()
@@ -268,7 +282,7 @@ class Chain(Locked):
                 self._is_rested(part, is_flush=True)
             return self._is_over
 
-    # What the writer does.
+    # Calls of the writer.
 
     def _write(self) -> None:
         part: Part | None = None
@@ -277,7 +291,7 @@ class Chain(Locked):
                 journal, moves = self._journal(part)
                 events = _EVENTS.match(journal)
                 assert events is not None
-                # An empty part behind all others is none.
+                # An empty part after all others is none.
                 if part.has_ended() or int(events[1]) > 0:
                     self._folder.save(journal, moves, int(events[1]))
                     self.saved = part.number + 1, part.base + moves
@@ -290,13 +304,16 @@ class Chain(Locked):
             _chains.discard(self)
 
     def _due(self) -> Part | None:
-        """The oldest part, once it has ended and its agents are given back; none where all is written."""
+        """Return the oldest part, once it has ended and its agents are returned.
+
+        Return None if everything is written.
+        """
         later = _LATER if self._every is None else min(_LATER, max(_SOON, self._every / 10))
         with self._lock:
             while not self._is_over:
                 part = self._oldest
                 is_due = False
-                # An agent that memory was refused for is given back later.
+                # An agent that memory was refused for is returned later.
                 with contextlib.suppress(MemoryError):
                     self._end_by_time()
                     is_due = part.has_ended() or part.is_last or self.is_closing
@@ -306,7 +323,7 @@ class Chain(Locked):
         return None
 
     def _end_by_time(self) -> None:
-        """Ends the newest part if its first move was noticed long enough ago."""
+        """End the newest part if its first move was noticed long enough ago."""
         part, now = self.newest(), time.monotonic()
         if self._every is None or part.is_last or self.is_closing:
             return
@@ -317,7 +334,7 @@ class Chain(Locked):
             self._is_rested(part)
 
     def _journal(self, part: Part) -> tuple[memoryview, int]:
-        """The journal of a part, and how many moves it tells."""
+        """Return the journal of a part, and its number of moves."""
         try:
             journal = memoryview(part.storage.close_journal())
         except MissingError as missing:
@@ -332,12 +349,12 @@ class Chain(Locked):
             if part.next is None:
                 self._is_over = True
             else:
-                # Nobody who still knows the part holds all those behind it.
+                # Nobody who still has the part then keeps all those after it in memory.
                 self._oldest, part.next = part.next, None
             self._changed.notify_all()
 
     def _break(self, number: int, fault: BaseException) -> None:
-        """Ends the run: each further call on it is told the fault."""
+        """End the run: each further call on it raises the fault."""
         with self._lock:
             self._fault, self._is_over = self._fault or (number, fault), True
             part: Part | None = self._oldest
@@ -350,7 +367,7 @@ class Chain(Locked):
 
     @one_call
     def close(self) -> None:
-        """Gives all agents back, and waits until the last part is written."""
+        """Return all agents, and wait until the last part is written."""
         with self._lock:
             self.is_closing = True
             self._changed.notify_all()

@@ -8,9 +8,9 @@ from ._core import Played, Step
 from ._errors import ConflictError, PastError
 
 _R = TypeVar("_R")
-# After so many tries in vain an agent sleeps between them, for at most so many seconds.
+# After this many vain attempts an agent sleeps between them, for at most this many seconds.
 _TRIES_WITHOUT_SLEEP, _LONGEST_SLEEP = 4, 0.001
-# What functions return that are no rules.
+# Results of functions that are no rules.
 _NO_RULES = CoroutineType, GeneratorType, AsyncGeneratorType
 
 
@@ -22,13 +22,13 @@ class Player(Protocol):
 
 
 def back_off(tries: int) -> None:
-    """Lets others run after so many tries in vain."""
+    """Let others run after this many vain attempts."""
     more = tries - _TRIES_WITHOUT_SLEEP
     time.sleep(0 if more < 0 else min(_LONGEST_SLEEP, 1e-6 * 2 ** min(more, 10)))
 
 
 def no_rule(told: Any) -> None:
-    """Refuse what a function has returned that does nothing before it is awaited or iterated."""
+    """Refuse a function's result that does nothing before it is awaited or iterated."""
     if isinstance(told, _NO_RULES):
         getattr(told, "close", lambda: None)()
         raise TypeError(f"a rule is a plain function, and {told.__qualname__} is an async def or a generator: it wrote nothing")
@@ -48,7 +48,7 @@ def play(
             try:
                 told = rule(step)
             except PastError as past:
-                # Another thread has given its agent back, as the part of its run has ended.
+                # Another thread has returned its agent, as the part of its run has ended.
                 if not getattr(step, "is_taken", False):
                     raise
                 conflict = past

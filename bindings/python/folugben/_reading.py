@@ -1,4 +1,4 @@
-"""Runs that are stored, to read: audits, one part, and what they store as one file."""
+"""Read stored runs: audits, one part, and their content as one file."""
 import contextlib
 import os
 import time
@@ -12,9 +12,9 @@ from ._folder import CHUNK, START, RunFolder, Segment
 from ._log import Behind, Log
 from ._replica import rest
 
-# How the header of a part begins, which no line of an event does.
+# How the header of a part begins; no line of an event begins so.
 HEADER = b'{"agents":'
-# How often `follow` looks for a further segment.
+# How often `follow` checks for a further segment.
 _LOOK = 0.2
 
 
@@ -31,31 +31,42 @@ class Store(Protocol):
         """Return the segments that are there now."""
 
     def text(self, segment: Segment, previous: str) -> Iterator[bytes]:
-        """Yield the text of a segment; `DamagedError` where it isn't the one that was saved."""
+        """Yield the text of a segment.
+
+        Raises:
+            DamagedError: it isn't the one that was saved.
+        """
 
     def rest(self, last: Segment) -> list[bytes]:
-        """Return the journals of what is behind a segment, and isn't saved as one; `Behind` where further ones were saved."""
+        """Return the journals of what is after a segment, and isn't saved as one.
+
+        Raises:
+            Behind: further segments were saved.
+        """
 
     def close(self) -> None:
-        """Close it; it may be called again."""
+        """Close it; closing again has no effect."""
 
 
 def opened(target: str | os.PathLike[str]) -> Store:
-    """Open a stored run to read: a folder, a file of SQLite, or a schema of a PostgreSQL server."""
+    """Open a stored run for reading.
+
+    It is a folder, a SQLite file, or a schema of a PostgreSQL server.
+    """
     if is_server(target) or os.path.isfile(target):
         return LogStore(target)
     return RunFolder(target)
 
 
 def is_stored(target: object) -> bool:
-    """Whether a target is a stored run, and not one file that tells a run."""
+    """Return whether a target is a stored run, and not one file with a run."""
     if is_server(target):
         return True
     return isinstance(target, (str, os.PathLike)) and (os.path.isdir(target) or os.path.isfile(target) and is_database(target))
 
 
 class LogStore:
-    """A shared run, to read."""
+    """A shared run, for reading."""
 
     def __init__(self, target: str | os.PathLike[str]) -> None:
         self._log = Log.reading(target)
@@ -75,10 +86,10 @@ class Reading:
         self.last = START
 
     def audit(self, segments: list[Segment]) -> Counts:
-        """Audit the segments behind those that were audited.
+        """Audit the segments after those that were audited.
 
         Raises:
-            DamagedError: a text isn't the one that was saved, or tells other numbers than its segment.
+            DamagedError: a text isn't the one that was saved, or has other numbers than its segment.
             BadJournalError: a text isn't legal.
         """
         for segment in segments[self.last.number + 1 :]:
@@ -95,7 +106,7 @@ class Reading:
                 return counts
 
     def audit_last(self, segments: list[Segment]) -> Counts:
-        """Audit the last segment alone; what stands before it is taken from its chain."""
+        """Audit only the last segment; the values before it are read from its chain."""
         if len(segments) > 1:
             self.last = segments[-2]
         self._audit(segments[-1])
@@ -133,11 +144,11 @@ class Reading:
 def audit(run: str | os.PathLike[str] | Readable, progress: Callable[[int], None] | None = None) -> Counts:
     """Check a run: return the numbers of its calls, moves and parts.
 
-    The run is a folder, a file of any length with its journals one behind the other, or a path to either. With `progress`,
+    The run is a folder, a file of any length with its journals one after the other, or a path to either. With `progress`,
     that is called with the number of bytes now and then.
 
     Raises:
-        BadJournalError: it isn't legal, or isn't complete, as soon as that is read.
+        BadJournalError: it isn't legal, or isn't complete; raised as soon as that is read.
         DamagedError: a segment of a folder isn't the one that was saved.
     """
     if isinstance(run, (str, os.PathLike)):
@@ -152,7 +163,7 @@ def audit(run: str | os.PathLike[str] | Readable, progress: Callable[[int], None
 
 
 def _audited(file: Readable, progress: Callable[[int], None] | None) -> Counts:
-    # Of a pipe what is there is taken, so that a wrong answer is told when it comes.
+    # Whatever a pipe has is read at once, so that a wrong answer is reported when it arrives.
     read, fed = getattr(file, "read1", file.read), 0
     with Auditor() as auditor:
         while chunk := read(CHUNK):
@@ -164,7 +175,9 @@ def _audited(file: Readable, progress: Callable[[int], None] | None) -> Counts:
 
 
 def verify(target: str | os.PathLike[str]) -> Segment:
-    """Check the digests of all segments of a run: return the last segment, which has the digest of all.
+    """Check the digests of all segments of a run: return the last segment.
+
+    The last segment has the digest of all.
 
     Raises:
         DamagedError: a text isn't the one that was saved.
@@ -185,7 +198,10 @@ def save(target: str | os.PathLike[str], output: BinaryIO) -> None:
 
 
 def follow(target: str | os.PathLike[str]) -> Iterator[Counts]:
-    """Audit a run while it goes on: yield the counts after what is there, and after each look that found more."""
+    """Audit a run while it is written.
+
+    Yield the counts after what is there, and after each check that found more.
+    """
     with contextlib.closing(opened(target)) as store, Reading(store) as reading:
         while True:
             segments = store.segments()
@@ -195,7 +211,7 @@ def follow(target: str | os.PathLike[str]) -> Iterator[Counts]:
 
 
 def texts(target: str | os.PathLike[str]) -> Iterator[bytes]:
-    """Yield the journal of each segment of a stored run, and of what is behind the last one."""
+    """Yield the journal of each segment of a stored run, and of what comes after."""
     last = START
     with contextlib.closing(opened(target)) as store:
         while True:
@@ -208,7 +224,9 @@ def texts(target: str | os.PathLike[str]) -> Iterator[bytes]:
 
 
 def part(run: str | os.PathLike[str] | BinaryIO, number: int) -> bytes:
-    """Return the journal of one part of a run, counted from 0, of a folder, a file, or a path to either.
+    """Return the journal of one part of a run, counted from 0.
+
+    The run is a folder, a file, or a path to either.
 
     Raises:
         IndexError: there are fewer parts.

@@ -1,4 +1,7 @@
-"""What the compiled part calls where the library or it has refused something: each function raises the error."""
+"""Functions that raise the errors of the compiled part.
+
+The compiled part calls them when the library or it has refused something.
+"""
 import json
 import operator
 import pathlib
@@ -34,18 +37,18 @@ def out_of_range(what: str, value: int, least: int, most: int) -> NoReturn:
 
 
 def number_of(what: str, value: int, least: int, most: int) -> int:
-    """A whole number in a range."""
+    """Check for an integer in a range."""
     whole = int.__index__(operator.index(value))
     return whole if least <= whole <= most else out_of_range(what, whole, least, most)
 
 
 def own_number(number: int) -> int:
-    """The number of an agent."""
+    """Check for the number of an agent."""
     return number_of("agent", number, 0, 255)
 
 
 def capacity_of(capacity: int) -> int:
-    """How many moves a storage has room for."""
+    """Check for the number of moves that a storage has room for."""
     return number_of("capacity", capacity, 1, 1_048_576)
 
 
@@ -75,7 +78,7 @@ def name(it: Any) -> NoReturn:
 
 
 def gone(agent: "Agent") -> NoReturn:
-    """An agent that isn't held; one of a run may tell why."""
+    """Raise the error of an agent that isn't held; an agent of a run may know why."""
     getattr(agent, "_expect_held", lambda: None)()
     raise Error(Code.EMPTY, said="the agent was given back")
 
@@ -103,7 +106,7 @@ def not_full(seen: int) -> NoReturn:
 
 
 def leave(storage: "Storage", path: str, error: BaseException | None) -> None:
-    """Writes the journal at the end of a `with`."""
+    """Write the journal at the end of a `with`."""
     try:
         pathlib.Path(path).write_bytes(storage.close_journal())
     except MissingError as missing:
@@ -151,7 +154,10 @@ _STEP_LIMITS: dict[int, str] = {
 
 
 def over(code: int, step: "Step") -> NoReturn:
-    """A step that is over, or whose agent isn't held; one of a shared run may tell why."""
+    """Raise the error of a step that is over, or whose agent isn't held.
+
+    A step of a shared run may know why.
+    """
     if not step._is_full:
         raise OverError(code)
     getattr(step, "_expect_held", lambda: None)()

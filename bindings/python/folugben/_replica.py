@@ -1,4 +1,7 @@
-"""A replica of a shared run: a storage to which one agent fires the calls of the log, in their order."""
+"""A replica of a shared run.
+
+It is a storage to which one agent fires the calls of the log, in their order.
+"""
 import re
 from typing import NamedTuple
 
@@ -11,14 +14,14 @@ from ._lines import expect_state
 from ._log import Call, Log
 
 _OWN, _HEADER = re.compile(rb'^\{"agent":0,', re.MULTILINE), re.compile(rb'\{"agents":\d+,')
-# A segment ends after so many calls for each of its moves, as stale ones are kept too.
+# A segment ends after this many calls for each of its moves, as stale ones are retained too.
 _CALLS = 2
 # How many agents a storage makes: their numbers are below it.
 _AGENTS = 256
 
 
 class Answer(NamedTuple):
-    """The answer to a call of this process: the number of its move, or the error that it was answered with."""
+    """The answer to a call of this process: the number of its move, or its error."""
 
     fired: int
     error: Error | None
@@ -33,7 +36,10 @@ class Ended(NamedTuple):
 
 
 class Era:
-    """A storage of a replica, with its number among the segments and the number of moves before it."""
+    """A storage of a replica.
+
+    It has its number among the segments and the number of moves before it.
+    """
 
     def __init__(self, state: bytes, number: int, base: int, moves: int) -> None:
         self.number, self.base = number, base
@@ -41,11 +47,11 @@ class Era:
         self._free, self._used = list(range(_AGENTS - 1, 0, -1)), set[int]()
         self.storage = Storage._opened(state, moves)
         self.applier = self.storage.agent(0)
-        # The agents of the calls, as the log has them.
+        # The agents of the calls, as in the log.
         self.agents: list[int] = []
 
     def agent(self) -> Agent:
-        """An agent of this process, to begin steps with; it fires nothing."""
+        """Return an agent of this process for beginning steps; it fires nothing."""
         if not self._free:
             raise ManyError(Code.MANY, said=f"one process has at most {_AGENTS - 1} agents of a shared run")
         number = self._free.pop()
@@ -73,8 +79,10 @@ class Era:
 
 
 class Replica:
-    """The state of a shared run up to a place of its log. Equal calls in equal order have equal answers, so all replicas of a
-    run agree on each answer, and on where a segment ends."""
+    """The state of a shared run up to a place of its log.
+
+    Equal calls in equal order have equal answers, so all replicas of a run agree on each answer, and on where a segment ends.
+    """
 
     def __init__(self, log: Log, last: Segment | None = None) -> None:
         self._moves = log.moves
@@ -90,7 +98,7 @@ class Replica:
     def apply(self, place: int, call: Call, is_own: bool = False) -> tuple[Answer | None, Ended | None]:
         """Fire the call at the next place.
 
-        Return its answer where it is this process's own and its segment hadn't ended, and what it has ended.
+        Return its answer, if it is this process's own and its segment hadn't ended, and what it has ended.
         """
         era, answer = self.era, None
         if call.segment == era.number:
@@ -126,7 +134,7 @@ class Replica:
         return Ended(self.segment, text, place)
 
     def state_text(self) -> tuple[int, bytes]:
-        """The number of moves of the run up to its place, and the text of the state after them."""
+        """Return the number of moves of the run up to its place, and the state's text."""
         era = self.era
         era.applier.follow()
         number, text = era.applier._state_text()
@@ -134,7 +142,7 @@ class Replica:
 
 
 def rest(log: Log, last: Segment) -> list[bytes]:
-    """Return the journals of what the log has behind a saved segment.
+    """Return the journals of what the log has after a saved segment.
 
     Raises:
         Behind: further segments were saved meanwhile, and these calls dropped.

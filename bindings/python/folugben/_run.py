@@ -21,12 +21,15 @@ from ._refusals import capacity_of, own_number
 from ._run_agent import RunAgent
 from ._texts import Form, owned
 
-# The runs whose `with` goes on, which SIGTERM ends.
+# The runs whose `with` is active, which SIGTERM ends.
 _entered: list[Chain] = []
 
 
 def _end_all(number: int, frame: FrameType | None) -> NoReturn:
-    """Ends all of them as an exception would; agents on other threads find their run closed."""
+    """End all of them as an exception would.
+
+    Agents on other threads find their run closed.
+    """
     signal.signal(signal.SIGTERM, signal.SIG_IGN)
     for chain in _entered:
         chain.is_closing = True
@@ -34,15 +37,19 @@ def _end_all(number: int, frame: FrameType | None) -> NoReturn:
 
 
 class Run:
-    """A run without end, in a folder: its agents go on from part to part, and each part is saved as one text file, a segment.
+    """A run without end, in a folder.
 
-    Each part is a storage for so many moves, and opens with the state that the one before leaves. A thread closes the parts,
-    in their order, and saves each before its memory is released; at most three are in memory. A part ends earlier where its
-    agents have kept more than `receipts` receipts (twice the number of moves unless another is told), as stale fires leave some
-    too, and `every` so many seconds after its first move, if that is told; it then waits for steps for 0.1 s.
+    Its agents go on from part to part, and each part is saved as one text file, a segment.
 
-    With `record` each commit also records what its step got, as of a `Storage`: an audit then judges that too. It leaves two
-    receipts, so that `receipts` is four times the number of moves unless another is told.
+    Each part is a storage for the given number of moves, and opens with the state at the end of the part before it. A thread
+    closes the parts, in their order, and saves each before its memory is released; at most three are in memory. A part ends
+    early in two cases, and then waits for steps for 0.1 s:
+
+    - its agents have made more than `receipts` receipts (by default twice the number of moves), as stale fires leave some too;
+    - `every` seconds have passed after its first move, if `every` is given.
+
+    With `record` each commit also records the tracked reads of its step, as for a `Storage`: an audit then validates them too.
+    Such a commit leaves two receipts, so the default of `receipts` is four times the number of moves.
 
         with Run("count.run", init=[[["count"], 0]]) as run, run.agent(0) as agent:
             agent.play(lambda step: step.push([["inc", ["count"], 1]]))
@@ -51,13 +58,13 @@ class Run:
     Within its `with`, on the main thread, SIGTERM ends the run as an exception (SystemExit) would, unless the program handles
     SIGTERM itself.
 
-    Where a part can't be saved, as the disk is full or a move is missing, the run ends, and each further call on it and its
+    If a part can't be saved, because the disk is full or a move is missing, the run ends, and each further call on it and its
     agents raises `BrokenError` with the part. What was saved before is complete.
 
-    Numbers of moves are those of the run: they go on from part to part.
+    Numbers of moves are those of the run: they continue from part to part.
 
     Raises:
-        FileExistsError: there is a run already, or something else than an empty folder.
+        FileExistsError: there is a run already, or something other than an empty folder.
         BlockingIOError: another process creates a run there.
         TooLongError: the opening state is too long for a line.
     """
@@ -77,10 +84,10 @@ class Run:
         cls, path: str | os.PathLike[str], moves: int = 100_000, *, check: Literal["all", "last"] = "all",
         every: float | None = None, receipts: int | None = None, record: bool = False,
     ) -> "Run":
-        """Go on with an earlier run, from the end of its last segment, also where its process was killed.
+        """Continue an earlier run from the end of its last segment.
 
-        Before that all segments are audited, or with check="last" the last one alone. Nothing is changed or removed. Whether
-        the run recorded before has no part in whether it does now.
+        Its process may have been killed. First all segments are audited, or with check="last" only the last one. Nothing is
+        changed or removed. Whether the run recorded before has no effect on whether it does now.
 
         Raises:
             FileNotFoundError: there is no run.
@@ -108,7 +115,10 @@ class Run:
     def _prepare(
         self, path: str | os.PathLike[str], moves: int, every: float | None, receipts: int | None, record: bool
     ) -> int:
-        """What the run goes by, before anything is made; the capacity of its parts."""
+        """Check and store the parameters of the run; return the capacity of its parts.
+
+        Nothing is made before that.
+        """
         self._path, capacity = pathlib.Path(path), capacity_of(moves)
         if every is not None and not (isinstance(every, (int, float)) and every > 0):
             raise ValueError(f"every is a number of seconds above 0, and not {every!r}")
@@ -127,7 +137,10 @@ class Run:
 
     @one_call
     def agent(self, number: int) -> "RunAgent":
-        """An agent with this number, below 256. One at a time has it: another one may, once that is given back or gone."""
+        """Return an agent with this number, below 256.
+
+        At most one at a time has the number: another one may have it once that agent is returned or freed.
+        """
         own = own_number(number)
         with self._chain._lock:
             self._chain.expect_going()
@@ -140,25 +153,31 @@ class Run:
     def flush(self) -> None:
         """Save all moves up to now: they are on the disk when this returns.
 
-        It ends the part, which makes a segment, and waits for steps for 0.1 s: one that lasts longer raises `PastError`, and `play`
-        begins again.
+        It ends the part, which makes a segment, and waits for steps for 0.1 s: a longer step raises `PastError`, and `play` begins
+        again.
 
         Raises:
             BrokenError: a part couldn't be saved.
-            TooLongError: the state is too long for a line, so the part goes on until it is full.
+            TooLongError: the state is too long for a line, so the part continues until it is full.
         """
         self._chain.flush()
 
     def state(self) -> tuple[int, list[Any]]:
-        """Return the number of moves by now and the state after them: pairs of a location and its value, ascending."""
+        """Return the number of moves by now and the state after them.
+
+        The state is pairs of a location and its value, ascending.
+        """
         number, text = self._chain.state()
         return number, owned(text)
 
     def close(self) -> None:
-        """Ends the run: gives all agents back, and waits until the last part is on the disk; it may be called again.
+        """End the run: return all agents, and wait until the last part is on the disk.
 
-        It waits for no step: one that is under way fires nothing once this has returned, and its next call raises an `Error`,
-        as those of all agents do. `BrokenError` where a part couldn't be written.
+        Closing again has no effect. It waits for no step: a step that is under way fires nothing once this has returned, and its
+        next call raises an `Error`, as those of all agents do.
+
+        Raises:
+            BrokenError: a part couldn't be written.
         """
         self._chain.close()
 
@@ -186,7 +205,7 @@ class Run:
 
     def __exit__(self, kind: type[BaseException] | None, error: BaseException | None, traced: TracebackType | None) -> None:
         if is_in_call():
-            # A finalizer ends a `with` in the midst of another call: the writer ends the run.
+            # A finalizer ends a `with` during another call: the writer ends the run.
             self._chain.is_closing = True
             return
         try:

@@ -20,31 +20,33 @@ _R = TypeVar("_R")
 
 
 class RunAgent:
-    """An agent of a run, for one thread, which goes on from part to part by itself. It is given back at the end of a `with`.
+    """An agent of a run, for one thread.
 
-    It works in steps as the agent of a storage does. Where a part has ended, the next step begins in the newest part; a step
-    that was begun before goes on seeing its state, but fires no more: its `commit` raises `PastError`, which is a `ConflictError`, `try_commit`
-    answers 0, and `play` begins anew.
+    It goes on from part to part by itself. The end of a `with` returns it.
 
-    Numbers of moves are those of the run. What was read or scanned in a part that has ended can't be named in a fire: `PastError`.
+    It works in steps as the agent of a storage does. If a part has ended, the next step begins in the newest part. A step that
+    was begun before still sees its state, but fires no more: its `commit` raises `PastError`, which is a `ConflictError`,
+    `try_commit` returns 0, and `play` begins again.
+
+    Numbers of moves are those of the run. A fire that names a location or scan read in a part that has ended raises `PastError`.
     """
 
     def __init__(self, run: "Run", own: int) -> None:
-        # The run isn't closed by the collector as long as one of its agents is there.
+        # The collector doesn't close the run as long as one of its agents exists.
         self._run, self._chain, self._own = run, run._chain, own
         self._in: PartAgent | None = None
-        # How many moves it fired in the parts before, less what another agent fired before it in its own; and has seen at last.
+        # How many moves it fired in the parts before, minus those of another agent before it in its own; and how many it saw last.
         self._before, self._seen, self._is_gone = 0, 0, False
 
     def step(self) -> PartStep:
-        """Begins a step, on its own state as that is after a look."""
+        """Begin a step, on its own state after a poll."""
         while True:
             agent = self._in
             if agent is not None:
                 try:
                     step = agent.begin()
                 except Error as error:
-                    # It was given back meanwhile, as it was at rest in a part that had ended.
+                    # It was returned meanwhile, as it was at rest in a part that had ended.
                     self._expect_given(agent, error)
                 else:
                     if step._own_number < agent.part.most:
@@ -55,16 +57,18 @@ class RunAgent:
     def play(
         self, rule: Callable[[Step], _R], /, *, tries: int | None = None, timeout: float | None = None
     ) -> Played[_R]:
-        """Play a rule as the agent of a storage does, and begin again too where the part of the run has ended.
+        """Play a rule as the agent of a storage does; begin again if the part has ended.
 
-        What the rule raises ends it, and nothing is fired; but `PastError`, where the step was given back.
+        An exception of the rule ends the play, and nothing is fired; except `PastError`, if the step was returned.
         """
         return play(self, rule, tries=tries, timeout=timeout)
 
     def read(self, places: Sequence[Form]) -> tuple[int, list[Any]]:
-        """The number of moves, and the values of the locations after them; at most 256 locations, else `ManyError`.
+        """Return the number of moves, and the values of the locations after them.
 
-        `TooLongError`: the values have more than 8,388,608 bytes as text, half of what a line of the journal may have.
+        Raises:
+            ManyError: there are more than 256 locations.
+            TooLongError: the values have more than 8,388,608 bytes as text, half of what a line of the journal may have.
         """
         def look(agent: PartAgent) -> tuple[int, list[Any]]:
             agent.tried()
@@ -77,8 +81,12 @@ class RunAgent:
         return self._looked(look)
 
     def fire(self, instructions: Sequence[Form], reads: Iterable[Form] = (), scans: Iterable[Form] = ()) -> int:
-        """Fires a move that rests on these reads and scans, as the agent of a storage does. `PastError`, which is a `ConflictError`, where one
-        of them is named at a number of a part that has ended, and `TooLongError` where the line of the move would be too long."""
+        """Fire a move that depends on these reads and scans, as a storage's agent does.
+
+        Raises:
+            PastError: one of them is named at a number of a part that has ended; it is a `ConflictError`.
+            TooLongError: the line of the move would be too long.
+        """
         named, functions = list(reads), list(scans)
         if len(call := b'{"fire":%b,"reads":%b}' % (encoded(instructions, "instructions"), encoded(named, "reads"))) > SHORT:
             expect_call(call)
@@ -97,11 +105,20 @@ class RunAgent:
             self._go_on()
 
     def follow(self) -> int:
-        """Looks on until nothing more is found, and its own state follows. How many moves it has seen then."""
+        """Poll until nothing more is found, and advance its own state.
+
+        Return the number of moves that it has seen then.
+        """
         return self._looked(lambda agent: (agent.follow(), None))[0]
 
     def stands(self, reads: Iterable[Form]) -> tuple[Any, ...] | None:
-        """Looks on: the least of the named locations that was written since its number of moves, or None. `PastError` as by `fire`."""
+        """Poll; return the smallest named location written since its number, or None.
+
+        Each location is named with a number of moves.
+
+        Raises:
+            PastError: as by `fire`.
+        """
         named = list(reads)
 
         def look(agent: PartAgent) -> tuple[int, tuple[Any, ...] | None]:
@@ -121,9 +138,9 @@ class RunAgent:
     def peek(self, places: Sequence[Form]) -> tuple[int, list[Any]]: ...
 
     def peek(self, places: Location | Sequence[Form]) -> tuple[int, Any]:
-        """The number of moves at which its own state stands, and the values of the locations there.
+        """Return the version of its own state, and the values of the locations there.
 
-        Where its part ended since the last look, while it was in no step, that is the beginning of the newest part.
+        If its part ended since the last poll, while it was in no step, that is the beginning of the newest part.
         """
 
         def tell(agent: PartAgent) -> tuple[int, Any]:
@@ -132,15 +149,15 @@ class RunAgent:
         return self._told(tell)
 
     def state(self) -> tuple[int, list[Any]]:
-        """The number of moves at which its own state stands, as `peek` tells, and that state."""
+        """Return the version of its own state, as `peek` does, and that state."""
         return self._told(PartAgent.state)
 
     def scan(self, name: str) -> tuple[int, list[Any]]:
-        """The same with the locations of one function name alone."""
+        """Return the same with only the locations of one function name."""
         return self._told(lambda agent: agent.scan(name))
 
     def _looked(self, look: Callable[[PartAgent], tuple[int, _R]]) -> tuple[int, _R]:
-        """What a look tells in a part that hasn't ended."""
+        """Return the result of a poll in a part that hasn't ended."""
         while True:
             agent = self._in
             if agent is not None:
@@ -154,7 +171,7 @@ class RunAgent:
             self._go_on()
 
     def _told(self, tell: Callable[[PartAgent], tuple[int, _R]]) -> tuple[int, _R]:
-        """What is told of its own state."""
+        """Return the answer of a call on its own state."""
         while True:
             agent = self._in
             if agent is not None:
@@ -166,19 +183,25 @@ class RunAgent:
             self._go_on()
 
     def _expect_seen(self, named: list[Form], error: Error, functions: Iterable[Form] = ()) -> None:
-        """Tells the numbers of the run, where a read or a scan is named at one that is yet to come."""
+        """Report the numbers of the run, if a read or a scan is named at a future one."""
         if type(error) is Error and error.code == Code.AHEAD:
             raise ahead(named, self.seen, functions) from None
 
     @staticmethod
     def _expect_given(agent: PartAgent, error: Error) -> None:
-        """Raises an error that doesn't come of a part's end, when another thread has given the agent back."""
+        """Raise an error, except one that comes from a part's end.
+
+        Such an error occurs when another thread has returned the agent.
+        """
         if error.code != Code.EMPTY or agent._is_full:
             raise error
 
     @staticmethod
     def _of_part(named: list[Form], agent: PartAgent, kind: str = "read") -> list[Form]:
-        """The named reads or scans with the numbers that they have in the part of its agent; the library tells which is none."""
+        """Return the declared reads or scans with their numbers in the part of its agent.
+
+        The library reports an item that is none.
+        """
         own: list[Form] = []
         for place, read in enumerate(named, 1):
             number = read[1] if isinstance(read, (list, tuple)) and len(read) == 2 else None
@@ -192,7 +215,7 @@ class RunAgent:
         return own
 
     def _go_on(self) -> None:
-        """Comes into the newest part."""
+        """Enter the newest part."""
         if self._is_gone:
             raise Error(Code.EMPTY, said="the agent was given back")
         was, now = self._in, self._chain.come(self._own, self._in)
@@ -218,11 +241,14 @@ class RunAgent:
         return self._before + (agent._counts()[1] if agent is not None else 0)
 
     def give(self) -> None:
-        """Gives it back; it may be called again."""
+        """Return the agent; returning again has no effect."""
         self._end(self._chain.leave)
 
     def abandon(self) -> None:
-        """Releases it without giving it back: what it fired in its part is missing, and the run ends there."""
+        """Release it without returning it.
+
+        What it fired in its part is missing, and the run ends there.
+        """
         self._end(self._chain.abandon)
 
     def _end(self, leave: Callable[[PartAgent], None]) -> None:
@@ -239,7 +265,7 @@ class RunAgent:
 
     def __exit__(self, kind: type[BaseException] | None, error: BaseException | None, traced: TracebackType | None) -> None:
         if is_in_call():
-            # A finalizer ends the `with` in the midst of another call: the writer gives it back.
+            # A finalizer ends the `with` during another call: the writer returns the agent.
             self._is_gone, self._in = True, None
         else:
             self.give()

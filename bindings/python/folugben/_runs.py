@@ -15,7 +15,7 @@ if TYPE_CHECKING:
 
 
 def _ordered(element: Any) -> tuple[Any, ...]:
-    """What sorts elements as the storage orders them."""
+    """Return the sort key of elements in the order of the storage."""
     if isinstance(element, dict):
         return 5, len(element["list"]), [_ordered(it) for it in element["list"]]
     if isinstance(element, bool) or element is None:
@@ -24,7 +24,7 @@ def _ordered(element: Any) -> tuple[Any, ...]:
 
 
 def _changed(old: Any, change: list[Any]) -> Any:
-    """The value that a change of a trace leaves."""
+    """Return the value after a change of a trace."""
     if len(change) == 3:
         return change[2]
     told = change[1]
@@ -40,14 +40,16 @@ def _changed(old: Any, change: list[Any]) -> Any:
 
 
 def states(run: "Text | os.PathLike[str] | Run | SharedRun") -> Iterator[tuple[int, dict[tuple[Any, ...], Any]]]:
-    """Yield the number and the values of each state of a run, the opening state first, as number 0.
+    """Yield the number and the values of each state of a run.
 
-    The run is a journal, a stored run by a path that is no str, or a `Run` or a `SharedRun`, of which it is what is saved. The values are those
-    of the locations that have one, by the location, such as ("count",), in a dict of their own for each state.
+    The opening state comes first, as number 0.
+
+    The run is a journal, a stored run by a path that is no str, or a `Run` or a `SharedRun`, of which the saved part is read.
+    The values are those of the locations that have one, by the location, such as ("count",), in a separate dict for each state.
 
     Raises:
         BadJournalError: it is no journal.
-        ValueError: Python takes two of the locations for one, as ("f", True) and ("f", 1).
+        ValueError: two of the locations are one key in Python, such as ("f", True) and ("f", 1).
     """
     if isinstance(run, (bytes, bytearray, memoryview, str)):
         journals: Iterator[Text] = iter([run])
@@ -63,7 +65,7 @@ def states(run: "Text | os.PathLike[str] | Run | SharedRun") -> Iterator[tuple[i
 
 
 def by_place(values: dict[str, Any]) -> dict[tuple[Any, ...], Any]:
-    """The same values by the locations, of whose texts they are."""
+    """Return the same values by location instead of by the location's text."""
     told = {_place(at): value for at, value in values.items()}
     if len(told) < len(values):
         seen = dict[tuple[Any, ...], str]()
@@ -79,7 +81,10 @@ def _place(text: str) -> tuple[Any, ...]:
 
 
 def states_by_text(journal: Text) -> Iterator[tuple[int, dict[str, Any]]]:
-    """Yield the states of a journal by the locations' texts, in one dict, which each further move changes."""
+    """Yield the states of a journal by the locations' texts.
+
+    They are one dict, which each further move changes.
+    """
     lines = trace(journal)
     told = {encoded(at, "at").decode(): value for at, value in next(lines)["init"] if value is not None}
     values = {at: _own(value) for at, value in told.items()}

@@ -1,4 +1,4 @@
-"""Shared runs: agents of one run in many processes, on many machines, over a database."""
+"""Shared runs: agents of one run in many processes and machines, over a database."""
 import os
 import weakref
 from collections.abc import Callable, Iterable, Sequence
@@ -32,30 +32,35 @@ class SharedStep(Step):
         self._scans: dict[str, None] = {}
 
     def scan(self, name: str) -> list[tuple[tuple[Any, ...], Any]]:
-        """The same as of any step."""
+        """Do the same as any step."""
         found = super().scan(name)
         self._scans[name] = None
         return found
 
     def offer(self) -> dict[str, Any]:
-        """The same, with numbers of the run."""
+        """Return the same, with numbers of the run."""
         offer, base = super().offer(), self._era.base
         return offer | {"reads": tuple((at, base + number) for at, number in offer["reads"])}
 
     def commit(self) -> int:
-        """Fire one move that does what the pushed moves do in turn. Return its number, once the move is durable.
+        """Fire one move that does what the pushed moves do in turn.
+
+        Return its number, once the move is durable.
 
         Raises:
             StaleError, ClashError, ManyError: as of any step.
             PastError: its segment had ended when the call came into the log.
             TooLongError: the move's line would be longer than an audit reads.
-            BrokenError: the run has ended; whether the move was fired may not be known.
-            UnknownError: whether the move was fired isn't known.
+            BrokenError: the run has ended; it may be unknown whether the move was fired.
+            UnknownError: it is unknown whether the move was fired.
         """
         return self._era.base + self._fire(())
 
     def try_commit(self) -> int:
-        """The same, but 0 where the step is to be begun again, for `StaleError`, `ClashError` or `PastError`."""
+        """Commit the same way, but return 0 if the step must be begun again.
+
+        It returns 0 in place of `StaleError`, `ClashError` and `PastError`.
+        """
         try:
             fired = self._fire((Code.STALE, Code.CLASH))
         except PastError:
@@ -85,21 +90,21 @@ class SharedStep(Step):
             raise PastError(Code.EMPTY, said="the agent has gone on to another segment, so begin another step")
 
     def _call(self) -> tuple[bytes, bytes]:
-        """What the fire offers, and the scans that it rests on."""
+        """Return what the fire attempts to append, and the scans that it depends on."""
         call = self._offer_text()
         expect_call(call)
         return call, encoded([[name, self._own_number] for name in self._scans], "scans") if self._scans else b"[]"
 
 
 class SharedRun:
-    """A run whose moves are kept in a database, and whose agents may be in many processes, on many machines.
+    """A run in a database, whose agents may be in many processes, on many machines.
 
         with SharedRun("bank.db", init=[[["balance"], 0]]) as run, run.agent(0) as anna:
             anna.play(deposit)
 
-    The target is a file of SQLite, for the processes of one machine, or postgresql://host/base, for those of many; a name behind
+    The target is a SQLite file, for the processes of one machine, or postgresql://host/base, for those of many. A name after
     a # is the schema, one for each run. The first process opens the run, with its opening state and the number of moves of a
-    segment; others join it. Without `init` a run has to be there.
+    segment; others join it. Without `init` the run must exist.
 
     An answer is returned when its move is durable in the database. No answered move is lost or done twice, whichever process,
     connection or server dies. All processes have the same states in the same order.
@@ -108,8 +113,8 @@ class SharedRun:
         FileNotFoundError: there is no run, and no `init`.
         MismatchError: the run has another opening state, or tables of another version.
         ConnectionError: the server doesn't answer.
-        OSError: the file can't be opened, or not be written.
-        DamagedError: there is something else than a run.
+        OSError: the file can't be opened or written.
+        DamagedError: there is something other than a run.
     """
 
     def __init__(self, target: str | os.PathLike[str], init: Iterable[Form] | None = None, moves: int = 10_000) -> None:
@@ -123,20 +128,20 @@ class SharedRun:
             return journal
 
         if state is not None:
-            opening(capacity)  # what is refused makes no file
+            opening(capacity)  # a refused argument creates no file
         self._worker = Worker(Log.opened(self._target, None if state is None else opening, capacity))
         self._agents: weakref.WeakValueDictionary[int, SharedAgent] = weakref.WeakValueDictionary()
 
     @property
     def target(self) -> str:
-        """Where it is kept."""
+        """The file or the database of the run."""
         return self._target
 
     def agent(self, number: int) -> "SharedAgent":
         """Return an agent with this number, below 256, that no other process has.
 
         Raises:
-            Error: the number is in use, here or in another process that lives, with the code NUMBER.
+            Error: the number is in use, here or in another process that lives; the code is NUMBER.
         """
         own = own_number(number)
         self._worker.expect_going()
@@ -149,15 +154,19 @@ class SharedRun:
         return agent
 
     def state(self) -> tuple[int, list[Any]]:
-        """Return the number of moves by now, of all processes, and the state after them: pairs of a location and its value."""
+        """Return the number of moves by now, of all processes, and the state after them.
+
+        The state is pairs of a location and its value.
+        """
         self._worker.follow()
         number, text = self._worker.state_text()
         return number, owned(text)
 
     def close(self) -> None:
-        """Leave the run, which goes on in other processes; it may be called again.
+        """Leave the run, which continues in other processes; closing again has no effect.
 
-        `BrokenError` where the run has ended for this process by a fault.
+        Raises:
+            BrokenError: the run has ended for this process by a fault.
         """
         self._worker.close()
 
@@ -179,9 +188,9 @@ class SharedRun:
 
 
 class SharedAgent:
-    """An agent of a shared run, for one thread. It is given back at the end of a `with`.
+    """An agent of a shared run, for one thread. The end of a `with` returns it.
 
-    It begins its steps on a replica in its own process, so that to get and to push takes no round trip. A fire waits for the
+    It begins its steps on a replica in its own process, so that reads and pushes take no round trip. A fire waits for the
     database. Numbers of moves are those of the run.
     """
 
@@ -202,7 +211,10 @@ class SharedAgent:
         return play(self, rule, tries=tries, timeout=timeout)
 
     def follow(self) -> int:
-        """Wait until the replica has all that is in the log now, and follow it. Return the number of moves seen."""
+        """Wait until the replica has all that is in the log now, and follow it.
+
+        Return the number of moves seen.
+        """
         self._worker.follow()
         era, agent = self._now()
         return era.base + agent.follow()
@@ -214,19 +226,19 @@ class SharedAgent:
     def peek(self, places: Sequence[Form]) -> tuple[int, list[Any]]: ...
 
     def peek(self, places: Location | Sequence[Form]) -> tuple[int, Any]:
-        """Return the number of moves at which its own state stands, and the values of the locations there."""
+        """Return the version of its own state, and the values of the locations there."""
         era, agent = self._now()
         number, values = agent.peek(places)
         return era.base + number, values
 
     def state(self) -> tuple[int, list[Any]]:
-        """Return the number of moves at which its own state stands, and that state."""
+        """Return the version of its own state, and that state."""
         era, agent = self._now()
         number, state = agent.state()
         return era.base + number, state
 
     def scan(self, name: str) -> tuple[int, list[Any]]:
-        """The same with the locations of one function name alone."""
+        """Return the same with only the locations of one function name."""
         era, agent = self._now()
         number, pairs = agent.scan(name)
         return era.base + number, pairs
@@ -248,14 +260,14 @@ class SharedAgent:
         return max(self._fired, era.base + agent.seen)
 
     def give(self) -> None:
-        """Give it back; it may be called again."""
+        """Return the agent; returning again has no effect."""
         if not self._is_gone:
             self._is_gone = True
             self._leave()
             self._worker.let(self._own)
 
     def _now(self) -> tuple[Era, Agent]:
-        """The newest segment, and its agent there."""
+        """Return the newest segment, and its agent there."""
         if self._is_gone:
             raise Error(Code.EMPTY, said="the agent was given back")
         self._worker.expect_going()

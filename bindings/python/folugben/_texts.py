@@ -1,4 +1,4 @@
-"""The texts that calls take and write, as JSON."""
+"""The texts that calls read and write, as JSON."""
 import numbers
 from collections.abc import Sequence
 from enum import Enum
@@ -8,25 +8,25 @@ from ._core import decoded, encoded, owned
 from ._errors import Error, exact
 from ._library import Code
 
-# A location, an instruction, or a pair, of a location and its value or number, or of a name and a number.
+# A location, an instruction, or a pair: of a location and its value or number, or of a name and a number.
 Form: TypeAlias = Sequence[Any]
 
 __all__ = ["Form", "decoded", "encoded", "not_a_value", "owned", "utf_8"]
 
 
 def utf_8(text: str) -> bytes:
-    """The text in UTF-8, which has no half of a pair of surrogates."""
+    """Return the text in UTF-8; it must not contain half of a surrogate pair."""
     return exact(text, "a text")
 
 
 def expect_name(text: str, path: str) -> NoReturn:
-    """Raises why a text is no value, or no name where one is wanted."""
+    """Raise why a text is no value, or no name if a name is expected."""
     exact(text, path)
     raise Error(Code.SHAPE, said=f"{path} is {text!r:.60}: a name has 1 to 64 letters, digits and _, and begins with no digit")
 
 
 def not_a_value(value: object, path: str) -> NoReturn:
-    """Raises why something at a path is no value."""
+    """Raise why something at a path is no value."""
     if isinstance(value, str):
         expect_name(value, path)
     whole = "is no whole number" if isinstance(value, numbers.Number) and not hasattr(value, "__index__") else ""

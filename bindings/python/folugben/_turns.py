@@ -1,4 +1,4 @@
-"""Agents that are played by turns: one at a time goes on, up to its next call."""
+"""Agents that are played by turns: one at a time runs, up to its next call."""
 import random
 import threading
 from collections.abc import Callable, Sequence
@@ -17,12 +17,15 @@ CALLS = WRITES | {
     "step", "read", "fire", "try_fire", "commit", "try_commit", "follow", "stands", "peek", "state", "scan", "learn", "answer", "give", "get", "see",
     "push", "extend", "pop", "pop_move", "offer",
 }
-# How long those that play are waited for after Ctrl-C.
+# How long to wait after Ctrl-C for those that play.
 _GRACE = 5.0
 
 
 class EndlessError(RuntimeError):
-    """A schedule has not ended after as many turns as it may take, as where an agent waits for another one for ever."""
+    """A schedule has not ended after the allowed number of turns.
+
+    For example, an agent waits for another one forever.
+    """
 
 
 class _Here(threading.local):
@@ -39,7 +42,10 @@ class _Stopped(BaseException):
 
 
 class Turns:
-    """Threads of which one at a time goes on, until its next turn; `choose` says which, of those that have not ended."""
+    """Threads of which one at a time runs, until its next turn.
+
+    `choose` names the thread that runs next, of those that have not ended.
+    """
 
     def __init__(self, count: int, choose: Callable[[list[int]], int], most: int) -> None:
         self._choice, self._most, self._lock = choose, most, threading.Lock()
@@ -63,7 +69,7 @@ class Turns:
             raise _Stopped
 
     def count(self) -> None:
-        """Count a turn that whoever is at work takes without waiting."""
+        """Count a turn that the current work takes without waiting."""
         with self._lock:
             self._taken += 1
             if self._taken > self._most:
@@ -78,7 +84,7 @@ class Turns:
             self._choose()
 
     def stop(self, fault: BaseException | None = None) -> None:
-        """Ends each work at its next turn."""
+        """End each work at its next turn."""
         with self._lock:
             self._stop(fault)
 
@@ -93,7 +99,7 @@ class Turns:
             self._now = None
 
     def _choose(self) -> None:
-        # Whoever is at work comes to wait or ends before the next is chosen, so the order depends on the choice alone.
+        # The current work waits or ends before the next is chosen, so the order depends only on the choice.
         if self._is_stopped:
             self._stop(None)
         elif self._now is None and self._waiting == self._alive:
@@ -120,7 +126,7 @@ class Turns:
 
 
 class Player:
-    """Who plays a work: each call waits for its turn."""
+    """The player of a work: each call waits for its turn."""
 
     def __init__(self, turns: Turns, number: int) -> None:
         self._turns, self.number = turns, number
@@ -136,11 +142,11 @@ class Player:
         return Played(told, self) if name == "step" else told
 
     def look(self, it: "Played", name: str) -> None:
-        """What is no call is looked at."""
+        """Do nothing: an attribute that is no call takes no turn."""
 
 
 class Played:
-    """A step, or an agent, whose calls take turns; it is otherwise what it stands for."""
+    """A step or an agent whose calls take turns; otherwise the same as the original."""
 
     def __init__(self, own: Any, player: Player) -> None:
         self.own, self.player = own, player
@@ -193,7 +199,7 @@ def _bare(word: Any) -> Any:
 def play_all(
     turns: Turns, agents: Sequence[_A], works: Sequence[Callable[[_A], _R]], players: Sequence[Player]
 ) -> tuple[list[Any], dict[int, BaseException]]:
-    """Play each work on a thread of its own. Return what the works returned, and their errors."""
+    """Play each work on its own thread; return the results of the works and the errors."""
     told: list[Any] = [None] * len(works)
     errors = dict[int, BaseException]()
 
@@ -217,7 +223,7 @@ def play_all(
         for thread in threads:
             thread.join()
     except BaseException:
-        # Ctrl-C comes here. A work that waits for something else than its turn can't be ended.
+        # Ctrl-C arrives here. A work that waits for something other than its turn can't be ended.
         turns.stop()
         for thread in threads:
             if thread.ident is not None:
@@ -227,12 +233,15 @@ def play_all(
 
 
 def _drawn(seed: int) -> Callable[[list[int]], int]:
-    """Who goes on, drawn by a seed."""
+    """Draw the next thread by a seed."""
     return random.Random(seed).choice
 
 
 def _listed(turns: Sequence[int]) -> Callable[[list[int]], int]:
-    """Who goes on, by a list: each number counts round those that haven't ended. Behind its end whoever was at work goes on."""
+    """Choose the next thread by a list.
+
+    Each number counts round those that haven't ended. After the end of the list the current work continues.
+    """
     rest, last = list(turns)[::-1], -1
 
     def choose(alive: list[int]) -> int:
@@ -249,20 +258,22 @@ def _listed(turns: Sequence[int]) -> Callable[[list[int]], int]:
 def interleave(
     agents: Sequence[_A], works: Sequence[Callable[[_A], _R]], seed: int | Sequence[int], *, most: int = 1_000_000
 ) -> list[_R]:
-    """Play each work with its agent, one at a time up to its next call; the seed draws who goes on. Return what the works returned.
+    """Play each work with its agent, one at a time up to its next call.
 
-    Each call of the agent that the work is passed, and of its steps, takes a turn; what only tells a number, as `won`, takes none.
-    The same seed gives the same journal, byte for byte, where the works themselves draw nothing else.
+    Return what the works returned. The seed draws the work that runs next.
 
-    A list of numbers in the place of the seed tells who goes on at each turn, counted round those that haven't ended. Behind
-    its end whoever is at work goes on until it ends, and then the first of the others. So an empty list plays one after the
-    other. `explore` finds the list that breaks an invariant.
+    Each call of the agent that the work is passed, and of its steps, takes a turn; what only reads a number, such as `won`,
+    takes none. The same seed produces the same journal, byte for byte, if the works themselves draw nothing else.
+
+    A list of numbers in place of the seed names the work that runs at each turn, counted round those that haven't ended. After
+    the end of the list the current work runs until it ends, and then the first of the others. So an empty list plays one after
+    the other. `explore` finds the list that breaks an invariant.
 
     Ctrl-C ends each work at its next call.
 
     Raises:
-        EndlessError: the works haven't ended after so many turns (`most`).
-        the first error of a work, by the number of its place, once all have ended.
+        EndlessError: the works haven't ended after `most` turns.
+        the first error of a work, by the number of its position, once all have ended.
     """
     if len(agents) != len(works):
         raise ValueError(f"{len(agents)} agents for {len(works)} works")

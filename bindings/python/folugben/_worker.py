@@ -1,9 +1,12 @@
-"""How a process works on a shared run: it appends the calls of its agents to the log, and applies the log to its replica.
+"""The part of a process in a shared run: it appends its agents' calls to the log.
 
-One thread leads at a time, for one turn: it appends all calls that wait, in one transaction, and applies what the log has then.
-An agent that finds no leader leads its own turn, and so hands nothing to another thread. What comes meanwhile waits; at the end of
-a turn one of those that wait leads the next one. The worker, a thread of its own, leads where nobody else does: to look for calls
-of other processes, and for agents on the main thread, on which a signal handler may raise in the midst of a turn.
+It also applies the log to its replica.
+
+One thread leads at a time, for one turn: it appends all waiting calls, in one transaction, and then applies the content of
+the log. An agent that finds no leader leads its own turn, and so passes nothing to another thread. Calls that come meanwhile
+wait; at the end of a turn one of the waiting threads leads the next one. The worker, a thread of its own, leads if nobody
+else does. It polls for calls of other processes, and leads for agents on the main thread, on which a signal handler may
+raise during a turn.
 """
 import atexit
 import itertools
@@ -24,9 +27,9 @@ from ._replica import Answer, Ended, Era, Replica
 
 _R = TypeVar("_R")
 
-# How often it looks for calls of other processes.
+# How often it polls for calls of other processes.
 _PAUSE = 0.01
-# How long a leader waits for a further call: a quarter of what a transaction takes, but so long at least and at most.
+# How long a leader waits for a further call: a quarter of a transaction's time, within this minimum and maximum.
 _LEAST_MOMENT, _MOMENT = 0.0001, 0.002
 # How long it tries to reach a server again.
 _PATIENCE = 60.0
@@ -51,7 +54,7 @@ class Waiter:
         self.wake()
 
     def wake(self) -> None:
-        """Has it look whether all is known, or whether it leads."""
+        """Wake it to check whether all is known, or whether it leads."""
         if self._woken.locked():
             self._woken.release()
 
@@ -59,14 +62,17 @@ class Waiter:
         self._woken.acquire(timeout=seconds)
 
     def told(self) -> Answer | None:
-        """Return the answer, None where its segment had ended before its place."""
+        """Return the answer; None if its segment had ended before its place."""
         if self.fault is not None:
             raise self.fault
         return self.answer
 
 
 class Worker(Locked):
-    """Appends and applies. An answer is returned once its call is durable in the log, and applied."""
+    """Appends and applies.
+
+    An answer is returned once its call is durable in the log, and applied.
+    """
 
     def __init__(self, log: Log) -> None:
         self._log = log
@@ -79,19 +85,19 @@ class Worker(Locked):
         lock = threading.RLock()
         self._changed = threading.Condition(lock)
         self._locked_by(lock)
-        # Who leads: a waiter, or the worker; whether that waits for further calls; and the thread that is in a turn.
+        # Who leads: a waiter, or the worker; whether the leader waits for further calls; and the thread that is in a turn.
         self._leader: Waiter | Worker | None = None
         self._is_gathering, self._leading = False, 0
-        # Who has one thread use the connection at a time.
+        # The lock under which one thread at a time uses the connection.
         self._using = threading.RLock()
         # Tokens that rise by one make the database write fewer pages than random ones.
         self._prefix, self._count = secrets.token_bytes(10), itertools.count()
-        # Calls that are to be appended; those that may be in the log, by their tokens.
+        # Calls to append; those that may be in the log, by their tokens.
         self._waiting: list[Waiter] = []
         self._sent: dict[bytes, Waiter] = {}
         # How many calls are expected to come at once, and how long it waits for them.
         self._expected, self._moment = 1, 0.0
-        # How often all that is in the log was asked for, and applied; and when that was looked for.
+        # How often the complete log was asked for, and applied; and when that was last polled.
         self._asked = self._applied = 0
         self._looked = 0.0
         # The numbers of this process's agents.
@@ -107,23 +113,23 @@ class Worker(Locked):
         self._log.database.leave()
 
     def expect_going(self) -> None:
-        """Expect that the run goes on."""
+        """Check that the run is active."""
         if self._fault is not None:
             raise BrokenError(self.replica.era.number, self._fault)
         if self._is_closing:
             raise Error(Code.EMPTY, said="the run was closed")
 
-    # What agents do.
+    # Calls of agents.
 
     def answer(self, segment: int, agent: int, call: bytes, scans: bytes) -> Answer | None:
-        """Append a call, and return its answer, None where its segment had ended."""
+        """Append a call, and return its answer; None if its segment had ended."""
         token, me = self._prefix + next(self._count).to_bytes(6, "big"), threading.get_ident()
         waiter = Waiter(Call(token, segment, agent, call.decode(), scans.decode()), me != threading.main_thread().ident)
         self._expect_no_turn()
         with self._lock:
             self.expect_going()
             self._waiting.append(waiter)
-            # Whoever comes last leads, so nobody has to be woken for that.
+            # The last to come leads, so nobody has to be woken for that.
             if self._leader is None or self._is_gathering and self._is_due():
                 if waiter.may_lead:
                     self._leader, self._is_gathering = waiter, not self._is_due()
@@ -138,7 +144,7 @@ class Worker(Locked):
         return waiter.told()
 
     def _expect_no_turn(self) -> None:
-        """Expect that this thread isn't in a turn, as a finalizer may be which comes in its midst."""
+        """Check that this thread isn't in a turn, as a finalizer during a turn would be."""
         if self._leading == threading.get_ident():
             raise NestedError("this thread is in another call, which a finalizer has interrupted")
 
@@ -155,23 +161,23 @@ class Worker(Locked):
                 self._changed.wait()
 
     def come(self) -> tuple[Era, Agent]:
-        """Have an agent of the newest segment, to begin steps with."""
+        """Return an agent of the newest segment, to begin steps with."""
         with self._lock:
             era = self.replica.era
             return era, era.agent()
 
     def leave(self, era: Era, agent: Agent) -> None:
-        """Give it back."""
+        """Take an agent back."""
         with self._lock:
             era.leave(agent)
 
     def state_text(self) -> tuple[int, bytes]:
-        """The number of moves that are applied, and the text of the state after them."""
+        """Return the number of applied moves, and the text of the state after them."""
         with self._lock:
             return self.replica.state_text()
 
     def hold(self, agent: int) -> bool:
-        """Take an agent's number, unless another process has it."""
+        """Reserve an agent's number, unless another process has it."""
         self._expect_no_turn()
         with self._using:
             is_held = self._reaching(lambda: self._log.database.hold(agent))
@@ -180,7 +186,7 @@ class Worker(Locked):
             return is_held
 
     def let(self, agent: int) -> None:
-        """Let others have it."""
+        """Release the number for others."""
         self._expect_no_turn()
         with self._using:
             self._held.discard(agent)
@@ -188,7 +194,7 @@ class Worker(Locked):
                 self._reaching(lambda: self._log.database.let(agent))
 
     def close(self) -> None:
-        """End it, once all calls that wait are answered."""
+        """End it, once all waiting calls are answered."""
         with self._lock:
             self._is_closing = True
             self._changed.notify_all()
@@ -196,7 +202,7 @@ class Worker(Locked):
         if self._fault is not None:
             raise BrokenError(self.replica.era.number, self._fault)
 
-    # What the worker does.
+    # Calls of the worker.
 
     def _work(self) -> None:
         try:
@@ -206,7 +212,7 @@ class Worker(Locked):
             self._end()
 
     def _is_to_lead(self) -> bool:
-        """Wait until nobody leads and there is something to do. Return whether the run goes on."""
+        """Wait until nobody leads and there is work. Return whether the run is active."""
         with self._changed:
             while self._fault is None:
                 if self._leader is None and self._is_closing and not self._waiting and not self._sent:
@@ -218,10 +224,10 @@ class Worker(Locked):
                 self._changed.wait(_PAUSE)
         return False
 
-    # What a leader does.
+    # Calls of a leader.
 
     def _lead(self, leader: "Waiter | Worker") -> None:
-        """Does one turn, and has another one lead; unless another one has taken over."""
+        """Do one turn, and appoint another leader, unless another one has taken over."""
         if not self._gathers(leader):
             return
         self._leading = threading.get_ident()
@@ -234,7 +240,7 @@ class Worker(Locked):
             self._hand_over()
 
     def _hand_over(self) -> None:
-        """Has one of those that wait lead, or the worker."""
+        """Appoint a waiting thread as the leader, or the worker."""
         with self._lock:
             following = None
             if self._waiting and self._fault is None:
@@ -246,9 +252,9 @@ class Worker(Locked):
                 self._changed.notify_all()
 
     def _gathers(self, leader: "Waiter | Worker") -> bool:
-        """Wait for those that are expected: as long as calls come, further ones may. Return whether it leads still.
+        """Wait for the expected calls: as long as calls come, further ones may.
 
-        While it waits another one may take over, and no longer once this has returned.
+        Return whether it still leads. While it waits another one may take over, but not after this has returned.
         """
         came, end = -1, time.monotonic() + 4 * self._moment
         while True:
@@ -286,9 +292,9 @@ class Worker(Locked):
         try:
             self._apply(placed, answered)
         finally:
-            # Those that are answered now may call again soon, beside those that wait by now.
+            # Agents that are answered now may call again soon, in addition to those that wait by now.
             self._expected = max(1, min(BATCH, len(answered) + len(self._waiting)))
-            # Agents are woken when all is done, as they would only hinder that.
+            # Agents are woken when all is done, as they would only slow that down.
             for waiter, answer in answered:
                 waiter.end(answer)
         if len(placed) < READ:
@@ -299,7 +305,7 @@ class Worker(Locked):
                     self._changed.notify_all()
 
     def _apply(self, placed: list[Placed], answered: list[tuple[Waiter, Answer | None]]) -> None:
-        """Apply calls to the replica, and note the answers to those of this process."""
+        """Apply calls to the replica, and record the answers to those of this process."""
         rest = iter(placed)
         while (ended := self._apply_some(rest, answered)) is not None:
             self._save(ended)
@@ -337,7 +343,7 @@ class Worker(Locked):
             self._reaching(lambda: self._log.save(*ended))
 
     def _reaching(self, work: Callable[[], _R]) -> _R:
-        """Does what may be done again, over a new connection where one is lost."""
+        """Run a repeatable action, over a new connection if one is lost."""
         while True:
             try:
                 return work()
@@ -345,7 +351,7 @@ class Worker(Locked):
                 self._reconnect(error)
 
     def _reconnect(self, error: Exception) -> None:
-        """Connect again, and take the numbers of the agents again."""
+        """Connect again, and reserve the numbers of the agents again."""
         pause, end = 0.01, time.monotonic() + _PATIENCE
         while True:
             try:
@@ -360,12 +366,12 @@ class Worker(Locked):
                 pause = min(1.0, 2 * pause)
 
     def _rejoin(self) -> None:
-        """Goes on from the last segment, where the calls before it were dropped from the log."""
+        """Continue from the last segment, as calls before it were dropped from the log."""
         with self._using:
             replica = self._reaching(lambda: Replica(self._log))
         with self._changed:
             self.replica = replica
-        # What was sent just now is behind that. Of what was sent before, the answer may have been dropped with the call.
+        # What was sent just now is after that. Of what was sent before, the answer may have been dropped with the call.
         for waiter in list(self._sent.values()):
             if waiter.is_sent:
                 del self._sent[waiter.call.token]
