@@ -1,4 +1,4 @@
-"""Eight agents on threads add to one count; their journal is closed, checked and replayed.
+"""Eight agents on threads add to one count; their journal is checked and replayed.
 
     python3 example.py [JOURNAL]    writes the journal to the file
 """
@@ -11,7 +11,7 @@ AGENTS, TIMES = 8, 100
 
 
 def work(agent: Agent, own: int) -> None:
-    """Adds 1 to the count so many times."""
+    """Add 1 to the count this many times."""
     done = 0
     while done < TIMES:
         number, (count,) = agent.read([("count",)])

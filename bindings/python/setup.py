@@ -1,8 +1,10 @@
-"""What the metadata can't tell of a wheel: the compiled part, for any Python from 3.11 on, with the library in it.
+"""Build what the metadata can't describe of a wheel: the compiled part.
 
-The library is the archive that FOLUGBEN_ARCHIVE names, the one beside this file, as in what packaging/pack makes, or the one that
-./build_c leaves. build_core compiles the part beside the package's modules.
-FOLUGBEN_PLATFORM is the tag of the platform, which packaging/pack finds out; a wheel without it is for the machine that it is made on.
+It serves any Python from 3.11 on, with the library in it.
+
+The library is the archive that FOLUGBEN_ARCHIVE names, or the one beside this file, as in what packaging/pack makes, or the
+one that ./build_c creates. build_core compiles the part beside the package's modules. FOLUGBEN_PLATFORM is the tag of the
+platform, which packaging/pack finds out; a wheel without it is for the machine that it is made on.
 """
 import os
 import subprocess

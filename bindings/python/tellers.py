@@ -1,4 +1,7 @@
-"""Two tellers on threads each add 10 to one balance, a hundred times, and no deposit is lost: python3 tellers.py"""
+"""Two tellers on threads each add 10 to one balance, 100 times: python3 tellers.py
+
+No deposit is lost.
+"""
 from concurrent.futures import ThreadPoolExecutor
 from folugben import Storage, check
 
@@ -9,7 +12,7 @@ def deposit(step):
 
 def teller(agent):
     for _ in range(100):
-        agent.play(deposit)                     # again, where the other was quicker
+        agent.play(deposit)                     # again on conflict
 
 
 with Storage({"balance": 0}, 1000) as storage:
@@ -17,5 +20,5 @@ with Storage({"balance": 0}, 1000) as storage:
         list(pool.map(teller, [anna, ben]))
         anna.follow()
         number, (balance,) = anna.peek([("balance",)])
-    check(storage.close_journal())              # raises where an answer wasn't right
+    check(storage.close_journal())              # raises if an answer was wrong
     print(f"{number} moves, balance {balance}")

@@ -1,7 +1,7 @@
-/* Agents: how they come and go, and their steps. */
+/* Agents: creation, release, and their steps. */
 #include "core.h"
 
-/* Raises what the code of a call on it says. */
+/* Raises the error of the code of a call on it. */
 PyObject *agent_refused(Agent *self, int32_t code)
 {
     if (code == ASM_EMPTY && !IS_FULL(self))
@@ -9,7 +9,7 @@ PyObject *agent_refused(Agent *self, int32_t code)
     return refuse(self->held.core, code, "expect", "(i)", (int)code);
 }
 
-/* Waits until neither its slot nor its storage's is busy; not 0 with an exception. */
+/* Waits until neither its slot nor its storage's slot is busy. Returns non-zero with an exception. */
 static int waits_for_both(Agent *self)
 {
     do
@@ -19,7 +19,7 @@ static int waits_for_both(Agent *self)
     return 0;
 }
 
-/* Fills its slot: takes it out of its storage, or makes it. */
+/* Fills its slot: checks it out of its storage, or makes it. */
 static int32_t comes(Agent *self, int is_taken, int is_made)
 {
     Storage *storage = self->storage;
@@ -37,7 +37,7 @@ static int32_t comes(Agent *self, int is_taken, int is_made)
     return code;
 }
 
-/* Is in its storage's list, and its turns, no longer. */
+/* Removes it from its storage's list and turns. */
 static void leaves(Agent *self)
 {
     for (int k = 0; self->storage && k < TURNS; k++)
@@ -52,7 +52,7 @@ static void leaves(Agent *self)
     self->next = NULL;
 }
 
-/* Keeps how many moves it has seen and fired, for when its slot is empty. */
+/* Stores how many moves it has seen and fired, for when its slot is empty. */
 static void counts(Agent *self)
 {
     if (IS_FULL(self)) {
@@ -77,7 +77,7 @@ static PyObject *cannot_come(Agent *self, int32_t code)
     return storage_refused(self->storage, code);
 }
 
-/* An agent of a type, whose slot is empty. */
+/* Makes an agent of a type, whose slot is empty. */
 static Agent *made(PyTypeObject *type, Storage *storage, PyObject *number)
 {
     Core *core = storage->held.core;
@@ -111,7 +111,7 @@ PyObject *agent_made(Storage *storage, PyObject *number, int is_taken)
     return filled(made(storage->held.core->agent, storage, number), is_taken);
 }
 
-/* Its slot stays empty where a third word says so, for an agent of a run. */
+/* For an agent of a run: its slot stays empty if a third argument says so. */
 static PyObject *agent_new(PyTypeObject *type, PyObject *words, PyObject *named)
 {
     static char *names[] = {"storage", "number", "_is_empty", NULL};
@@ -124,7 +124,7 @@ static PyObject *agent_new(PyTypeObject *type, PyObject *words, PyObject *named)
     return is_empty ? (PyObject *)self : filled(self, 0);
 }
 
-/* Of a run: comes into its storage, made there if it wasn't before. */
+/* Of a run: enters its storage; it is made there if it wasn't before. */
 static PyObject *agent_come(Agent *self, PyObject *Py_UNUSED(none))
 {
     if (waits_for_both(self))
@@ -151,7 +151,8 @@ static PyObject *agent_exit(Agent *self, PyObject *const *Py_UNUSED(words), Py_s
     return IS_FULL(self) ? agent_give_back(self, NULL) : Py_NewRef(Py_None);
 }
 
-/* Of a run: is given back by another thread than its own, if it is in no step or has to be. Whether it isn't held. */
+/* Of a run: another thread than its own returns it to its storage, if it is in no step or must be returned. Returns whether it
+ * isn't held. */
 static PyObject *agent_leave(Agent *self, PyObject *forced)
 {
     int is_forced = PyObject_IsTrue(forced);
@@ -177,8 +178,8 @@ static PyObject *agent_free(Agent *self, PyObject *Py_UNUSED(none))
     return Py_NewRef(Py_None);
 }
 
-/* What it fired would be missing for good if it were released, so it is given back. Its storage is at most in a call that ends by
- * itself, and whose thread runs no code of Python meanwhile. */
+/* If it were released, the moves that it fired would be missing for good, so it is returned to its storage. Its storage is at
+ * most in a call that ends by itself, and whose thread runs no Python code meanwhile. */
 static void agent_gone(Agent *self)
 {
     Storage *storage = self->storage;
@@ -254,8 +255,8 @@ static PyObject *agent_repr(Agent *self)
     return PyUnicode_FromFormat("<Agent %u, %u moves seen>", (unsigned)self->own, (unsigned)asm_seen(SLOT(self)));
 }
 
-/* Of a run that looks at its newest state: comes, follows, tells its own state's number and text, and is given back. Its slot is
- * busy meanwhile, so its own thread waits. */
+/* Of a run that reads its newest state: enters, follows, returns the number and the text of its own state, and is returned.
+ * Its slot is busy meanwhile, so its own thread waits. */
 static int32_t glimpses(Agent *self, uint32_t *number, Room *room)
 {
     int32_t code, given;

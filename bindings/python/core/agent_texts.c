@@ -1,7 +1,7 @@
-/* Agents: the calls that take and write texts. */
+/* Agents: the calls that read and write texts. */
 #include "core.h"
 
-/* Raises what the code of a call says that was passed a text of a form. */
+/* Raises the error of the code of a call that was passed a text of a form. */
 static PyObject *text_refused(Agent *self, int32_t code, int form, Text *text)
 {
     if (code == ASM_EMPTY)
@@ -81,7 +81,7 @@ static PyObject *fire(Agent *self, const Offer *its)
     return told;
 }
 
-/* Writes what an iterable has, behind a word of JSON. */
+/* Writes the items of an iterable, after a word of JSON. */
 static int write_list(Core *core, Text *text, const char *word, size_t len, PyObject *its, const char *name)
 {
     PyObject *list = its ? PySequence_List(its) : PyList_New(0);
@@ -209,7 +209,7 @@ PyObject *agent_peek(Agent *self, PyObject *places)
     return is_location(self->held.core, places) ? peek_at(self, (Location *)places) : peek(self, places, 0);
 }
 
-/* How many bytes the texts of the places and of what `peek` tells of them have. */
+/* Counts the bytes of the texts of the places and of their values in `peek`. */
 PyObject *agent_peek_length(Agent *self, PyObject *places)
 {
     return peek(self, places, 1);

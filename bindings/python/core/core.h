@@ -1,12 +1,12 @@
 /* The types of folugben that are written in C: storages, agents, steps, locations, moves and audits.
  *
- * THE RULE. Each method has four parts, in this order: it makes C values of its arguments, which may run Python's code; it asks
- * whether it may call; it calls the library; it makes Python's values of the answer. From the second part to the end of the
- * third nothing of Python runs, so no signal handler, finalizer or other thread comes between two calls of the library, and no
- * slot is in two calls at once.
+ * THE RULE. Each method has four parts, in this order: it makes C values of its arguments, which may run Python code; it checks
+ * whether it may call; it calls the library; it makes Python values of the answer. From the second part to the end of the third
+ * no Python code runs. So no signal handler, finalizer or other thread comes between two calls of the library, and no slot is in
+ * two calls at once.
  *
- * A call that may take long releases the interpreter's lock. Its slot is busy meanwhile, and a thread that comes to a busy slot
- * waits. A thread that waits, or is in such a call, runs no code of Python either. */
+ * A call that may take long releases the interpreter's lock. Its slot is busy meanwhile, and a thread that needs a busy slot
+ * waits. A thread that waits, or is in such a call, runs no Python code either. */
 #ifndef FOLUGBEN_CORE_H
 #define FOLUGBEN_CORE_H
 
@@ -24,7 +24,7 @@
 #define SLOT(it) ((void *)&(it)->held.slot)
 #define IS_FULL(it) ((it)->held.slot.full)
 #define METHOD(call) ((PyCFunction)(void (*)(void))(call))
-/* An agent that is so many moves behind, and a text of so many bytes, release the interpreter's lock. */
+/* An agent that is this many moves behind, and a text of this many bytes, release the interpreter's lock. */
 enum { FAR = 1024, LONG_TEXT = 16384 };
 /* How many agents a storage makes, and how many moves it has room for; how long a line of a journal may be. */
 enum { AGENTS = 256, CAPACITY = 1048576, LINE_LIMIT = 1073741824 };
@@ -51,7 +51,7 @@ typedef struct {
 typedef struct Agent Agent;
 typedef struct Step Step;
 
-/* A thread, and the agent of a storage whose call was its last one that looked; without a reference. */
+/* A thread, and the agent of a storage whose call was its last one that polled; without a reference. */
 typedef struct {
     unsigned long thread;
     Agent *agent;
@@ -62,8 +62,8 @@ typedef struct {
     Held held;
     uint32_t last;      /* the greatest number of a move that is known to be fired */
     int64_t closed;     /* how many moves the last journal has, -1 without one */
-    int is_abandoned;   /* an agent was freed that wasn't given back */
-    char is_made, records; /* whether commits record what their steps got */
+    int is_abandoned;   /* an agent was freed that wasn't returned */
+    char is_made, records; /* whether commits record the tracked reads of their steps */
     Agent *first;       /* its agents, without references */
     PyObject *journal;  /* the path of its journal, or null */
     Turn turns[TURNS];
@@ -72,12 +72,12 @@ typedef struct {
 struct Agent {
     Held held;
     Storage *storage;
-    uint32_t own, seen, kept_seen, kept_won; /* the kept numbers are those of an agent that was given back */
+    uint32_t own, seen, kept_seen, kept_won; /* the kept numbers are those of an agent that was returned */
     uint64_t base;                           /* how many moves of a run came before its storage */
-    char is_taken;                           /* another thread has given it back */
+    char is_taken;                           /* another thread has returned it */
     char is_behind;                          /* another agent has taken its state */
     unsigned steps;                          /* how many of its steps are open */
-    unsigned long thread;                    /* of its last call that looked */
+    unsigned long thread;                    /* of its last call that polled */
     Step *last;                              /* the step that it began last, without a reference */
     Agent *next, **before;
 };
@@ -87,7 +87,7 @@ struct Step {
     Agent *agent;
     uint32_t number, fired;
     unsigned long thread; /* that began it */
-    uint64_t size; /* about how many bytes of text it has got and pushed, and will record */
+    uint64_t size; /* about how many bytes of text it has read and pushed, and will record */
     char is_fired, is_tried, is_pushed, is_open;
     char is_partial; /* a pushed move may have partial updates */
 };
@@ -126,10 +126,10 @@ extern PyMemberDef held_members[];
     {"__enter__", held_same, METH_NOARGS, NULL},                 \
     {"__reduce__", held_copy, METH_NOARGS, NULL}
 
-/* Asks whether a call on a slot may be made now; not 0 with an exception. */
+/* Checks whether a call on a slot may be made now. Returns non-zero with an exception. */
 #define UNREADY(held_) (ODD((held_)->is_busy | ((held_)->born != forks)) && unready(held_))
 
-/* Makes calls on a slot, without the interpreter's lock where they are long. */
+/* Makes calls on a slot, without the interpreter's lock if they are long. */
 #define RUN(held_, is_long, calls)                                    \
     do {                                                              \
         PyThreadState *was_ = ODD(is_long) ? let_go(held_) : NULL;    \
@@ -148,7 +148,7 @@ void room_begin(Room *room);
 void room_end(Room *room);
 int room_grow(Room *room, int32_t *code);
 #define ROOM(its) (its)->at, (its)->room, &(its)->written
-/* Makes a call that writes, and again where the room is too small; RUN takes it. */
+/* Makes a call that writes, and repeats it if the room is too small; RUN takes it. */
 #define TOLD(code, its, call)                        \
     do                                               \
         (code) = (call);                             \

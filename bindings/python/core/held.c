@@ -24,7 +24,7 @@ void watch_forks(void)
     pthread_once(&once, watch);
 }
 
-/* Has a function of Python raise what a code says; the format is that of a tuple. */
+/* Calls a Python function that raises the error of a code; the format is that of a tuple. */
 PyObject *refuse(Core *core, int32_t code, const char *how, const char *format, ...)
 {
     if (code == ASM_MEMORY)
@@ -60,10 +60,10 @@ int unready(Held *held)
     return 0;
 }
 
-/* Begins and ends a call without the interpreter's lock. A thread that holds a slot's lock has the interpreter's too, is in such
- * a call, or waits for the interpreter's: so nobody waits for a slot's lock while it holds the interpreter's. A lock that is
- * released and taken at once would starve those that wait, so they come first. Without memory for the lock the interpreter's is
- * kept. */
+/* Begins and ends a call without the interpreter's lock. A thread that holds a slot's lock has the interpreter's too, is in
+ * such a call, or waits for the interpreter's: so nobody waits for a slot's lock while it holds the interpreter's. A lock that
+ * is released and immediately acquired again would starve those that wait, so they come first. Without memory for the lock the
+ * interpreter's is kept. */
 PyThreadState *let_go(Held *held)
 {
     if (!held->lock && !(held->lock = PyThread_allocate_lock()))
@@ -97,7 +97,7 @@ void room_end(Room *room)
         free(room->at);
 }
 
-/* Has room for what the last call needed. Whether it has; else the code is that of refused memory. */
+/* Makes room for what the last call needed. Returns whether there is room; otherwise the code is that of refused memory. */
 int room_grow(Room *room, int32_t *code)
 {
     size_t wanted = room->written > 2 * room->room ? room->written : 2 * room->room;
@@ -183,7 +183,7 @@ static PyObject *held_full(Held *self, void *Py_UNUSED(none))
 PyGetSetDef held_gets[] = {{"_is_full", (getter)held_full, NULL, NULL, NULL}, {0}};
 PyMemberDef held_members[] = {{"__weaklistoffset__", T_PYSSIZET, offsetof(Held, weak), READONLY, NULL}, {0}};
 
-/* A whole number from the least to the most, which `what` names in the error of another one. */
+/* An integer from the smallest to the largest allowed; `what` names it in the error about another one. */
 int number_of(Core *core, PyObject *value, const char *what, uint32_t least, uint32_t most, uint32_t *number)
 {
     PyObject *whole = PyNumber_Index(value);

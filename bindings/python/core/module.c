@@ -1,9 +1,9 @@
-/* The module, the calls that need no slot, and audits: runs of any length, which are checked as their bytes come. */
+/* The module, the calls that need no slot, and audits: runs of any length, checked as their bytes arrive. */
 #include "core.h"
 
 typedef struct {
     Held held;
-    PyObject *rest; /* what refused memory has left of the bytes that were fed */
+    PyObject *rest; /* fed bytes that are left after refused memory */
 } Audit;
 
 static PyObject *audit_new(PyTypeObject *type, PyObject *Py_UNUSED(words), PyObject *Py_UNUSED(named))
@@ -16,7 +16,7 @@ static PyObject *numbers_of(int32_t code, const asm_audit_numbers *told)
     return Py_BuildValue("iKKK", (int)code, (unsigned long long)told->parts, (unsigned long long)told->calls, (unsigned long long)told->moves);
 }
 
-/* Takes bytes behind those that are left; the code and the numbers. */
+/* Reads bytes after those that are left; writes the code and the numbers. */
 static PyObject *audit_feed(Audit *self, PyObject *chunk)
 {
     asm_audit_numbers told;
@@ -41,7 +41,7 @@ static PyObject *audit_feed(Audit *self, PyObject *chunk)
     Py_DECREF(all);
     if (code == ASM_MEMORY)
         return PyErr_NoMemory();
-    /* What would be told if no further byte came is of the part that the long line is in. */
+    /* If no further byte came, the report would be about the part that contains the long line. */
     if (code == ASM_LONG_LINE && asm_audited(SLOT(self), &told) == ASM_MEMORY)
         return PyErr_NoMemory();
     return numbers_of(code, &told);
@@ -90,7 +90,7 @@ static PyType_Slot audit_slots[] = {{Py_tp_new, audit_new}, {Py_tp_dealloc, audi
     {Py_tp_members, held_members}, {Py_tp_getset, held_gets}, {0}};
 PyType_Spec audit_spec = {"folugben._core.Audit", sizeof(Audit), 0, Py_TPFLAGS_DEFAULT | Py_TPFLAGS_BASETYPE, audit_slots};
 
-/* Has the module of Python by whose functions errors are raised. */
+/* Imports the Python module whose functions raise errors. */
 static PyObject *core_use(PyObject *module, PyObject *refusals)
 {
     Core *core = PyModule_GetState(module);
@@ -119,7 +119,7 @@ static PyObject *core_decoded(PyObject *Py_UNUSED(module), PyObject *it)
     return PyBytes_AsStringAndSize(it, &at, &len) ? NULL : read_text(at, (size_t)len);
 }
 
-/* The same as Python's own values; a second word says that it is a location. */
+/* The same as Python's own values; a second argument says that it is a location. */
 static PyObject *core_owned(PyObject *module, PyObject *words)
 {
     const char *at;

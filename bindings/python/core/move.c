@@ -1,9 +1,9 @@
-/* Locations that are prepared, and moves that are gathered. */
+/* Prepared locations, and moves that collect instructions. */
 #include <string.h>
 
 #include "core.h"
 
-/* Raises what the code of a call on it and on other slots says. */
+/* Raises the error of the code of a call on it and on other slots. */
 PyObject *location_refused(Location *self, int32_t code)
 {
     if (code == ASM_EMPTY && !IS_FULL(self))
@@ -72,7 +72,7 @@ static PyType_Slot location_slots[] = {
     {Py_tp_getset, location_gets}, {Py_tp_repr, location_repr}, {0}};
 PyType_Spec location_spec = {"folugben.Location", sizeof(Location), 0, Py_TPFLAGS_DEFAULT | Py_TPFLAGS_IMMUTABLETYPE, location_slots};
 
-/* Finds the kind by how the text begins; whether it is one. */
+/* Finds the kind by how the text begins. Returns whether it is one. */
 static int begins_as(Change *its)
 {
     static const struct {
@@ -121,7 +121,7 @@ static int read_operand(Core *core, PyObject *value, Change *its)
     return is_odd ? -1 : 0;
 }
 
-/* Has the text of a location, unless it is prepared; -1 with an exception. */
+/* Makes the text of a location, unless it is prepared. Returns -1 with an exception. */
 int place_begin(Core *core, Place *its, PyObject *place)
 {
     memset(&its->own, 0, sizeof its->own);
@@ -142,7 +142,7 @@ void place_end(Place *its)
     text_end(&its->text);
 }
 
-/* Raises what the code of its making says, or of a call that it was passed to. */
+/* Raises the error of the code of its making, or of a call that it was passed to. */
 PyObject *place_refused(Core *core, Place *its, int32_t code)
 {
     if (its->held)
@@ -184,7 +184,7 @@ void change_end(Change *its)
     text_end(&its->text);
 }
 
-/* Puts it behind the instructions of a move. */
+/* Appends it to the instructions of a move. */
 int32_t change_put(Change *its, struct asm_move *move)
 {
     its->code = place_made(&its->place);
@@ -199,7 +199,7 @@ uint64_t change_size(Change *its)
     return its->len + place_len(&its->place);
 }
 
-/* Raises why it was not put. */
+/* Raises why it was not appended. */
 PyObject *change_refused(Core *core, Change *its)
 {
     Place *at = &its->place;

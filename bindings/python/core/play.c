@@ -7,9 +7,10 @@ void agent_saw(Agent *self)
     self->is_behind = 0;
 }
 
-/* Is about to look, by a call that names no numbers. Where the last look of this thread was another agent's that is in no step, and has come further, it takes
- * the state of that one, so that it follows the newest moves alone. That one is behind then, and catches up before it tells of
- * its own state. The interpreter's lock is held, so nobody else is at work with either, unless its slot is busy. */
+/* Runs before a poll, by a call that names no numbers. If the last poll of this thread was by another agent that is in no
+ * step, and has seen more, it takes the state of that one, so that it follows only the newest moves. That one is behind then,
+ * and catches up before it reports its own state. The interpreter's lock is held, so nobody else is at work with either,
+ * unless its slot is busy. */
 void agent_turn(Agent *self)
 {
     unsigned long thread = PyThread_get_thread_ident();
@@ -25,7 +26,7 @@ void agent_turn(Agent *self)
     turn->agent = self;
 }
 
-/* Follows where another agent has taken its state; in the course of calls. */
+/* Follows if another agent has taken its state; in the course of calls. */
 int32_t agent_catches_up(Agent *self)
 {
     uint32_t number;
@@ -50,7 +51,7 @@ static PyObject *played(Core *core, int64_t number, PyObject *told, long tries)
     return NULL;
 }
 
-/* What follows a try: what was played, or null, without an exception to try again. */
+/* What follows an attempt: what was played, or null; null without an exception means: try again. */
 static PyObject *tried(Step *step, PyObject *told, long tries)
 {
     Core *core = step->held.core;

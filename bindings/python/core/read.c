@@ -1,5 +1,5 @@
-/* Reads the library's texts, which are JSON without spaces: as JSON, or as Python's own values, in which a list is a tuple, a set a
- * frozenset and a bag a Counter, and so is each other array a tuple, but for the outermost. */
+/* Reads the library's texts, which are JSON without spaces: as JSON, or as Python's own values, in which a list is a tuple, a
+ * set a frozenset and a bag a Counter. Each other array is also a tuple, except the outermost one. */
 #include <string.h>
 
 #include "core.h"
@@ -28,7 +28,7 @@ static unsigned hexadecimal(const char *at)
     return number;
 }
 
-/* Writes a character in UTF-8; where it ends. */
+/* Writes a character in UTF-8. Returns the end. */
 static char *utf_8(char *to, unsigned character)
 {
     if (character < 0x80) {
@@ -43,7 +43,7 @@ static char *utf_8(char *to, unsigned character)
     return to;
 }
 
-/* A text with escapes, from behind its first quote to its last one. */
+/* A text with escapes, from after its first quote to its last one. */
 static PyObject *unescaped(const char *at, const char *end)
 {
     static const char from[] = "nrtbf", to[] = "\n\r\t\b\f";
@@ -87,7 +87,7 @@ static PyObject *read_str(Reader *from)
     return is_escaped ? unescaped(begin, at) : PyUnicode_DecodeUTF8(begin, at - begin, NULL);
 }
 
-/* Whether the sign of an end is next; a comma before another member is passed. */
+/* Returns whether the closing character is next; a comma before another member is skipped. */
 static int is_end(Reader *from, char sign)
 {
     if (from->at < from->end && *from->at == ',')
@@ -113,7 +113,7 @@ static PyObject *read_items(Reader *from)
     return list;
 }
 
-/* A list as what a function of Python makes of it. */
+/* A list as the result of a Python function on it. */
 static PyObject *made_of(PyObject *list, PyObject *(*make)(PyObject *))
 {
     PyObject *told = list ? make(list) : NULL;
@@ -138,7 +138,7 @@ static PyObject *counted(Core *core, PyObject *pairs)
     return bag;
 }
 
-/* A set or a bag; as JSON has it where Python takes two of its elements for one, as True and 1. */
+/* A set or a bag; it stays as in JSON if two of its elements are equal in Python, as True and 1. */
 static PyObject *read_members(Reader *from, int is_bag)
 {
     PyObject *list = read_items(from), *told = NULL;
@@ -161,7 +161,7 @@ static int begins(Reader *from, const char *word)
     return 1;
 }
 
-/* A list, a set or a bag as Python's own; null without an exception where an object is none. */
+/* A list, a set or a bag as Python's own; null without an exception if an object is none. */
 static PyObject *read_own(Reader *from)
 {
     PyObject *told;
@@ -243,14 +243,14 @@ static PyObject *read_value(Reader *from)
     }
 }
 
-/* What a text of JSON tells. */
+/* The value of a JSON text. */
 PyObject *read_text(const void *text, size_t len)
 {
     Reader from = {text, (const char *)text + len, NULL, 0, 0};
     return read_value(&from);
 }
 
-/* The same as Python's own values. The outermost array is a list, but for a location's. */
+/* The same as Python's own values. The outermost array is a list, except a location's. */
 PyObject *read_own_text(Core *core, const void *text, size_t len, int is_place)
 {
     Reader from = {text, (const char *)text + len, core, 1, is_place};
@@ -268,7 +268,7 @@ PyObject *read_values(Core *core, Room *room, uint32_t *number)
     return at < end ? read_own_text(core, at, (size_t)(end - at), 0) : broken();
 }
 
-/* The value that a call without text told. */
+/* The value that a call without text returned. */
 PyObject *value_of(Core *core, const asm_value *value, const Room *room)
 {
     switch (value->kind) {

@@ -1,13 +1,13 @@
 /* Steps of agents. */
 #include "core.h"
 
-/* Raises what the code of a call on it says, and of the location or the move that was passed. */
+/* Raises the error of the code of a call on it, and on the location or the move that was passed. */
 PyObject *step_refused(Step *self, int32_t code)
 {
     return refuse(self->held.core, code, code == ASM_EMPTY ? "over" : "step", "(iO)", (int)code, (PyObject *)self);
 }
 
-/* Is over where its slot is empty. */
+/* A step is over if its slot is empty. */
 static void closes(Step *self)
 {
     self->agent->steps -= self->is_open && !IS_FULL(self);
@@ -28,7 +28,7 @@ Step *step_begun(Agent *agent, PyTypeObject *type)
         return NULL;
     self->agent = (Agent *)Py_NewRef((PyObject *)agent);
     int32_t code;
-    /* Last, as to make it may run code of Python. */
+    /* Last, as making it may run Python code. */
     if (UNREADY(&agent->held)) {
         Py_DECREF((PyObject *)self);
         return NULL;
@@ -103,7 +103,7 @@ static PyObject *step_offer_text(Step *self, PyObject *Py_UNUSED(none))
     return offer(self, 1);
 }
 
-/* Commits, and writes the answer of a refusal. Only a commit that records answers that the agent has gone on. */
+/* Commits, and writes the answer of a refusal. Only a commit that records can answer that the agent has moved on. */
 static int32_t commits(Step *self, asm_numbers *numbers, Room *room)
 {
     Agent *agent = self->agent;
@@ -116,7 +116,7 @@ static int32_t commits(Step *self, asm_numbers *numbers, Room *room)
     return code;
 }
 
-/* Fires; the number of the move, 0 where a try is to be begun again, -1 with an exception. */
+/* Fires. Returns the number of the move, 0 if an attempt must be begun again, -1 with an exception. */
 int64_t step_fires(Step *self, int is_try)
 {
     Agent *agent = self->agent;
@@ -179,7 +179,7 @@ static PyObject *step_free(Step *self, PyObject *Py_UNUSED(none))
     return Py_NewRef(Py_None);
 }
 
-/* Of a shared run: is over, as its move was fired by the run. */
+/* Of a shared run: the step is over, as the run has fired its move. */
 static PyObject *step_end(Step *self, PyObject *fired)
 {
     if (number_of(self->held.core, fired, "move", 0, UINT32_MAX, &self->fired))

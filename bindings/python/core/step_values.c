@@ -13,19 +13,19 @@ static int32_t told(Step *self, TextCall call, const uint8_t *text, size_t len, 
     return code;
 }
 
-/* Counts a text that is got with its place: a commit may record it. */
+/* Counts a text that is read with its place: a commit may record it. */
 static void got(Step *self, size_t place, const Room *room)
 {
     self->size += place + (self->agent->storage->records ? room->written : 0);
 }
 
-/* The fire may name locations now of whose values nothing is known. */
+/* The fire may now name locations whose values are unknown. */
 static void names_more(Step *self)
 {
     self->size += self->agent->storage->records ? LINE_LIMIT : 0;
 }
 
-/* Has pushed a move: where one before it has partial updates, the fire may name what both write. */
+/* Called after a push: if a move before it has partial updates, the fire may name what both write. */
 static void grew(Step *self, int is_partial)
 {
     self->is_pushed = 1;
@@ -140,7 +140,7 @@ static PyObject *grow_by_text(Step *self, TextCall call, PyObject *move)
     if (!UNREADY(&self->agent->held)) {
         int32_t code = told(self, call, BYTES(&text), &room);
         self->size += text.len;
-        /* A move of no instructions is none that is missed. */
+        /* A move of no instructions is not reported as missing. */
         if (code == ASM_DONE && text.len > 2)
             grew(self, 1);
         done = code == ASM_DONE ? Py_NewRef(Py_None) : not_pushed(self, code, text.at, text.len, &room);
@@ -186,7 +186,7 @@ PyObject *step_extend(Step *self, PyObject *move)
     return grow(self, asm_extend, asm_extend_move, move);
 }
 
-/* Has one instruction join the move that was pushed last. */
+/* Makes one instruction join the move that was pushed last. */
 static PyObject *change(Step *self, PyObject *const *words, Py_ssize_t count, int verb)
 {
     Core *core = self->held.core;
@@ -242,7 +242,7 @@ PyObject *step_pop_move(Step *self, PyObject *Py_UNUSED(none))
     self->is_pushed &= asm_depth(SLOT(self)) > 0;
     if (code == ASM_DONE) {
         move->is_popped = 1;
-        /* Of its instructions nothing is known. */
+        /* Nothing is known of its instructions. */
         move->size = LINE_LIMIT;
         return (PyObject *)move;
     }

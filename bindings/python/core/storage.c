@@ -1,7 +1,7 @@
 /* Storages. */
 #include "core.h"
 
-/* Raises what the code of a call on it says. */
+/* Raises the error of the code of a call on it. */
 PyObject *storage_refused(Storage *self, int32_t code)
 {
     if (code == ASM_EMPTY && !IS_FULL(self))
@@ -17,7 +17,7 @@ static PyObject *storage_new(PyTypeObject *type, PyObject *Py_UNUSED(words), PyO
     return (PyObject *)self;
 }
 
-/* Notes where its journal is to be written. */
+/* Stores where its journal must be written. */
 static int storage_note(Storage *self, PyObject *journal)
 {
     if (self->is_made) {
@@ -56,7 +56,7 @@ static int storage_init(Storage *self, PyObject *words, PyObject *named)
     return failed || code != ASM_DONE ? -1 : 0;
 }
 
-/* A storage that opens with a state that is a text; a third word says whether it records. */
+/* A storage that opens with a state that is a text; a third argument says whether it records. */
 static PyObject *storage_opened(PyTypeObject *type, PyObject *words)
 {
     const uint8_t *text;
@@ -80,8 +80,8 @@ static PyObject *storage_opened(PyTypeObject *type, PyObject *words)
     return NULL;
 }
 
-/* A storage whose slot is empty, and its capacity, of the words (capacity, journal) of a call that opens it behind another. It
- * records where that one does. */
+/* A storage whose slot is empty, and its capacity, of the arguments (capacity, journal) of a call that opens it after another.
+ * It records if that one does. */
 Storage *storage_next_of(const Storage *behind, PyObject *words, PyObject *named, uint32_t *capacity)
 {
     static char *names[] = {"capacity", "journal", NULL};
@@ -135,7 +135,7 @@ static PyObject *storage_give(Storage *self, PyObject *it)
     return IS_FULL(self) ? agent_refused(agent, code) : storage_refused(self, code);
 }
 
-/* The error of a close: the numbers of the agents that aren't given back and have fired are noted before any object is made. */
+/* The error of a close: the numbers of the agents that fired and weren't returned are collected before any object is made. */
 static PyObject *missing(Storage *self, uint32_t move)
 {
     uint8_t noted[AGENTS];
@@ -146,7 +146,7 @@ static PyObject *missing(Storage *self, uint32_t move)
     return refuse(self->held.core, ASM_MISSING, "missing", "(Iy#i)", (unsigned)move, noted, count, self->is_abandoned);
 }
 
-/* Closes it; the number of moves that the journal has are those before, as a move that is fired meanwhile may not be in it. */
+/* Closes it. The number of moves that the journal has are those before, as a move that is fired meanwhile may not be in it. */
 static int32_t closes(Storage *self, uint32_t *move)
 {
     uint32_t moves = 0;
@@ -157,7 +157,7 @@ static int32_t closes(Storage *self, uint32_t *move)
     return code;
 }
 
-/* Closes it, and returns the number of the move that is missing, 0 where none is. */
+/* Closes it, and returns the number of the missing move, 0 if none is missing. */
 static PyObject *storage_close(Storage *self, PyObject *Py_UNUSED(none))
 {
     uint32_t move = 0;

@@ -1,10 +1,10 @@
-/* Writes values as JSON. It runs no code of Python's but what the collector of garbage may run where an iterator is made. */
+/* Writes values as JSON. It runs no Python code except what the garbage collector may run when an iterator is made. */
 #include <string.h>
 
 #include "core.h"
 
-/* What is written, which tells what a tuple is there: a list as a value, and an array else. Where one location is wanted (AT), a
- * str is one without arguments. */
+/* The kind of what is written, which decides what a tuple is there: a list as a value, and an array otherwise. If one location
+ * is expected (AT), a str is one without arguments. */
 enum { VALUE, MEMBERS, BAG, COUNT, PLACE, AT, PLACES, UPDATE, MOVE, PAIR, PAIRS, NAME, SCAN, SCANS };
 
 static const struct {
@@ -210,7 +210,7 @@ static int write_members(Core *core, Text *text, PyObject *value, int is_counter
     return failed || PyErr_Occurred() ? -1 : PUT(text, "]}");
 }
 
-/* The rest of what a value may be. */
+/* The remaining kinds of values. */
 static int write_other(Core *core, Text *text, PyObject *value)
 {
     if (PyBool_Check(value))
@@ -227,7 +227,7 @@ static int write_other(Core *core, Text *text, PyObject *value)
     return PyFloat_Check(value) ? write_float(text, value) : odd(text, value);
 }
 
-/* Whether a text is the name of a function; what isn't is the name of none, so a scan of it guards nothing. */
+/* Returns whether a text is the name of a function; what isn't is the name of none, so a scan of it guards nothing. */
 static int is_name(const char *at, Py_ssize_t len)
 {
     Py_ssize_t k = 0;
@@ -263,7 +263,7 @@ static int write_value(Core *core, Text *text, PyObject *value, int kind)
     return write_other(core, text, value);
 }
 
-/* Writes a value, which the call names so, behind the text; -1 with an exception. */
+/* Writes a value, which errors name this way, after the text. Returns -1 with an exception. */
 int write_more(Core *core, Text *text, PyObject *value, const char *name)
 {
     int kind = VALUE;
@@ -279,7 +279,7 @@ int write_more(Core *core, Text *text, PyObject *value, const char *name)
     return -1;
 }
 
-/* The same as a text of its own, which is ended where it fails. */
+/* The same as a separate text, which is freed on failure. */
 int write_named(Core *core, Text *text, PyObject *value, const char *name)
 {
     text_begin(text);
@@ -289,8 +289,8 @@ int write_named(Core *core, Text *text, PyObject *value, const char *name)
     return -1;
 }
 
-/* The text of a function's name, which lives as long as the name; null with an exception. Where something is to depend on the
- * function it has to be a name. */
+/* The text of a function's name, which lives as long as the name; null with an exception. If something must depend on the
+ * function, the text has to be a name. */
 const uint8_t *name_of(Core *core, PyObject *name, int is_guard, Py_ssize_t *len)
 {
     const char *at = PyUnicode_Check(name) ? PyUnicode_AsUTF8AndSize(name, len) : NULL;

@@ -199,7 +199,7 @@ def _bare(word: Any) -> Any:
 def play_all(
     turns: Turns, agents: Sequence[_A], works: Sequence[Callable[[_A], _R]], players: Sequence[Player]
 ) -> tuple[list[Any], dict[int, BaseException]]:
-    """Play each work on its own thread; return the results of the works and the errors."""
+    """Play each work on its own thread; return the works' results and their errors."""
     told: list[Any] = [None] * len(works)
     errors = dict[int, BaseException]()
 

@@ -1,1 +1,4 @@
-"""An engine of abstract state machines, and three machines: python3 -m folugben_engine runs them."""
+"""An engine of abstract state machines, and four machines.
+
+python3 -m folugben_engine runs them.
+"""

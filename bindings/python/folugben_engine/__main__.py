@@ -1,7 +1,7 @@
 """An engine of abstract state machines, and four machines.
 
-    python3 -m folugben_engine                   runs them, and says what was checked
-    python3 -m folugben_engine FOLDER [SECONDS]  runs the bank for so many seconds (10), or goes on with the run in the folder
+    python3 -m folugben_engine                   runs them, and reports what was checked
+    python3 -m folugben_engine FOLDER [SECONDS]  runs the bank for SECONDS (10), or continues the run in the folder
 """
 import sys
 
@@ -12,7 +12,7 @@ from .agents import run, run_on, states
 
 
 def live_on(path: str, seconds: float) -> None:
-    """The bank, without an end."""
+    """Run the bank without an end."""
     run_on(path, bank.INIT, bank.PROGRAMS, seconds)
     calls, moves, parts = audit(path)
     with Run.resume(path, check="last") as there, Storage(there.state()[1]) as storage, storage.agent(0) as agent:

@@ -1,4 +1,4 @@
-"""Agents that play programs, each on a thread of its own, and the states of a run."""
+"""Agents that play programs, each on its own thread, and the states of a run."""
 import json
 import time
 from collections.abc import Iterator
@@ -26,8 +26,13 @@ def live(storage: Storage | Run | SharedRun, number: int, program: Program, stop
 def live_all(
     storage: Storage | Run | SharedRun, programs: list[Program], seconds: float | None = None, first: int = 0
 ) -> None:
-    """Plays all programs, by agents from a first number on, until they are over, or for so many seconds. An error of one, as a
-    clash, ends all and is raised."""
+    """Play all programs, by agents from a first number on.
+
+    They play until they are over, or for the given number of seconds.
+
+    Raises:
+        the error of a program, such as a clash; it ends all of them.
+    """
     stop = Event()
     with ThreadPoolExecutor(len(programs)) as pool:
         try:
@@ -40,14 +45,20 @@ def live_all(
 
 
 def run(init: Any, programs: list[Program], record: bool = False) -> bytes:
-    """The journal of a run of all programs, with what their steps got where it records that."""
+    """Return the journal of a run of all programs.
+
+    If it records, the journal has the tracked reads of their steps.
+    """
     with Storage(init, 10_000, record=record) as storage:
         live_all(storage, programs)
         return storage.close_journal()
 
 
 def run_on(path: str, init: Any, programs: list[Program], seconds: float, moves: int = 100_000, record: bool = False) -> None:
-    """Plays the rules for so many seconds, in parts of so many moves; where the folder has a run, that goes on."""
+    """Play the rules for some seconds, in parts of some moves.
+
+    If the folder has a run, that run continues.
+    """
     endless: list[Program] = [(rule, lambda agent: False) for rule, _ in programs]
     try:
         there = Run.resume(path, moves, record=record)
@@ -58,7 +69,7 @@ def run_on(path: str, init: Any, programs: list[Program], seconds: float, moves:
 
 
 def states(journal: bytes) -> Iterator[Agent]:
-    """An agent at each state of the run: the moves are fired again, one by one."""
+    """Yield an agent at each state of the run: the moves are fired again, one by one."""
     header, *events = map(json.loads, journal.splitlines())
     with Storage(header["init"], header["capacity"]) as storage, storage.agent(0) as agent:
         yield agent

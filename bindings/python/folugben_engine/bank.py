@@ -1,4 +1,7 @@
-"""A bank: who needs money collects it from other accounts, one after the other and all in one step."""
+"""A bank: an account that needs money collects it from others, in one step.
+
+It collects from one account after the other.
+"""
 from folugben import Agent, Location
 
 from .rules import Choose, If, Iterate, Let, Par, Program, Seq, Update

@@ -1,4 +1,7 @@
-"""A colony: in each round every cell that can divides, so the universe of cells grows by what a forall adds."""
+"""A colony: in each round every cell that can divides.
+
+So the universe of cells grows by what a forall adds.
+"""
 from typing import Any
 
 from folugben import Agent, Location
@@ -10,7 +13,7 @@ INIT = {("cell", 0): ROUNDS, AGE: 0}
 
 
 def divided(at: tuple[Any, ...], left: int) -> Rule:
-    """Half of what it can still come to is the new cell's."""
+    """Give the new cell half of what the cell can still come to."""
     return Par(Update(at, left - 1), Update(("cell", at[1] + 2 ** (left - 1)), left - 1))
 
 

@@ -1,4 +1,4 @@
-"""A railroad crossing: a train that is near waits until the keeper has closed the gate."""
+"""A railroad crossing: a train near it waits until the keeper has closed the gate."""
 from folugben import Agent
 
 from .rules import Choose, If, Let, Program, Update

@@ -1,4 +1,4 @@
-"""Dining philosophers: each takes both forks at once, eats, and puts them back."""
+"""Dining philosophers: each picks up both forks at once, eats, and puts them back."""
 from typing import Any
 
 from folugben import Agent

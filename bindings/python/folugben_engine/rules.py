@@ -1,6 +1,7 @@
 """The rules of an abstract state machine, as objects that are played on a step.
 
-A location is a tuple ("name", argument, ..), or prepared. A term is a value, or a function of `see`, which tells a location's value.
+A location is a tuple ("name", argument, ..), or prepared. A term is a value, or a function of `see`, which returns the value
+of a location.
 """
 import random
 from collections.abc import Callable
@@ -18,19 +19,19 @@ def value_of(term: Any, step: Step) -> Any:
 
 
 class Rule:
-    """Each kind of rule defines one of the two, and the other one follows."""
+    """A rule; each kind of rule defines `updates` or `play`, and the other follows."""
 
     def __init__(self, *parts: "Rule") -> None:
         self.parts = parts
 
     def updates(self, step: Step) -> Move:
-        """All its updates, gathered into one move. A rule in sequence is played for that as a dry run."""
+        """Return all its updates as one move. For that, a rule in sequence has a dry run."""
         step.push(Move())
         is_any, move = self.play(step), step.pop_move()
         return move if is_any else Move()
 
     def play(self, step: Step) -> bool:
-        """Does what it updates, so that what is played next sees it. Whether that is anything."""
+        """Make its updates, visible to what is played next. Return whether there are any."""
         move = self.updates(step)
         step.extend(move)  # of what was pushed last: a sequence is one move deep
         return len(move) > 0
@@ -95,5 +96,5 @@ def Forall(name: str, where: Callable[..., object], body: Callable[..., Rule]) -
     return Derived(lambda step: Par(*(body(*pair) for pair in step.scan(name) if where(*pair))))
 
 
-# A rule that is played in step after step, and what tells when its agent is done with it.
+# A rule that is played in step after step, and the condition under which its agent is done with it.
 Program = tuple[Rule, Callable[[Agent | RunAgent | SharedAgent], bool]]

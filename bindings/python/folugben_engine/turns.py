@@ -1,4 +1,7 @@
-"""Runs by turns: a seed draws who goes on, so a run can be repeated, and a schedule that breaks an invariant is found again."""
+"""Runs by turns: a seed draws the agent that acts next.
+
+So a run can be repeated, and a schedule that breaks an invariant is found again.
+"""
 import random
 from functools import partial
 from typing import Any
@@ -17,7 +20,7 @@ def play(program: Program, agent: Agent) -> None:
 
 
 def run_by_turns(init: Any, programs: list[Program], seed: int) -> bytes:
-    """The journal of a run of all programs, the same for the same seed."""
+    """Return the journal of a run of all programs, the same for the same seed."""
     random.seed(seed)  # by which the rules choose
     with Storage(init, 10_000) as storage:
         agents = [storage.agent(number) for number in range(len(programs))]

@@ -1,4 +1,4 @@
-"""Where the repository is: a copy of these tests is told by FOLUGBEN_ROOT."""
+"""The path of the repository: FOLUGBEN_ROOT names it for a copy of these tests."""
 import os
 import pathlib
 

@@ -1,4 +1,7 @@
-"""What tests of the C part do in processes of their own: python3 core_work.py leaks|refusals|stress."""
+"""Work of the C part's tests in separate processes.
+
+usage: python3 core_work.py leaks|refusals|stress
+"""
 import contextlib
 import ctypes
 import gc
@@ -24,7 +27,7 @@ class _Memory(ctypes.Structure):
 
 
 def used() -> int:
-    """The bytes that malloc has handed out."""
+    """Return the number of bytes that malloc has handed out."""
     call = ctypes.CDLL(None).mallinfo2
     call.restype = _Memory
     told = call()
@@ -111,7 +114,7 @@ class World:
                 auditor.end(), auditor.state(), following.moves(), check(journal), list(folugben.trace(journal))
 
     def calls(self) -> dict[str, Callable[[], object]]:
-        """Each method, also where it is refused."""
+        """Yield each method, also for calls that are refused."""
         agent, at, move, step, wrong = self.agent, self.at, self.move, self.step, (1.5, 2**70, "\ud800", object(), {"a": 1}, [1])
         return {
             "begin": lambda: agent.step(), "fire": lambda: step(self.fire), "stale": lambda: step(self.be_stale),
@@ -155,7 +158,7 @@ def refused(call: Callable[[], object]) -> None:
     raise AssertionError("nothing was refused")
 
 
-# The calls that commit, which are made on a storage that records too.
+# The calls that commit; they are made on a storage that records too.
 COMMITS = {"fire", "stale", "play", "idle plays", "writes", "unite"}
 
 
@@ -164,7 +167,7 @@ def leaks(times: int = 1000) -> None:
     plain, records, left = World(100_000), World(100_000, record=True), {}
     calls = [*plain.calls().items(), *((name, call) for name, call in records.calls().items() if name in COMMITS)]
     for name, call in calls:
-        # Calls that leave receipts or moves keep memory, which the storage has.
+        # Calls that leave receipts or moves retain memory, which belongs to the storage.
         keeps = {"fire", "stale", "play", "read", "agent's fire", "stale fire", "close"}
         for _ in range(20):
             call()
@@ -174,14 +177,17 @@ def leaks(times: int = 1000) -> None:
             call()
         gc.collect()
         grown = used() - before
-        # The least that a call can leave is a chunk of malloc, of 32 bytes; the rest is what the heap itself needs.
+        # The smallest leak of a call is a chunk of malloc, of 32 bytes; the rest is what the heap itself needs.
         if grown > (2_000 if name in keeps else 24) * times:
             left[name] = grown
     assert not left, left
 
 
 def refusals() -> None:
-    """Refuses each allocation of each call in turn: the call raises MemoryError, or is done, and can be made again."""
+    """Refuse each allocation of each call in turn.
+
+    The call raises MemoryError, or is done, and can be repeated.
+    """
     library = ctypes.PyDLL(folugben._core.__file__)
     library.shim_left.restype = ctypes.c_long
     warnings.simplefilter("ignore")
@@ -208,7 +214,10 @@ def refusals() -> None:
 
 
 def _threads(seconds: float) -> None:
-    """Threads on the same agents, steps, locations, moves and storages, some of which are in long calls."""
+    """Run threads on the same agents, steps, locations, moves and storages.
+
+    Some of them are in long calls.
+    """
     storage, at, move = Storage([[["n"], 0], *([["y", k], "y" * 50] for k in range(2000))], 200_000), Location(["n"]), Move()
     agents = [storage.agent(k) for k in range(3)]
     steps, errors, end = [agents[0].step()], [], time.monotonic() + seconds
@@ -255,7 +264,10 @@ class Alarm(Exception):
 
 
 def _signals(seconds: float) -> None:
-    """A handler that calls in and raises, while steps are taken: each count is right behind that."""
+    """Run a handler that calls in and raises, while steps run.
+
+    Each count is right after that.
+    """
     signal.signal(signal.SIGINT, signal.default_int_handler)
     storage, n, m, move, mine = Storage([[["n"], 0], [["m"], 0], [["q"], 0]], 200_000), Location(["n"]), Location(["m"]), Move(), Move()
     agent, other = storage.agent(0), storage.agent(1)
@@ -269,7 +281,7 @@ def _signals(seconds: float) -> None:
         is_inside = True
         try:
             if (step := current[0]) is not None and not step.fired and step.depth < 60:
-                with contextlib.suppress(Error):  # as its agent may have gone on
+                with contextlib.suppress(Error):  # as its agent may have moved on
                     step.get(m), step.push([["inc", ["q"], 1]]), step.get([["n"], ["q"]])
             other.play(lambda it: it.push(mine.clear().inc(m, 1)))
             counts[0] += 1
@@ -303,7 +315,10 @@ def _signals(seconds: float) -> None:
 
 
 def _forks() -> None:
-    """A child of a fork amid calls of other threads is refused what its parent made, and makes its own."""
+    """Test a child of a fork amid calls of other threads.
+
+    It is refused what its parent made, and makes its own.
+    """
     storage, stop = Storage([[["n"], 0], *([["y", k], "y" * 50] for k in range(2000))], 200_000), threading.Event()
     agents = [storage.agent(k) for k in range(2)]
 
@@ -333,7 +348,7 @@ def _forks() -> None:
 
 
 def _raise_both(rounds: int = 500) -> None:
-    """Two agents raise a number by turns; the journal is legal."""
+    """Two agents increment a number by turns; the journal is legal."""
     with Storage({"n": 0}, 2 * rounds) as storage:
         with storage.agent(0) as one, storage.agent(1) as other:
             for agent in (one, other) * rounds:
@@ -342,7 +357,7 @@ def _raise_both(rounds: int = 500) -> None:
 
 
 def interpreters() -> None:
-    """Three interpreters at once, each on a thread, and this one."""
+    """Run three interpreters at once, each on a thread, and this one."""
     import _xxsubinterpreters as others
     code = f"import sys; sys.path[:0] = {sys.path!r}\nimport core_work; core_work._raise_both()"
     made, raised = [others.create() for _ in range(3)], []

@@ -1,4 +1,7 @@
-"""What a power failure may leave of a run's folder: states that are built from a log of the calls by which it was written."""
+"""States that a power failure may leave of a run's folder.
+
+They are built from a log of the calls by which the folder was written.
+"""
 import contextlib
 import os
 import stat
@@ -8,14 +11,17 @@ from folugben import _folder
 
 
 class Log:
-    """The calls that write, name and flush, in their order, and between them how many segments were reported as saved."""
+    """The calls that write, name and flush, in their order.
+
+    Between them is how many segments were reported as saved.
+    """
 
     def __init__(self, path, notes_folder=True):
         self.calls, self._path, self._notes_folder, self._names = [], str(path), notes_folder, {}
 
     @contextlib.contextmanager
     def noting(self):
-        """Logs what this process does."""
+        """Log what this process does."""
         real = {name: getattr(os, name) for name in ("open", "close", "write", "fsync", "rename", "unlink", "mkdir")}
 
         def opened(path, flags, mode=0o777, *, dir_fd=None):
@@ -74,7 +80,10 @@ class _File:
 
 
 def _left(file, rng):
-    """What is left of a file: what was flushed, and of the rest all, nothing, a beginning, or blocks of it."""
+    """Return a possible content of a file after the failure.
+
+    It is what was flushed, and of the rest all, nothing, a beginning, or blocks of it.
+    """
     style, text = rng.choice(("none", "all", "beginning", "blocks", "zeros")), file.durable
     rest = b"".join(file.pending)
     if style == "all":
@@ -87,7 +96,10 @@ def _left(file, rng):
 
 
 def crashed(calls, rng):
-    """A state that these calls may leave: the files by their names, or None without the folder; how many segments were saved."""
+    """Return a state that these calls may leave, and how many segments were saved.
+
+    The state is the files by their names, or None without the folder.
+    """
     now, names, pending, saved, is_there, is_made = {}, {}, [], 0, False, False
     for call, *words in calls:
         if call == "create":

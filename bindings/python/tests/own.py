@@ -1,4 +1,7 @@
-"""What Python's own values have to be for JSON, written apart from the package, and what gets return beside what is recorded."""
+"""Python's own values for JSON, and what gets return beside what is recorded.
+
+The conversion is written independently of the package.
+"""
 import contextlib
 import json
 import pathlib
@@ -12,7 +15,10 @@ from folugben._texts import encoded
 
 
 def value(it):
-    """A value as JSON has it, as Python's own: as it is where Python takes two elements of it for one."""
+    """Return a JSON value as Python's own.
+
+    It is unchanged if Python considers two of its elements equal.
+    """
     if not isinstance(it, dict):
         return it
     ((kind, members),) = it.items()
@@ -35,13 +41,16 @@ def pairs(it):
 
 
 def call(it):
-    """A move with its reads."""
+    """Return a move with its reads."""
     fire = tuple((word, place(at), *map(value, operands)) for word, at, *operands in it["fire"])
     return {"fire": fire, "reads": tuple((place(at), number) for at, number in it["reads"])}
 
 
 class Watch:
-    """Notes what gets return, and has `check` judge each journal with that in the place of what commits have recorded there."""
+    """Record what gets return, and check each journal with those values.
+
+    They replace what commits have recorded there.
+    """
 
     def __init__(self):
         self._check, self.faults = folugben.check, []
@@ -50,7 +59,7 @@ class Watch:
         self._got, self._reads, self._recorded = defaultdict(dict), Counter(), {}
 
     def got(self, step, places, values):
-        """Notes what was got of the state, through no pushed move."""
+        """Record what was read of the state, through no pushed move."""
         if step.depth == 0:
             names = (repr(place(json.loads(encoded(getattr(at, "place", at), "place")))) for at in places)
             self._got[step._agent._storage, step._own_number].update(zip(names, values))
@@ -59,7 +68,7 @@ class Watch:
         self._reads[agent._storage] += 1
 
     def closed(self, storage, journal):
-        """Judges the journal of a storage, and returns it."""
+        """Check the journal of a storage, and return it."""
         if storage.record:
             header, *events = journal.splitlines(keepends=True)
             reads = [at for at, line in enumerate(events) if b'"call":{"read"' in line]
@@ -73,7 +82,7 @@ class Watch:
         return journal
 
     def _as_got(self, storage, event):
-        """The line of a read, with what was got."""
+        """Return the line of a read, with what was read."""
         reply = event["reply"]
         got = self._got.get((storage, reply["number"]), {})
         for at, where in enumerate(event["call"]["read"]):
@@ -83,7 +92,10 @@ class Watch:
         return json.dumps(event, separators=(",", ":")).encode() + b"\n"
 
     def counted(self, counts, its):
-        """What `check` or `audit` has counted of a journal or a run, without the reads that commits have recorded."""
+        """Return the counts of `check` or `audit` without the reads that commits recorded.
+
+        The argument is a journal or a run.
+        """
         journals = [its] if isinstance(its, bytes) else [file.read_bytes() for file in pathlib.Path(its).glob("*.journal")]
         calls, *others = counts
         told = calls - sum(self._recorded.get(journal, 0) for journal in journals), *others
@@ -91,9 +103,12 @@ class Watch:
 
 
 class Recorded(unittest.TestCase):
-    """The tests of a case once more, with storages and runs that record. Calls are counted without the reads that commits record."""
+    """The tests of a case again, with storages and runs that record.
 
-    # What another commit of a step raises whose agent has gone on.
+    Calls are counted without the reads that commits record.
+    """
+
+    # What another commit of a step raises if its agent has moved on.
     again = folugben.CommitMovedError
 
     def setUp(self):

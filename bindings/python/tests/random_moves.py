@@ -1,4 +1,7 @@
-"""Random moves for the tests, and the model of tools/model, which is written from the page on formats alone."""
+"""Random moves for the tests, and the model of tools/model.
+
+The model is written from docs/FORMATS.md alone.
+"""
 import importlib
 import random
 import sys
@@ -16,7 +19,7 @@ WORDS = ["put", "add", "remove", "bagadd", "bagremove", "inc"]
 
 
 def model(name: str) -> Any:
-    """A module of the model."""
+    """Return a module of the model."""
     if MODEL not in sys.path:
         sys.path.append(MODEL)
     return importlib.import_module(name)

@@ -1,4 +1,4 @@
-"""What the tests of runs share: a folder for each test, rules, and processes of their own."""
+"""Shared parts of the tests of runs: folders, rules, and separate processes."""
 import contextlib
 import json
 import os
@@ -46,24 +46,27 @@ def until(is_so, seconds=60):
 
 
 def environment():
-    """That of a process which has the package that is tested, these tests, and the engine beside them."""
+    """Return the environment of a process for the tests.
+
+    It has the tested package, these tests, and the engine beside them.
+    """
     folders = [pathlib.Path(folugben.__file__).resolve().parents[1], *pathlib.Path(__file__).resolve().parents[:2]]
     return os.environ | {"PYTHONPATH": os.pathsep.join(map(str, folders))}
 
 
 def called(code, *words):
-    """What a program of Python does in a process of its own."""
+    """Run a Python program in a separate process; return what it does."""
     command = [sys.executable, "-c", code, *map(str, words)]
     return subprocess.run(command, capture_output=True, text=True, env=environment(), timeout=60)
 
 
 def segments(path):
-    """The files of a run's segments, in order."""
+    """Return the files of a run's segments, in order."""
     return sorted(path.glob("*.journal"))
 
 
 def text_of(path):
-    """A run as one text."""
+    """Return a run as one text."""
     return b"".join(file.read_bytes() for file in segments(path))
 
 
@@ -84,7 +87,10 @@ class Rooms(unittest.TestCase):
 
 
 def live_in_bank(path):
-    """What is killed: agents in threads that go on with a run of small parts, or begin it."""
+    """The program that is killed: threads of agents that continue or begin a run.
+
+    The run has small parts.
+    """
     # A segment is written in many pieces, so that some of them are cut.
     write = os.write
     os.write = lambda fd, data: write(fd, data[:20])

@@ -1,4 +1,7 @@
-"""A PostgreSQL server of its own for the tests, where Debian's postgresql and psycopg are installed."""
+"""A separate PostgreSQL server for the tests.
+
+It requires Debian's postgresql and psycopg.
+"""
 import contextlib
 import functools
 import importlib.util
@@ -12,14 +15,17 @@ import tempfile
 
 @functools.cache
 def programs():
-    """The folder of PostgreSQL's programs, or None."""
+    """Return the folder of PostgreSQL's programs, or None."""
     found = sorted(pathlib.Path("/usr/lib/postgresql").glob("*/bin/initdb"))
     has_driver = any(importlib.util.find_spec(name) for name in ("psycopg", "psycopg2"))
     return found[-1].parent if found and has_driver else None
 
 
 class Server:
-    """A server that listens on a socket in its own folder alone; it runs as another user where this one is root."""
+    """A server that listens only on a socket in its own folder.
+
+    It runs as another user if this process is root.
+    """
 
     def __init__(self):
         self.room = pathlib.Path(tempfile.mkdtemp(prefix="folugben-pg-"))
@@ -50,7 +56,7 @@ class Server:
         return f"postgresql://folugben@/postgres?host={self.room}#{schema}"
 
     def run(self, sql):
-        """What a statement returns, by a connection of its own."""
+        """Return the result of a statement, over a separate connection."""
         driver = importlib.import_module("psycopg" if importlib.util.find_spec("psycopg") else "psycopg2")
         with contextlib.closing(driver.connect(self.target("").partition("#")[0])) as connection:
             connection.autocommit = True

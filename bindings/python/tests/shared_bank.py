@@ -1,4 +1,7 @@
-"""What the tests of shared runs start in processes of its own: agents that transfer money, and say which moves were answered."""
+"""Programs that the tests of shared runs start in separate processes.
+
+Agents transfer money, and report which moves were answered.
+"""
 import json
 import random
 import sys
@@ -12,7 +15,7 @@ BANK = [[["account", own], MONEY] for own in range(ACCOUNTS)]
 
 
 def transfer(rng, mark):
-    """A rule that carries a mark, by which its move is found in the log."""
+    """Return a rule that has a mark, by which its move is found in the log."""
     from_, to = rng.sample(range(ACCOUNTS), 2)
 
     def rule(step):
@@ -23,7 +26,7 @@ def transfer(rng, mark):
 
 
 def live(target, first, agents, times):
-    """Plays so many transfers by each agent; a line for each that was answered."""
+    """Play this many transfers by each agent; print a line for each answered one."""
     lock = threading.Lock()
 
     def work(own):

@@ -1,4 +1,4 @@
-"""What holds of shared runs over each database: tests that a class for one of them takes."""
+"""Tests of shared runs over each database, for a class of one of them."""
 import io
 import json
 import os
@@ -21,20 +21,23 @@ from threads import in_threads
 
 
 class Shared(Rooms):
-    """What holds over each database."""
+    """Properties over each database."""
 
     def setUp(self):
         super().setUp()
         self.target = str(self.room / "bank.db")
 
     def whole(self):
-        """The run as one text."""
+        """Return the run as one text."""
         out = io.BytesIO()
         save(self.target, out)
         return out.getvalue()
 
     def assert_is_run(self, moves):
-        """The run is legal and has so many moves, each of which raised the count."""
+        """Check that the run is legal and has this many moves.
+
+        Each of them raised the count.
+        """
         self.assertEqual(audit(self.target).moves, moves)
         self.assertEqual(audit(io.BytesIO(self.whole())), audit(self.target))
         counts = [values[("count",)] for _, values in states(_Target(self.target))]
@@ -207,7 +210,7 @@ class Plays(Shared):
                 era.agents[0] = 7
                 for _ in range(5):
                     agent.play(raised)
-                # Whoever comes second to save it finds the other's.
+                # The second process to save it finds the other's.
                 until(lambda: other._worker._fault is not None or run._worker._fault is not None)
                 ben.follow()
                 agent.follow()
@@ -309,7 +312,10 @@ with SharedRun(sys.argv[1], bank.INIT, 50) as run:
         return self.kill(8, 4, 20, kills)
 
     def kill(self, processes, agents, times, kills):
-        """Has so many processes go on with one run, of which some are killed; nothing that was answered is lost or done twice."""
+        """Run processes on one run, and kill some of them.
+
+        No answered move is lost or done twice.
+        """
         rng, told = random.Random(), []
 
         def start(place):
@@ -333,7 +339,10 @@ with SharedRun(sys.argv[1], bank.INIT, 50) as run:
         return self.assert_kept([json.loads(line) for line in told if line.endswith("]")])
 
     def assert_kept(self, told):
-        """Each answered move is in the run once, with its number, and each state has the sum."""
+        """Check that each answered move is in the run once, with its number.
+
+        Each state has the sum.
+        """
         marks = []
         for _, values in states(_Target(self.target)):
             self.assertEqual(sum(values["account", own] for own in range(ACCOUNTS)), ACCOUNTS * MONEY)
@@ -347,7 +356,7 @@ with SharedRun(sys.argv[1], bank.INIT, 50) as run:
 
 
 class _Target:
-    """Stands for a run."""
+    """A stand-in for a run."""
 
     def __init__(self, target):
         self.path = target

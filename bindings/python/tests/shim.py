@@ -1,5 +1,8 @@
-"""Builds the package with a C part that watches itself: it aborts where a slot is in two calls at the same time, sleeps a moment now
-and then, so that calls meet, and refuses an allocation that it is told."""
+"""Build the package with a C part that watches itself.
+
+It aborts if a slot is in two calls at the same time, sleeps a moment now and then, so that calls meet, and refuses a chosen
+allocation.
+"""
 import os
 import pathlib
 import re
@@ -55,7 +58,7 @@ static void leave(const void *slot) {
 
 
 def wrapper(result: str, name: str, words: str) -> str:
-    """A wrapper of a call that has slots; empty for another one."""
+    """Return a wrapper of a call that has slots; empty for another call."""
     names = [re.findall(r"\w+", word)[-1] for word in words.split(",")]
     slots = [own for own, word in zip(names, words.split(",")) if re.search(r"asm_slot \*", word)]
     if not slots:
@@ -76,7 +79,7 @@ def can_build() -> bool:
 
 
 def build(room: pathlib.Path) -> None:
-    """Puts the package into a folder."""
+    """Put the package into a folder."""
     package = room / "folugben"
     shutil.copytree(PACKAGE, package, ignore=shutil.ignore_patterns("*.so", "__pycache__"))
     text = re.sub(r"/\*.*?\*/", "", HEADER.read_text(), flags=re.S).replace("FOLUGBEN_NODISCARD ", "")

@@ -1,12 +1,14 @@
-"""Runs that are stressed for longer than a test may take.
+"""Stress tests of runs, for longer than a test may take.
 
 usage: stress.py threads SECONDS | kills N | failures N | flips N | processes N | servers N | day SECONDS
 
-`threads` has 4 agents in threads raise one number, in parts of 200 moves; `kills` kills a process so often and resumes its run;
-`failures` resumes from so many states that a power failure may leave; `flips` alters so many bits and lengths of files. `processes`
-has 8 processes of 4 agents on a shared run over SQLite, of which it kills so many; `servers` does so over PostgreSQL, and kills and
-starts the server after about each third. `day` has 24 hours of one move each so many seconds, by a clock that doesn't wait, in
-parts of half that time.
+- `threads`: 4 agents in threads increment one number, in parts of 200 moves.
+- `kills`: kills a process N times and resumes its run.
+- `failures`: resumes from N states that a power failure may leave.
+- `flips`: alters N bits and lengths of files.
+- `processes`: 8 processes of 4 agents work on a shared run over SQLite; N of them are killed.
+- `servers`: the same over PostgreSQL; the server is killed and started after about each third.
+- `day`: 24 hours of one move per SECONDS, by a clock that doesn't wait, in parts of half that time.
 """
 import pathlib
 import sys
@@ -42,7 +44,7 @@ def threads(seconds):
 
 
 def tried(case, name, method, *words):
-    """What a method of a test case returns, in a room of its own."""
+    """Return the result of a test case's method, in a room of its own."""
     it = case(name)
     it.setUp()
     try:

@@ -1,6 +1,6 @@
-"""All tests of the package and of the engine: python3 bindings/python/tests/test.py [-v] [-k NAME]
+"""All tests: python3 bindings/python/tests/test.py [-v] [-k NAME]
 
-FOLUGBEN_ROOT is the repository, where this is a copy of the tests.
+They cover the package and the engine. For a copy of the tests, FOLUGBEN_ROOT names the repository.
 """
 import pathlib
 import sys

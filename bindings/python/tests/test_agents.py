@@ -16,7 +16,7 @@ COUNT = [["count"]]
 
 
 def add_one(agent: Agent) -> int:
-    """Adds 1 to the count, however often another agent is quicker."""
+    """Add 1 to the count, however often another agent is faster."""
     while True:
         number, (count,) = agent.read(COUNT)
         try:

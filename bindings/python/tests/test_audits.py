@@ -1,4 +1,7 @@
-"""Audits: runs of several parts, in chunks of any length, with each kind of fault, and the commands that take them."""
+"""Tests of audits and of the commands that run them.
+
+They cover runs of several parts, in chunks of any length, with each kind of fault.
+"""
 import contextlib
 import io
 import json
@@ -24,7 +27,7 @@ APART, CUT, EMPTY, ILLEGAL, LONG_LINE, NO_PART, NOT_JSON, SHAPE, VERSION = map(
 
 
 def parts_of_a_run(seed: int, count: int = 4) -> list[bytes]:
-    """The journals of a run of random moves, some of which are stale or clash."""
+    """Return the journals of a run of random moves, some of which are stale or clash."""
     rng = random.Random(seed)
     storage, journals = Storage(INIT, 1_000), []
     for _ in range(count):
@@ -44,7 +47,7 @@ def parts_of_a_run(seed: int, count: int = 4) -> list[bytes]:
 
 
 def fed(text: bytes, size: int) -> tuple[object, ...]:
-    """What an audit tells of the bytes in chunks of this size."""
+    """Return the result of an audit of the bytes in chunks of this size."""
     auditor = Auditor()
     try:
         for start in range(0, len(text), size):
@@ -67,7 +70,7 @@ class Audits(unittest.TestCase):
         cls.text = b"".join(cls.journals)
 
     def assert_told(self, text: bytes, *wanted: object) -> None:
-        """The same in chunks of each size; what is told of a fault begins so."""
+        """Check the same in chunks of each size; the report of a fault begins so."""
         told = [fed(text, size) for size in (1, 61, 4096, 1 << 20)]
         self.assertEqual(told, told[:1] * 4)
         self.assertEqual(told[0][: len(wanted)], wanted)

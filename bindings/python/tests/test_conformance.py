@@ -1,4 +1,7 @@
-"""The table of calls and answers that every package gives: bindings/conformance has it, and says what its lines are."""
+"""Tests against the table of calls and answers that every package must return.
+
+bindings/conformance has the table, and describes its lines.
+"""
 import json
 import unittest
 
@@ -12,7 +15,7 @@ FORMS = ["LOCATIONS", "MOVE", "STATE", "EVENT", "SCRIPT"]
 
 
 class Replayer:
-    """Does the calls of a table's lines; each method returns the answer."""
+    """Runs the calls of a table's lines; each method returns the answer."""
 
     def __init__(self):
         self.case("")
@@ -114,7 +117,7 @@ class Replayer:
         return folugben.explain(FORMS.index(form), text)
 
     def answer(self, name, *words):
-        """The answer to a call, in the words of the table."""
+        """Return the answer to a call, in the words of the table."""
         try:
             if name in ("get", "see", "push", "extend", "pop", "offer"):
                 return self.on_step(name, *words)
@@ -130,13 +133,16 @@ class Replayer:
 
 
 def refused(error):
-    """What the table has of an error: its code, and where and why, and its numbers, with that of the part in an audit."""
+    """Return the table's form of an error.
+
+    It has its code, and where and why, and its numbers, with that of the part in an audit.
+    """
     part = [error.part] if isinstance(error, BadJournalError) and error.part is not None else []
     return {"error": error.code.name, "said": error.said, "numbers": [*error.numbers, *part]}
 
 
 def in_python(call, wanted):
-    """An answer of the table in Python's own values."""
+    """Return an answer of the table in Python's own values."""
     if isinstance(wanted, dict):
         if "said" in wanted and call not in ("check", "audit"):
             # Of values, and not of a line of JSON.
@@ -160,7 +166,7 @@ class Conformance(unittest.TestCase):
             told = {key: value for key, value in told.items() if key in wanted}
         wanted = in_python(call, wanted)
         told, wanted = (sorted(it.items()) if isinstance(it, dict) else it for it in (told, wanted))
-        # True is another value than 1.
+        # True and 1 are different values.
         self.assertEqual(repr(told), repr(wanted), where)
 
     def test_each_line_is_answered_so(self):

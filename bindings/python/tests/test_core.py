@@ -1,4 +1,7 @@
-"""Tests of the C part: memory, refused memory, and what comes together: python3 test.py runs them too."""
+"""Tests of the C part: memory, refused memory and concurrency.
+
+python3 test.py runs them too.
+"""
 import ctypes
 import os
 import pathlib

@@ -1,4 +1,4 @@
-"""Runs that were damaged, or cut off by a power failure, or whose lines would be too long."""
+"""Tests of runs with damage, a power failure, or lines that are too long."""
 import contextlib
 import random
 import shutil
@@ -21,7 +21,7 @@ class Folders(Rooms):
                 agent.play(raised)
 
     def assert_refused(self, number, is_last=True):
-        """All that read refuse the run, and nothing in it is changed."""
+        """Check that all readers refuse the run, and that nothing in it is changed."""
         before = {it.name: it.read_bytes() for it in self.path.iterdir()}
         for call in (audit, verify, Run.resume, *[lambda path: Run.resume(path, check="last")] * is_last):
             with self.assertRaises(DamagedError) as caught:
@@ -79,13 +79,13 @@ class Folders(Rooms):
             self.assert_refused(number)
             shutil.rmtree(self.path)
             copy.rename(self.path)
-        # What a copy or an editor leaves beside them doesn't matter, nor that the last segments were removed.
+        # Files that a copy or an editor leaves there have no effect, and neither does the removal of the last segments.
         (self.path / "notes").touch()
         (self.path / names[4]).unlink()
         self.assertEqual(audit(self.path), (12, 12, 4))
 
     def replace_last(self, text, moves, events):
-        """Has a text of these numbers, with a right digest, in the place of the last segment."""
+        """Replace the last segment by a text of these numbers, with a right digest."""
         segments(self.path)[4].unlink()
         writer, _ = RunWriter.resumed(self.path)
         writer.save(memoryview(text), moves, events)
@@ -151,7 +151,7 @@ class AtWork(Rooms):
 
 
 class PowerFailures(Rooms):
-    """A run whose machine fails at a random moment has all that was reported as saved."""
+    """After a failure at a random moment, a run has all that was reported as saved."""
 
     def fail(self, times, notes_folder=True):
         rng, lost = random.Random(times), 0
@@ -175,7 +175,7 @@ class PowerFailures(Rooms):
                         run.flush()
 
     def goes_on(self, files, saved, rng):
-        """Whether a run goes on with what a failure has left, with all that was saved."""
+        """Return whether a run continues after a failure, with all that was saved."""
         path = self.room / "left"
         shutil.rmtree(path, ignore_errors=True)
         if files is not None:
@@ -289,7 +289,7 @@ class Lines(Rooms):
             self.assertEqual(audit(path).moves, len(places) + len(gets) * (1 if record else 2))
 
     def test_what_the_checks_let_pass_is_not_written(self):
-        """The writer looks at what it writes."""
+        """The writer checks what it writes."""
         with mock.patch("folugben._run_agent.SHORT", 10**9), self.assertRaises(BrokenError) as caught:
             with Run(self.path, [], 100) as run, run.agent(0) as agent:
                 agent.fire([["put", ["x"], "x" * 20_000]])

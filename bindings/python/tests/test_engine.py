@@ -1,4 +1,7 @@
-"""Tests of the engine's rules and machines, and of the page on it: python3 test.py runs all tests."""
+"""Tests of the engine's rules and machines, and of the page on it.
+
+python3 test.py runs all tests.
+"""
 import json
 import pathlib
 import re
@@ -36,7 +39,7 @@ class Rules(unittest.TestCase):
         self.agent, self.rival = self.storage.agent(0), self.storage.agent(1)
 
     def played(self, rule, *places):
-        """The values at the locations once the rule has fired."""
+        """Return the values at the locations once the rule has fired."""
         with self.agent.step() as step:
             rule.play(step)
             step.commit()
@@ -106,7 +109,7 @@ class Rules(unittest.TestCase):
         self.assertEqual(self.played(rule, COUNT, ["inner"], ["beside"]), [10, 10, 3])
 
     def test_a_dry_run_is_rested_on(self):
-        # In sequence these come to nothing, but on a number alone.
+        # In sequence these come to nothing, except on a number.
         rule = Par(Seq(Instruction("inc", COUNT, 1), Instruction("inc", COUNT, -1)), Update(["g"], 1))
         with self.agent.step() as step:
             rule.play(step)
@@ -119,7 +122,10 @@ class Rules(unittest.TestCase):
         rival, texts = self.rival, ["no number", "none"]
 
         class Raised(Rule):
-            """Raises the count, on which it rests in no other way, and has a rival overwrite it twice."""
+            """Increment the count, on which it depends in no other way.
+
+            A rival overwrites it twice.
+            """
 
             def play(self, step):
                 step.push([["inc", COUNT, 1]])

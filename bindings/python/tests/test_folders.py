@@ -1,4 +1,4 @@
-"""The folders of runs: to whom they belong, what is in them, and runs that are killed and resumed."""
+"""Tests of the folders of runs: owners, content, and killed and resumed runs."""
 import contextlib
 import fcntl
 import hashlib
@@ -125,7 +125,10 @@ class Folders(Rooms):
         self.assert_resumed(10)
 
     def assert_resumed(self, times):
-        """Kills a process at random moments of its run; each folder goes on, and keeps the sum of all accounts."""
+        """Kill a process at random moments of its run.
+
+        Each folder continues, and retains the sum of all accounts.
+        """
         code = "import sys, rooms; rooms.live_in_bank(sys.argv[1])"
         rng, before, leftovers = random.Random(), 0, 0
         for _ in range(times):

@@ -1,4 +1,7 @@
-"""Tests of calls that signal handlers and finalizers make in the midst of others: python3 test.py runs them too."""
+"""Tests of calls that signal handlers and finalizers make during other calls.
+
+python3 test.py runs them too.
+"""
 import contextlib
 import gc
 import signal
@@ -11,7 +14,7 @@ from threads import in_threads
 
 
 class Alarm(Exception):
-    """What a handler raises."""
+    """The exception of a handler."""
 
 
 class Interrupts(unittest.TestCase):
@@ -24,7 +27,7 @@ class Interrupts(unittest.TestCase):
         self.addCleanup(self.agent.free)
 
     def interrupted(self, handler: Callable[[], object], work: Callable[[], bool]) -> None:
-        """Does the work until it says that it is done, while a timer calls the handler again and again."""
+        """Repeat the work until it is done, while a timer calls the handler repeatedly."""
         was = signal.signal(signal.SIGALRM, lambda *_: handler())
         self.addCleanup(signal.signal, signal.SIGALRM, was)
         self.addCleanup(signal.setitimer, signal.ITIMER_REAL, 0)
@@ -35,7 +38,7 @@ class Interrupts(unittest.TestCase):
         signal.setitimer(signal.ITIMER_REAL, 0)
 
     def assert_fit(self):
-        """No lock is held and no thread counted as in a call."""
+        """Check that no lock is held and no thread counted as in a call."""
         self.assertEqual(in_threads(lambda _: self.agent.read([["own"]]), 1), ([], True))
         self.assertEqual(self.agent.read([["own"]]), (0, [1]))
 
@@ -131,7 +134,10 @@ class Interrupts(unittest.TestCase):
         self.assert_fit()
 
     def test_finalizers_and_handlers_call_anything_at_any_moment(self):
-        """Garbage is collected amid all calls; what it calls is done before or behind the call that it interrupts."""
+        """Garbage is collected amid all calls.
+
+        What it calls is done before or after the call that it interrupts.
+        """
         own, other, rival, done = Location(["own"]), Location(["other"]), self.storage.agent(1), [0, 0]
 
         class Garbage:

@@ -1,4 +1,7 @@
-"""Tests of an agent's own state and of storages that go on: python3 test.py runs all tests."""
+"""Tests of an agent's own state and of storages that continue from one.
+
+python3 test.py runs all tests.
+"""
 import json
 import unittest
 
@@ -35,7 +38,7 @@ class Looks(unittest.TestCase):
     def test_a_fire_rests_on_the_whole_functions_of_its_scans(self):
         number, found = self.agent.scan("f")
         self.assertEqual(self.agent.fire([["put", ["count"], len(found)]], scans=[("f", number), ("none", number)]), 1)
-        # A phantom: a location that had no value makes it stale, and is told.
+        # A phantom: a location that had no value makes it stale, and is reported.
         self.rival.fire([["put", ["f", 7], 1]])
         with self.assertRaises(StaleError) as caught:
             self.agent.fire([["put", ["count"], 9]], [[["g"], 0]], [["g", 0], ["f", number]])
@@ -70,7 +73,7 @@ class Looks(unittest.TestCase):
                     call(*arguments)
                 self.assertEqual(caught.exception.code, folugben.Code.AHEAD)
                 self.assertEqual(str(caught.exception), said + '["f", 1] is named at 1, and the agent has seen 0')
-            # It is none that the agent has seen, though it was fired.
+            # The agent has not seen this move, though it was fired.
             self.rival.fire([])
         self.assertEqual((self.agent.seen, self.agent.misses), (0, 0))
         self.assertEqual(self.agent.follow(), 2)
@@ -132,7 +135,7 @@ class Next(unittest.TestCase):
             journal = first.close_journal()
             second = first.next(3)
             self.assertEqual(first.close_journal(), journal)
-        # It needs the first one no more, and its agents have their numbers anew.
+        # It needs the first one no more, and its agents have their numbers again.
         with second:
             with second.agent(0) as agent:
                 self.assertEqual(agent.read([["count"], ["f", 1], ["g"]]), (0, [5, "one", None]))

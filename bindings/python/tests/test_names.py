@@ -1,4 +1,7 @@
-"""Tests of names: those of before, what a retry loop catches, and a package without its compiled part: python3 test.py runs them too."""
+"""Tests of former names, retry loops, and a package without its compiled part.
+
+For retry loops they test what such a loop catches. python3 test.py runs them too.
+"""
 import pathlib
 import shutil
 import subprocess

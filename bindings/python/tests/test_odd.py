@@ -1,4 +1,7 @@
-"""Tests of odd use: what is lost or mixed up by none of it, and what is said of what is refused: python3 test.py runs them too."""
+"""Tests of odd use: nothing is lost or mixed up, and refusals are explained.
+
+python3 test.py runs them too.
+"""
 import signal
 import time
 import unittest
@@ -11,7 +14,7 @@ from folugben import Error, Location, Move, Storage, check, explain, replay, sta
 
 
 class Short(bytes):
-    """Bytes that tell another length."""
+    """Bytes that report another length."""
 
     def __len__(self) -> int:
         return 2**40
@@ -21,7 +24,7 @@ class Short(bytes):
 
 
 class Cunning(int):
-    """A number that is above and below all."""
+    """A number that is above and below all others."""
 
     def __lt__(self, other: object) -> bool:
         return True
@@ -117,11 +120,11 @@ class Odd(unittest.TestCase):
 
 
 class Stop(Exception):
-    """What a handler raises."""
+    """The exception of a handler."""
 
 
 class Signals(unittest.TestCase):
-    """What a signal handler raises comes before a call or behind it."""
+    """The exception of a signal handler comes before or after a call."""
 
     def setUp(self) -> None:
         self.storage = Storage([[["n"], 0]], 10_000)
@@ -153,7 +156,7 @@ class Signals(unittest.TestCase):
                 is_ready = False
             except Stop:
                 raised += 1
-            # What the handler raises comes before the call or behind it.
+            # The exception of the handler comes before or after the call.
             self.assertIn(len(move) - before, (0, 1))
             if len(move) > 2000:
                 self.assertEqual(self.pushed(move), len(move))
@@ -162,7 +165,7 @@ class Signals(unittest.TestCase):
         self.assertEqual(self.pushed(move), len(move))
 
     def pushed(self, move: Move) -> int:
-        """The count as it is behind the move."""
+        """Return the count after the move."""
         with self.agent.step() as step:
             step.push(move)
             told: int = step.get(self.count)

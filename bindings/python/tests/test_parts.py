@@ -1,4 +1,7 @@
-"""Runs without an end: agents that go on from part to part, by numbers of the run, and parts that keep too much."""
+"""Tests of runs without an end.
+
+Agents go on from part to part, by numbers of the run, and parts exceed the limit of receipts.
+"""
 import contextlib
 import gc
 import itertools
@@ -129,13 +132,13 @@ class Parts(Rooms):
                 agent.fire([], scans=[("count", 0)])
             with self.assertRaisesRegex(Error, 'scan 1: "count" is named at 8, and the agent has seen 7'):
                 agent.fire([], scans=[("count", 8)])
-            # The eighth move is the part's last: the next part opens with what that leaves, at the same number.
+            # The eighth move is the part's last: the next part opens with the state after it, at the same number.
             seen, _ = agent.read([COUNT])
             other.fire([["put", ["else"], 1]])
             self.assertEqual((seen, agent.follow()), (7, 8))
             self.assertEqual(agent.read([COUNT]), (8, [7]))
             self.assertEqual(agent.fire([["put", COUNT, 9]], [(COUNT, 8)]), 9)
-            # A fire that names nothing goes on by itself.
+            # A fire that names nothing continues by itself.
             self.assertEqual([agent.fire([["inc", COUNT, 1]]) for _ in range(10)], list(range(10, 20)))
         self.assertEqual(audit(self.path).moves, 19)
 
@@ -165,7 +168,7 @@ class Parts(Rooms):
                 with self.assertRaisesRegex(Error, "the agent was given back"):
                     call()
             self.assertEqual((first.won, first.seen, repr(first)), (1, 1, "<RunAgent 0, given back>"))
-            # In the same part it is taken again, with what it has seen and its receipts.
+            # In the same part it is checked out again, with what it has seen and its receipts.
             for number in range(2, 12):
                 with run.agent(0) as again:
                     self.assertEqual((again.won, again.play(raised)[0], again.won), (0, number, 1))
@@ -289,10 +292,13 @@ class Parts(Rooms):
 
 
 class Random(Rooms):
-    """Agents that do whatever agents do, in small parts, each of which may end in any way."""
+    """Agents act at random, in small parts, each of which may end in any way."""
 
     def live(self, run, own, rng, told):
-        """Takes an agent, does something with it, and lets it go, again and again. The numbers of the moves that it fired."""
+        """Repeatedly check an agent out, act with it, and release it.
+
+        Return the numbers of the moves that it fired.
+        """
         for _ in range(rng.randrange(5, 15)):
             with run.agent(own) as agent:
                 for _ in range(rng.randrange(8)):
@@ -339,7 +345,10 @@ class Random(Rooms):
 
 
 class Receipts(Rooms):
-    """A part that keeps too much ends before it is full, when all its agents are between two steps."""
+    """A part that retains too much ends early, once its agents are at rest.
+
+    At rest they are between two steps.
+    """
 
     def stale(self, agent, other, times):
         for _ in range(times):
@@ -360,7 +369,7 @@ class Receipts(Rooms):
                 self.assertEqual(agent.follow(), number)
             until(lambda: run.parts >= 4)
         calls, moves, parts = audit(self.path)
-        # A read that looked on to a part that was to end is read again.
+        # A read that polled on to a part that had to end is repeated.
         self.assertEqual((calls >= 630, moves), (True, 30))
         self.assertLessEqual(max(check(journal)[0] for journal in self.journals()), 200)
         self.assertEqual(self.last_state(), [(COUNT, 30)])

@@ -1,4 +1,7 @@
-"""Tests of calls without text, prepared locations and gathered moves: python3 test.py runs them too."""
+"""Tests of calls without text, prepared locations and moves that collect.
+
+python3 test.py runs them too.
+"""
 import copy
 import json
 import pickle
@@ -24,7 +27,7 @@ SET, BAG = {"set": [None, True, 1, "a"]}, {"bag": [[None, 5], [True, 5], [1, 5],
 
 
 def gather(move, places, instruction):
-    """Gathers an instruction of a list, and prepares its location where there is none."""
+    """Append an instruction of a list, and prepare its location if there is none."""
     word, place, *operands = instruction
     key = json.dumps(place)
     if key not in places:
@@ -41,7 +44,7 @@ class Plain(unittest.TestCase):
         self.agent, self.rival = self.storage.agent(0), self.storage.agent(1)
 
     def code_of(self, call, *arguments):
-        """The code of the error that the call raises, and what it says."""
+        """Return the code of the error that the call raises, and its message."""
         with self.assertRaises(Error) as caught:
             call(*arguments)
         return caught.exception.code, caught.exception.said
@@ -199,7 +202,7 @@ class Plain(unittest.TestCase):
             popped = step.pop_move()
             self.assertEqual((step.depth, step.get(count), step.get(total)), (1, 1, None))
             self.assertEqual((len(popped), repr(popped)), (1, "<Move, popped, and 0 instructions more>"))
-            # More is gathered behind it, and it is pushed any number of times.
+            # Another instruction is appended to it, and it is pushed any number of times.
             step.push(popped)
             self.assertEqual((step.depth, step.get(count), step.get(total)), (2, 6, {1, 2}))
             step.extend(popped.inc(count, 10))
@@ -371,7 +374,7 @@ class Plain(unittest.TestCase):
         self.assertEqual(check(storage.close_journal())[1], 801)
 
 class RecordedPlain(own.Recorded, Plain):
-    # A step commits there whose agent has gone on.
+    # In that test a step commits whose agent has moved on.
     test_what_is_over_or_freed_or_moved_on = None
 
 

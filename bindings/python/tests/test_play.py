@@ -1,4 +1,7 @@
-"""Tests of rules that are played, and of what errors say: python3 test.py runs them too."""
+"""Tests of rules that are played, and of messages of errors.
+
+python3 test.py runs them too.
+"""
 import threading
 import time
 import unittest
@@ -16,7 +19,7 @@ for _ in range(200):
 
 class Plays(Rooms):
     def agents(self):
-        """Two agents of a storage, and two of a run, which play in the same way."""
+        """Return two agents of a storage, and two of a run, which play in the same way."""
         storage = Storage({"count": 0}, 1000)
         self.addCleanup(storage.free)
         run = Run(self.path, {"count": 0}, 1000)
@@ -172,7 +175,7 @@ class Said(unittest.TestCase):
         self.assertEqual(check(self.closed())[1], 2)
 
     def closed(self):
-        """The journal, once those are back that the test has dropped."""
+        """Return the journal, once the agents that the test has dropped are returned."""
         self.agent.give()
         return self.storage.close_journal()
 

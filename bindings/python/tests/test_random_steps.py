@@ -14,13 +14,13 @@ moves, values = random_moves.model("moves"), random_moves.model("values")
 
 
 class Twin:
-    """What the model tells of a step: the state below, and the moves over it, each with those that extend it."""
+    """The model of a step: the state below, and the moves over it with extensions."""
 
     def __init__(self, pairs):
         self.below, self.frames = values.read_state(json.loads(encoded(pairs, "state"))), []
 
     def after(self, *further):
-        """The pairs that are seen through the moves and further ones."""
+        """Return the pairs that are seen through the moves and further ones."""
         state = dict(self.below)
         for move in [*sum(self.frames, []), *further]:
             for at, value in moves.updates_on(state, list(map(moves.read_instruction, move))).items():
@@ -40,7 +40,7 @@ class Twin:
 
 
 def up_to(journal, number):
-    """The state that the first moves of a journal leave, so many of them."""
+    """Return the state after the first moves of a journal, this many."""
     header, *events = journal.splitlines()
     fired = 0
     for count in range(len(events) + 1):
@@ -53,7 +53,10 @@ def up_to(journal, number):
 
 class RandomSteps(unittest.TestCase):
     def grown(self, step, twin, word, move):
-        """Pushes or extends; whether that, the model and firing in turn all do it. Else all tell the same clash."""
+        """Push or extend, and check that the model and firing in turn do the same.
+
+        Return whether all of them do it. Otherwise all report the same clash.
+        """
         try:
             expected = twin.after(move)
         except moves.Clash as clash:
@@ -69,7 +72,10 @@ class RandomSteps(unittest.TestCase):
         return True
 
     def fired_in_turn(self, twin, *further):
-        """The state that the moves leave on a copy, one fired after the other, or the clash of the last one."""
+        """Return the state after the moves on a copy, or the clash of the last one.
+
+        The moves are fired one after the other.
+        """
         with Storage(values.pairs_json(twin.below)) as storage, storage.agent(0) as agent:
             try:
                 for move in [*sum(twin.frames, []), *further]:
@@ -80,7 +86,7 @@ class RandomSteps(unittest.TestCase):
             return agent.state()[1]
 
     def assert_seen(self, rng, step, twin):
-        """What is got and scanned is what the model tells."""
+        """Check that gets and scans return the values of the model."""
         pairs = twin.after()
         found = {repr(at): value for at, value in pairs}
         places = rng.sample(random_moves.PLACES, rng.randrange(4))
@@ -89,7 +95,7 @@ class RandomSteps(unittest.TestCase):
         self.assertEqual(repr(step.scan(name)), repr([pair for pair in pairs if pair[0][0] == name]))
 
     def run_step(self, rng, agent, number):
-        """A step of random calls, which is the move of this number."""
+        """Run a step of random calls, which is the move of this number."""
         with agent.step() as step:
             self.assertEqual(step.number, number - 1)
             twin = Twin(agent.state()[1])
@@ -138,7 +144,7 @@ class Threads(unittest.TestCase):
             with storage.agent(own) as agent:
                 while done < 20:
                     with agent.step() as step:
-                        # What is scanned by the step makes it stale more often than what its agent scans.
+                        # A scan of the step makes it stale more often than a scan of its agent.
                         scan = step.scan if rng.random() < 0.2 else lambda name: agent.scan(name)[1]
                         looks.append((step.number, scan("account")))
                         transfer(rng, step, own)

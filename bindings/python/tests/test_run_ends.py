@@ -1,4 +1,7 @@
-"""How runs end: by close, by an agent that is lost or a write that fails, in a fork, and where signal handlers raise."""
+"""Tests of how runs end.
+
+They end by close, by a lost agent or a failed write, in a fork, and by signal handlers that raise.
+"""
 import errno
 import gc
 import json
@@ -95,7 +98,7 @@ class Ends(Rooms):
             self.assertEqual((broken.part, type(broken.__cause__)), (parts, MissingError))
             self.assertRegex(str(broken), f"part {parts} couldn't be written: .*agent 2 was abandoned")
         self.assertEqual(audit(self.path).moves, 20 * (parts - 1))
-        # What was whole goes on.
+        # The complete part continues.
         with Run.resume(self.path, 20) as run, run.agent(2) as agent:
             self.assertEqual(agent.play(raised), (20 * (parts - 1) + 1, None))
 
@@ -117,7 +120,7 @@ class Ends(Rooms):
         counts = audit(self.path)
         self.assertEqual({(it.part, type(it.__cause__)) for it in told}, {(run.parts, kind)})
         self.assertEqual(run.saved, 20 * (run.parts - 1))
-        # What has its name is there, though nobody was told.
+        # A file that has its name is there, though nobody was informed.
         self.assertEqual(counts[1:], (run.saved + 20 * is_named, run.parts + is_named))
         return run.parts
 
@@ -132,7 +135,7 @@ class Ends(Rooms):
                     return real(fd, data[:100])
                 if writes[0] == 6 and last:
                     raise last
-                return real(fd, data) if writes[0] < 6 else 0  # which took no byte
+                return real(fd, data) if writes[0] < 6 else 0  # which accepted no byte
 
             self.assertEqual(self.assert_broken(mock.patch.object(os, "write", full), OSError), 5)
             self.assertFalse((self.path / "new").exists())
@@ -182,7 +185,7 @@ class Ends(Rooms):
         self.assertEqual((told, audit(self.path).moves), (5, 15))
 
     def test_a_full_disk(self):
-        """A limit of the process stands for the disk."""
+        """A limit of the process stands in for the disk."""
         code = """
 import resource, sys
 from folugben import BrokenError, Run
@@ -323,7 +326,7 @@ class Signals(Rooms):
                     ready = False
                 except Alarm:
                     alarms += 1
-                    short = None  # which may not have come to its end
+                    short = None  # which may not have reached its end
                 self.assertLess(time.monotonic(), end)
 
         with mock.patch.object(sys, "unraisablehook", lambda _: None), Run(self.path, INIT, 3, receipts=64) as run:

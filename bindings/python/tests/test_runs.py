@@ -1,4 +1,4 @@
-"""Runs by turns, the states of a journal, and the forms for other tools."""
+"""Tests of runs by turns, the states of a journal, and the forms for other tools."""
 import csv
 import io
 import json
@@ -31,7 +31,7 @@ def guarded(agent, from_, to):
 
 
 def unguarded(agent, from_, to):
-    """It rests on nothing, so that it may overwrite what another one does meanwhile."""
+    """Depend on nothing, so that it may overwrite what another one does meanwhile."""
     agent.follow()
     there, here = agent.peek([from_, to])[1]
     with agent.step() as step:

@@ -1,4 +1,7 @@
-"""When the moves of a run are on the disk: flushes, time, signals; and what looks at a run from outside."""
+"""Tests of when the moves of a run are on the disk: flushes, time and signals.
+
+They also cover readers of a run from outside.
+"""
 import contextlib
 import io
 import itertools
@@ -19,7 +22,7 @@ from threads import in_threads
 
 
 class Clock:
-    """The time of runs, which goes on as a test says; nobody waits for it."""
+    """The time of runs, which advances as a test says; nobody waits for it."""
 
     sleep = staticmethod(time.sleep)
 
@@ -38,7 +41,7 @@ class Days(Rooms):
         self.clock = Clock()
         for module in _part, _parts:
             self.enterContext(mock.patch.object(module, "time", self.clock))
-        # The writer looks at the clock again and again.
+        # The writer polls the clock.
         for name in "_SOON", "_LATER":
             self.enterContext(mock.patch.object(_parts, name, 0.001))
 
@@ -50,8 +53,10 @@ class Days(Rooms):
         self.assertLess(grown, 2**22)
 
     def live_a_day(self, gaps, every):
-        """Plays a move behind each of so many seconds, for 24 hours. Return how many moves and parts there are, and how many
-        bytes of memory came in the second half."""
+        """Play a move after each of this many seconds, for 24 hours.
+
+        Return how many moves and parts there are, and how many bytes of memory came in the second half.
+        """
         times = [at for at in itertools.accumulate(gaps) if at < 86_400]
         begun, wanted, before, clock = self.clock.now, [0], 0, self.clock
         with Run(self.path, INIT, every=every) as run, run.agent(0) as agent:
@@ -81,7 +86,7 @@ class Days(Rooms):
         return len(times), len(wanted), grown
 
     def end_part(self, run, agent, wanted):
-        """Waits until the part is on the disk whose time is over; who is in a step is waited for."""
+        """Wait until the part whose time is over is on the disk, and for agents in a step."""
         if len(wanted) % 10 == 0:
             with agent.step() as step:
                 raised(step)
@@ -97,7 +102,7 @@ class Days(Rooms):
 
 
 class Races(Rooms):
-    """What the writer sees of an agent while that is in the midst of a call."""
+    """The writer's view of an agent during a call of the agent."""
 
     def test_an_agent_is_given_back_between_its_steps_alone(self):
         with Run(self.path, INIT, 100) as run, run.agent(0) as agent:
@@ -116,7 +121,7 @@ class Races(Rooms):
         self.assertEqual(audit(self.path).moves, 4)
 
     def test_an_agent_that_is_in_a_call_is_not_given_back(self):
-        # A large state makes its calls long, and those that give it back come in their midst.
+        # A large state makes its calls long, and the calls that return it come during them.
         state, ended = INIT + [[["y", number], "y" * 100] for number in range(50_000)], threading.Event()
 
         def looks():

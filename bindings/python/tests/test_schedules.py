@@ -1,4 +1,7 @@
-"""Schedules: agents that are played by turns, and the search for the schedule that breaks an invariant."""
+"""Tests of schedules and of `explore`.
+
+Schedules are agents played by turns. `explore` searches for the schedule that breaks an invariant.
+"""
 import functools
 import importlib.util
 import itertools
@@ -31,7 +34,7 @@ INIT = dict(list(bank.INIT.items())[:5])
 
 
 def lost(agent):
-    """An update that rests on nothing."""
+    """Return an update that depends on nothing."""
     _, (count,) = agent.read([COUNT])
     agent.fire([["put", COUNT, count + 1]])
 
@@ -54,7 +57,10 @@ def counts_two(values):
 
 
 def collect(is_guarded):
-    """A customer of the bank, who collects once. Without the guard the fire rests on nothing that its step saw."""
+    """Return a customer of the bank, who collects once.
+
+    Without the guard the fire depends on nothing that its step saw.
+    """
 
     def work(agent):
         rule, _ = bank.PROGRAMS[agent.number]
@@ -75,7 +81,7 @@ def has_all(values):
 
 class Interleaved(unittest.TestCase):
     def left(self, works, turns, **more):
-        """The states that works leave by these turns."""
+        """Return the states after works by these turns."""
         with counting() as storage:
             agents = [storage.agent(number) for number in range(len(works))]
             interleave(agents, works, turns, **more)
@@ -163,7 +169,7 @@ with Storage([], 100) as storage:
 
 class Explored(unittest.TestCase):
     def assert_breaks(self, explored, make, works, invariant):
-        """The turns are the schedule, and the journal is legal."""
+        """Check that the turns are the schedule, and that the journal is legal."""
         check(explored.journal)
         with make() as storage:
             agents = [storage.agent(number) for number in range(len(works))]
@@ -244,7 +250,7 @@ class Explored(unittest.TestCase):
 
 
 def raising(at, times):
-    """A program that raises numbers by so many steps."""
+    """Return a program that increments numbers in this many steps."""
 
     def work(agent):
         for count in range(times):
@@ -275,14 +281,17 @@ class Page(Rooms):
 
 
 class Counts(unittest.TestCase):
-    """How many schedules are played, beside a search that tries each order of looks and fires."""
+    """The number of played schedules, beside that of a naive search.
+
+    The naive search tries each order of polls and fires.
+    """
 
     def test_steps_at_mostly_different_locations(self):
         work = raising(lambda own, count: ["x", "all" if own == count else own], 4)
         init = [[["x", it], 0] for it in (0, 1, 2, "all")]
         told = explore(lambda: Storage(init, 100), [work] * 3, at_end=lambda values: sum(values.values()) == 12)
         self.assertTrue(told.is_exhaustive, told)
-        # Each step is a look and a fire, where none is stale.
+        # Each step is a poll and a fire, if none is stale.
         self.assertLess(told.schedules * 100, math.factorial(24) // math.factorial(8) ** 3)
 
     def test_a_naive_search_tries_each_order(self):
@@ -299,7 +308,7 @@ class Random(unittest.TestCase):
     WORDS = ["read", "blind", "guarded", "step", "look", "scan", "inc", "if"]
 
     def do(self, agent, word, x, y, by):
-        """What a word does, and is told."""
+        """Do what a word says; return the answer."""
         if word == "read":
             return agent.read([x, y])[1]
         if word == "blind":
@@ -321,7 +330,7 @@ class Random(unittest.TestCase):
             return [told, step.try_commit() > 0]
 
     def work(self, rng, told):
-        """A program of a few words."""
+        """Return a program of a few words."""
         words = [(rng.choice(self.WORDS), ["x", rng.randrange(3)], ["y", rng.randrange(2)], rng.randrange(6))
                  for _ in range(rng.randrange(1, 3))]
 
@@ -336,7 +345,10 @@ class Random(unittest.TestCase):
         return play
 
     def outcomes(self, seed, is_naive):
-        """What the agents are told in all schedules with the last state of each, all states, and the number of schedules."""
+        """Return all outcomes, all states, and the number of schedules.
+
+        An outcome is the answers to the agents in a schedule with its last state.
+        """
         rng, told, ends, moments = random.Random(seed), {}, set(), set()
         works = [self.work(rng, told) for _ in range(3 if seed % 4 == 0 else 2)]
 

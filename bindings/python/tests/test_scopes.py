@@ -1,4 +1,4 @@
-"""Nothing is lost at the end of a scope, in a fork, or where a finalizer ends a `with`; and what is refused says why."""
+"""Tests of scopes, forks and finalizers: nothing is lost, and errors say why."""
 import gc
 import json
 import os
@@ -86,7 +86,7 @@ class Scopes(unittest.TestCase):
     def test_a_journal_that_lacks_a_move_is_told_beside_another_error(self):
         with self.assertRaises(MissingError), Storage([], 10, journal=self.path) as storage:
             put(storage.agent(3), 1)
-            kept = list(gc.get_referrers())  # nothing holds the agent: it comes back by itself
+            kept = list(gc.get_referrers())  # nothing holds the agent: it is returned by itself
             storage.agent(4).abandon()
             lost = storage.agent(5)
             put(lost, 2)

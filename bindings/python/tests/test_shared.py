@@ -1,4 +1,7 @@
-"""Shared runs, over SQLite, and over PostgreSQL where that is installed: agents in threads, runs and processes."""
+"""Tests of shared runs, over SQLite, and over PostgreSQL if that is installed.
+
+They cover agents in threads, runs and processes.
+"""
 import contextlib
 import os
 import signal
@@ -16,7 +19,7 @@ from threads import in_threads
 
 
 class Leads:
-    """Who appends the calls of a process, over each database."""
+    """The thread that appends the calls of a process, over each database."""
 
     def test_agents_lead_but_on_the_main_thread(self):
         with SharedRun(self.target, INIT) as run, run.agent(0) as agent, run.agent(1) as other:
@@ -71,7 +74,7 @@ class Leads:
             thread.start()
             for number in range(40):
                 try:
-                    # While it waits, and before and behind that.
+                    # During its wait, and before and after it.
                     signal.setitimer(signal.ITIMER_REAL, 0.0002 * (number % 10 + 1))
                     told.append(agent.play(raised)[0])
                 except Alarm:
@@ -124,7 +127,7 @@ class OnSqlite(Leads, shared_plays.Plays):
         self.assertEqual((other.read_bytes(), text.stat().st_size), (before, 1800))
         for path in self.room / "absent" / "x.db", self.room:
             self.assertRaises(OSError, SharedRun, path, INIT)
-        # What a process leaves that was killed before its first commit is no run.
+        # The remains of a process that was killed before its first commit are no run.
         empty = self.room / "empty.db"
         empty.touch()
         self.assertRaises(FileNotFoundError, SharedRun, empty)

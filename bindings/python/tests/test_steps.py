@@ -19,7 +19,7 @@ def put(value, *at):
 
 
 def memory():
-    """How many bytes this process has in memory."""
+    """Return how many bytes this process has in memory."""
     return int(pathlib.Path("/proc/self/statm").read_text().split()[1]) * 4096
 
 
@@ -93,7 +93,7 @@ class Steps(unittest.TestCase):
         step.get([["f", 1], ["count"]])
         step.push(put(1))
         self.rival.fire(put(5))
-        # The own state stands still until the fire.
+        # The own state doesn't change until the fire.
         self.assertEqual(step.get(COUNT), [1])
         with self.assertRaises(StaleError) as caught:
             step.commit()
@@ -139,7 +139,7 @@ class Steps(unittest.TestCase):
             offer = step.offer()
             step.pop()
             step.pop()
-            # That both were taken told that there is a number.
+            # That both were accepted implies that there is a number.
             self.assertEqual(step.offer(), {"fire": (), "reads": ((("count",), 0), (("f", 2), 0))})
         self.assertEqual(sorted(map(repr, offer["fire"])), sorted(map(repr, [("put", ("g",), "a"), ("inc", ("count",), 3)])))
         self.assertEqual(offer["reads"], ((("count",), 0), (("f", 2), 0)))
@@ -278,7 +278,7 @@ class Steps(unittest.TestCase):
 
 
 class RecordedSteps(own.Recorded, Steps):
-    # Two steps of one agent commit there.
+    # In that test two steps of one agent commit.
     test_two_steps_of_one_agent = None
 
     def test_gets_and_a_fire_leave_one_receipt(self):

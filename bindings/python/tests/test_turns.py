@@ -1,4 +1,7 @@
-"""Tests of agents that one thread plays by turns, and of moves that are united: python3 test.py runs them too."""
+"""Tests of agents that one thread plays by turns, and of united moves.
+
+python3 test.py runs them too.
+"""
 import random
 import threading
 import time
@@ -18,7 +21,7 @@ def raised(step):
 
 class Turns(unittest.TestCase):
     def cost(self, count, moves=2000):
-        """The seconds of processor time of so many moves by so many agents by turns."""
+        """Return the processor time, in seconds, of moves by agents by turns."""
         with Storage({"count": 0}, moves) as storage:
             agents = [storage.agent(own) for own in range(count)]
             begun = time.process_time()

@@ -1,4 +1,4 @@
-"""Tests of the package's types, where mypy is there: python3 test.py runs them too."""
+"""Tests of the package's types, if mypy is there: python3 test.py runs them too."""
 import pathlib
 import subprocess
 import sys
@@ -7,7 +7,7 @@ import unittest
 
 import folugben
 
-# What a user annotates. What is no value is none to mypy either.
+# Annotations of a user. What is no value is none to mypy either.
 USER = """from collections import Counter
 from folugben import Element, Location, Move, Place, Step, Storage, Update, Value
 
@@ -48,7 +48,7 @@ WRONG = ["(1, 1.5)", "1.5", '{"set": [1.5]}', "object()", '{"bag": [["a", 1.5]]}
 
 
 def mypy() -> list[str] | None:
-    """The command, of the first Python that has it."""
+    """Return the command, of the first Python that has it."""
     for python in (sys.executable, "/usr/bin/python3"):
         try:
             subprocess.run([python, "-m", "mypy", "--version"], check=True, capture_output=True)

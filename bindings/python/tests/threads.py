@@ -4,7 +4,10 @@ from collections.abc import Callable
 
 
 def in_threads(work: Callable[[int], object], count: int, seconds: float = 60) -> tuple[list[Exception], bool]:
-    """Calls work with 0, 1 .. at once, each in a thread of its own; the errors, and whether all threads ended."""
+    """Call work with 0, 1 .. at once, each in its own thread.
+
+    Return the errors, and whether all threads ended.
+    """
     start, errors = threading.Barrier(count), []
 
     def run(own):
