@@ -1,5 +1,5 @@
-/* Eight agents, each on a thread of its own, add to one count, to a set and to a location of their
- * own. Then they are given back, closed into a journal, and the journal is checked and replayed.
+/* Eight agents, each on its own thread, add to one count, to a set and to a location of their own.
+ * Then they are returned, closed into a journal, and the journal is checked and replayed.
  *
  *     example [JOURNAL]    writes the journal to the file */
 #include "folugben.h"
@@ -16,8 +16,8 @@ enum { AGENTS = 8, ROOM = 1024 };
 #define TIMES 500
 #endif
 
-/* One agent with its step, the move that it gathers and the locations that it writes, and with what
- * became of its fires. */
+/* One agent with its step, the move that it builds and the locations that it writes, and with
+ * the results of its fires. */
 typedef struct worker {
     struct asm_agent agent;
     struct asm_step step;
@@ -29,7 +29,7 @@ typedef struct worker {
 static struct asm_storage storage;
 static worker workers[AGENTS];
 
-/* Ends the program where a call wasn't answered as it has to be. */
+/* Ends the program if a call doesn't return the required answer. */
 static void expect(int32_t code, int32_t wanted, const char *call) {
     if (code == wanted)
         return;
@@ -63,7 +63,7 @@ static void instruct(worker *w, struct asm_location *at, int32_t verb, int64_t n
            "asm_instruct");
 }
 
-/* Adds 1 to the count, unless another agent was quicker: a step without text. */
+/* Adds 1 to the count, unless another agent was faster: a step without text. */
 static void add_one(worker *w) {
     uint32_t number;
     size_t written;
@@ -112,7 +112,7 @@ static void make_worker(worker *w, unsigned number) {
     prepare("[\"seen\"]", &w->seen);
 }
 
-/* Gives the agent back, and releases all else. */
+/* Returns the agent, and frees everything else. */
 static void end_worker(worker *w) {
     expect(asm_give(&storage, &w->agent), ASM_DONE, "asm_give");
     asm_free_step(&w->step);
@@ -136,8 +136,8 @@ static void run_threads(void) {
         require(!pthread_join(threads[i], NULL), "a thread was joined");
 }
 
-/* What the count and the own locations are, as the text of a state, read by an agent that learns of
- * the last move. */
+/* The count and the own locations, as the text of a state, read by an agent that follows the
+ * last move. */
 static void read_state(char *state, size_t room) {
     struct asm_agent reader = {0};
     char text[ROOM], locations[ROOM] = "[[\"count\"]";
@@ -161,7 +161,7 @@ static void read_state(char *state, size_t room) {
     expect(asm_give(&storage, &reader), ASM_DONE, "asm_give");
 }
 
-/* Closes what was given back; the journal is to be freed. */
+/* Closes what was returned; the caller must free the journal. */
 static uint8_t *journal_of(size_t *len) {
     uint32_t missing;
     expect(asm_close(&storage, &missing), ASM_DONE, "asm_close");
@@ -172,7 +172,7 @@ static uint8_t *journal_of(size_t *len) {
     return journal;
 }
 
-/* Whether the state that the journal leaves begins with what was read last. */
+/* Returns whether the state of the journal begins with what was read last. */
 static bool leaves(const uint8_t *journal, size_t len, const char *state) {
     size_t room;
     uint64_t line;

@@ -27,14 +27,14 @@ static void *teller(void *agent) {
     size_t length;
     DONE(asm_location(TEXT("[\"balance\"]"), &at));
     for (int done = 0; done < 100;) {
-        DONE(asm_begin(agent, &step, &number)); /* what follows sees one state */
+        DONE(asm_begin(agent, &step, &number)); /* what follows reads one state */
         DONE(asm_get_at(agent, &step, &at, &balance, NULL, 0, &length));
         DONE(asm_instruct(&move, &at, ASM_PUT, ASM_KIND_NUM, balance.number + 10, NULL, 0, 0));
         DONE(asm_push_move(agent, &step, &move, NULL, 0, &length));
         asm_free_move(&move);
         int32_t code = asm_commit(agent, &step, &numbers);
         require(code == ASM_DONE || code == ASM_STALE || code == ASM_BUSY, "asm_commit");
-        done += code == ASM_DONE; /* else the other was quicker, so begin again */
+        done += code == ASM_DONE; /* else a conflict, so begin again */
     }
     asm_free_step(&step);
     asm_free_location(&at);

@@ -1,4 +1,4 @@
-/* What agents are answered, and what a call that is refused leaves of the last answer. */
+/* Tests of the answers to agents, and of what a refused call leaves of the last answer. */
 #include "tests.h"
 
 static const char *const opening = "[[['s'],{'set':[1,'two']}],[['x'],7]]";
@@ -21,7 +21,7 @@ static void answered(struct asm_agent *agent, const char *answer) {
     TELLS(ASM_DONE, answer, asm_answer(agent, OUT));
 }
 
-/* Locations that aren't read leave the answer before them. */
+/* Locations that aren't read leave the answer before them unchanged. */
 static void reads(void) {
     static const struct {
         const char *locations;
@@ -43,7 +43,7 @@ static void reads(void) {
 #define PHANTOM "{'fire':[['put',['t',1],5]],'reads':[]}"
 #define STALE "{'stale':['t',1]}"
 
-/* A fire of an agent, over scans where there are some: its code and number, and the agent's last
+/* A fire of an agent, over scans if there are some: its code and number, and the agent's last
  * answer then, if it has one. */
 static const struct fires {
     size_t agent;
@@ -53,9 +53,9 @@ static const struct fires {
     const char *answer;
 } fires[] = {
     {0, PUT, "[['x',0]]", ASM_DONE, 1, "{'fired':1}"},
-    /* A scan at a number that is yet to come is refused before a look. */
+    /* A scan at a future number is refused before a poll. */
     {1, PHANTOM, "[['t',1]]", ASM_AHEAD, 0, NULL},
-    /* A location of a scanned function gets a value that had none. */
+    /* A location of a scanned function receives a value; it had none. */
     {1, PHANTOM, "[['x',0],['t',0]]", ASM_DONE, 2, "{'fired':2}"},
     {0, PUT, "[['t',2]]", ASM_AHEAD, 0, "{'fired':1}"},
     {0, PUT, "[['x',0],['t',0]]", ASM_STALE, 0, STALE},
@@ -141,7 +141,7 @@ static void counts(struct asm_agent *agent, uint32_t seen, uint32_t won, uint64_
     REQUIRE(asm_seen(agent) == seen && asm_won(agent) == won && asm_misses(agent) == misses);
 }
 
-/* An agent that learns has seen what the other has, without a look; neither call counts one. */
+/* An agent that learns has seen what the other has, without a poll; neither call counts one. */
 static void learning(void) {
     begin_all();
     fire(&agents[0], "[['inc',['x'],3]]");

@@ -1,6 +1,6 @@
-/* A fire, and the commit of a step, that lose 64 offers: while they are judged, which takes long,
- * agents on two other threads fire. Then all agents are given back and closed, or all slots
- * released with what they hold. */
+/* A fire, and the commit of a step, that lose 64 attempts to append: while they are judged,
+ * which takes long, agents on two other threads fire. Then all agents are returned and closed,
+ * or all slots freed with their content. */
 #include "folugben.h"
 
 #include <inttypes.h>
@@ -30,8 +30,8 @@ static void require(bool holds, const char *what, int line) {
 
 static const uint8_t *bytes(const char *text) { return (const uint8_t *)text; }
 
-/* Fires short moves, each after a pause in which the long move gets on, also where there is but one
- * processor. */
+/* Fires short moves, each after a pause in which the long move makes progress, also if there is
+ * only one processor. */
 static void *fire_short(void *agent) {
     const char *call = "{\"fire\":[[\"inc\",[\"x\"],1]],\"reads\":[]}";
     const struct timespec pause = {0, 20000};
@@ -72,7 +72,7 @@ static void begin_step(struct asm_agent *agent) {
     REQUIRE(asm_push(agent, &step, bytes(move), strlen(move), NULL, 0, &written) == ASM_DONE);
 }
 
-/* A step that was busy is committed again as it stands. */
+/* A step that was busy is committed again unchanged. */
 static int32_t commit_long(struct asm_agent *agent, asm_numbers *numbers) {
     if (!step.slot.full)
         begin_step(agent);
@@ -83,7 +83,7 @@ static int32_t commit_long(struct asm_agent *agent, asm_numbers *numbers) {
 
 typedef int32_t fire(struct asm_agent *agent, asm_numbers *numbers);
 
-/* Whether the fire was busy; else it was fired, as its agent was quicker once. */
+/* Returns whether the fire was busy; otherwise it was fired, as its agent was faster once. */
 static bool is_busy(fire *call, struct asm_agent *agent) {
     asm_numbers numbers = {9, 9, 9};
     uint32_t seen = asm_seen(agent), won = asm_won(agent);
@@ -128,8 +128,8 @@ static void close_all(void) {
     asm_free_storage(&storage);
 }
 
-/* Of moves that were fired, of those that were offered in vain, and of one that was pushed alone,
- * nothing is left. */
+/* Nothing is left of fired moves, of vain attempts to append, and of one move that was only
+ * pushed. */
 static void release_all(void) {
     uint32_t number, moves;
     begin_step(&agents[0]);

@@ -1,11 +1,11 @@
-/* Steps that collect into a set, a bag and a counter, beside a model that keeps counts in arrays: what
- * is seen after each push, extension, refusal and pop, and what the step fires in the end. One more
- * step collects into a bag of many elements that it hasn't put. */
+/* Steps that collect into a set, a bag and a counter, compared with a model that has counts in
+ * arrays. They compare what is read after each push, extension, refusal and pop, and what the
+ * step fires in the end. One more step collects into a bag of many elements that it hasn't put. */
 #include "tests.h"
 
 enum { ELEMENTS = 6, LEVELS = 5, MOVES = 60, STEPS = 120, WIDE = 200, CHANGES = 400, BACK = 40 };
 
-/* What the locations s, b and c have. */
+/* The values of the locations s, b and c. */
 typedef struct model {
     unsigned set[ELEMENTS], bag[ELEMENTS];
     int64_t count;
@@ -52,7 +52,7 @@ static void is_seen(uint32_t number) {
     TELLS(ASM_DONE, text, asm_see(&agent, &step, TEXT("[['s'],['b'],['c']]"), OUT));
 }
 
-/* One instruction, and what it makes of the model; whether it has a result. */
+/* One instruction, and its effect on the model; returns whether it has a result. */
 static bool instruct(model *m, char *text) {
     unsigned e = any(ELEMENTS), n = 1 + any(3);
     switch (any(8)) {
@@ -77,7 +77,7 @@ static bool instruct(model *m, char *text) {
     }
 }
 
-/* Now and then a put comes in front, and often a second partial update at another location. */
+/* Now and then a put comes first, and often a second partial update at another location. */
 static void push_or_extend(uint32_t number, bool is_push) {
     char text[LONGEST], move[LONGEST + 2];
     model next = levels[top];
@@ -131,7 +131,8 @@ static void told_bag(const unsigned *counts, char *text) {
     add(text, at, "]}", 0, 0);
 }
 
-/* One extension of the bag, by an addition or a removal, which is refused where there is too little. */
+/* One extension of the bag, by an addition or a removal, which is refused if there are too few
+ * elements. */
 static void extend_bag(unsigned *counts) {
     unsigned e = any(WIDE), n = 1 + any(3);
     bool adds = any(2) == 0, has = adds || counts[e] >= n;
@@ -144,7 +145,7 @@ static void extend_bag(unsigned *counts) {
         counts[e] += adds ? n : 0 - n;
 }
 
-/* An addition and its removal, which come to no update. */
+/* An addition and its removal, which amount to no update. */
 static void add_and_remove(unsigned e) {
     char text[LONGEST];
     uint8_t out[LONGEST];
@@ -165,7 +166,7 @@ static void is_bag(const unsigned *counts, uint32_t number, bool fired) {
         TELLS(ASM_DONE, text, asm_see(&agent, &step, TEXT("[['b']]"), OUT));
 }
 
-/* A bag of many elements, below each second of those that the step adds or removes. */
+/* A bag of many elements, below every second one of those that the step adds or removes. */
 static void collect_into_a_bag(void) {
     unsigned counts[WIDE] = {0};
     char bag[LONGEST], init[LONGEST + 64];

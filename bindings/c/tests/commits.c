@@ -3,8 +3,8 @@
 
 #include <sys/resource.h>
 
-/* Five gets, two pushes and looks of each kind leave the one receipt of the commit, which names what
- * was got, and not what was scanned. */
+/* Five gets, two pushes and polls of each kind leave only the receipt of the commit, which names
+ * what was read by gets, and not what was scanned. */
 static void one_receipt(void) {
     uint32_t number;
     begin_with(8);
@@ -32,8 +32,8 @@ static void one_receipt(void) {
     end_all();
 }
 
-/* An offer is the one move with what the commit would name by now, which a fire takes; the step
- * stays. */
+/* An offer is the one move with what the commit would name by now, in the form of a fire; the
+ * step stays. */
 static void offers(void) {
     const char *offer = "{'fire':[['inc',['c'],3]],'reads':[[['c'],0],[['none'],0]]}";
     asm_numbers numbers;
@@ -60,7 +60,7 @@ static void offers(void) {
     end_all();
 }
 
-/* A step without moves fires the empty one, named all that was got. */
+/* A step without moves fires the empty one, naming all tracked reads. */
 static void empty_steps(void) {
     begin_with(8);
     fired(1);
@@ -75,7 +75,8 @@ static void empty_steps(void) {
     end_all();
 }
 
-/* A rival writes what was got. The step stays; the agent's state, which followed, has moved. */
+/* A rival writes a tracked location. The step stays; the agent's state, which followed, has
+ * moved. */
 static void stale_reads(void) {
     begin_with(8);
     gets("['x']", 0, "7");
@@ -92,7 +93,7 @@ static void stale_reads(void) {
     end_all();
 }
 
-/* A step that is begun again drops what was got, pushed and popped. */
+/* A step that is begun again drops what was read, pushed and popped. */
 static void begun_again(void) {
     begin_with(8);
     gets("['x']", 0, "7");
@@ -147,8 +148,9 @@ static void begins_another(void) {
     asm_free_step(&another);
 }
 
-/* An agent whose state has moved on gets and pushes nothing; what doesn't move it leaves the step
- * be. A pop and a commit go on: the commit names all at the step's number. */
+/* An agent whose state has moved on neither gets nor pushes; what doesn't move it leaves the
+ * step unchanged. A pop and a commit still work: the commit names everything at the step's
+ * number. */
 static void moved_agents(void) {
     void (*moves[])(void) = {reads_on, follows_on, looks_on, fires_stale, fires_on, begins_another};
     for (size_t i = 0; i < sizeof moves / sizeof *moves; i++) {
@@ -196,7 +198,7 @@ static void full_storages(void) {
     end_all();
 }
 
-/* Two agents of one storage at one number may share a step; one that stands elsewhere can't. */
+/* Two agents of one storage at one number may share a step; one at another number can't. */
 static void shared_steps(void) {
     asm_numbers numbers = {9, 9, 9};
     uint32_t number;
@@ -219,8 +221,8 @@ static void shared_steps(void) {
     end_all();
 }
 
-/* A second agent that is behind, or whose own state is, neither gets nor pushes through another's
- * step, until it has followed. */
+/* A second agent that is behind, or whose own state is, neither gets nor pushes through
+ * another's step, until it has followed. */
 static void is_behind(void) {
     asm_value value = {9, 9};
     struct asm_location at = {0};
@@ -251,7 +253,7 @@ static void agents_behind(void) {
     gets("['x']", 1, "70");
     push("[['put',['y'],1]]");
     is_behind();
-    /* It has seen as much now, and its own state doesn't stand there yet. */
+    /* It has seen as much now, but its own state is not at that version yet. */
     REQUIRE(asm_learn(&agents[1], &agents[0]) == ASM_DONE && asm_seen(&agents[1]) == 1);
     is_behind();
     REQUIRE(asm_follow(&agents[1], &number) == ASM_DONE && number == 1);
@@ -259,13 +261,14 @@ static void agents_behind(void) {
           asm_get(&agents[1], &step, TEXT("[['x']]"), OUT));
     ANSWERS(ASM_DONE, asm_push(&agents[1], &step, TEXT("[['inc',['x'],1]]"), OUT));
     gets("['x']", 1, "71");
-    /* One that is behind may commit: it looks on first, and all is named at the step's number. */
+    /* One that is behind may commit: it polls first, and everything is named at the step's
+     * number. */
     struct asm_agent third = {0};
     REQUIRE(asm_agent(&storage, 2, &third) == ASM_DONE && asm_seen(&third) == 0);
     REQUIRE(asm_commit(&third, &step, &numbers) == ASM_DONE && numbers.fired == 2);
     REQUIRE(!step.slot.full && asm_seen(&third) == 2 && asm_won(&third) == 1);
     asm_free_agent(&third);
-    /* And is stale where something was written since, though it saw neither. */
+    /* And it is stale if a named location was written since, though it saw neither. */
     REQUIRE(asm_agent(&storage, 3, &third) == ASM_DONE);
     begins_at(2);
     gets("['x']", 2, "71");
@@ -276,8 +279,8 @@ static void agents_behind(void) {
     end_all();
 }
 
-/* What an agent of another storage makes of a step has no meaning, but does no harm: of a push over
- * the one state the commit on the other clashes, and both journals are legal. */
+/* Calls of another storage's agent on a step have no meaning, but do no harm: after a push over
+ * the one state, the commit on the other clashes, and both journals are legal. */
 static void steps_of_another_storage(void) {
     struct asm_storage other = {0};
     struct asm_agent agent = {0};
@@ -300,7 +303,7 @@ static void steps_of_another_storage(void) {
     end_all();
 }
 
-/* The receipt of the read stays where the fire is refused, and the step may be begun again. */
+/* The receipt of the read stays if the fire is refused, and the step may be begun again. */
 static void recorded_refusals(void) {
     begin_with(3);
     gets("['x']", 0, "7");
@@ -343,10 +346,10 @@ static long kilobytes(void) {
 #define ROUNDS 50000
 #endif
 
-/* Fewer rounds, as under valgrind, which keeps what is freed for a while, are not measured. */
+/* Fewer rounds, as under valgrind, which retains freed memory for a while, are not measured. */
 enum { LONG = 10000 };
 
-/* What leaves no receipt takes no memory for good, however often it is done. */
+/* A call that leaves no receipt takes no memory permanently, however often it is repeated. */
 static void steady_memory(void) {
     uint32_t number;
     begin_with(8);

@@ -1,4 +1,4 @@
-/* What the tests of commits share: a storage with two agents, and the first one's step. */
+/* Shared parts of the tests of commits: a storage with two agents, and the first one's step. */
 #ifndef COMMITS_H
 #define COMMITS_H
 
@@ -36,7 +36,7 @@ static inline void push(const char *instructions) {
 
 static inline void pop(void) { REQUIRE(asm_pop(&step) == ASM_DONE); }
 
-/* What is got at the location, at this number. */
+/* The value read at the location, at this number. */
 static inline void gets(const char *location, uint32_t number, const char *value) {
     char locations[64], text[128];
     snprintf(locations, sizeof locations, "[%s]", location);
@@ -81,8 +81,8 @@ static inline void fired_by(commit_call *commit, uint32_t move) {
 
 static inline void fired(uint32_t move) { fired_by(asm_commit, move); }
 
-/* The recorded commit answers ASM_MOVED or ASM_MANY, and nothing changes: the agent has no receipt
- * more, has seen no more, and its state is where it was. */
+/* The recorded commit returns ASM_MOVED or ASM_MANY, and nothing changes: the agent has no
+ * further receipt, has seen no more, and its state is unchanged. */
 static inline void records_nothing(int32_t wanted, const char *last_answer) {
     asm_slot was[2] = {agents[0].slot, step.slot};
     asm_numbers numbers = {9, 9, 9};
@@ -97,7 +97,7 @@ static inline void records_nothing(int32_t wanted, const char *last_answer) {
         ANSWERS(ASM_NO_ANSWER, asm_answer(&agents[0], OUT));
 }
 
-/* All that follows the header in the journal of both agents. */
+/* Everything after the header in the journal of both agents. */
 static inline void journal_is(const char *events, uint64_t calls, uint32_t moves) {
     REQUIRE(asm_give(&storage, &agents[0]) == ASM_DONE);
     REQUIRE(asm_give(&storage, &agents[1]) == ASM_DONE);

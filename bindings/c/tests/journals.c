@@ -1,4 +1,4 @@
-/* Journals, byte for byte: how they are closed, checked, replayed and traced. */
+/* Tests of journals, byte for byte: closing, checking, replaying and tracing. */
 #include "tests.h"
 
 static const char *const journal =
@@ -7,7 +7,7 @@ static const char *const journal =
     "{'agent':1,'call':{'fire':[['inc',['x'],2]],'reads':[]},'reply':{'fired':1}}\n"
     "{'agent':3,'call':{'read':[['x']]},'reply':{'number':1,'values':[9]}}\n";
 
-/* The journal of two agents is the same in whichever order they are given back. */
+/* The journal of two agents is the same in whichever order they are returned. */
 static void closes(size_t first) {
     struct asm_storage storage = {0};
     struct asm_agent agents[2] = {0};

@@ -1,5 +1,5 @@
-/* Looks at an agent's own state, which make no receipt; whether reads still stand; numbers that are
- * yet to come; and a run that goes on in a storage of its own. */
+/* Tests of polls of an agent's own state, which make no receipt; of whether reads are still
+ * current; of future numbers; and of a run that continues in another storage. */
 #include "tests.h"
 
 static const char *opening = "[[['s'],{'set':[1]}],[['x'],7],[['y',1],'one'],[['y',2],'two']]";
@@ -24,7 +24,7 @@ static void follows_to(struct asm_agent *agent, uint32_t wanted) {
     REQUIRE(number == wanted && asm_seen(agent) == wanted);
 }
 
-/* A state is seen to stand where the agent last looked, whatever others fire. */
+/* The agent sees a state as of its last poll, whatever others fire. */
 static void own_states(void) {
     uint32_t number = 9;
     begin_all();
@@ -48,7 +48,7 @@ static void own_states(void) {
     end_all();
 }
 
-/* What is told of the number with each code; the locations of a peek have no limit. */
+/* What is reported about the number with each code; the locations of a peek have no limit. */
 static void scans_and_peeks(void) {
     static char many[LONGEST];
     uint32_t number = 9;
@@ -122,7 +122,7 @@ static void standing_reads(void) {
     end_all();
 }
 
-/* A fire may name what was peeked, and is refused where it was written since. */
+/* A fire may name what was peeked, and is refused if it was written since. */
 static void fires_on_looks(void) {
     asm_numbers numbers;
     begin_all();
@@ -138,7 +138,7 @@ static void fires_on_looks(void) {
     TELLS(ASM_DONE, "{'number':0,'values':[7]}", asm_peek(&agents[2], TEXT("[['x']]"), OUT));
     follows_to(&agents[2], 2);
     TELLS(ASM_DONE, "{'number':2,'values':[8]}", asm_peek(&agents[2], TEXT("[['x']]"), OUT));
-    /* Looks are in no journal. */
+    /* Polls are in no journal. */
     for (size_t i = 0; i < 3; i++)
         REQUIRE(asm_give(&storage, &agents[i]) == ASM_DONE);
     char *journal = journal_of(&storage);
@@ -147,7 +147,7 @@ static void fires_on_looks(void) {
     end_all();
 }
 
-/* The reads are refused as out of range before anything is done, and the agent is as it was. */
+/* The reads are refused as out of range before anything is done, and the agent is unchanged. */
 static void are_ahead(struct asm_agent *agent, const char *reads) {
     static char call[4 * LONGEST];
     asm_slot was = agent->slot;
@@ -177,11 +177,11 @@ static void numbers_to_come(void) {
     are_ahead(&agents[0], json("[[['x'],2]]"));
     REQUIRE(asm_try_fire(&agents[0], TEXT("{'fire':[],'reads':[[['x'],1]]}"), &numbers) ==
             ASM_DONE);
-    /* What another agent has seen is learnt without a look. */
+    /* The agent learns without a poll what another agent has seen. */
     are_ahead(&agents[2], json("[[['x'],2]]"));
     REQUIRE(asm_learn(&agents[2], &agents[0]) == ASM_DONE);
     ANSWERS(ASM_DONE, asm_stands(&agents[2], TEXT("[[['x'],2]]"), OUT));
-    /* It comes after what is no read at all, and before there are too many. */
+    /* It comes after what is no read at all, and before too many. */
     ANSWERS(ASM_EMPTY, asm_stands(AS(agent, &storage), TEXT("[[['x'],9]]"), OUT));
     ANSWERS(ASM_NOT_JSON, asm_stands(&agents[0], TEXT("[[['x'],9]"), OUT));
     ANSWERS(ASM_SHAPE, asm_stands(&agents[0], TEXT("[[['x'],9],['x']]"), OUT));
@@ -193,8 +193,8 @@ static void numbers_to_come(void) {
     end_all();
 }
 
-/* A number that was kept from the storage before is none of the next one's, in which numbers begin
- * anew: with it a fire would guard nothing, and overwrite what another agent wrote. */
+/* A number from the storage before is none of the next one's, in which numbers begin again: with
+ * it a fire would guard nothing, and overwrite what another agent wrote. */
 static void numbers_of_the_storage_before(void) {
     struct asm_storage next = {0};
     struct asm_agent rival = {0};
@@ -229,7 +229,7 @@ static void refused_next(struct asm_storage *next, uint32_t capacity, int32_t wa
     REQUIRE(is_same(storage, was[0]) && is_same(*next, was[1]));
 }
 
-/* Each code of asm_next; the slots are as they were. */
+/* Each code of asm_next; the slots are unchanged. */
 static void refused_nexts(void) {
     struct asm_storage next = {0};
     struct asm_step step = {0};
@@ -280,8 +280,8 @@ static bool opens_with(const char *journal, const char *state) {
     return at && at + strlen(wanted) == strchr(journal, '\n') + 1;
 }
 
-/* One run in three storages: each opens with what the one before left, and its agents have the same
- * numbers. The first is released before the others fire. */
+/* One run in three storages: each opens with the state at the end of the one before, and its
+ * agents have the same numbers. The first is freed before the others fire. */
 static void a_run_goes_on(void) {
     const char *left[] = {"[[['x'],1]]", "[[['x'],2]]", "[[['x'],3]]"};
     struct asm_storage stores[3] = {0};
@@ -307,7 +307,7 @@ static void a_run_goes_on(void) {
     }
 }
 
-/* What was fired after a journal was closed is in no storage that goes on from it. */
+/* What was fired after a journal was closed is in no storage that continues from it. */
 static void moves_after_the_journal(void) {
     struct asm_storage next = {0};
     struct asm_agent agent = {0};

@@ -1,6 +1,6 @@
-/* Calls at random, on any slots and with any bytes, as no caller is to make them: each has to be
- * answered by the one code that a second account of the slots foretells, and to change no slot that
- * it isn't to change.
+/* Random calls, on any slots and with any bytes, as no caller must make them. Each must return the
+ * one code that a second model of the slots predicts, and must change no slot that it isn't
+ * supposed to change.
  *
  *     misuse [SEED [CALLS]] */
 #include "misuse.h"
@@ -112,7 +112,7 @@ static void opens(unsigned at) {
         storage_is_made(at, capacity, opening_world(t));
 }
 
-/* ASM_NUMBER where an agent with one of so many numbers from this one up was made. */
+/* ASM_NUMBER if an agent with one of this many numbers, from this one up, was made. */
 static int32_t was_made(unsigned storage, unsigned number, unsigned count) {
     for (unsigned i = number; i < number + count; i++)
         if (stories[storage].made[i])
@@ -161,10 +161,10 @@ static void reads(unsigned at) {
         a->stood = stories[a->storage].moves;
 }
 
-/* Scans on which a fire rests: none, of x, and of y and another function, as both began. */
+/* Scans on which a fire depends: none, of x, and of y and another function, as both began. */
 static const char *const scans[] = {"[]", "[[\"x\",0]]", "[[\"y\",0],[\"z\",0]]"};
 
-/* What a fire of the move is answered on the latest world, which then is the one after it. */
+/* The answer to a fire of the move on the latest world, which is changed to the one after it. */
 static int32_t fire_answer(const text *t, const story *s, unsigned over, world *w) {
     if ((t->x >= 0 && w->x_at > (unsigned)t->x) || (over == 1 && w->x_at) || (over == 2 && w->y_at))
         return ASM_STALE;
@@ -286,7 +286,7 @@ static void counts_moves(unsigned at) {
     REQUIRE(moves == (is_storage ? stories[accounts[at].storage].moves : 0));
 }
 
-/* What is said of a text is nothing exactly where its form is accepted. */
+/* The explanation of a text is empty exactly if its form is accepted. */
 static void explains(void) {
     const text *t = any_text();
     uint8_t out[ROOM];
@@ -304,7 +304,7 @@ static void explains(void) {
     REQUIRE((written > 0) == (wanted != ASM_NO_FORM && found != ASM_DONE));
 }
 
-/* Checks, replays and traces a journal that is cut off, or has one bit that is another. */
+/* Checks, replays and traces a journal that is cut off, or has one changed bit. */
 static void judges(uint8_t *journal, size_t len) {
     uint8_t state[ROOM];
     size_t cut = below(2) ? len : below((unsigned)len), written;

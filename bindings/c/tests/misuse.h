@@ -1,4 +1,4 @@
-/* A second account of the slots, which foretells the code and the text of each call of misuse. */
+/* A second model of the slots, which predicts the code and the text of each call of misuse. */
 #ifndef MISUSE_H
 #define MISUSE_H
 
@@ -16,26 +16,26 @@ enum { SLOTS = 12, STORAGES = 4096, NUMBERS = 12, MOVES = 8, ROOM = 4096, DEEPES
 /* The locations that are written: ["s"], ["v"], ["x"] and ["y",1]. */
 enum { S_PLACE, V_PLACE, X_PLACE, Y_PLACE, PLACES };
 
-/* Their values, with the number of the move that last wrote each. That of s is a set of 1 and 2, by
- * its bits; that of v is one of a table of values, of which the first is none; and each may be none
- * by a value below 0. */
+/* Their values, with the number of the move that last wrote each. That of s is a set of 1 and 2,
+ * by its bits; that of v is one of a table of values, of which the first is none; and each may
+ * be none by a value below 0. */
 typedef struct world {
     int x, y, s, v;
     unsigned x_at, y_at, s_at, v_at;
 } world;
 
-/* What a move that is gathered does: how often it raises x, whether it puts y, which values it puts
- * at v, by their bits, and whether it adds 1 to s and removes 2 from it. It has at most so many
- * instructions. */
+/* The effect of a move that collects: how often it raises x, whether it puts y, which values it
+ * puts at v, by their bits, and whether it adds 1 to s and removes 2 from it. It has at most
+ * this many instructions. */
 typedef struct gathered {
     unsigned raises, values, size;
     bool puts, adds, removes;
 } gathered;
 
-/* What is seen through a pushed move with those before it, how often they raise x, how many of them
- * do, whether they put y and v, and how many of them change s, by adding 1 and removing 2; and what it
- * does itself, with those that extend it. Of a step's locations those are named that two of its moves
- * raise or change. */
+/* What is seen through a pushed move with those before it: how often they raise x, how many of
+ * them do, whether they put y and v, and how many of them change s, by adding 1 and removing 2;
+ * and what it does itself, with those that extend it. Of a step's locations those are named that
+ * two of its moves raise or change. */
 typedef struct layer {
     world seen;
     unsigned raises, raising, changing;
@@ -43,11 +43,10 @@ typedef struct layer {
     gathered own;
 } layer;
 
-/* What a slot has to hold: nothing, a storage, an agent with its number and a bit for each move
- * that it fired, a step, a location, a move or an audit, that was fed the first byte of a header or
- * none; of which storage. `stood` is the number of moves at
- * which the agent's own state stands, or at which the step began. A location is got where no pushed
- * move had put what was seen. */
+/* What a slot must hold: nothing, a storage, an agent with its number and a bit for each move
+ * that it fired, a step, a location, a move or an audit, that was fed the first byte of a header
+ * or none; of which storage. `stood` is the version of the agent's own state, or the version at
+ * which the step began. A location is a tracked read if no pushed move had put what was seen. */
 typedef struct account {
     enum { NOTHING, STORAGE, AGENT, STEP, LOCATION, MOVE, AUDIT } kind;
     unsigned storage, number, fired, stood, depth;
@@ -58,15 +57,15 @@ typedef struct account {
     bool has_begun;
 } account;
 
-/* An agent that was given back, if it was, with a bit for each move of which it has the receipt. */
+/* An agent that was returned, if it was, with a bit for each move of which it has the receipt. */
 typedef struct given {
     bool is_there, is_answered;
     unsigned fired, stood;
 } given;
 
-/* Of a storage: which agents were made, and the accounts of those that were given back; how many
- * moves were fired, whether there is a journal and how many moves were closed into the last one, and
- * what each move left. */
+/* Of a storage: which agents were made, and the accounts of those that were returned; how many
+ * moves were fired, whether there is a journal and how many moves were closed into the last one,
+ * and the world after each move. */
 typedef struct story {
     bool made[NUMBERS], is_closed;
     given given[NUMBERS];
@@ -74,9 +73,9 @@ typedef struct story {
     world worlds[MOVES + 1];
 } story;
 
-/* A text, the codes that it gets in each form, and what it says there: the value of x in a state,
- * or the number under which x is named, either of which is below 0 where there is none; whether it
- * asks for both locations; what its move does; and the value of s in a state. */
+/* A text, its codes in each form, and its meaning there: the value of x in a state, or the
+ * number under which x is named, either of which is below 0 if there is none; whether it asks
+ * for both locations; what its move does; and the value of s in a state. */
 typedef struct text {
     const char *bytes;
     int32_t state, locations, fire, reads, move;
@@ -86,7 +85,7 @@ typedef struct text {
     int s;
 } text;
 
-/* A code, and the text that is written with it where there is room for it, if one is. */
+/* A code, and the text that is written with it if there is room for it, if one is. */
 typedef struct told {
     int32_t code;
     const char *text;
@@ -111,16 +110,16 @@ void require(bool holds, const char *what, const char *file, int line);
 unsigned below(unsigned bound);
 const text *any_text(void);
 
-/* The bytes of the text; null where there are none. */
+/* The bytes of the text; null if there are none. */
 const uint8_t *bytes(const text *t);
 
 /* The world after all moves that were fired. */
 world *latest(story *s);
 
-/* The world after this move: false where x has no number to be raised. */
+/* Computes the world after this move. Returns false if x has no number to be raised. */
 bool goes_on(const text *move, world *w);
 
-/* Takes note of a fired move, after which the world is this one. */
+/* Records a fired move, after which the world is this one. */
 void was_fired(account *agent, world after);
 
 /* A storage with this opening world, of which nothing was written, is in the slot now. */
@@ -130,8 +129,8 @@ void storage_is_made(unsigned at, unsigned capacity, world opening);
 uint32_t any_capacity(void);
 bool is_capacity(uint32_t capacity);
 
-/* Takes note of the number at which an agent's own state stands, this one at least: a fire may have
- * it move on, but needn't. */
+/* Records the version of an agent's own state, which is at least this one: a fire may advance
+ * it, but needn't. */
 void stands_from(unsigned at, unsigned least);
 
 /* A state of these values, of which nothing was written. */
@@ -144,19 +143,19 @@ const char *text_of_v(world w);
 /* Any room. */
 buffer any_buffer(void);
 
-/* Requires of a call the foretold code and text; false where the text didn't fit. */
+/* Requires of a call the predicted code and text. Returns false if the text didn't fit. */
 bool is_written(int32_t code, told wanted, const buffer *b);
 
-/* The state at which the agent's own stands. */
+/* The version of the agent's own state. */
 world own_world(const account *agent);
 
 /* The last layer of the step; of one without moves, what is below it. */
 layer top_of(const account *s);
 
-/* The code of a call with an agent and a step, as far as it doesn't rest on what is seen. */
+/* The code of a call with an agent and a step, as far as it doesn't depend on what is seen. */
 int32_t step_code(const account *a, const account *s, int32_t read);
 
-/* Whether the slots are no agent and step of two storages: such a call has no meaning. */
+/* Returns whether the slots are no agent and step of two storages: such a call has no meaning. */
 bool have_meaning(unsigned at, unsigned of_step);
 
 /* A slot with a step of the agent's storage, if there is one; at times the slot itself. */
@@ -165,7 +164,7 @@ unsigned fitting(unsigned at, unsigned of_step);
 /* The code of a call with two agents of one storage. */
 int32_t code_of_two(unsigned at, unsigned from);
 
-/* Releases what the slot holds. */
+/* Frees what the slot holds. */
 void frees(unsigned at);
 
 /* Commits the step with the agent. */
@@ -174,7 +173,7 @@ void commits(unsigned at, unsigned of_step);
 /* One call without text. */
 void calls_any_plain(unsigned at, unsigned other);
 
-/* One call on a step or of an agent's looks, or on moves without an agent. */
+/* One call on a step or of an agent's polls, or on moves without an agent. */
 void calls_any_step(unsigned at, unsigned other);
 
 #endif

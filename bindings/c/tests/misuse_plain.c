@@ -45,7 +45,7 @@ static void locates(unsigned at) {
         accounts[at] = (account){.kind = LOCATION, .place = locations[i].place};
 }
 
-/* What is told of the value at the place: its kind, its number and its bytes. */
+/* What is reported of the value at the place: its kind, its number and its bytes. */
 static const char *parts_of(world w, unsigned place, asm_value *value) {
     int number = place == X_PLACE ? w.x : w.y;
     switch (place) {
@@ -61,7 +61,7 @@ static const char *parts_of(world w, unsigned place, asm_value *value) {
     }
 }
 
-/* Requires the foretold code, bytes and value; false where the bytes didn't fit. */
+/* Requires the predicted code, bytes and value. Returns false if the bytes didn't fit. */
 static bool is_value(int32_t code, told wanted, const buffer *b, asm_value value, asm_value told) {
     bool fits = is_written(code, wanted, b);
     if (!fits || wanted.code != ASM_DONE)
@@ -98,8 +98,7 @@ static void gets_at(unsigned at, unsigned of_step, unsigned of_place) {
         s->has_got[l->place] |= !is_put;
 }
 
-/* Instructions: those that are done go with one place alone, and a put of v with one of its values.
- */
+/* Instructions: those that are done use one place alone, and a put of v one of its values. */
 static const struct {
     int32_t verb, kind;
     int64_t number;
@@ -184,7 +183,7 @@ int32_t code_of_two(unsigned at, unsigned from) {
                                                               : ASM_DONE;
 }
 
-/* The one agent takes the other's state where that stands at more moves. */
+/* The one agent takes the other's state if that is at a higher version. */
 static void takes_state(unsigned at, unsigned from) {
     account *a = &accounts[at], *b = &accounts[from];
     int32_t wanted = code_of_two(at, from);

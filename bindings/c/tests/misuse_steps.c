@@ -1,4 +1,4 @@
-/* The calls of misuse on steps, of an agent's looks, and on moves without an agent. */
+/* The calls of misuse on steps, of an agent's polls, and on moves without an agent. */
 #include "misuse.h"
 
 buffer any_buffer(void) { return (buffer){.room = below(3) ? ROOM : below(12), .written = 9}; }
@@ -128,7 +128,7 @@ static void begins(unsigned at, unsigned of_step) {
     *s = (account){.kind = STEP, .storage = a->storage, .stood = number};
 }
 
-/* The code that tells whether the slots have an agent and a step. */
+/* The code that reports whether the slots have an agent and a step. */
 static int32_t both(const account *a, const account *s) {
     return a->kind != AGENT || s->kind != STEP ? ASM_EMPTY : ASM_DONE;
 }
@@ -215,14 +215,15 @@ static void pops(unsigned at) {
     REQUIRE(asm_pop(ANY(at)) == wanted);
     if (wanted != ASM_DONE)
         return;
-    /* That the popped moves were accepted has told of what they update in part. */
+    /* That the popped moves were accepted revealed something about the locations that they
+     * update in part. */
     const gathered own = top_of(s).own;
     s->has_got[X_PLACE] |= own.raises > 0;
     s->has_got[S_PLACE] |= own.adds || own.removes;
     s->depth--;
 }
 
-/* An offer tells how the step stands, and changes nothing. */
+/* An offer reports what the step would fire, and changes nothing. */
 static void offers(unsigned at) {
     const account *s = &accounts[at];
     buffer b = any_buffer();
@@ -233,7 +234,7 @@ static void offers(unsigned at) {
     REQUIRE(s->kind == STEP || b.written == 0);
 }
 
-/* What the commit is answered on the latest world, which then is the one after it. */
+/* The answer to the commit on the latest world, which is changed to the one after it. */
 static int32_t commit_answer(const account *s, const story *of, world *w) {
     layer top = top_of(s);
     if ((s->has_got[X_PLACE] || top.raising > 1) && w->x_at > s->stood)
@@ -310,7 +311,7 @@ static void goes_on_from(unsigned at, unsigned next) {
         storage_is_made(next, capacity, own_world(a));
 }
 
-/* An audit takes the beginning of a line, and no line feed. */
+/* An audit accepts the beginning of a line, and no line feed. */
 static void audits(unsigned at) {
     account *a = &accounts[at];
     asm_audit_numbers told = {9, 9, 9};

@@ -1,5 +1,5 @@
-/* Runs in parts: storages that go on from an agent's own state, agents that are given back and taken
- * again, and audits of the parts' journals, whose bytes come in pieces. */
+/* Runs in parts: storages that continue from an agent's own state, agents that are returned and
+ * checked out again, and audits of the parts' journals, whose bytes come in pieces. */
 #include "tests.h"
 
 static struct asm_storage storage;
@@ -22,8 +22,8 @@ static void refused_going_on(struct asm_agent *agent, uint32_t capacity, struct 
     REQUIRE(is_same(*agent, was[0]) && is_same(*next, was[1]));
 }
 
-/* A storage goes on once it is full, from an agent that has looked on to the end; the other agents
- * need not, and are closed later. */
+/* A storage continues once it is full, from an agent that has polled up to the end; the other
+ * agents need not, and are closed later. */
 static void going_on(void) {
     struct asm_storage next = {0};
     struct asm_agent agent = {0};
@@ -55,7 +55,7 @@ static void going_on(void) {
     asm_free_storage(&next);
     REQUIRE(asm_go_on(&agents[0], 3, &next) == ASM_DONE && next.slot.full);
     refused_going_on(&agents[0], 3, &next, ASM_TAKEN);
-    /* It has no agent, no move and no journal, and as much room as was wanted. */
+    /* It has no agent, no move and no journal, and as much room as was requested. */
     REQUIRE(asm_moves(&next, &number) == ASM_DONE && number == 0);
     ANSWERS(ASM_NO_JOURNAL, asm_journal(&next, OUT));
     REQUIRE(asm_agent(&next, 0, &agent) == ASM_DONE);
@@ -65,7 +65,7 @@ static void going_on(void) {
         fire(&agent, "[['inc',['x'],1]]");
     asm_numbers numbers;
     REQUIRE(asm_try_fire(&agent, TEXT("{'fire':[],'reads':[]}"), &numbers) == ASM_FULL);
-    /* The first one is as it was. */
+    /* The first one is unchanged. */
     follows_to(&agents[2], 2);
     TELLS(ASM_DONE, "{'number':2,'values':[8,null]}",
           asm_peek(&agents[2], TEXT("[['x'],['y']]"), OUT));
@@ -86,7 +86,8 @@ static void refused_taking(uint32_t number, struct asm_agent *agent, int32_t wan
     REQUIRE(is_same(storage, was[0]) && is_same(*agent, was[1]));
 }
 
-/* An agent that was given back goes on where it was, with its receipts, as often as it is taken. */
+/* An agent that was returned continues at its version, with its receipts, as often as it is
+ * checked out. */
 static void taken_again(void) {
     struct asm_agent agent = {0};
     asm_numbers numbers;
@@ -132,7 +133,7 @@ static void taken_again(void) {
     end_all();
 }
 
-/* What an audit tells. */
+/* What an audit reports. */
 typedef struct sentence {
     int32_t code;
     uint64_t parts, calls, moves;
@@ -185,7 +186,7 @@ static char *joined(const char *order) {
     return text;
 }
 
-/* All bytes of the text are taken, in pieces of this length. */
+/* All bytes of the text are accepted, in pieces of this length. */
 static void takes(struct asm_audit *audit, const char *text, size_t piece) {
     asm_audit_numbers told;
     size_t taken = 9, length = strlen(text);
@@ -220,14 +221,14 @@ static void in_pieces(void) {
     TELLS(ASM_DONE, "[[['x'],3]]", asm_audit_state(&audit, OUT));
     SAYS(asm_audit(&audit, bytes(second), 7, &taken, &told), ASM_DONE, 1, 4, 3);
     SAYS(asm_audited(&audit, &told), ASM_NOT_JSON, 1, 3, 0);
-    /* Both tell what would be so if nothing more came, and more comes. */
+    /* Both report what would be so if nothing more came, and more comes. */
     SAYS(asm_audit(&audit, bytes(second) + 7, strlen(second) - 7, &taken, &told), ASM_DONE, 2, 5, 3);
     SAYS(asm_audited(&audit, &told), ASM_DONE, 2, 5, 3);
     asm_free_audit(&audit);
 }
 
-/* The audit of the text, byte by byte and at once, tells this once so many bytes were taken; and
- * tells it again, however often the next byte is passed. */
+/* The audit of the text, byte by byte and at once, reports this once this many bytes were
+ * accepted; and reports it again, however often the next byte is passed. */
 static void tells_at(const char *text, size_t at, sentence wanted, int line) {
     for (int once = 0; once < 2; once++) {
         struct asm_audit audit = {0};
@@ -258,7 +259,7 @@ static void tells_at(const char *text, size_t at, sentence wanted, int line) {
 
 #define TELLS_AT(text, at, ...) tells_at((text), (at), (sentence){__VA_ARGS__}, __LINE__)
 
-/* The first wrong answer, or the first fault, is told at the line feed of its line. */
+/* The first wrong answer, or the first fault, is reported at the line feed of its line. */
 static void first_faults(void) {
     size_t first = strlen(parts[0]), both = first + strlen(parts[1]);
     char *text = joined("02");
@@ -270,7 +271,7 @@ static void first_faults(void) {
     size_t end = (size_t)(strchr(fired, '\n') - text);
     fired[8] = '1';
     TELLS_AT(text, end, ASM_ILLEGAL, 2, 1, 0);
-    /* A second wrong answer isn't told. */
+    /* A second wrong answer isn't reported. */
     char *stale = strstr(text + end, "{\"stale\":[\"x\"]}");
     REQUIRE(stale != NULL);
     memcpy(stale, "\"full\"         ", 15);
@@ -291,8 +292,9 @@ static void first_faults(void) {
     TELLS_AT("\n", 0, ASM_NOT_JSON, 0, 1, 0);
 }
 
-/* A line may be longer than the 16,777,216 bytes of a whole journal that is checked. With FOLUGBEN_LONG in the environment:
- * it may have 1,073,741,824 bytes, and no more; that takes 4 GiB of memory. */
+/* A line may be longer than the 16,777,216 bytes of a complete journal that is checked. With
+ * FOLUGBEN_LONG in the environment: it may have 1,073,741,824 bytes, and no more; that takes 4
+ * GiB of memory. */
 static void long_lines(void) {
     enum { JOURNAL = 16777216, MOST = 1073741824 };
     const int all = getenv("FOLUGBEN_LONG") != NULL;

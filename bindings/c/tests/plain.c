@@ -1,5 +1,5 @@
-/* Calls without text: values of each kind, instructions of each verb, and what each refusal leaves
- * as it was. */
+/* Calls without text: values of each kind, instructions of each verb, and what each refusal
+ * leaves unchanged. */
 #include "plain.h"
 
 static void each_kind(void) {
@@ -70,7 +70,7 @@ static void a_move_stays(void) {
     end_all();
 }
 
-/* What is got is named by the commit, and an agent whose state has moved on begins again. */
+/* The commit names the tracked reads, and an agent whose state has moved on begins again. */
 static void what_is_got_is_named(void) {
     asm_numbers numbers;
     uint32_t number;
@@ -97,7 +97,7 @@ static void what_is_got_is_named(void) {
     end_all();
 }
 
-/* Moves that clash are told by a text, and leave the step as it was. */
+/* A text reports moves that clash, and they leave the step unchanged. */
 static void clashes(void) {
     begin_all();
     does(Y, ASM_INC, ASM_KIND_NUM, 1, "", 0);
@@ -112,7 +112,7 @@ static void clashes(void) {
     end_all();
 }
 
-/* Verbs, operands and amounts that there aren't, with a move that is empty and one that isn't. */
+/* Verbs, operands and amounts that don't exist, with a move that is empty and one that isn't. */
 static void out_of_range(void) {
     begin_all();
     for (int i = 0; i < 2; i++) {
@@ -148,7 +148,7 @@ static void out_of_range(void) {
     end_all();
 }
 
-/* Of several codes of asm_instruct that hold, the first in the header's order is answered. */
+/* If several codes of asm_instruct apply, it returns the first in the header's order. */
 static void order_of_codes(void) {
     struct asm_location none = {0};
     struct asm_move most = {0};
@@ -175,8 +175,8 @@ static void order_of_codes(void) {
     end_all();
 }
 
-/* A move of 4,096 instructions has no room for another, and one of 256 locations that were got for
- * a further one. */
+/* A move of 4,096 instructions has no room for another, and 256 tracked reads have none for a
+ * further one. */
 static void full(void) {
     char place[32];
     struct asm_location other = {0};

@@ -1,5 +1,5 @@
-/* What the tests of calls without text share: a storage with two agents, the first one's step,
- * locations and a move. */
+/* Shared parts of the tests of calls without text: a storage with two agents, the first one's
+ * step, locations and a move. */
 #ifndef PLAIN_H
 #define PLAIN_H
 
@@ -44,7 +44,7 @@ static inline bool is_value(asm_value value, int32_t kind, int64_t number) {
     return value.kind == kind && value.number == number;
 }
 
-/* With this room, the call tells the value, or the room that its text needs. */
+/* With this room, the call returns the value, or the room that its text needs. */
 static inline void tells_in(size_t room, bool gets, size_t place, asm_value wanted,
                             const char *text) {
     asm_value value = {9, 9};

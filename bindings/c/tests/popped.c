@@ -1,5 +1,5 @@
-/* Moves without text: values that are lists, sets and bags, and moves that are popped into a slot.
- */
+/* Moves without text: values that are lists, sets and bags, and moves that are popped into a
+ * slot. */
 #include "plain.h"
 
 /* The bytes of a list, a set or a bag are any JSON of it. */
@@ -57,7 +57,7 @@ static void a_popped_move(void) {
     REQUIRE(grows(true) == ASM_DONE && grows(false) == ASM_DONE);
     gets(X, ASM_KIND_NUM, 9, "");
     gets(T, ASM_KIND_TEXT, 0, "new");
-    /* It is pushed and gathered further, on this step and on another one. */
+    /* It is pushed and extended further, on this step and on another one. */
     ANSWERS(ASM_DONE, asm_push_move(&agents[0], &step, &other, OUT));
     gets(X, ASM_KIND_NUM, 30, "");
     REQUIRE(asm_pop_move(&step, &move) == ASM_DONE && asm_depth(&step) == 1);
@@ -74,8 +74,8 @@ static void a_popped_move(void) {
     end_all();
 }
 
-/* What is popped is no more rested on, but for what was got; and a move of no instructions is one.
- */
+/* The step no longer depends on what is popped, except on tracked reads; and a move of no
+ * instructions is one. */
 static void what_a_popped_move_leaves(void) {
     asm_numbers numbers;
     asm_slot was;
@@ -94,7 +94,7 @@ static void what_a_popped_move_leaves(void) {
     end_all();
 }
 
-/* A move that adds so many numbers to a set. */
+/* A move that adds this many numbers to a set. */
 static int32_t adds(bool is_push, int from) {
     static char text[32 * LONGEST];
     uint8_t out[8];
@@ -107,8 +107,8 @@ static int32_t adds(bool is_push, int from) {
                                              sizeof out, &written);
 }
 
-/* One move of more than 4,096 instructions isn't made; and what a move has stays as it was pushed.
- */
+/* One move of more than 4,096 instructions isn't made; and what a move has stays as it was
+ * pushed. */
 static void large_moves(void) {
     asm_slot was[2];
     begin_all();
@@ -135,7 +135,7 @@ static void large_moves(void) {
     end_all();
 }
 
-/* Bytes that aren't JSON, or of no value of the kind, and values that a verb doesn't take. */
+/* Bytes that aren't JSON, or of no value of the kind, and values that a verb doesn't accept. */
 static void refuses_each(void) {
     static const char *const no_lists[] = {
         "7",
@@ -187,7 +187,7 @@ static void refuses_each(void) {
     refuses(ASM_INC, ASM_KIND_LIST, 0, "{'list':[]}", 0);
 }
 
-/* So it is with a move that is empty and one that isn't. */
+/* This holds for an empty move and for one that isn't. */
 static void no_values(void) {
     begin_all();
     refuses_each();

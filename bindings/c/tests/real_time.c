@@ -1,9 +1,9 @@
-/* Eight agents, each on a thread of its own, read and fire, with the clock before and after each
- * call. In the journal no call that was answered before another one began stands behind that one:
- * the order of the calls is one in real time too. Calls at one number that fired nothing may stand
- * in any order among each other, as none of them can tell.
+/* Eight agents, each on its own thread, read and fire, with the clock before and after each call.
+ * In the journal no call that was answered before another one began comes after that one: the order
+ * of the calls is one in real time too. Calls at one number that fired nothing may be in any order
+ * among each other, as none of them can tell.
  *
- * Usage: real_time [CALLS], 100,000 unless it is told; they are made on storages of 100,000 each. */
+ * Usage: real_time [CALLS], 100,000 by default; they are made on storages of 100,000 each. */
 #include "tests.h"
 
 #include <pthread.h>
@@ -36,8 +36,8 @@ static uint64_t now(void) {
 
 static uint64_t least(uint64_t a, uint64_t b) { return a < b ? a : b; }
 
-/* Whether a call stands in this order behind one that began after its answer, and can't change
- * places with it: it is of another number, or one of both fired. */
+/* Returns whether a call comes in this order after one that began after its answer, and can't
+ * change places with it: it is of another number, or one of both fired. */
 static bool is_out_of_order(const call *calls, size_t count) {
     uint64_t later = UINT64_MAX, here = UINT64_MAX;
     for (size_t i = count; i-- > 0;) {
@@ -75,7 +75,7 @@ static void judges_orders(void) {
     REFUSES(true, early, next, beside, fire, late);
 }
 
-/* Makes the call of this turn once, be it a read or a fire with or without a read that it names. */
+/* Makes the call of this turn once: a read, or a fire with or without a read that it names. */
 static int32_t make(worker *w, unsigned turn, asm_numbers *numbers) {
     char text[128];
     if (turn % 5 < 2)
@@ -117,7 +117,8 @@ static void run_threads(struct asm_storage *storage) {
     REQUIRE(!pthread_barrier_destroy(&start));
 }
 
-/* Takes the calls in the order of the journal, in which those of an agent stand as it made them. */
+/* Takes the calls in the order of the journal, in which those of an agent are in the order of
+ * its calls. */
 static void take_order(char *journal) {
     char *line = strchr(journal, '\n') + 1;
     for (size_t i = 0; i < CALLS; i++) {

@@ -1,7 +1,9 @@
-/* What the commit of a step rests on, and so names: what rivals write elsewhere leaves it be. */
+/* What the commit of a step depends on, and so names: writes of rivals elsewhere leave it
+ * unchanged. */
 #include "commits.h"
 
-/* Puts, and partial updates of one move alone, rest on nothing: what a rival writes there stays. */
+/* Puts, and partial updates of one move alone, depend on nothing: what a rival writes there
+ * stays. */
 static void resting_on_nothing(void) {
     begin_with(8);
     push("[['inc',['c'],1],['put',['x'],1]]");
@@ -15,7 +17,7 @@ static void resting_on_nothing(void) {
     fired(4);
     begins_at(4);
     gets("['s']", 4, "{'set':[2]}");
-    /* A put, and all that is done and got after it. */
+    /* A put, and everything that is done and read after it. */
     begins_at(4);
     push("[['put',['c'],5]]");
     push("[['inc',['c'],1]]");
@@ -28,8 +30,8 @@ static void resting_on_nothing(void) {
     end_all();
 }
 
-/* What two moves change is named without being got, where the first has partial updates alone
- * there: whether the second is pushed or extends it, puts, or changes it back. */
+/* What two moves change is named without a get, if the first has partial updates alone there:
+ * whether the second is pushed or extends it, puts, or changes it back. */
 static void resting_locations(void) {
     static const char *const seconds[] = {"[['inc',['c'],1]]", "[['inc',['c'],-1]]",
                                           "[['put',['c'],5],['put',['y'],0]]"};
@@ -68,7 +70,8 @@ static void sees(const char *location, const char *value) {
     TELLS(ASM_DONE, text, asm_see(&agents[0], &step, TEXT(locations), OUT));
 }
 
-/* What is seen is named by nothing, through pushed moves too; once it is got as well, it is. */
+/* What is only seen is named by nothing, through pushed moves too; once a get reads it as well,
+ * it is. */
 static void seen(void) {
     for (int is_got = 0; is_got < 2; is_got++) {
         begin_with(8);
@@ -92,8 +95,9 @@ static void scans(const char *name, const char *wanted) {
     TELLS(ASM_DONE, wanted, asm_step_scan(&agents[0], &step, TEXT(name), OUT));
 }
 
-/* A step rests on all locations of a function that was scanned, those without a value too, until it
- * is begun anew: a write to any of them, whatever it leaves there, makes the commit stale. */
+/* A step depends on all locations of a function that was scanned, also those without a value,
+ * until it is begun again: a write to any of them, whatever its effect there, makes the commit
+ * stale. */
 static void whole_functions(void) {
     static const char *const writes[] = {"[['put',['x'],7]]", "[['put',['x'],null]]",
                                          "[['put',['x',1],null]]", "[['put',['x','a'],1]]"};
@@ -107,12 +111,13 @@ static void whole_functions(void) {
         refused(ASM_STALE, written[i]);
         end_all();
     }
-    /* Other functions are of no account, also where a name begins alike. */
+    /* Other functions have no effect, even if a name begins alike. */
     begin_with(8);
     scans("x", "[[['x'],7]]");
     fire(&agents[1], "[['put',['y'],1],['put',['xx'],1],['put',['c',1],1]]");
     fired(2);
-    /* The least location that was written is named besides what was got; a pop leaves the scans. */
+    /* The smallest written location is named in addition to the tracked reads; a pop leaves the
+     * scans. */
     begins_at(2);
     push("[['put',['y'],2]]");
     scans("none", "[]");
@@ -122,7 +127,7 @@ static void whole_functions(void) {
     pop();
     fire(&agents[1], "[['put',['none',2],1],['put',['none',1],1],['put',['c',1],2]]");
     refused(ASM_STALE, "{'stale':['none',1]}");
-    /* Also where a step puts all that it scans. */
+    /* Also if a step puts all that it scans. */
     begins_at(3);
     push("[['put',['x'],1]]");
     scans("x", "[[['x'],1]]");
@@ -145,7 +150,7 @@ static void whole_functions(void) {
     end_all();
 }
 
-/* A fire over scans, of the number that it tells where it fired. */
+/* A fire over scans, of the number that it returns if it fired. */
 static void fires_over(int32_t wanted, struct asm_agent *agent, const char *call, const char *over,
                        uint32_t number) {
     asm_numbers numbers = {9, 9, 9};
@@ -153,8 +158,8 @@ static void fires_over(int32_t wanted, struct asm_agent *agent, const char *call
     REQUIRE(numbers.fired == number && numbers.from == 0 && numbers.to == 0);
 }
 
-/* A fire without a step rests on the functions that it is told, each at its number: a location that
- * had no value makes it stale, and is named then alone. */
+/* A fire without a step depends on the functions that it names, each at its number: a location
+ * that had no value makes it stale, and is then the only one named. */
 static void fires_over_functions(void) {
     const char *put = "{'fire':[['put',['y'],1]],'reads':[[['c'],0]]}";
     uint32_t number;
@@ -181,8 +186,8 @@ static void fires_over_functions(void) {
     end_all();
 }
 
-/* A push was taken, and what it rests on is gone by the time of the commit: that clashes. The step
- * stays, and is begun anew. */
+/* A push was accepted, and what it depends on is gone by the time of the commit: that clashes.
+ * The step stays, and is begun again. */
 static void clashes_at_the_commit(void) {
     open_with("[[['b'],{'bag':[['e',1]]}],[['c'],0]]", 8, &storage);
     REQUIRE(asm_agents(&storage, agents, 2) == ASM_DONE);
@@ -193,7 +198,7 @@ static void clashes_at_the_commit(void) {
     refused(ASM_CLASH, "{'clash':[['b'],'Short']}");
     refused(ASM_CLASH, "{'clash':[['b'],'Short']}");
     ANSWERS(ASM_MOVED, asm_push(&agents[0], &step, TEXT("[]"), OUT));
-    /* Begun anew, it is the push that clashes. */
+    /* Begun again, it is the push that clashes. */
     begins_at(1);
     TELLS(ASM_CLASH, "{'clash':[['b'],'Short']}",
           asm_push(&agents[0], &step, TEXT("[['bagremove',['b'],'e',1]]"), OUT));
@@ -251,7 +256,8 @@ static void raises_each(bool is_push, int count) {
                                                         strlen(move), OUT));
 }
 
-/* More than 256 locations would be named: 256 that were got, and one that two moves change. */
+/* More than 256 locations would be named: 256 tracked reads, and one location that two moves
+ * change. */
 static void many_named(void) {
     struct asm_move move = {0};
     begin_with(8);
@@ -291,10 +297,10 @@ static void many_scanned(void) {
     }
 }
 
-/* As many locations are named as the moves rest on and were got, each counted once. */
+/* As many locations are named as the moves depend on and gets read, each counted once. */
 static void many_rested_on(void) {
     begins_wide();
-    /* One move of any number of increments rests on nothing. */
+    /* One move of any number of increments depends on nothing. */
     raises_each(true, 300);
     fired(1);
     begins_at(1);
@@ -315,7 +321,7 @@ static void many_rested_on(void) {
     fire(&agents[1], "[['inc',['w',255],1]]");
     refused(ASM_STALE, "{'stale':['w',255]}");
     end_all();
-    /* And the journal tells each once. */
+    /* And the journal records each once. */
     begins_wide();
     gets_each(128);
     raises_each(true, 256);

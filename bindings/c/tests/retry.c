@@ -1,19 +1,19 @@
-/* One run of all calls on one thread, in which each call that has no memory is made again. It
- * prints the journals, so that runs with an allocation refused can be compared with one without:
+/* One run of all calls on one thread, in which each call that has no memory is repeated. It prints
+ * the journals, so that runs with an allocation refused can be compared with one without:
  *
  *     tools/refuse/run retry
  *
- * With an argument it tells besides how many calls had no memory. */
+ * With an argument it also reports how many calls had no memory. */
 #include "tests.h"
 
 enum { ROOM = 4096 };
 
 static unsigned refused;
 
-/* The code of the call, which is made once more where there was no memory. */
+/* The code of the call, which is repeated if there was no memory. */
 #define AGAIN(call) (again((call)) ? (call) : last_code)
 
-/* The same with a call on the step, which is as it was where there was no memory. */
+/* The same with a call on the step, which is unchanged if there was no memory. */
 #define ON_STEP(call) (again((call)) && is_as_it_was() ? (call) : last_code)
 
 static int32_t last_code;
@@ -23,7 +23,7 @@ static struct asm_step step;
 static struct asm_location at[2];
 static struct asm_move move;
 
-/* The depth of the step and what is seen through it, where its call began. */
+/* The depth of the step and what is seen through it, at the beginning of its call. */
 static uint32_t depth;
 static const char *seen;
 
@@ -34,7 +34,7 @@ static bool again(int32_t code) {
     return code == ASM_MEMORY;
 }
 
-/* Whether the buffer has this text. */
+/* Returns whether the buffer has this text. */
 static bool has(const uint8_t *out, size_t written, const char *wanted) {
     return written == strlen(wanted) && !memcmp(out, json(wanted), written);
 }
@@ -46,7 +46,7 @@ static bool answers(struct asm_agent *agent, const char *wanted) {
            has(out, written, wanted);
 }
 
-/* The locations were got at the step's beginning. */
+/* The locations were read at the step's beginning. */
 static bool is_as_it_was(void) {
     uint8_t out[ROOM];
     size_t written;
@@ -85,7 +85,7 @@ static void play(void) {
     REQUIRE(answers(&agents[2], "{'number':1,'values':[8,{'set':[1,3,'two']}]}"));
 }
 
-/* Looks at the agent's own state, which follows the one move, and makes no receipt. */
+/* Polls the agent's own state, which follows the one move, and makes no receipt. */
 static void look(struct asm_agent *agent) {
     uint8_t out[ROOM];
     size_t written;
@@ -170,7 +170,7 @@ static void get_at(struct asm_location *place, int32_t kind, int64_t number, con
     REQUIRE(value.kind == kind && value.number == number && has(out, written, text));
 }
 
-/* Puts an instruction into the move, which is as it was where there was no memory. */
+/* Puts an instruction into the move, which is unchanged if there was no memory. */
 static void instruct(struct asm_location *place, int32_t verb, int32_t kind, int64_t number,
                      const char *text) {
     asm_slot was = move.slot;
@@ -181,7 +181,7 @@ static void instruct(struct asm_location *place, int32_t verb, int32_t kind, int
     REQUIRE(last_code == ASM_DONE && move.slot.full);
 }
 
-/* Appends the move to another, which is as it was where there was no memory, and has both then. */
+/* Appends the move to another, which is unchanged if there was no memory, and has both then. */
 static void unite(struct asm_move *of) {
     asm_slot was = of->slot;
     if (again(asm_unite(of, &move))) {
@@ -215,7 +215,7 @@ static void run_united(void) {
     asm_free_move(&both);
 }
 
-/* Pops what was pushed last into the move; both are as they were where there was no memory. */
+/* Pops what was pushed last into the move; both are unchanged if there was no memory. */
 static void pop_move(const char *left) {
     asm_slot was = move.slot;
     if (again(asm_pop_move(&step, &move)) && is_as_it_was()) {
@@ -295,7 +295,8 @@ static void compute(void) {
         has(out, written, "location 1: a location is an array of a name and at most 8 arguments"));
 }
 
-/* An agent that was given back is taken again, as often as there was no memory, and given back. */
+/* An agent that was returned is checked out again, as often as there was no memory, and
+ * returned. */
 static void take_again(void) {
     struct asm_agent agent = {0};
     asm_slot was = storage.slot;
@@ -325,7 +326,7 @@ static void audit(const uint8_t *journal, size_t len, uint64_t calls, uint64_t m
     asm_free_audit(&slot);
 }
 
-/* Closes the storage of so many agents, checks its journal and prints it. */
+/* Closes the storage of this many agents, checks its journal and prints it. */
 static void close_all(struct asm_storage *of, size_t count, uint64_t calls, uint32_t moves,
                       const char *wanted) {
     static uint8_t journal[ROOM], state[ROOM];
@@ -348,7 +349,7 @@ static void close_all(struct asm_storage *of, size_t count, uint64_t calls, uint
     REQUIRE(fwrite(journal, 1, len, stdout) == len && !fflush(stdout));
 }
 
-/* A full storage goes on with its agent's own state. */
+/* A full storage continues with its agent's own state. */
 static void go_on_full(void) {
     struct asm_storage full = {0}, next = {0};
     struct asm_agent agent = {0};
@@ -373,7 +374,7 @@ static void go_on_full(void) {
     asm_free_storage(&next);
 }
 
-/* The run goes on in a storage that opens with what the first left. */
+/* The run continues in a storage that opens with the state at the end of the first. */
 static void go_on(const char *left) {
     struct asm_storage next = {0};
     asm_slot was = storage.slot;
@@ -390,8 +391,9 @@ static void go_on(const char *left) {
     asm_free_storage(&next);
 }
 
-/* A commit that records and had no memory fired nothing: it is made again. The read's receipt may be
- * there from before, so the journal isn't printed; it has the read once or twice, and the fire once. */
+/* A commit that records and had no memory fired nothing: it is repeated. The read's receipt may
+ * be there from before, so the journal isn't printed; it has the read once or twice, and the
+ * fire once. */
 static void record(void) {
     const char *read = "{'agent':0,'call':{'read':[['x']]},'reply':{'number':0,'values':[7]}}\n";
     const char *fire = "{'agent':0,'call':{'fire':[['inc',['x'],2]],'reads':[[['x'],0]]},"

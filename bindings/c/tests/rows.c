@@ -1,6 +1,6 @@
-/* What moves come to without an agent: each row of docs/FORMATS.md on what a group of updates
- * gives, and on what two moves in turn compose to. Where both fire on a state, they do what the one
- * move does, and so does a step with the two pushed. */
+/* The results of moves without an agent: each row of docs/FORMATS.md on the value of a group of
+ * updates, and on the composition of two moves in turn. If both fire on a state, they do what
+ * the one move does, and so does a step with the two pushed. */
 #include "tests.h"
 
 #define AT "['l']"
@@ -16,7 +16,7 @@
 #define LEAST "-9223372036854775808"
 #define COUNTS "4294967295"
 
-/* The value that a move gives, or the cause of its clash. */
+/* The value of a move, or the cause of its clash. */
 typedef struct group {
     const char *old, *move, *value, *cause;
 } group;
@@ -59,9 +59,9 @@ static void aggregates(const group *g) {
     TELLS(g->cause ? ASM_CLASH : ASM_DONE, text, asm_aggregate(TEXT(state), TEXT(move), OUT));
 }
 
-/* What two moves come to, with an old value on which both fire, where there is one. `kept` is what
- * a step with both fires there, where that is no composition: what one of them alone does stands as
- * it is. */
+/* The composition of two moves, with an old value on which both fire, if there is one. `kept` is
+ * what a step with both fires there, if that is no composition: what one of them alone does is
+ * unchanged. */
 typedef struct row {
     const char *first, *second;
     int32_t code;
@@ -118,8 +118,8 @@ static void go_on(char *state, const char *move) {
     }
 }
 
-/* A step with both pushed leaves this state, and its commit fires the composed move, or what is
- * kept. */
+/* A step with both pushed has this state as its effect, and its commit fires the composed move,
+ * or what is kept. */
 static void commits(const row *r, const char *state, const char *left) {
     struct asm_storage storage = {0};
     struct asm_agent agent = {0};
@@ -165,7 +165,8 @@ static void do_the_same(const row *r) {
     commits(r, opening, in_turn);
 }
 
-/* Which text is refused, what is told of several locations, and how many instructions there are. */
+/* Which text is refused, what is reported of several locations, and how many instructions there
+ * are. */
 static void refusals(void) {
     static char most[32 * LONGEST];
     const char *state = "[[['s'],{'set':[1]}],[['x'],1]]", *more = "[['put',['z'],1]]";

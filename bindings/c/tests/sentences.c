@@ -1,7 +1,7 @@
-/* Sentences that say where and why a text is refused, and what each code means. */
+/* Tests of the sentences that say where and why a text is refused, and what each code means. */
 #include "tests.h"
 
-/* A text of a form, with ' for ", and what is said of it: nothing where it is accepted. */
+/* A text of a form, with ' for ", and what is said of it: nothing if it is accepted. */
 static const struct row {
     int32_t form;
     const char *text, *said;

@@ -1,8 +1,8 @@
-/* Eight agents, each on a thread of its own, move amounts between shared accounts by steps, and
- * count them on counters that they share. What a step rests on and another agent writes makes it
- * stale, so that nothing is lost: the sums are right in each of two storages, of which the second
- * goes on where the first ended, and both journals are legal. Then a thread makes calls, which have
- * to take no more of its stack than folugben.h says. */
+/* Eight agents, each on its own thread, move amounts between shared accounts by steps, and count
+ * them on counters that they share. If another agent writes what a step depends on, the step is
+ * stale, so that nothing is lost: the sums are right in each of two storages, of which the
+ * second continues where the first ended, and both journals are legal. Then a thread makes
+ * calls, which must take no more of its stack than folugben.h says. */
 #include "tests.h"
 
 #include <pthread.h>
@@ -48,8 +48,8 @@ static long seen(worker *w, struct asm_step *step, unsigned account, uint32_t nu
     return amount;
 }
 
-/* Moves an amount from one account to another by two moves of one step, and counts it; whether it
- * was fired. */
+/* Moves an amount from one account to another by two moves of one step, and counts it. Returns
+ * whether it was fired. */
 static bool transfer(worker *w, struct asm_step *step, unsigned turn) {
     unsigned from = (w->number + turn) % ACCOUNTS, to = (from + 1 + turn % 3) % ACCOUNTS;
     char move[256];
@@ -100,7 +100,7 @@ static void give_all(struct asm_storage *storage) {
     }
 }
 
-/* The accounts' sum, and the count, in the state that the journal leaves. */
+/* The accounts' sum, and the count, in the state after the journal. */
 static void sums(const char *journal, long count) {
     char *state = malloc(strlen(journal));
     size_t written;
@@ -137,7 +137,7 @@ static void open_first(struct asm_storage *storage) {
 static _Alignas(4096) uint8_t stack[STACK];
 static uintptr_t top;
 
-/* A list as deep as one may be, and a text that is nested as deep as any is read. */
+/* A list as deep as allowed, and a text that is nested as deep as any that is read. */
 #define PAIR_OF_LISTS "{'list':[{'list':["
 #define PAIR_OF_ENDS "]}]}"
 #define LIST                                                                                       \

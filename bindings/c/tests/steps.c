@@ -1,4 +1,4 @@
-/* Steps: what is got and pushed, and what each refusal leaves as it was; without commits. */
+/* Steps: what is read and pushed, and what each refusal leaves unchanged; without commits. */
 #include "tests.h"
 
 static const char *opening =
@@ -34,7 +34,7 @@ static int32_t extend(const char *instructions) {
     return asm_extend(&agents[0], &step, TEXT(instructions), out, sizeof out, &written);
 }
 
-/* What is seen of a step whose agent stands at its number, and of the agent. */
+/* What is seen of a step whose agent is at its version, and of the agent. */
 typedef struct picture {
     uint8_t seen[LONGEST], state[LONGEST];
     uint32_t depth, number, moves;
@@ -43,7 +43,7 @@ typedef struct picture {
     struct asm_step step;
 } picture;
 
-/* The locations are got by it; so they have to be before. */
+/* It gets the locations; so they must have been read before. */
 static picture look(void) {
     picture p;
     size_t written;
@@ -57,7 +57,7 @@ static picture look(void) {
     return p;
 }
 
-/* The calls leave the step, its slot and the agent as they were. */
+/* The calls leave the step, its slot and the agent unchanged. */
 #define KEEPS(calls)                                                                               \
     do {                                                                                           \
         picture before = look();                                                                   \
@@ -168,7 +168,7 @@ static void step_for_another(void) {
     end_all();
 }
 
-/* So many locations ["y",N], from a number on. */
+/* This many locations ["y",N], from a number on. */
 static const char *places(int from, int count) {
     static char text[2 * LONGEST];
     char *at = text + sprintf(text, "[");
@@ -197,7 +197,7 @@ static void gets(void) {
         ANSWERS(ASM_SHAPE, asm_get(&agents[0], &step, TEXT("[['1']]"), OUT));
         ANSWERS(ASM_SHAPE, asm_step_scan(&agents[0], &step, TEXT("y\xc3"), OUT));
     });
-    /* Five are got by now. Neither what is refused nor what doesn't fit is. */
+    /* Five are tracked reads by now. Neither what is refused nor what doesn't fit is. */
     REQUIRE(get_places(2, 250, 4 * LONGEST) == ASM_DONE);
     REQUIRE(get_places(252, 1, 0) == ASM_SMALL);
     KEEPS(REQUIRE(get_places(252, 2, 4 * LONGEST) == ASM_MANY));
@@ -218,7 +218,7 @@ static int32_t see_places(int from, int count) {
     return asm_see(&agents[0], &step, bytes(text), strlen(text), out, sizeof out, &written);
 }
 
-/* What is seen is what would be got, of any number of locations, and takes no place. */
+/* What is seen is what a get would return, of any number of locations, and takes no place. */
 static void sees(void) {
     begin_all();
     look();
@@ -233,7 +233,7 @@ static void sees(void) {
         ANSWERS(ASM_SHAPE, asm_see(&agents[0], &step, TEXT("[['1']]"), OUT));
         REQUIRE(see_places(0, 300) == ASM_DONE);
     });
-    /* Five are got by the looks. */
+    /* Five are tracked reads by the calls of look. */
     REQUIRE(get_places(2, 251, 4 * LONGEST) == ASM_DONE);
     REQUIRE(get_places(253, 1, 4 * LONGEST) == ASM_MANY);
     REQUIRE(see_places(0, 300) == ASM_DONE);
@@ -241,7 +241,7 @@ static void sees(void) {
     end_all();
 }
 
-/* A move that puts to so many locations. */
+/* A move that puts to this many locations. */
 static const char *puts_to(int count) {
     static char text[32 * LONGEST];
     char *at = text + sprintf(text, "[");
@@ -257,8 +257,8 @@ static int32_t get_all_puts(void) {
     return asm_step_scan(&agents[0], &step, TEXT("w"), out, sizeof out, &written);
 }
 
-/* All locations with a name are seen through the pushed moves, however many they are; the function
- * takes one place of the 256. */
+/* All locations with a name are seen through the pushed moves, however many they are; the
+ * function takes one place of the 256. */
 static void gets_all(void) {
     const char *move = puts_to(257);
     asm_numbers numbers;
@@ -276,7 +276,8 @@ static void gets_all(void) {
     REQUIRE(asm_pop(&step) == ASM_DONE && asm_pop(&step) == ASM_DONE);
     begins(&agents[0], &step, ASM_DONE);
     look();
-    /* Five are got by now, and one place more is taken by the function, which is scanned twice. */
+    /* Five are tracked reads by now, and one place more is taken by the function, which is
+     * scanned twice. */
     ANSWERS(ASM_DONE, asm_push(&agents[0], &step, bytes(move), strlen(move), OUT));
     KEEPS(REQUIRE(get_all_puts() == ASM_DONE));
     KEEPS(REQUIRE(get_all_puts() == ASM_DONE));
@@ -286,7 +287,7 @@ static void gets_all(void) {
     KEEPS(ANSWERS(ASM_MANY, asm_step_scan(&agents[0], &step, TEXT("y"), OUT)));
     REQUIRE(get_all_puts() == ASM_DONE);
     REQUIRE(asm_commit(&agents[0], &step, &numbers) == ASM_DONE && numbers.fired == 1);
-    /* So it is where the state has them all, and the step fires. */
+    /* The same holds if the state has them all, and the step fires. */
     REQUIRE(asm_begin(&agents[0], &step, &number) == ASM_DONE && number == 1);
     REQUIRE(get_all_puts() == ASM_DONE);
     REQUIRE(get_places(0, 256, 4 * LONGEST) == ASM_MANY);
@@ -324,7 +325,7 @@ static void pushes(void) {
 typedef int32_t grow(struct asm_agent *, struct asm_step *, const uint8_t *, size_t, uint8_t *,
                      size_t, size_t *);
 
-/* Each refusal of a push and of an extension, at a depth; the step is as it was. */
+/* Each refusal of a push and of an extension, at a depth; the step is unchanged. */
 static void refused(grow *call) {
     struct asm_agent *agent = &agents[0];
     KEEPS({

@@ -1,5 +1,5 @@
-/* Storages: moves of each size, however they are judged, many moves and many agents, and how many
- * moves a storage holds after each call. */
+/* Storages: moves of each size, however they are judged, many moves and many agents, and how
+ * many moves a storage holds after each call. */
 #include "tests.h"
 
 static struct asm_storage storage;
@@ -31,8 +31,8 @@ static int32_t fire_of(struct asm_agent *agent, const char *call) {
     return asm_try_fire(agent, TEXT(call), &numbers);
 }
 
-/* A move that puts 1, 2 and so on at w(0), w(1) and so on, and then 0 at some of them; the location
- * at which it clashes, or -1. */
+/* A move that puts 1, 2 and so on at w(0), w(1) and so on, and then 0 at some of them; the
+ * location at which it clashes, or -1. */
 static const struct wide {
     int count, again[2], clash;
 } wides[] = {
@@ -52,7 +52,7 @@ static const char *call_of(const struct wide *w) {
     return text;
 }
 
-/* Another agent reads what the move left at its first, a middle and its last location. */
+/* Another agent reads the result of the move at its first, a middle and its last location. */
 static void wide_move(const struct wide *w) {
     char locations[64], answer[64];
     const char *call = call_of(w);
@@ -81,7 +81,7 @@ static void wide_move(const struct wide *w) {
 
 static uint32_t drawn(uint32_t seed) { return seed * 1664525 + 1013904223; }
 
-/* A move of at most 19 puts at 24 locations, many of which clash; where it is wide, with puts at 17
+/* A move of at most 19 puts at 24 locations, many of which clash; if it is wide, with puts at 17
  * locations more. */
 static char *append_drawn(char *at, uint32_t seed, bool is_wide) {
     uint32_t draw = seed;
@@ -96,7 +96,7 @@ static char *append_drawn(char *at, uint32_t seed, bool is_wide) {
     return at;
 }
 
-/* The same moves are answered alike with no read, with one that is never stale, and where they are
+/* The same moves are answered alike with no read, with one that is never stale, and if they are
  * wide, until the storage is full. */
 static void judged_alike(void) {
     struct asm_storage stores[3] = {0};
@@ -149,7 +149,7 @@ static void many_moves(uint32_t count) {
     end_all();
 }
 
-/* A read tells the value that was written last, undef too, again and again. */
+/* A read returns the value that was written last, also undef, again and again. */
 static void hidden_values(void) {
     begin_with("[[['s'],{'set':[1]}],[['x'],7]]", 8);
     for (int i = 0; i < 2; i++)

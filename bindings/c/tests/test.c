@@ -1,4 +1,4 @@
-/* Each code of each call, and what no caller is to do: each has to be answered by a code. */
+/* Tests of each code of each call, and of what no caller must do: each call must return a code. */
 #include "folugben.h"
 
 #include <inttypes.h>
@@ -42,7 +42,8 @@ static bool answers(struct asm_agent *agent, const char *wanted) {
            !memcmp(out, wanted, written);
 }
 
-/* Each call but asm_open, asm_check and asm_replay on two slots that hold nothing of their kind. */
+/* Each call except asm_open, asm_check and asm_replay on two slots that hold nothing of their
+ * kind. */
 static void on_nothing(struct asm_storage *storage, struct asm_agent *agent) {
     asm_slot full = storage->slot, was = agent->slot;
     struct asm_agent free_slot = {0};
@@ -99,7 +100,7 @@ static void full_slots(void) {
     asm_free_storage(&storage);
 }
 
-/* A number is handed out once, also where its agent is freed or given back, and one that a refused
+/* A number is handed out once, also if its agent is freed or returned, and one that a refused
  * call asked for stays free. */
 static void numbers(void) {
     struct asm_storage storage = {0}, other = {0};

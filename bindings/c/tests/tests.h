@@ -1,5 +1,5 @@
-/* What the tests of looks and steps share. Their texts have ' in the place of ", which no text of
- * theirs has otherwise. */
+/* Shared parts of the tests of polls and steps. Their texts have ' in the place of ", which no
+ * text of theirs has otherwise. */
 #ifndef TESTS_H
 #define TESTS_H
 
@@ -20,7 +20,7 @@ enum { UNTOUCHED = 0xA5, LONGEST = 4096 };
 /* The buffer of a call within ANSWERS and TELLS. */
 #define OUT out, room, &written
 
-/* The call answers this code and writes no text. */
+/* The call returns this code and writes no text. */
 #define ANSWERS(wanted, call)                                                                      \
     do {                                                                                           \
         size_t room = 8, written = 9;                                                              \
@@ -30,8 +30,8 @@ enum { UNTOUCHED = 0xA5, LONGEST = 4096 };
         free(out);                                                                                 \
     } while (0)
 
-/* With a byte of room less than the text has, the call writes nothing and tells the room; then,
- * with that room, it answers this code and writes the text. */
+/* With a byte of room less than the text has, the call writes nothing and returns the room;
+ * then, with that room, it returns this code and writes the text. */
 #define TELLS(wanted, text, call)                                                                  \
     do {                                                                                           \
         size_t length = strlen(text), room = length - 1, written = 9;                              \
@@ -53,7 +53,7 @@ static inline void require(bool holds, const char *what, const char *file, int l
 
 static inline const uint8_t *bytes(const char *text) { return (const uint8_t *)text; }
 
-/* The text with " for '; it stands until the fourth call after this one. */
+/* The text with " for '; it is valid until the fourth call after this one. */
 static inline const char *json(const char *text) {
     static _Thread_local char texts[4][LONGEST];
     static _Thread_local unsigned next;
@@ -64,7 +64,8 @@ static inline const char *json(const char *text) {
     return at;
 }
 
-/* A buffer of just so many bytes, so that memcheck finds each byte that is written behind it. */
+/* A buffer of exactly this many bytes, so that memcheck finds each byte that is written after
+ * it. */
 static inline uint8_t *buffer_of(size_t room) {
     uint8_t *buffer = malloc(room ? room : 1);
     REQUIRE(buffer != NULL);
@@ -88,10 +89,10 @@ static inline void is_told(int32_t code, int32_t wanted, const char *text, const
     exit(1);
 }
 
-/* The handle as one of another kind, as no caller is to pass it. */
+/* The handle as one of another kind, as no caller must pass it. */
 #define AS(kind, handle) ((struct asm_##kind *)(void *)(handle))
 
-/* Whether the handle is as the slot was. */
+/* Returns whether the handle is as the slot was. */
 #define is_same(handle, was) is_same_slot((handle).slot, (was))
 
 /* The slot of a handle of any kind. */
@@ -113,7 +114,7 @@ static inline void fire(struct asm_agent *agent, const char *instructions) {
     REQUIRE(asm_try_fire(agent, TEXT(call), &numbers) == ASM_DONE);
 }
 
-/* The kept journal, which is to be freed. */
+/* The retained journal; the caller must free it. */
 static inline char *journal_of(struct asm_storage *storage) {
     uint32_t missing;
     size_t room;
@@ -126,7 +127,7 @@ static inline char *journal_of(struct asm_storage *storage) {
     return journal;
 }
 
-/* The journal is legal, with so many calls and moves. */
+/* The journal is legal, with this many calls and moves. */
 static inline void is_legal(const char *journal, uint64_t calls, uint32_t moves) {
     uint64_t found;
     uint32_t fired;

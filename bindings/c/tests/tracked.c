@@ -1,5 +1,5 @@
-/* What a step was told by a refusal, or by a move that it popped, belongs to its read set; and a
- * commit may record what the read set has. */
+/* What a refusal, or a popped move, revealed to a step belongs to its read set; and a commit may
+ * record the values of the read set. */
 #include "commits.h"
 
 static const char *const shelf = "[[['b'],{'bag':[['e',1]]}],[['c'],0],[['s'],{'set':[1]}]]";
@@ -51,8 +51,8 @@ static int32_t takes_two(int way, uint8_t *out, size_t room, size_t *written) {
     }
 }
 
-/* The step does otherwise where a push is refused: it is stale once the push would be taken. So it
- * is where the text of the refusal has no room. */
+/* The step acts differently if a push is refused: it is stale once the push would be accepted.
+ * The same holds if the text of the refusal has no room. */
 static void refused_moves(void) {
     for (int way = 0; way < 8; way++) {
         size_t written;
@@ -71,7 +71,7 @@ static void refused_moves(void) {
     }
 }
 
-/* A refusal tells that the smaller locations fit, and nothing of the greater ones. */
+/* A refusal reveals that the smaller locations fit, and nothing of the greater ones. */
 static void smaller_locations(void) {
     begin_at_shelf();
     TELLS(ASM_CLASH, "{'clash':[['c'],'Kind']}",
@@ -84,7 +84,7 @@ static void smaller_locations(void) {
     end_at_shelf();
 }
 
-/* What the step put itself tells nothing of the state below; an updated value does. */
+/* What the step put itself reveals nothing of the state below; an updated value does. */
 static void refused_by_own_puts(void) {
     begin_at_shelf();
     push("[['bagadd',['b'],'f',1],['put',['c'],'none']]");
@@ -97,7 +97,7 @@ static void refused_by_own_puts(void) {
     end_at_shelf();
 }
 
-/* A text of so many instructions or locations, each with its number. */
+/* A text of this many instructions or locations, each with its number. */
 static const char *each(const char *format, int count) {
     static char text[32 * LONGEST];
     char *at = text + sprintf(text, "[");
@@ -109,7 +109,7 @@ static const char *each(const char *format, int count) {
     return text;
 }
 
-/* That only the number of instructions is too great tells that all locations fit. */
+/* That only the number of instructions is too great reveals that all locations fit. */
 static void too_many_instructions(void) {
     const char *puts = each("[\"put\",[\"w\",%d],1]", 4096);
     begin_at_shelf();
@@ -120,7 +120,7 @@ static void too_many_instructions(void) {
     end_at_shelf();
 }
 
-/* Has so many places taken. */
+/* Takes this many places. */
 static void takes_places(int count) {
     static uint8_t out[2 * LONGEST];
     const char *text = each("[\"w\",%d]", count);
@@ -129,7 +129,7 @@ static void takes_places(int count) {
             ASM_DONE);
 }
 
-/* Where a refusal or a pop has no place, it is ASM_MANY, and the step stays as it was. */
+/* If a refusal or a pop has no place, it is ASM_MANY, and the step is unchanged. */
 static void no_place(void) {
     begin_at_shelf();
     push("[['inc',['c'],1]]");
@@ -149,7 +149,7 @@ static void no_place(void) {
     end_at_shelf();
 }
 
-/* A move that was taken and is popped told what it looked at below. */
+/* A move that was accepted and is popped revealed what it read below. */
 static void popped_moves(void) {
     for (int is_extended = 0; is_extended < 2; is_extended++) {
         begin_at_shelf();
@@ -166,7 +166,7 @@ static void popped_moves(void) {
         refused(ASM_STALE, "{'stale':['b']}");
         end_at_shelf();
     }
-    /* Not where the step put the value, and where it only puts. */
+    /* Not if the step put the value, and not if it only puts. */
     begin_at_shelf();
     push("[['put',['c'],5]]");
     push("[['inc',['c'],1],['put',['a'],1]]");
@@ -178,8 +178,8 @@ static void popped_moves(void) {
     end_at_shelf();
 }
 
-/* A move that is popped into a slot is judged by the commit once it is pushed again: two agents that
- * raise one counter don't hinder each other. */
+/* A move that is popped into a slot is judged by the commit once it is pushed again: two agents
+ * that raise one counter don't hinder each other. */
 static void pushed_again(void) {
     begin_at_shelf();
     push("[['inc',['c'],1]]");
@@ -197,7 +197,7 @@ static void pushed_again(void) {
     end_at_shelf();
 }
 
-/* What two moves of the group changed may come to nothing, and needs its value all the same. */
+/* The changes of two moves of the group may amount to nothing, and need its value all the same. */
 static void resting_groups(void) {
     begin_at_shelf();
     push("[['inc',['c'],1],['put',['a'],1]]");
@@ -231,8 +231,8 @@ static void no_trace(void) {
     end_at_shelf();
 }
 
-/* The journal has the values that the step read in front of its fire: of what it got, of what its
- * moves depend on, and of what a refusal told of, and not those of the function that it scanned. */
+/* The journal has the values that the step read before its fire: of its gets, of what its moves
+ * depend on, and of what a refusal revealed, and not those of the function that it scanned. */
 static void recorded_reads(void) {
     begin_with(8);
     gets("['y']", 0, "9");
@@ -285,7 +285,7 @@ static void recorded_lies(void) {
     end_all();
 }
 
-/* Where the agent's own state has moved on, or another agent's state is there, the step is begun
+/* If the agent's own state has moved on, or another agent's state is there, the step is begun
  * again. */
 static void recorded_elsewhere(void) {
     uint32_t number;
@@ -317,7 +317,7 @@ static void recorded_elsewhere(void) {
     end_all();
 }
 
-/* The agent's state is at the step's number, and behind a fire of its own. */
+/* The agent's state is at the step's number, and after a fire of its own. */
 static void recorded_behind(void) {
     begin_with(8);
     gets("['x']", 0, "7");

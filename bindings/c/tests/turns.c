@@ -1,5 +1,5 @@
 /* Agents that one thread plays by turns, of which the next takes the state of the one that acted
- * last: scenes of two agents, and calls at random of several beside a model. */
+ * last: scenes of two agents, and random calls of several beside a model. */
 #include "tests.h"
 
 enum { AGENTS = 6, PLACES = 3, MOVES = 600, CALLS = 6000 };
@@ -12,9 +12,9 @@ static struct asm_step steps[AGENTS];
 static struct asm_location at[PLACES];
 static struct asm_move move;
 
-/* What the model knows: the values that each number of moves leaves, and the last move that wrote
- * each location; how many moves an agent has seen and fired, at which number its state stands, and
- * at which its step began, if it has one, and what that has got. */
+/* The state of the model: the values after each number of moves, and the last move that wrote
+ * each location; how many moves an agent has seen and fired, the version of its state, and the
+ * version at which its step began, if it has one, and its tracked reads. */
 static int64_t values[MOVES + 1][PLACES];
 static uint32_t moves, written_at[PLACES], answered;
 static struct view {
@@ -52,7 +52,7 @@ static uint64_t below(uint64_t bound) {
     return (state >> 20) % bound;
 }
 
-/* The agent's own state, with the values of the number at which it stands. */
+/* The agent's own state, with the values of its version. */
 static uint32_t stands(size_t agent) {
     uint32_t number = 9;
     size_t written;
@@ -72,7 +72,7 @@ static void is_as_modelled(size_t agent) {
     REQUIRE(asm_won(&agents[agent]) == views[agent].won);
 }
 
-/* The one agent takes the other's state: what it has seen, and where the two states stand. */
+/* The one agent takes the other's state: what it has seen, and the versions of the two states. */
 static void takes(size_t taker, size_t other) {
     struct view *a = &views[taker], *b = &views[other];
     asm_slot was[2] = {agents[taker].slot, agents[other].slot};
@@ -100,7 +100,7 @@ static void begins(size_t agent) {
     is_as_modelled(agent);
 }
 
-/* What the step sees at the location, or that the agent's state stands elsewhere. */
+/* What the step sees at the location, or that the agent's state is at another version. */
 static bool sees(size_t agent, size_t place, asm_value *value) {
     struct view *a = &views[agent];
     size_t written;
@@ -111,7 +111,7 @@ static bool sees(size_t agent, size_t place, asm_value *value) {
     return code == ASM_DONE;
 }
 
-/* The agent has fired a move that adds so much at the location. */
+/* The agent has fired a move that adds this much at the location. */
 static void has_fired(size_t agent, size_t place, int64_t by) {
     memcpy(values[moves + 1], values[moves], sizeof *values);
     values[++moves][place] += by;
@@ -130,7 +130,7 @@ static void is_answered(size_t agent) {
     is_as_modelled(agent);
 }
 
-/* The step fires what it got at the location and one more, unless what it got was written since. */
+/* The step fires the value that it read at the location plus one, unless that was written since. */
 static void commits(size_t agent, size_t place) {
     asm_value value = {9, 9};
     asm_numbers numbers;
@@ -152,7 +152,7 @@ static void commits(size_t agent, size_t place) {
     is_answered(agent);
 }
 
-/* A whole step of one agent, which first takes the state of another, as an engine would. */
+/* A complete step of one agent, which first takes the state of another, as an engine would. */
 static void acts(size_t agent, size_t last) {
     takes(agent, last);
     REQUIRE(asm_seen(&agents[agent]) == moves);
@@ -197,8 +197,8 @@ static void at_random(void) {
     end_all();
 }
 
-/* A step whose agent's state was taken goes on once that agent has followed, if nothing was fired;
- * the taker, whose state stands at its number, may go on with it at once. */
+/* A step whose agent's state was taken continues once that agent has followed, if nothing was
+ * fired; the taker, whose state is at its version, may continue with it at once. */
 static void open_steps(void) {
     uint32_t number = 9;
     asm_value value;
@@ -222,7 +222,7 @@ static void open_steps(void) {
     REQUIRE(asm_commit(&agents[0], &steps[0], &numbers) == ASM_DONE && numbers.fired == 2);
     has_fired(0, 1, 5);
     is_answered(0);
-    /* A commit looks on by itself, so it needs no follow. */
+    /* A commit polls by itself, so it needs no follow. */
     begins(2);
     ANSWERS(ASM_DONE, asm_push(&agents[2], &steps[2], TEXT("[['inc',['x',2],3]]"), OUT));
     takes(4, 2);
@@ -232,7 +232,7 @@ static void open_steps(void) {
     end_all();
 }
 
-/* What is refused leaves both slots as they were. */
+/* A refused call leaves both slots unchanged. */
 static void refused(struct asm_agent *agent, struct asm_agent *other, int32_t code) {
     asm_slot was[2] = {agent->slot, other->slot};
     REQUIRE(asm_take_state(agent, other) == code);

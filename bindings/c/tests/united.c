@@ -25,7 +25,8 @@ static void clashes(const char *text) {
     TELLS(ASM_CLASH, text, asm_push_move(&agents[0], &step, &move, OUT));
 }
 
-/* Both do at once what they do: increments of both count, and an update that both have does once. */
+/* Both do at once what they do: increments of both count, and an update that both have does
+ * once. */
 static void both_are_done(void) {
     begin_all();
     does(X, ASM_INC, ASM_KIND_NUM, 1, "", 0);
@@ -78,7 +79,7 @@ static void empty_slots(void) {
     end_both();
 }
 
-/* So many instructions in both, of which a further one is too many. */
+/* This many instructions in both, of which a further one is too many. */
 static void most(void) {
     begin_all();
     for (int i = 0; i < MOST / 2; i++)
