@@ -1,4 +1,4 @@
-"""Tries what answers questions: conditions, the search in a location's values, and the summary."""
+"""Tests of answers to questions: conditions, searches of values, and the summary."""
 
 import json
 import re
@@ -24,11 +24,14 @@ def key(place: Location) -> str:
     return json.dumps(location_json(place), separators=(",", ":"))
 
 
-KNOWN: dict[int, list[State]] = {}  # the moments of HISTORY and of BUSY, which are asked for often
+KNOWN: dict[int, list[State]] = {}  # the moments of HISTORY and of BUSY, which are requested often
 
 
 def moments(history: History) -> list[State]:
-    """What each location holds at each moment, in JSON: before the first event, and after each."""
+    """Return what each location holds at each moment, in JSON.
+
+    The moments are before the first event, and after each.
+    """
     if id(history) in KNOWN:
         return KNOWN[id(history)]
     storage = Storage(history.init, history.capacity)
@@ -120,7 +123,10 @@ def try_condition_ways(tries: Tries, browser: Browser) -> None:
 
 
 def told_of(place: str) -> list[tuple[int, str]]:
-    """Each event of HISTORY that has to do with the location, with what its call and answer say of its values."""
+    """Return each event of HISTORY that concerns the location.
+
+    Each has what its call and answer say of its values.
+    """
     out, states = [], moments(HISTORY)
     for number, event in enumerate(HISTORY.events):
         if isinstance(event.call, Read):
@@ -154,7 +160,10 @@ def try_location_search(tries: Tries, browser: Browser) -> None:
 
 
 def unput(history: History) -> list[tuple[int, list[Location]]]:
-    """The fired moves that name a location into which nothing was put up to the number that they name."""
+    """Return the fired moves that name a location without puts up to their number.
+
+    The number is the one that they name.
+    """
     written: dict[Location, int] = {}
     out = []
     for number, event in enumerate(history.events):

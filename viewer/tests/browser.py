@@ -17,7 +17,7 @@ from selenium.webdriver.remote.webelement import WebElement
 from selenium.webdriver.support.ui import Select
 
 ROOT = Path(__file__).resolve().parents[2]
-# The page as it is joined for these tries.
+# The page as it is joined for these tests.
 PAGE = Path(tempfile.mkdtemp()) / "index.html"
 subprocess.run([ROOT / "viewer" / "join", PAGE], check=True)
 atexit.register(shutil.rmtree, PAGE.parent)
@@ -42,7 +42,7 @@ class Browser:
         self.scheme()
 
     def scheme(self, media: str = "") -> None:
-        """Shows the page in the person's colors, on the screen or as it is printed."""
+        """Show the page in the person's colors, on the screen or as it is printed."""
         scheme = {"name": "prefers-color-scheme", "value": "dark" if self.is_dark else "light"}
         self.driver.execute_cdp_cmd("Emulation.setEmulatedMedia", {"media": media, "features": [scheme]})
 
@@ -51,7 +51,7 @@ class Browser:
         self.driver.execute_cdp_cmd("Emulation.setDeviceMetricsOverride", size)
 
     def restore(self) -> None:
-        """Gives the page the size again that it had first."""
+        """Restore the size that the page had first."""
         self.resize(*self.size)
 
     def open(self, page: Path = PAGE, part: str = "") -> None:
@@ -59,7 +59,10 @@ class Browser:
         self.driver.get(f"file://{page}{part}")
 
     def load(self, trace: Path, part: str = "") -> float:
-        """Opens the page and chooses a file there; answers the seconds until the run, or why it is refused, is shown."""
+        """Open the page and choose a file there.
+
+        Return the seconds until the run, or the reason for its refusal, is shown.
+        """
         self.open(part=part)
         return self.choose_file(trace)
 
@@ -79,15 +82,15 @@ class Browser:
             time.sleep(0.02)
 
     def frame(self) -> None:
-        """Waits until what was asked for is drawn."""
+        """Wait until what was requested is drawn."""
         self.driver.execute_async_script("requestAnimationFrame(() => requestAnimationFrame(arguments[0]))")
 
     def rest(self) -> None:
-        """Waits until the address is kept, and what was chosen is spoken."""
+        """Wait until the address is stored, and what was chosen is spoken."""
         time.sleep(REST)
 
     def go(self, by: int) -> None:
-        """Goes along the entries of the browser's history."""
+        """Move along the entries of the browser's history."""
         self.run("history.go(arguments[0])", by)
         self.rest()
         self.frame()
@@ -108,7 +111,7 @@ class Browser:
         return [" ".join(it.split()) for it in self.run("return [...document.querySelectorAll(arguments[0])].map(it => it.innerText)", selector)]
 
     def title(self) -> str:
-        """The title of the chosen event."""
+        """Return the title of the chosen event."""
         return self.texts("#detail .title")[0]
 
     def press(self, *keys: str, shift: bool = False) -> None:
@@ -126,7 +129,7 @@ class Browser:
         self.frame()
 
     def write(self, name: str, text: str) -> None:
-        """Writes a text into an emptied field."""
+        """Write a text into an emptied field."""
         self.run("const it = document.getElementById(arguments[0]); it.value = ''; it.dispatchEvent(new Event('input')); it.focus()", name)
         if text:
             self.press(text)
@@ -137,7 +140,7 @@ class Browser:
         self.frame()
 
     def leave(self) -> None:
-        """Takes the focus from what has it."""
+        """Remove the focus from what has it."""
         self.run("document.activeElement.blur()")
 
     def slide(self, count: int) -> None:

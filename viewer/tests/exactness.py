@@ -1,4 +1,7 @@
-"""Tries that the page has the same state as the model, after each event of many runs, and that it is quick with a long one."""
+"""Tests that the page has the model's state after each event of many runs.
+
+They also test that it is fast with a long one.
+"""
 
 import json
 import time
@@ -15,7 +18,7 @@ from tries import Tries
 from values import UNDEF, Location, location_json, value_json
 
 RUNS, SIZES = 400, (50_000, 100_000)
-# Each location's value and last writer after each number of events, as the page has them; twice, as the first asking may leave
+# Each location's value and last writer after each number of events, as the page has them; twice, as the first request may leave
 # what the second finds. And for each read that an event names, the first move that wrote its location since, or 0.
 STATES = """
 const [texts, done] = arguments;
@@ -60,7 +63,7 @@ CONDITION = "watch(''); const start = performance.now(); watch(arguments[0]); re
 
 
 def model_of(history: History) -> dict[str, object]:
-    """What the model has in the place of the page's answer."""
+    """Return what the model has in the place of the page's answer."""
     storage = Storage(history.init, history.capacity)
     moments, since = [told(storage)], []
     writers: dict[Location, list[int]] = {}
@@ -77,7 +80,10 @@ def model_of(history: History) -> dict[str, object]:
 
 
 def told(storage: Storage) -> dict[str, tuple[str, int]]:
-    """The value and the last writer of each location that holds something or was written."""
+    """Return the value and the last writer of each location that has any.
+
+    A location counts if it holds something or was written.
+    """
     every = {*storage.state, *storage.writers}
     return {text(location_json(at)): (text(value_json(storage.state.get(at, UNDEF))), storage.writers.get(at, 0)) for at in every}
 
@@ -110,7 +116,10 @@ def try_states(tries: Tries, browser: Browser) -> None:
 
 
 def first_quick(measure: Callable[[], Any], is_quick: Callable[[Any], bool], most: int = 5) -> Any:
-    """The first quick one of at most so many measurements: other work on the machine slows some of them, a slow page all."""
+    """Return the first fast one of a limited number of measurements.
+
+    Other work on the machine slows some of them, a slow page all.
+    """
     for _ in range(most - 1):
         if is_quick(found := measure()):
             return found

@@ -1,4 +1,4 @@
-"""Tries the ways between events that hang together, and what differs between two moments."""
+"""Tests of the ways between related events, and of the differences of two moments."""
 
 from asking import BUSY, moments
 from browser import Browser
@@ -8,7 +8,7 @@ from tries import Tries
 
 
 def of_agent(history: History, number: int, kind: type, by: int) -> int | None:
-    """The event of the same agent with such a call that is next to the event."""
+    """Return the closest event of the same agent with such a call."""
     agent, it = history.events[number].agent, number + by
     while 0 <= it < len(history.events):
         if history.events[it].agent == agent and isinstance(history.events[it].call, kind):
@@ -18,7 +18,7 @@ def of_agent(history: History, number: int, kind: type, by: int) -> int | None:
 
 
 def staled(history: History) -> dict[int, list[int]]:
-    """The stale fires that each fired move made so, by the numbers of their events."""
+    """Return the stale fires caused by each fired move, by their event numbers."""
     out: dict[int, list[int]] = {}
     for number, event in enumerate(history.events):
         if not isinstance(event.reply, Stale):

@@ -1,4 +1,7 @@
-"""Tries that nothing is wrong or hidden: onsets, searches, changes within long lists, white space, windows, and a wrong file."""
+"""Tests that nothing is wrong or hidden.
+
+They cover onsets, searches, changes within long lists, white space, windows, and a wrong file.
+"""
 
 from asking import BUSY, at, moments, stretches
 from browser import Browser
@@ -17,7 +20,7 @@ def put(place: str, value: object) -> dict[str, object]:
 
 
 def try_onsets(tries: Tries, browser: Browser) -> None:
-    """A condition on several locations comes to hold at each of them for itself."""
+    """A condition on several locations begins to hold at each of them separately."""
     browser.load(tries.trace("busy", BUSY))
     places = [it for it in moments(BUSY)[0] if it.startswith('["stock"')]
     below = lambda most: sorted((since, place) for place in places for since, _ in stretches(BUSY, at(place, lambda it: it < most)))

@@ -1,4 +1,7 @@
-"""Tries conditions as invariants: their words, what they say, what is offered while they are written, and the line of their numbers."""
+"""Tests of conditions as invariants.
+
+They cover their words, their reports, the suggestions while they are written, and the line of their numbers.
+"""
 
 from asking import BUSY, DOOR, OPEN, PACKED, RICE, moments, stretches
 from browser import Browser

@@ -1,11 +1,14 @@
-"""Tries how the page looks and sounds: contrast, names for readers of the screen, the way of the Tab key, and its width."""
+"""Tests of how the page looks and sounds.
+
+They cover contrast, names for readers of the screen, the way of the Tab key, and its width.
+"""
 
 from browser import Browser
 from samples import warehouse, wrong
 from selenium.webdriver.common.keys import Keys
 from tries import Tries
 
-# The texts that stand on too little contrast: 4.5 for text, by the formula of WCAG 2.
+# The texts with too little contrast: 4.5 for text, by the formula of WCAG 2.
 CONTRAST = """
 const pen = Object.assign(document.createElement("canvas"), { width: 1, height: 1 }).getContext("2d", { willReadFrequently: true });
 const known = new Map();

@@ -1,4 +1,7 @@
-"""Tries that nothing on the page leads astray: what was read, what differs, signs, long values, ways back, keys, zoom."""
+"""Tests that nothing on the page misleads.
+
+They cover what was read, differences, signs, long values, ways back, keys, and zoom.
+"""
 
 from browser import Browser
 from journal import Clashed, Fire, Stale

@@ -1,4 +1,7 @@
-"""Tries how a run comes onto the page: by a file, by a drop, by ./view; and what is refused."""
+"""Tests of how a run comes onto the page, and of what is refused.
+
+It comes by a file, by a drop, or by ./view.
+"""
 
 import json
 import os
@@ -58,7 +61,10 @@ def try_empty(tries: Tries, browser: Browser) -> None:
 
 
 def refused_texts(good: str) -> dict[str, tuple[str | bytes, str]]:
-    """Texts that are no trace, each with what must be said of it; most are a good one with one change."""
+    """Return texts that are no trace, each with what must be said of it.
+
+    Most are a good one with one change.
+    """
     lines = good.splitlines()
     journal, script = write_journal(wrong()).decode(), (ROOT / "examples" / "bank_transfers.json").read_text()
 
@@ -113,7 +119,7 @@ def try_refusals(tries: Tries, browser: Browser) -> None:
 
 
 class View:
-    """Runs ./view in a folder where the model is in the program's place."""
+    """Run ./view in a folder where the model is in the program's place."""
 
     def __init__(self, room: Path) -> None:
         self.room = room
@@ -167,7 +173,10 @@ def try_view(tries: Tries, browser: Browser) -> None:
 
 
 def try_follow(tries: Tries, browser: Browser) -> None:
-    """A run that grows is served on the loopback address, at an address that has to be known, and is shown where it was."""
+    """Test that a growing run is served on the loopback address.
+
+    The address must be known, and the run is shown where it was.
+    """
     view, run = View(tries.room / "follow"), tries.room / "bank.run"
     run.mkdir()
     put = lambda number, of, read: (0, {"fire": [["put", ["x"], number]], "reads": [[["x"], read]]}, of)
@@ -231,7 +240,7 @@ def call_of(event: Event) -> object:
 
 
 def poor_path(room: Path) -> str:
-    """A path on which no browser is, but what ./view and the model need."""
+    """Return a path with no browser, but with what ./view and the model need."""
     folder = room / "poor"
     folder.mkdir()
     for name in ("sh", "env", "python3"):

@@ -1,4 +1,7 @@
-"""Tries that there is room: rows in sight, lanes that fold and are dragged, rows that show values, states without what isn't put."""
+"""Tests that there is room on the page.
+
+They cover rows in sight, lanes that fold and are dragged, rows that show values, and states without what isn't put.
+"""
 
 import gzip
 
@@ -11,7 +14,7 @@ from showing import HISTORY
 from tries import Tries
 
 CARTS = '["carts"]'
-# How many rows of a list are wholly in sight.
+# How many rows of a list are completely in sight.
 SEEN = """
 const box = document.getElementById(arguments[0]), rows = box.querySelector(".rows").getBoundingClientRect(), to = Math.min(innerHeight, box.getBoundingClientRect().bottom);
 const from = Math.max(box.getBoundingClientRect().top, box.querySelector(".heads")?.getBoundingClientRect().bottom ?? 0);
@@ -50,7 +53,7 @@ def try_first_look(tries: Tries, browser: Browser) -> None:
     tries.same("the keys are shown from the top, in two columns", help_at, [0, 1 if browser.size[0] < 800 else 2])
     browser.press(Keys.ESCAPE)
     browser.click("link")
-    if browser.size[0] < 800:  # where the page is longer than the window, what is said covers the end of it
+    if browser.size[0] < 800:  # if the page is longer than the window, what is said covers the end of it
         return
     covered = browser.run("""const box = document.getElementById("said").getBoundingClientRect(), below = document.elementsFromPoint(box.left + box.width / 2, box.top + box.height / 2).filter(it => !it.contains(document.getElementById("said")) && it.id !== "said");
       return [box.width > 0, below.filter(it => !it.matches("html, body")).map(it => it.id || it.className)]""")
@@ -70,7 +73,7 @@ def try_rows(tries: Tries, browser: Browser) -> None:
 
 
 def try_zoom(tries: Tries, browser: Browser) -> None:
-    """What a fire depends on is seen whole where the page is made twice as large."""
+    """What a fire depends on is completely visible if the page is made twice as large."""
     place = ["a_location_with_a_long_name", "and a long argument"]
     fire = lambda value, number: {"fire": [["put", place, value]], "reads": [[place, number]]}
     history = journal_of((0, fire("a text that is some words long", 0), {"fired": 1}), (1, {"read": [place]}, {"number": 1, "values": ["a text that is some words long"]}), (0, fire(2, 1), {"fired": 2}), (1, fire(3, 1), {"stale": place}))

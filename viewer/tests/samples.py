@@ -1,4 +1,4 @@
-"""Journals and traces to show: scripts played with their agents in turn, and runs of a given shape."""
+"""Journals and traces to show: scripts played in turn, and runs of a given shape."""
 
 import json
 import sys
@@ -18,7 +18,10 @@ CAPACITY = 4096
 
 
 def played(script: Script, seed: int, capacity: int = CAPACITY) -> History:
-    """Plays a script; a random agent makes the next call, so some moves are stale and tried again."""
+    """Play a script; a random agent makes the next call.
+
+    So some moves are stale and attempted again.
+    """
     random = Random(seed)
     storage = Storage(script.init, capacity)
     history = History(script.init, capacity, len(script.agents))
@@ -51,7 +54,10 @@ def example(name: str, seed: int = 0) -> History:
 
 
 def warehouse(agents: int, steps: int, seed: int) -> History:
-    """Agents that take orders, pack and restock: sets, bags, counters and lists, with clashes and stale reads."""
+    """Agents that accept orders, pack and restock.
+
+    They use sets, bags, counters and lists, with clashes and stale reads.
+    """
     random = Random(seed)
     goods = ["tea", "coffee", "cocoa", "sugar", "flour", "rice", "salt", "oats"]
 
@@ -78,14 +84,17 @@ def warehouse(agents: int, steps: int, seed: int) -> History:
 
 
 def journal_of(*lines: Any, agents: int = 2, capacity: int = CAPACITY, init: Any = ()) -> History:
-    """Answers the history of a journal with these events, each an agent, a call and a reply."""
+    """Return the history of a journal with these events.
+
+    Each event is an agent, a call and a reply.
+    """
     header = {"agents": agents, "capacity": capacity, "events": len(lines), "init": list(init), "version": 2}
     events = [{"agent": agent, "call": call, "reply": reply} for agent, call, reply in lines]
     return read_journal("".join(json.dumps(it) + "\n" for it in [header, *events]).encode())
 
 
 def wrong() -> History:
-    """One wrong answer of each sort, among right ones."""
+    """Return one wrong answer of each sort, among right ones."""
     put = lambda value: ["put", ["x"], value]
     fire = lambda *move, reads=(): {"fire": list(move), "reads": [list(it) for it in reads]}
     read = {"read": [["x"], ["s"]]}
@@ -98,14 +107,17 @@ def wrong() -> History:
         (1, fire(["add", ["s"], 7], reads=[(["s"], 1)]), {"stale": ["s"]}),  # would have fired
         (0, fire(put(6)), {"clash": [["x"], "Two"]}),  # would have fired
         (0, fire(["remove", ["s"], 1]), {"fired": 9}),  # another number
-        (1, fire(put(1), put(8)), {"fired": 4}),  # a clash, told fired
+        (1, fire(put(1), put(8)), {"fired": 4}),  # a clash, answered as fired
         (1, fire(put(9)), {"fired": 5}),
         init=[[["x"], 1], [["s"], {"set": [1, 2]}]],
     )
 
 
 def strange() -> History:
-    """Texts that look like markup or scripts, numbers of 64 bits, lists, and names at their limits."""
+    """Return odd texts and values.
+
+    They are texts that look like markup or scripts, numbers of 64 bits, lists, and names at their limits.
+    """
     tag = '</script><script>document.title="run"</script><img src=x onerror="document.title=1">'
     values = [tag, "\u2028\u2029\x00\t\\\"'`${1}", "", 2**63 - 1, -(2**63), 2**53 + 1, {"list": [{"list": []}, None, True, 2**62 + 1]}]
     lines = [(0, {"fire": [["put", ["v", it], value]], "reads": []}, {"fired": it + 1}) for it, value in enumerate(values)]
@@ -117,7 +129,10 @@ def strange() -> History:
 
 
 def large_trace(events: int, agents: int = 16, seed: int = 1) -> bytes:
-    """A trace of so many events, written at once: a set and a bag that grow, many locations, reads and stale fires."""
+    """Write a trace of a number of events at once.
+
+    It has a set and a bag that grow, many locations, reads and stale fires.
+    """
     random = Random(seed)
     lines = [{"agents": agents, "capacity": 2**20, "events": events, "init": [[["bag"], {"bag": []}], [["set"], {"set": []}]], "trace": 1}]
     cells: dict[int, int] = {}

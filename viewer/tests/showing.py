@@ -1,4 +1,4 @@
-"""Tries what a person does with a run that is shown."""
+"""Tests of what a person does with a run that is shown."""
 
 import time
 

@@ -1,4 +1,7 @@
-"""Tries what a stranger's file can do: to files, to the verdict, to what is seen, to the time it takes, and to the page's script."""
+"""Tests of what a stranger's file can do.
+
+They cover files, the verdict, what is seen, the time it takes, and the page's script.
+"""
 
 import json
 import os
@@ -99,7 +102,7 @@ def try_lines(tries: Tries, browser: Browser) -> None:
 
 # ---- forged traces
 def forged() -> dict[str, tuple[str, str, int]]:
-    """Changes of a legal trace: an old text, a new one, and the event that doesn't agree then."""
+    """Changes of a legal trace: an old text, a new one, and the event that disagrees."""
     return {
         "a read of 1 answered 5": ('"values":[1]', '"values":[5]', 0),
         "a read after another number of moves": ('"reply":{"number":0', '"reply":{"number":1', 0),
@@ -156,7 +159,10 @@ def try_forged(tries: Tries, browser: Browser) -> None:
 
 
 def try_altered(tries: Tries, browser: Browser) -> None:
-    """Traces of random runs are doubted nowhere, and each with an answer or a change that was altered is."""
+    """Test traces of random runs: none is doubted, and each altered one is.
+
+    An altered one has an altered answer or change.
+    """
     browser.open()
     random, fair_ones, altered_ones = Random(3), [], []
     for seed in range(300):
@@ -176,7 +182,10 @@ def try_altered(tries: Tries, browser: Browser) -> None:
 
 
 def altered(random: Random, lines: list[str]) -> str | None:
-    """The trace with one answer, right answer or change altered; None where the alteration changes nothing."""
+    """Return the trace with one answer, right answer or change altered.
+
+    Return None if the alteration changes nothing.
+    """
     number = random.randrange(1, len(lines))
     line: Line = json.loads(lines[number])
     names = [it for it in ("reply", "right", "updates") if it in line]
@@ -190,7 +199,10 @@ def altered(random: Random, lines: list[str]) -> str | None:
 
 
 def other(random: Random, value: Any) -> Any:
-    """A value of the same shape with one number, text or truth in it altered, where it has one."""
+    """Return a value of the same shape with an altered part.
+
+    The part is one number, text or truth in it, if it has one.
+    """
     if isinstance(value, bool):
         return not value
     if isinstance(value, int):
@@ -210,7 +222,7 @@ def other(random: Random, value: Any) -> Any:
 def try_directions(tries: Tries, browser: Browser) -> None:
     at = ["pay", "אב", 1000, 77, "ג"]
     fires = [{"fire": [["put", at, it]], "reads": []} for it in ("אחת", "שתיים")]
-    browser.resize(1920, 900)  # at which a location has room on one line
+    browser.resize(1920, 900)  # a size at which a location has room on one line
     browser.load(tries.trace("hebrew", journal_of((0, fires[0], {"fired": 1}), (0, fires[1], {"fired": 2}))))
     browser.press(Keys.END)
     where = """

@@ -1,4 +1,4 @@
-"""Tries what is taken from the page: what is copied, and what is printed."""
+"""Tests of what is copied from the page, and of what is printed."""
 
 import base64
 import json
@@ -40,14 +40,14 @@ def try_copying(tries: Tries, browser: Browser) -> None:
 
 
 def large_move() -> History:
-    """A move of 120 instructions at sets of 60 elements, which names 120 reads."""
+    """Return a move of 120 instructions at sets of 60 elements, which names 120 reads."""
     places = [["set", f"of a shelf {it}"] for it in range(120)]
     init = [[it, {"set": [f"good {number}" for number in range(10, 70)]}] for it in places]
     return journal_of((0, {"fire": [["add", it, "new good"] for it in places], "reads": [[it, 0] for it in places]}, {"fired": 1}), init=init)
 
 
 def pages(browser: Browser) -> int:
-    """How many pages of A4 the print has."""
+    """Return how many A4 pages the print has."""
     printed = browser.driver.execute_cdp_cmd("Page.printToPDF", {"paperWidth": 8.27, "paperHeight": 11.69, "printBackground": True})
     return len(re.findall(rb"/Type\s*/Page\b(?!s)", base64.b64decode(printed["data"])))
 

@@ -1,4 +1,7 @@
-"""Tries what the page says of calls: of moves, reads, stale fires, clashes, wrong answers, and of strange values."""
+"""Tests of what the page says of calls.
+
+They cover moves, reads, stale fires, clashes, wrong answers, and strange values.
+"""
 
 from browser import Browser
 from journal import CAUSES, Fired, Read, Stale
@@ -45,7 +48,7 @@ def try_stale(tries: Tries, browser: Browser) -> None:
     tries.shot(browser, "stale")
 
 
-# A clash of each cause, on an old value, with what is told of it.
+# A clash of each cause, on an old value, with its report.
 CLASHES = [
     ("Two", None, [["put", ["x"], 1], ["put", ["x"], 2], ["add", ["x"], 3]], "They are 1 and 2."),
     ("Mixed", {"set": [1]}, [["add", ["x"], 2], ["bagadd", ["x"], "e", 1]], "two families"),

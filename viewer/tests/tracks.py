@@ -1,4 +1,7 @@
-"""Tries the lanes as the main instrument: their height and axes, dimming, chains of tries, ranges, and the pictures that are saved."""
+"""Tests of the lanes as the main instrument.
+
+They cover their height and axes, dimming, chains of attempts, ranges, and the pictures that are saved.
+"""
 
 from xml.etree import ElementTree
 
@@ -23,7 +26,7 @@ return count;
 
 
 def contended(tries: int) -> list[tuple[int, object, object]]:
-    """Agent 1 tries to raise x this often, and agent 0 is quicker each time but the last."""
+    """Agent 1 attempts to raise x this often; agent 0 is faster except the last time."""
     out: list[tuple[int, object, object]] = []
     for number in range(tries):
         out.append((1, {"read": [["x"]]}, {"number": number, "values": [number]}))
@@ -110,7 +113,7 @@ def try_pictures(tries: Tries, browser: Browser) -> None:
 
 
 def try_step_reads(tries: Tries, browser: Browser) -> None:
-    """A step shows what its read was answered, also where that was wrong."""
+    """A step shows the answer of its read, even if that was wrong."""
     read = {"read": [["x"]]}
     fire = {"fire": [["put", ["x"], 9]], "reads": [[["x"], 0]]}
     browser.load(tries.trace("steps", journal_of((0, read, {"number": 0, "values": [5]}), (0, fire, {"fired": 1}), init=[[["x"], 1]])))

@@ -1,4 +1,4 @@
-"""What is tried, counted and printed line by line."""
+"""Tests that are counted and printed line by line."""
 
 from collections.abc import Callable
 from pathlib import Path
@@ -18,7 +18,7 @@ class Tries:
         self.part = ""
 
     def claim(self, what: str, holds: Any, told: Any = "") -> None:
-        """Prints whether something holds, and what was found where it doesn't."""
+        """Print whether something holds, and what was found if it doesn't."""
         if holds:
             self.passed += 1
             print(f"ok    {self.part}: {what}", flush=True)

@@ -1,4 +1,7 @@
-"""Tries the trace of a window of a part: its events and moves have the numbers of the part, and nothing is made up of what was before."""
+"""Tests of the trace of a window of a part.
+
+Its events and moves have the numbers of the part, and nothing is made up of what was before.
+"""
 
 from audit import Window, shown
 from browser import Browser
