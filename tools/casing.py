@@ -1,4 +1,4 @@
-"""Cases of the program, and how they are run: shared by tools/cases, tools/sizes and ../test."""
+"""Cases of the program and their runs, for tools/cases, tools/sizes and ../test."""
 
 import os
 import re
@@ -55,7 +55,10 @@ def ended(program: str, words: tuple[str, ...], given: bytes) -> tuple[int, byte
 
 
 def cases_of(folder: Path) -> list[Case]:
-    """Return the cases of the folder's tables. Exit if a file is no table, or if a case lacks something."""
+    """Return the cases of the folder's tables.
+
+    Exit if a file is no table, or if a case lacks something.
+    """
     files = sorted(folder.iterdir())
     strange = [it.name for it in files if it.suffix != ".toml"]
     if strange or not files:
@@ -95,8 +98,10 @@ def is_played(case: Case) -> bool:
 
 
 def journal_fault(program: str, case: Case) -> str | None:
-    """Return what is wrong with the journal of the played script, or None. It must be legal and equal to its own rewriting, and
-    its trace must have a line for each of its lines and no other answer."""
+    """Return what is wrong with the journal of the played script, or None.
+
+    It must be legal and equal to its own rewriting, and its trace must have a line for each of its lines and no other answer.
+    """
     status, journal = ended(program, (*case.words, "--journal"), case.given)
     if status != 0:
         return f"no journal: status {status}"
@@ -113,7 +118,10 @@ def journal_fault(program: str, case: Case) -> str | None:
 
 
 def run_all(program: str, cases: list[Case], jobs: int) -> int:
-    """Run all cases, and check the journals of those that play a script. Print what failed and the total; return the status."""
+    """Run all cases, and check the journals of those that play a script.
+
+    Print what failed and the total; return the status.
+    """
     if not os.access(program, os.X_OK):
         sys.exit(f"{program} is no program")
     works = [(it.name, it.fault, (program,)) for it in cases]

@@ -1,5 +1,7 @@
-"""Cases of what a journal may contain, for `tools/cases`. Each row is a piece that is read and written again, or has a
-fault."""
+"""Cases of what a journal may contain, for `tools/cases`.
+
+Each row is a piece that is read and written again, or has a fault.
+"""
 
 import json
 from collections.abc import Iterable, Iterator

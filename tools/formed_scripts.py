@@ -1,5 +1,7 @@
-"""Cases of the steps of scripts, for `tools/cases`: the calls that a step makes, or why it has no move. Each row is a step of
-one agent."""
+"""Cases of the steps of scripts, for `tools/cases`.
+
+They are the calls that a step makes, or why it has no move. Each row is a step of one agent.
+"""
 
 import json
 from collections.abc import Iterator

@@ -1,5 +1,8 @@
-"""Cases of journals that are judged, for `tools/cases`: legal ones, and others with a wrong answer. Each is written as it was
-read; the check reports it as legal, or names the first call with a wrong answer."""
+"""Cases of journals that are judged, for `tools/cases`.
+
+They are legal ones, and others with a wrong answer. Each is written as it was read; the check reports it as legal, or names the
+first call with a wrong answer.
+"""
 
 from collections.abc import Iterator
 

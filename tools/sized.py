@@ -1,4 +1,7 @@
-"""Cases of the program at each size of a table, for `tools/sizes`. The wanted result follows from the size alone."""
+"""Cases of the program at each size of a table, for `tools/sizes`.
+
+The wanted result follows from the size alone.
+"""
 
 import json
 from collections.abc import Iterator

@@ -1,5 +1,7 @@
-"""Cases of long journals, of runs of many segments, of journals that are cut at each byte, and of journals with a list in each
-place."""
+"""Cases of long journals and runs, for `tools/sizes`.
+
+They are long journals, runs of many segments, journals that are cut at each byte, and journals with a list in each place.
+"""
 
 from collections.abc import Iterator
 

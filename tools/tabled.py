@@ -1,4 +1,7 @@
-"""The cases that `tools/cases` and `../test` run: the folder, the examples, and the tables."""
+"""The cases that `tools/cases` and `../test` run.
+
+They are those of the folder, the examples, and the tables.
+"""
 
 from casing import CASES, Case, cases_of, examples
 from formed_journals import formed

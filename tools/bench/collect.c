@@ -1,5 +1,5 @@
-/* Measures steps that collect into one set, bag or counter: the milliseconds that so many extensions
- * take, each with one partial update, also where each element goes again, and the microseconds of one
+/* Measures steps that collect into one set, bag or counter: the milliseconds that extensions take,
+ * each with one partial update, also if each element is removed again, and the microseconds of one
  * more beside many elements.
  *
  *     cc -std=c11 -O2 -D_POSIX_C_SOURCE=200809L -Ibindings/out -o collect tools/bench/collect.c \
@@ -19,7 +19,7 @@ typedef struct kind {
     const char *name, *first, *one, *back;
 } kind;
 
-/* What is below, the move of one extension, and one that takes it back, but for counters. */
+/* What is below, the move of one extension, and one that undoes it, except for counters. */
 static const kind kinds[] = {
     {"set", "{\"set\":[]}", "[[\"add\",[\"x\"],%u]]", "[[\"remove\",[\"x\"],%u]]"},
     {"bag", "{\"bag\":[]}", "[[\"bagadd\",[\"x\"],%u,1]]", "[[\"bagremove\",[\"x\"],%u,1]]"},
@@ -77,7 +77,7 @@ static void take_back(const kind *k, unsigned n) {
     extend(text);
 }
 
-/* The milliseconds of so many extensions, each second of which takes the one before the last back. */
+/* The milliseconds of this many extensions, every second of which undoes the one before it. */
 static double taken_back(const kind *k, unsigned times) {
     begin(k->first);
     double from = now();
@@ -91,7 +91,7 @@ static double taken_back(const kind *k, unsigned times) {
     return took;
 }
 
-/* The milliseconds of so many extensions, over what is below or after a put. */
+/* The milliseconds of this many extensions, over what is below or after a put. */
 static double collected(const kind *k, unsigned times, bool is_put) {
     begin(k->first);
     double from = now();
@@ -107,7 +107,7 @@ static double collected(const kind *k, unsigned times, bool is_put) {
     return took;
 }
 
-/* The set or the bag of so many elements, below those that are added later. */
+/* The set or the bag of this many elements, below those that are added later. */
 static char *large(bool is_bag, unsigned elements) {
     char *text = malloc((size_t)elements * 16 + ROOM);
     REQUIRE(text != NULL);
@@ -118,7 +118,7 @@ static char *large(bool is_bag, unsigned elements) {
     return text;
 }
 
-/* The microseconds of an extension beside so many elements, once the first two have been made. */
+/* The microseconds of an extension beside this many elements, once the first two have been made. */
 static double beside(const kind *k, unsigned elements) {
     char *text = large(k == &kinds[1], elements);
     begin(text);

@@ -1,7 +1,7 @@
 /* Agents that one thread plays by turns: each takes the state of the one that acted last, begins a
  * step, gets a location, pushes one put, and commits. A line for each number of agents has the
- * median of the nanoseconds that a move took, and its ratio to that of one agent. With --kept it has
- * the bytes that a move of one agent leaves in the storage, and plays so many moves.
+ * median of the nanoseconds that a move took, and its ratio to that of one agent. With --kept it
+ * has the bytes that a move of one agent leaves in the storage, and plays MOVES moves.
  *
  *     turns [--quick | --kept MOVES] */
 #include "folugben.h"
@@ -51,7 +51,7 @@ static void add_one(struct asm_agent *agent, struct asm_location *place) {
     REQUIRE(asm_commit(agent, &step, &numbers) == ASM_DONE);
 }
 
-/* The nanoseconds that one of so many moves takes, of so many agents by turns. */
+/* The nanoseconds that one of this many moves takes, by this many agents by turns. */
 static double time_of(size_t count, uint32_t moves) {
     const char *init = "[]";
     char place[16];

@@ -24,7 +24,7 @@ void add_one(folugben::agent &agent, const folugben::location &at, folugben::ins
     step.commit();
 }
 
-// The nanoseconds that one of so many moves takes, of so many agents by turns.
+// The nanoseconds that one of this many moves takes, by this many agents by turns.
 double time_of(std::uint32_t count, std::uint32_t moves) {
     folugben::storage storage("[]", LOCATIONS + moves);
     std::vector<folugben::agent> agents;

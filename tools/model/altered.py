@@ -1,4 +1,7 @@
-"""Random spellings of JSON values, and random changes of them and of their texts, for `fuzz.py`."""
+"""Random spellings of JSON values, and random changes of them, for `fuzz.py`.
+
+Changes apply to the values and to their texts.
+"""
 
 import json
 from copy import deepcopy
@@ -12,7 +15,7 @@ from values import MAX_ITEMS, MAX_LIST_DEPTH
 
 @dataclass(frozen=True)
 class Raw:
-    """A text that stands as it is in the place of a value."""
+    """A text that is used unchanged in the place of a value."""
 
     text: str
 
@@ -68,12 +71,15 @@ BYTES = [
 
 
 def raw(random: Random) -> Raw:
-    """Answers a text that mostly is JSON, since one that isn't hides all else that is wrong."""
+    """Return a text that mostly is JSON, since one that isn't hides all other faults."""
     return Raw(random.choice(RAWS if random.random() < 0.1 else GOOD_RAWS))
 
 
 def spelled(value: Any, random: Random, is_plain: bool) -> str:
-    """Answers a text of the value: the compact one, or one with spaces, escapes, and keys in any order or repeated."""
+    """Return a text of the value.
+
+    It is the compact one, or one with spaces, escapes, and keys in any order or repeated.
+    """
     if isinstance(value, Raw):
         return value.text
     space = "" if is_plain else random.choice(["", "", "", " ", "\t", " \r "])
@@ -96,7 +102,7 @@ def spelled(value: Any, random: Random, is_plain: bool) -> str:
 
 
 def changed(value: Any, random: Random) -> Any:
-    """Answers the value with one to three changes."""
+    """Return the value with one to three changes."""
     value = [deepcopy(value)]
     for _ in range(random.choice([1, 1, 1, 2, 3])):
         _change_once(value, random)
@@ -105,7 +111,7 @@ def changed(value: Any, random: Random) -> Any:
 
 def _change_once(whole: list[Any], random: Random) -> None:
     holder: Any = whole
-    # Goes down to any depth, as a value in the midst of a script tells more than one at its top.
+    # Goes down to any depth, as a value inside a script shows more than one at its top.
     while True:
         key = random.randrange(len(holder)) if isinstance(holder, list) else random.choice(list(holder))
         inner = holder[key]
@@ -144,7 +150,7 @@ def _add(holder: Any, value: Any, random: Random) -> None:
 
 
 def cut(text: bytes, random: Random) -> bytes:
-    """Answers the text with its end cut off, or with some bytes taken out, put in or replaced."""
+    """Return the text with its end cut off, or some bytes removed, added or replaced."""
     if random.random() < 0.3:
         return text[: random.randint(0, len(text))]
     for _ in range(random.choice([1, 1, 2, 4])):
@@ -156,7 +162,7 @@ def cut(text: bytes, random: Random) -> bytes:
 
 
 def changed_journal(text: bytes, random: Random) -> bytes:
-    """Answers a journal with a change in one of its lines, in their order, or in its bytes."""
+    """Return a journal with a change in a line, in their order, or in its bytes."""
     kind = random.randrange(8)
     lines = text.split(b"\n")
     at = random.randrange(len(lines))

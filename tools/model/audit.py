@@ -1,6 +1,6 @@
-"""The audit of a run, and the trace of a window of it, from the page on formats in docs/.
+"""The audit of a run, and the trace of a window of it, from docs/FORMATS.md.
 
-Its parts are journals one behind the other, each of which opens with what the one before it leaves.
+The parts of a run are journals one after the other, each of which opens with the state at the end of the one before it.
 """
 
 from collections.abc import Iterator
@@ -25,7 +25,10 @@ class Ended(Exception):
 
 
 class Audit:
-    """What was read of a run: how many calls, moves and whole parts it has, and the part that is read."""
+    """What was read of a run: its counts, and the current part.
+
+    The counts are how many calls, moves and complete parts it has.
+    """
 
     def __init__(self) -> None:
         self.calls = self.moves = self.parts = 0
@@ -35,11 +38,17 @@ class Audit:
         self.lines = 0
 
     def is_between(self) -> bool:
-        """Answers whether the next line is a header: no part was begun, or the last one has all its events."""
+        """Return whether the next line is a header.
+
+        It is if no part was begun, or the last one has all its events.
+        """
         return self.header is None or self.lines > self.header.events
 
     def take(self, line: bytes, is_ended: bool = True) -> None:
-        """Takes a line of the run, without its line feed; only the last one may have none, and no event or header is that."""
+        """Read a line of the run, without its line feed.
+
+        Only the last one may have none, and no event or header is that.
+        """
         number = self.begun + self.is_between()
         if len(line) > MAX_LINE:
             raise Ended(2, "input too large")
@@ -83,7 +92,10 @@ class Audit:
 
 
 def lines_of(text: bytes, every: int | None) -> Iterator[str]:
-    """Answers the lines that are told while the run is audited; raises how it ends otherwise than legal."""
+    """Yield the lines that are written while the run is audited.
+
+    Raise the end of the audit if it isn't legal.
+    """
     audit = Audit()
     *ended, last = text.split(b"\n")
     for line in ended:
@@ -99,7 +111,10 @@ def lines_of(text: bytes, every: int | None) -> Iterator[str]:
 
 
 def audit(text: bytes, every: int | None) -> tuple[int, str]:
-    """Answers the status, and all that is written: how the audit ends, and after each so many calls how far it is."""
+    """Return the status, and the complete output.
+
+    The output is how the audit ends, and its progress after every so many calls.
+    """
     told: list[str] = []
     status = 0
     try:
@@ -113,7 +128,10 @@ def audit(text: bytes, every: int | None) -> tuple[int, str]:
 
 # ---- windows
 class Window(NamedTuple):
-    """Some calls of a part: from the first one on to before that with the number `to`, or to the part's end."""
+    """Some calls of a part: from the first one on, up to the end.
+
+    The end is before the call with the number `to`, or the part's end.
+    """
 
     part: int
     start: int
@@ -136,7 +154,7 @@ class Opened:
         return self.events == self.end
 
     def note(self, line: bytes) -> None:
-        """Notes the next event, if it is one of the window."""
+        """Record the next event, if it is one of the window."""
         self.begin()
         event = read_event(jsontext.read(line), self.header, self.events + 2)
         told = event_line(self.storage, self.events, event)
@@ -145,7 +163,7 @@ class Opened:
         self.events += 1
 
     def begin(self) -> None:
-        """Writes the header, once the window begins."""
+        """Write the header, once the window begins."""
         if self.events == self.window.start and not self.lines:
             header = {
                 "agents": self.header.agents,
@@ -165,7 +183,7 @@ class Opened:
 
 
 def shown(text: bytes, window: Window) -> str:
-    """Answers what is written; raises how it ends otherwise."""
+    """Return what is written; raise how it ends otherwise."""
     audit = Audit()
     opened: Opened | None = None
     *ended, last = text.split(b"\n")
@@ -186,7 +204,7 @@ def shown(text: bytes, window: Window) -> str:
 
 
 def trace_window(text: bytes, window: Window) -> tuple[int, str]:
-    """Answers the status, and all that is written."""
+    """Return the status, and the complete output."""
     try:
         return 0, shown(text, window)
     except Ended as ended:

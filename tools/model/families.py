@@ -1,6 +1,8 @@
-"""The families of partial updates: what a group of them makes of a value, and what two lists in sequence come to.
+"""The families of partial updates.
 
-A further family is a class of its own here, with an entry in FAMILIES, and words in `moves.py`.
+Each computes the result of a group on a value, and the composition of two lists in sequence.
+
+A further family is a separate class here, with an entry in FAMILIES, and words in `moves.py`.
 """
 
 from collections import Counter
@@ -34,7 +36,7 @@ Partial = Union[Change, Increment]
 
 
 class NoResult(Exception):
-    """A group has no result, for the cause that is told."""
+    """A group has no result, for the given cause."""
 
     def __init__(self, cause: str) -> None:
         super().__init__(cause)
@@ -42,18 +44,21 @@ class NoResult(Exception):
 
 
 class TooLarge(Exception):
-    """Two lists of partial updates in sequence come to too large an amount."""
+    """Two lists of partial updates in sequence lead to too large an amount."""
 
 
 class Family(Protocol):
     def applied(self, base: Value, is_regular: bool, partials: list[Any]) -> Value:
-        """Answers what the partial updates make of the base, which is the group's regular value or the old value."""
+        """Return the result of the partial updates on the base.
+
+        The base is the group's regular value or the old value.
+        """
 
     def check_alone(self, partials: list[Any]) -> None:
-        """Raises the cause by which these alone have a result on no value."""
+        """Raise the cause by which these alone have a result on no value."""
 
     def joined(self, first: list[Any], second: list[Any]) -> list[Any]:
-        """Answers the list that does on each value what the first and then the second do."""
+        """Return the list that does on each value what the first and then the second do."""
 
 
 class SetFamily:
@@ -99,7 +104,7 @@ class BagFamily:
         return BagValue({it: count for it, count in new.items() if count})
 
     def check_alone(self, partials: list[Change]) -> None:
-        """Each list of partial updates of bags has a result on some bag, large amounts aside."""
+        """Accept each list: it has a result on some bag, except for large amounts."""
 
     def joined(self, first: list[Change], second: list[Change]) -> list[Change]:
         added_1, removed_1 = _sums(first)
@@ -127,7 +132,7 @@ class CountFamily:
         return (NUMBER, number)
 
     def check_alone(self, partials: list[Increment]) -> None:
-        """Increments have a result on some number, large sums aside."""
+        """Accept increments: they have a result on some number, except for large sums."""
 
     def joined(self, first: list[Increment], second: list[Increment]) -> list[Increment]:
         rest = _total([*first, *second])
@@ -147,7 +152,7 @@ FAMILIES: dict[str, Family] = {"set": SetFamily(), "bag": BagFamily(), "count": 
 
 
 def family_of(partials: Iterable[Partial]) -> Family:
-    """Answers the one family of these; of two they are mixed."""
+    """Return the one family of these; two families are mixed."""
     names = {it.family for it in partials}
     if len(names) != 1:
         raise NoResult("Mixed")

@@ -1,11 +1,11 @@
 #!/usr/bin/env python3
-"""Runs the program and the model on random inputs, and compares status and output byte for byte.
+"""Run the program and the model on random inputs; compare status and output.
 
     fuzz.py PROGRAM [--seed S] [--inputs N] [--seconds T] [--jobs J] [--only KIND] [--save DIR]
 
-Each difference is printed, and its input saved with its words. The last lines count what the runs came to. The status
-is 1 where there was a difference. One seed and number always make the same inputs, whatever the jobs; journals of
-several agents are as the threads ran.
+Outputs are compared byte for byte. Each difference is printed, and its input saved with its words. The last lines count the
+outcomes of the runs. The status is 1 if there was a difference. One seed and number always make the same inputs, whatever the
+jobs; journals of several agents depend on how the threads ran.
 """
 
 import argparse
@@ -49,7 +49,7 @@ KINDS = {
     "large": 1,
     "long": 0.05,
 }
-# What reads a journal.
+# The commands that read a journal.
 READING = [["check"], ["rewrite"], ["trace"]]
 CAPACITIES = ["1", "2", "3", "5", "+4", "007", "1048576"]
 BAD_WORDS = [
@@ -71,7 +71,7 @@ BAD_WORDS = [
 
 
 class Trial(NamedTuple):
-    """Words and an input that the program and the model are given."""
+    """Words and an input for the program and the model."""
 
     words: list[str]
     text: bytes
@@ -95,7 +95,7 @@ class Done(NamedTuple):
 
 
 class Fuzz:
-    """What the input of one number comes to."""
+    """The outcome of the input of one number."""
 
     def __init__(self, job: Job) -> None:
         self.program = job.program
@@ -117,7 +117,7 @@ class Fuzz:
     def trials(self) -> Iterator[Trial]:
         random, maker = self.random, self.maker
         words = ["run", *self.capacity()]
-        # A report doesn't show what a move names and in which order its instructions stand; a journal does.
+        # A report doesn't show what a move names and the order of its instructions; a journal does.
         either = random.choice([words, [*words, "--terms"], [*words, "--journal"]])
         if self.kind == "history":
             yield from self.journals(write_journal(maker.history()))
@@ -148,7 +148,10 @@ class Fuzz:
             yield Trial(either, self.text(maker.script(), self.kind == "script"))
 
     def journals(self, text: bytes) -> Iterator[Trial]:
-        """Answers the journal in both versions, each checked, rewritten and traced, and some that were altered."""
+        """Yield the journal in both versions, each checked, rewritten and traced.
+
+        Some are altered.
+        """
         versions = [text, in_version_1(text)]
         for words in READING:
             yield from (Trial(words, version) for version in versions)
@@ -160,7 +163,10 @@ class Fuzz:
             yield Trial(["audit", *self.every()], run)
 
     def windows(self) -> Iterator[Trial]:
-        """Answers windows of a run, and of altered ones: of each part one that has a call at least, where the part has some."""
+        """Yield windows of a run, and of altered ones.
+
+        Of each part there is one that has a call at least, if the part has some.
+        """
         parts = self.parts()
         whole = b"".join(parts)
         for number, part in enumerate(parts):
@@ -170,19 +176,25 @@ class Fuzz:
             yield Trial(self.window(number, parts[number % len(parts)].count(b"\n") - 1), run)
 
     def window(self, part: int, calls: int) -> list[str]:
-        """Answers words that ask for a window of a part with so many calls; sometimes it goes beyond, or is empty."""
+        """Return words that ask for a window of a part with this many calls.
+
+        Sometimes it goes beyond, or is empty.
+        """
         first, last = sorted(self.random.choices(range(calls + 1), k=2))
         last = self.random.choice([last, last, last, calls, calls + 1])
         options = [[], ["--from", str(first)], [f"--to={last}"], ["--from", f"+{first}", "--to", str(last)]]
         return ["trace", *self.random.choice(options), *([f"--part={part}"] if part or self.random.random() < 0.5 else [])]
 
     def parts(self) -> list[bytes]:
-        """Answers the parts of a run, of either version."""
+        """Return the parts of a run, of either version."""
         parts = [write_journal(it) for it in self.maker.run()]
         return [in_version_1(it) if self.random.random() < 0.3 else it for it in parts]
 
     def altered_runs(self, parts: list[bytes]) -> Iterator[bytes]:
-        """Answers the run as it is and altered, in a part or with its parts mixed, and cut."""
+        """Yield the run unchanged and altered.
+
+        It is altered in a part or with its parts mixed, and cut.
+        """
         mixed = self.random.choices(parts, k=len(parts))
         at = self.random.randrange(len(parts))
         altered = [*parts[:at], changed_journal(parts[at], self.random), *parts[at + 1 :]]
@@ -209,7 +221,7 @@ class Fuzz:
         return script.ljust(model.MAX_INPUT + self.random.choice([-1, 0, 1, 2]))
 
     def compare(self, trial: Trial) -> model.Answer:
-        """Answers what the program did, and notes where the model differs."""
+        """Return what the program did, and record where the model differs."""
         ran = self.ran(trial)
         try:
             said = model.answer(trial.words, trial.text)
@@ -245,7 +257,7 @@ class Fuzz:
         return model.Answer(ended.returncode, ended.stdout)
 
     def contend(self) -> None:
-        """Runs several agents, and has their journal checked by the model and by the program."""
+        """Run several agents; the model and the program check their journal."""
         capacity = self.random.choice([4096, 4096, 4096, 20, 200])
         words = ["run", "--capacity", str(capacity), "--journal"]
         trial = Trial(words, self.text(self.maker.contending(), is_plain=True))
@@ -268,12 +280,15 @@ class Fuzz:
 
 
 def in_version_1(text: bytes) -> bytes:
-    """Answers a journal of the program with the header of version 1, in which no list may stand."""
+    """Return a journal of the program with the header of version 1.
+
+    Version 1 allows no list.
+    """
     return text.replace(b'"version":2}\n', b'"version":1}\n', 1)
 
 
 def sorts_of(ran: model.Answer) -> set[str]:
-    """Answers which sorts of line the output has, without its numbers and locations."""
+    """Return which sorts of line the output has, without its numbers and locations."""
     if ran.status or ran.output[:1] not in (b"[", b"{", b"m", b"l", b"s"):
         line = ran.output.decode(errors="replace").strip().rpartition("\n")[2]
         return {f"status {ran.status} {re.sub('[0-9]+', 'N', line)}"}
@@ -302,7 +317,7 @@ def work(job: Job) -> Done:
 
 
 def save(difference: Difference, number: int, folder: Path) -> None:
-    """Saves the input, with its words in a file beside it, one a line."""
+    """Save the input, with its words in a file beside it, one a line."""
     folder.mkdir(parents=True, exist_ok=True)
     name = folder / f"difference_{number}"
     name.write_bytes(difference.trial.text)

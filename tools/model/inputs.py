@@ -10,13 +10,16 @@ from values import MAX_ITEMS, MAX_LIST_DEPTH, Location, State, read_location, re
 NUMBERS = [0, 1, 1, 2, 3, 7, 10, -1, -2, 2**63 - 1, -(2**63), 2**63 - 2, 2**31, 2**32]
 TEXTS = ["", "a", "b", "B", "e", "é", "ÿ", "\U0001f600", "\ue000", '"\\/', "\n\t\x00\x1f\x7f", "x" * 70]
 AMOUNTS = [1, 1, 1, 2, 3, 5, 2**31, 2**32 - 2, 2**32 - 1]
-# What a location mostly holds is told by the first letter of its name; of x it may be anything.
+# The first letter of a location's name says what it mostly holds; x may hold anything.
 KINDS = "sssbbbnnx"
 CAUSES = ["Two", "Mixed", "Kind", "Both", "Against", "Short", "Large"]
 
 
 class Maker:
-    """Makes scripts over few locations and elements, so that groups, clashes and stale reads are common."""
+    """Makes scripts over few locations and elements.
+
+    So groups, clashes and stale reads are common.
+    """
 
     def __init__(self, random: Random) -> None:
         self.random = random
@@ -27,14 +30,14 @@ class Maker:
         self.lines = random.choice([[0, 1], [0, 1, 1, 2, 2, 3, 6]])
         self.strange = random.choice([0.0, 0.0, 0.02, 0.1, 0.3])
         self.heavy = random.choice([0.1, 0.4, 0.9])
-        # Where it isn't 0, lists may be beyond their limits, and then whatever they stand in is a wrong shape.
+        # If it isn't 0, lists may be beyond their limits, and then whatever contains them is a wrong shape.
         self.beyond = 0
 
     def chance(self, part: float) -> bool:
         return self.random.random() < part
 
     def fresh_element(self, depth: int = 0) -> Json:
-        """Makes an element that stands in as many lists as the depth."""
+        """Make an element that is in as many lists as the depth."""
         if depth < MAX_LIST_DEPTH and self.chance(0.2):
             count = self.random.choice([0, 0, 1, 1, 2, 2, 3, 5])
             return {"list": [self.fresh_element(depth + 1) for _ in range(count)]}
@@ -49,7 +52,7 @@ class Maker:
         return self.random.choice([None, True, False])
 
     def list_at_limit(self) -> Json:
-        """Makes a list that is as deep or as long as one may be, or nearly so, or just beyond."""
+        """Make a list that is as deep or as long as allowed, or nearly so, or just beyond."""
         if self.chance(0.5):
             return self.list_of_depth(MAX_LIST_DEPTH + self.random.randint(-1, self.beyond))
         filler = self.random.choice([None, 0, {"list": []}])
@@ -134,7 +137,7 @@ class Maker:
         return [self.step() for _ in range(self.random.choice([0, 1, 1, 2, 3, 5, 9]))]
 
     def script(self) -> Json:
-        """Makes a script of one agent that moves, among others that don't."""
+        """Make a script of one agent that moves, among others that don't."""
         if self.chance(0.05):
             self.beyond = self.random.choice([0, 0, 1])
             self.elements.append(self.list_at_limit())
@@ -144,7 +147,10 @@ class Maker:
         return {"init": self.init(), "agents": agents}
 
     def sequence(self) -> Json:
-        """Makes a script of steps of several blocks, mostly of partial updates with large amounts or numbers."""
+        """Make a script of steps of several blocks.
+
+        They are mostly of partial updates with large amounts or numbers.
+        """
         self.places, self.elements = [["b"], ["s"], ["n"]], self.elements[:2]
         self.strange, self.heavy, self.lines = 0.0, 0.9, [1, 1, 2]
         steps: list[Json] = []
@@ -153,7 +159,10 @@ class Maker:
         return {"init": self.init(), "agents": [steps]}
 
     def blocks(self) -> Json:
-        """Makes a script of steps of one to five blocks, where a block may repeat what it has up to a limit, or undo it."""
+        """Make a script of steps of one to five blocks.
+
+        A block may repeat what it has up to a limit, or undo it.
+        """
         self.places, self.elements = [["b"], ["s"], ["n"], ["x"]], self.elements[:2]
         self.strange, self.heavy, self.lines = 0.0, 0.1, [0, 1, 1, 2]
         steps: list[Json] = []
@@ -162,7 +171,10 @@ class Maker:
         return {"init": self.init(), "agents": [steps]}
 
     def repeated(self, block: list[Json]) -> list[Json]:
-        """Makes the block as it is, or with an instruction of it as often as a move may have one, or with what undoes it."""
+        """Make the block unchanged, or with a repeated or undone instruction.
+
+        It repeats an instruction as often as a move may have one, or adds what undoes it.
+        """
         pick = self.random.random()
         if not block or pick < 0.5:
             return block
@@ -173,7 +185,7 @@ class Maker:
         return [*block, *([*it[:2], -it[2]] if it[0] == "inc" and it[2] != -(2**63) else it for it in others)]
 
     def apart(self) -> Json:
-        """Makes a script of several agents, no two of which touch one location."""
+        """Make a script of several agents, no two of which touch one location."""
         init: list[Json] = []
         agents: list[Json] = []
         places = self.places
@@ -184,7 +196,7 @@ class Maker:
         return {"init": init, "agents": agents}
 
     def large(self) -> Json:
-        """Makes a script at or beyond a limit."""
+        """Make a script at or beyond a limit."""
         near = self.random.choice([-1, 0, 1])
         many: list[Json] = [["put", ["n", it], it] for it in range(4096 + near)]
         reads: list[Json] = [["put", ["x"], {"val": ["n", it]}] for it in range(256 + near)]
@@ -206,14 +218,14 @@ class Maker:
         return {"init": self.init(), "agents": [steps, *idle]}
 
     def near_the_limit(self, count: int) -> list[Json]:
-        """Makes a step with so many equal instructions in one of its blocks."""
+        """Make a step with this many equal instructions in one of its blocks."""
         blocks: list[Json] = [self.block() for _ in range(self.random.randint(1, 4))]
         most = min(count, 4096)
         at = self.random.randrange(len(blocks) + 1)
         return [*blocks[:at], [self.instruction()] * self.random.choice([most, most - 1, most // 2]), *blocks[at:]]
 
     def contending(self) -> Json:
-        """Makes a script of several agents that touch three locations."""
+        """Make a script of several agents that touch three locations."""
         self.places = [["s"], ["b"], ["n"]]
         self.elements = [1, "e", {"list": [True]}]
         step: list[Json] = [[["put", ["n"], {"sum": [{"val": ["n"]}, 1]}]]]
@@ -224,7 +236,10 @@ class Maker:
         return {"init": [[["s"], {"set": []}], [["b"], {"bag": []}], [["n"], 0]], "agents": agents}
 
     def history(self, init: State | None = None, wrong: float = 0.3) -> History:
-        """Makes a history of several agents with old reads, of calls that no script makes; one answer may be wrong."""
+        """Make a history of several agents with old reads, of calls that no script makes.
+
+        One answer may be wrong.
+        """
         if self.chance(0.02):
             self.elements.append(self.list_at_limit())
         agents = self.random.choice([1, 2, 3, 256])
@@ -242,7 +257,10 @@ class Maker:
         return history
 
     def run(self) -> list[History]:
-        """Makes the parts of a run, each of which mostly opens with the state that the one before it leaves."""
+        """Make the parts of a run.
+
+        Each mostly opens with the state at the end of the one before it.
+        """
         parts = [self.history(wrong=0.1)]
         for _ in range(self.random.choice([0, 1, 1, 2, 4])):
             left = Storage(parts[-1].init, parts[-1].capacity)
@@ -265,7 +283,7 @@ class Maker:
         return [read_instruction(self.known(self.instruction())) for _ in range(self.random.randint(0, 4))]
 
     def known(self, line: Json) -> Json:
-        """Puts a value, or an element, in the place of an instruction's term."""
+        """Put a value, or an element, in the place of an instruction's term."""
         if line[0] == "inc":
             return [*line[:2], self.random.choice(NUMBERS)]
         content = self.value_at(line[1]) if line[0] == "put" else self.element()

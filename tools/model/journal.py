@@ -1,4 +1,7 @@
-"""Histories and their journals: writing, reading with every fault in order, and the check of each answer."""
+"""Histories and their journals: writing, reading, and the check of each answer.
+
+Reading finds every fault in order.
+"""
 
 from dataclasses import dataclass, field
 from typing import NamedTuple, Union
@@ -72,7 +75,7 @@ class Clashed(NamedTuple):
 
 
 class Full(NamedTuple):
-    """As many moves were fired as the capacity."""
+    """The number of fired moves has reached the capacity."""
 
 
 Call = Union[Read, Fire]
@@ -97,11 +100,11 @@ class History:
 
 
 class BadJournal(Exception):
-    """The journal is refused, for the fault that is told."""
+    """The journal is refused, for the given fault."""
 
 
 class Storage:
-    """The storage of one thread: what it answers to each call, and the state that the fired moves leave."""
+    """The sequential storage: its answer to each call, and the state after its moves."""
 
     def __init__(self, init: State, capacity: int) -> None:
         self.state = dict(init)
@@ -110,7 +113,7 @@ class Storage:
         self.writers: dict[Location, int] = {}
 
     def reply(self, call: Call) -> Reply:
-        """Answers the call; a move that is answered Fired is fired."""
+        """Return the answer to the call; a move with the answer Fired is fired."""
         given = self.judged(call)
         if isinstance(given, Fired):
             assert isinstance(call, Fire)
@@ -118,7 +121,7 @@ class Storage:
         return given
 
     def judged(self, call: Call) -> Reply:
-        """Answers what is answered to the call here, and fires nothing."""
+        """Return the answer to the call here, and fire nothing."""
         if isinstance(call, Read):
             return Values(self.number, [self.state.get(at, UNDEF) for at in call.places])
         stale = [at for at, number in call.reads if self.writers.get(at, 0) > number]
@@ -131,7 +134,7 @@ class Storage:
         return Fired(self.number + 1) if self.number < self.capacity else Full()
 
     def follow(self, move: Move) -> None:
-        """Counts a move as fired, whatever would be answered to it; one that clashes changes nothing."""
+        """Count a move as fired, whatever its answer would be; a clash changes nothing."""
         self.number += 1
         try:
             written = updates_on(self.state, move)
@@ -143,7 +146,10 @@ class Storage:
 
 
 def first_illegal(history: History) -> int | None:
-    """Answers the number of the first event whose answer is another than that of a storage of one thread."""
+    """Return the first event whose answer differs from the sequential storage.
+
+    It is the number of the event.
+    """
     storage = Storage(history.init, history.capacity)
     for number, event in enumerate(history.events):
         given = storage.reply(event.call)
@@ -187,7 +193,7 @@ def reply_json(reply: Reply) -> Json:
 
 
 class Header(NamedTuple):
-    """What the first line of a journal says."""
+    """The content of the first line of a journal."""
 
     version: Json
     init: State
@@ -197,7 +203,7 @@ class Header(NamedTuple):
 
 
 def read_journal(text: bytes) -> History:
-    """Reads a journal, or raises its first fault."""
+    """Read a journal, or raise its first fault."""
     lines = _Lines(text)
     header = read_header(lines.next())
     history = History(header.init, header.capacity, header.agents)
@@ -209,7 +215,7 @@ def read_journal(text: bytes) -> History:
 
 
 def read_header(value: Json) -> Header:
-    """Reads the first line of a journal, or raises its fault."""
+    """Read the first line of a journal, or raise its fault."""
     version = value.get("version") if isinstance(value, dict) else None
     if (is_whole(version, I64) or is_whole(version, U64)) and version not in VERSIONS:
         raise BadJournal("journal version")
@@ -220,7 +226,7 @@ def read_header(value: Json) -> Header:
 
 
 def read_event(value: Json, header: Header, number: int) -> Event:
-    """Reads the line with this number of a journal with this header, or raises its fault."""
+    """Read a line of a journal with this header, by its number, or raise its fault."""
     try:
         return _event(_allowed(value, header.version), header.agents)
     except WrongShape as error:
@@ -228,7 +234,7 @@ def read_event(value: Json, header: Header, number: int) -> Event:
 
 
 def _allowed(value: Json, version: Json) -> Json:
-    """Answers the line; in the first version one that has a list anywhere is a wrong shape."""
+    """Return the line; a list anywhere in the first version is a wrong shape."""
     if version == WITHOUT_LISTS and _has_list(value):
         raise WrongShape
     return value
@@ -255,7 +261,10 @@ class _Lines:
         return self.number < len(self.ended) or bool(self.last)
 
     def next(self) -> Json:
-        """Answers the value of the next line, or raises the fault that the line has whatever should stand there."""
+        """Return the value of the next line, or raise its fault.
+
+        The fault is the one that the line has whatever is expected there.
+        """
         if not self.is_left():
             raise BadJournal("journal cut")
         has_feed = self.number < len(self.ended)

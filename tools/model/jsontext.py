@@ -1,7 +1,7 @@
 """JSON texts as serde_json reads and writes them.
 
-A reader of its own, as Python's `json` takes what serde_json refuses (lone surrogates, NaN, any depth) and makes whole
-numbers of what serde_json keeps as floats.
+This is a separate reader, as Python's `json` accepts what serde_json refuses (lone surrogates, NaN, any depth) and makes
+integers of what serde_json treats as floats.
 """
 
 import json
@@ -32,7 +32,7 @@ class NotJson(Exception):
 
 
 def read(text: bytes) -> Json:
-    """Answers the one value of the text."""
+    """Return the one value of the text."""
     reader = _Reader(text)
     value = reader.value(0)
     reader.skip()
@@ -42,12 +42,18 @@ def read(text: bytes) -> Json:
 
 
 def write(value: Json) -> str:
-    """Answers the compact text, with the keys of each object in the order of their bytes."""
+    """Return the compact text.
+
+    The keys of each object are in the order of their bytes.
+    """
     return json.dumps(value, ensure_ascii=False, separators=(",", ":"), sort_keys=True)
 
 
 def is_whole(value: Json, within: range) -> bool:
-    """Whether the value is a whole number of the range; `True` is no number, though Python counts with it."""
+    """Return whether the value is an integer of the range.
+
+    `True` is no number, though Python counts with it.
+    """
     return type(value) is int and value in within
 
 
@@ -60,7 +66,7 @@ class _Reader:
         self.at = SPACE.match(self.text, self.at).end()
 
     def next_byte(self) -> bytes:
-        """Answers the first byte that is no space, and stays before it."""
+        """Return the first byte that is no space, and stay before it."""
         self.skip()
         return self.text[self.at : self.at + 1]
 
@@ -101,7 +107,7 @@ class _Reader:
         self.at += 1
 
     def more(self, close: bytes) -> bool:
-        """Whether, behind an item, a comma is there, and so another item has to follow."""
+        """Return whether a comma follows an item, and so another item must follow."""
         if self.take(b","):
             return True
         if self.take(close):
@@ -135,7 +141,10 @@ class _Reader:
 
 
 def _number(found: re.Match[bytes]) -> Json:
-    """Answers a whole number, or a float for what is written as one, for -0, and beyond the ranges of i64 and u64."""
+    """Return an integer, or a float.
+
+    It is a float for what is written as one, for -0, and beyond the ranges of i64 and u64.
+    """
     text = found[0].decode("ascii")
     # (no number of more digits is in range, and Python refuses to read very long ones)
     if found[1] is None and found[2] is None and text != "-0" and len(text) <= 20:

@@ -1,12 +1,14 @@
 #!/usr/bin/env python3
-"""A second implementation of the program, for comparison: slow, plain, and written from the page on formats in docs/.
+"""A second implementation of the program, for comparison.
+
+It is slow, plain, and written from docs/FORMATS.md.
 
 usage: model.py COMMAND [OPTIONS] < INPUT
 
-It takes the program's words, reads its standard input, and ends with its status: `run [--capacity N] [--journal] [--terms]`,
-`check`, `rewrite`, `trace [--part N] [--from N] [--to N]` and `audit [--every N]`. It plays one agent after the other, and so refuses,
-with status 70, a script of several agents whose output may depend on the order of their moves. It has neither the program's help
-nor its version.
+It accepts the program's words, reads its standard input, and ends with its status: `run [--capacity N] [--journal] [--terms]`,
+`check`, `rewrite`, `trace [--part N] [--from N] [--to N]` and `audit [--every N]`. It plays one agent after the other, and so
+refuses, with status 70, a script of several agents whose output may depend on the order of their moves. It has neither the
+program's help nor its version.
 """
 
 import re
@@ -43,7 +45,10 @@ class AuditWords(NamedTuple):
 
 
 def answer(words: list[str], text: bytes) -> Answer:
-    """Answers what the program does with these words, its own name not among them, and this input."""
+    """Return what the program does with these words and this input.
+
+    Its own name is not among the words.
+    """
     given = read_words(words)
     if given is None:
         return line(2, "bad words")
@@ -90,12 +95,15 @@ def trace(text: bytes) -> Answer:
     return Answer(0, write_trace(read_journal(text)))
 
 
-# What reads a journal, by its word.
+# The commands that read a journal, by word.
 READING = {"check": check, "rewrite": rewrite, "trace": trace}
 
 
 def read_words(words: list[str]) -> RunWords | AuditWords | Window | str | None:
-    """Answers what the words ask for, or None where they are refused; an option may be given once."""
+    """Return what the words ask for, or None if they are refused.
+
+    An option may be given once.
+    """
     if len(words) == 1 and words[0] in READING:
         return words[0]
     if words[:1] == ["audit"]:
@@ -157,7 +165,7 @@ def main() -> int:
         print(__doc__)
         return 0
     try:
-        # But for an audit and a window a byte more than the most is as good as all.
+        # Except for an audit and a window, one byte more than the most is as good as all.
         is_long = sys.argv[1:2] == ["audit"] or sys.argv[1:2] == ["trace"] and sys.argv[2:]
         most = -1 if is_long else MAX_INPUT + 1
         given = answer(sys.argv[1:], sys.stdin.buffer.read(most))

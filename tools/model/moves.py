@@ -1,4 +1,4 @@
-"""Moves: their JSON forms, what firing one makes of a state, and what two in sequence come to."""
+"""Moves: their JSON forms, their effect on a state, and their composition."""
 
 from collections import defaultdict
 from collections.abc import Callable
@@ -37,7 +37,7 @@ Move = list[Instruction]
 Content = TypeVar("Content")
 
 MAX_INSTRUCTIONS = 4096
-# The words of partial updates of sets and bags: family, whether they add, and whether an amount stands behind the element.
+# The words of partial updates of sets and bags: family, whether they add, and whether an amount follows the element.
 WORDS = {
     "add": ("set", True, False),
     "remove": ("set", False, False),
@@ -71,7 +71,10 @@ def read_instruction(value: Json) -> Instruction:
 def read_with(
     value: Json, read_put: Callable[[Json], Content], read_part: Callable[[Json], Content]
 ) -> tuple[Location, Union[Put, Partial]]:
-    """Reads an instruction, what it puts by the one reader and the element of a partial update by the other."""
+    """Read an instruction.
+
+    The one reader reads what it puts, the other one the element of a partial update.
+    """
     listed = items(value, 4)
     if len(listed) < 3 or not isinstance(listed[0], str):
         raise WrongShape
@@ -108,7 +111,10 @@ def grouped(move: Move) -> dict[Location, list[Action]]:
 
 
 def split(group: list[Action]) -> tuple[list[Value], list[Partial]]:
-    """Answers the regular values of a group, which are one, none or a clash, and its partial updates."""
+    """Return the regular values of a group, and its partial updates.
+
+    The regular values are one, none or a clash.
+    """
     regular: list[Value] = []
     for action in group:
         if isinstance(action, Put) and action.value not in regular:
@@ -127,7 +133,10 @@ def result(old: Value, group: list[Action]) -> Value:
 
 
 def updates(look_up: Callable[[Location], Value], move: Move) -> dict[Location, Value]:
-    """Answers what the move writes, or raises the clash at the least location that has no result."""
+    """Return what the move writes, or raise a clash.
+
+    The clash is at the smallest location that has no result.
+    """
     written: dict[Location, Value] = {}
     for at, group in sorted(grouped(move).items()):
         try:
@@ -142,7 +151,7 @@ def updates_on(state: State, move: Move) -> dict[Location, Value]:
 
 
 def composed(first: Move, second: Move) -> Move:
-    """Answers the move that does what the two do in sequence."""
+    """Return the move that does what the two do in sequence."""
     sides = grouped(first), grouped(second)
     both: Move = []
     for at in sorted({*sides[0], *sides[1]}):
@@ -159,7 +168,10 @@ def composed(first: Move, second: Move) -> Move:
 
 
 def _alone(group: list[Action]) -> list[Value]:
-    """Answers the regular value of a group, if it has one, or raises the cause that it has on each old value."""
+    """Return the regular value of a group, if it has one.
+
+    Otherwise raise the cause that it has on each old value.
+    """
     regular, partials = split(group)
     if regular:
         return [result(UNDEF, group)]

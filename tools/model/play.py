@@ -22,7 +22,7 @@ class Played(NamedTuple):
 
 
 def play(script: Script, capacity: int, is_journal: bool) -> Played:
-    """Plays the script, if its output is the same in whichever order the agents move."""
+    """Play the script, if its output is the same in every order of the agents' moves."""
     playing = [steps for steps in script.agents if steps]
     if len(playing) > 1 and (is_journal or not _is_apart(playing, capacity)):
         raise SeveralAgents
@@ -42,14 +42,17 @@ def play(script: Script, capacity: int, is_journal: bool) -> Played:
 
 
 def report(played: Played, is_told: bool) -> bytes:
-    """Answers the report, and behind it what is told of terms, if that is asked for."""
+    """Return the report, followed by the report on terms, if that is asked for."""
     pairs = [jsontext.write(pair) for pair in pairs_json(played.final)]
     lines = [*pairs, f"moves {played.history.moves()}", *played.lines, *(played.told if is_told else [])]
     return "".join(line + "\n" for line in lines).encode()
 
 
 def step_fault(step: Step, reading: State) -> str | Fire:
-    """Answers the move that the step fires on what was read, naming nothing, or the outcome that it has before."""
+    """Return the move that the step fires on what was read, or the outcome before it.
+
+    The move names nothing.
+    """
     try:
         return Fire(step_move(step, reading), [])
     except NoTerm:
@@ -69,7 +72,9 @@ def clash_line(at: Location, cause: str) -> str:
 def _play_step(
     storage: Storage, history: History, agent: int, step: Step
 ) -> tuple[str | None, str | None]:
-    """Answers the outcome of a step that didn't fire, and where and why a term has no value.
+    """Return the outcome of a step that didn't fire, and the fault of a term.
+
+    The fault says where and why a term has no value.
 
     No other agent moves meanwhile, so nothing is stale.
     """
@@ -101,7 +106,7 @@ def _why(step: Step, reading: State) -> str:
 
 
 def _is_apart(playing: list[list[Step]], capacity: int) -> bool:
-    """Checks that no two agents touch one location, and that the storage has room for each step."""
+    """Check that no two agents touch one location, and that each step has room."""
     touched = [{at for step in steps for at in _touched(step)} for steps in playing]
     is_disjoint = sum(map(len, touched)) == len(set().union(*touched))
     return is_disjoint and sum(map(len, playing)) <= capacity

@@ -1,4 +1,4 @@
-"""Says whether a history is one of a run of a script, whatever the order in which its agents moved."""
+"""Decide whether a history is one of a script's runs, for any order of its agents."""
 
 from journal import Event, Fire, History, Read, Stale, Values
 from play import step_fault
@@ -9,14 +9,14 @@ TRIES = 1001
 
 
 class NoRun(Exception):
-    """The history is none of the script's, for the reason that is told."""
+    """The history is none of the script's, for the given reason."""
 
 
 def check_run(script: Script, capacity: int, history: History) -> None:
-    """Raises `NoRun` where an agent's own events aren't the calls that its steps make on the answers it was given.
+    """Raise `NoRun` if an agent's own events aren't the calls of its steps.
 
-    That the answers are right is not looked at here. A call that lost 64 offers leaves no event, and is seen by the
-    read of the next try.
+    The calls are those that its steps make on the answers that it received. That the answers are right is not checked here. A call
+    that lost 64 attempts to append leaves no event; the read of the next attempt sees it.
     """
     if (history.init, history.capacity) != (script.init, capacity):
         raise NoRun("another opening state or capacity")
@@ -44,7 +44,10 @@ def _check_agent(steps: list[Step], events: list[Event]) -> None:
 
 
 def _check_try(number: int, step: Step, events: list[Event], at: int) -> tuple[int, bool]:
-    """Checks one try of a step from this event on; answers the number of the next one, and whether a try follows."""
+    """Check one attempt of a step from this event on.
+
+    Return the number of the next event, and whether another attempt follows.
+    """
     places = reads(step)
     reading: State = {}
     seen = 0

@@ -1,4 +1,7 @@
-"""Scripts: their JSON form, the limits that are checked after it, and what a step's terms and blocks come to."""
+"""Scripts: their JSON form, the limits checked after it, and the results of steps.
+
+The results of a step are those of its terms and blocks.
+"""
 
 from collections.abc import Callable
 from dataclasses import dataclass
@@ -31,7 +34,7 @@ from values import (
 MAX_AGENTS = 256
 MAX_BLOCKS = 65
 MAX_READS = 256
-# The characters that a terminal obeys, or changes the direction for, in place of showing them.
+# The characters that a terminal obeys, or changes the direction for, instead of showing them.
 OBEYED = [
     *[range(0x20), range(0x7F, 0xA0), range(0x61C, 0x61D), range(0x200E, 0x2010)],
     *[range(0x2028, 0x202F), range(0x2066, 0x206A)],
@@ -63,11 +66,11 @@ LookUp = Callable[[Location], Value]
 
 
 class BadScript(Exception):
-    """The script is refused, for the cause that is told."""
+    """The script is refused, for the given cause."""
 
 
 class NoTerm(Exception):
-    """A term of the step has no value; it tells where and why."""
+    """A term of the step has no value; the error has the place and the cause."""
 
 
 @dataclass
@@ -77,7 +80,7 @@ class Script:
 
 
 def read_script(text: bytes) -> Script:
-    """Reads a script, or raises the first cause why it is refused."""
+    """Read a script, or raise the first cause why it is refused."""
     try:
         init, agents = entries(jsontext.read(text), "init", "agents")
         script = Script(read_state(init), read_all(agents, _read_agent))
@@ -119,7 +122,10 @@ def _check_step(step: Step) -> None:
 
 
 def reads(step: Step) -> list[Location]:
-    """Answers what the step names under `val`, and the targets of partial updates in all blocks but the last."""
+    """Return the names under `val` of a step, and the targets of its partial updates.
+
+    The targets are those in all blocks but the last.
+    """
     found: set[Location] = set()
     for number, block in enumerate(step, 1):
         for at, action in block:
@@ -142,7 +148,10 @@ def _gather(term: Term, found: set[Location]) -> None:
 
 
 def step_move(step: Step, reading: State) -> Move:
-    """Answers the one move that the blocks come to, each on what was read as those before it overwrite it."""
+    """Return the one move of the blocks.
+
+    Each block is on what was read, as those before it overwrite it.
+    """
     seen = dict(reading)
     whole: Move = []
     for number, block in enumerate(step):
@@ -201,7 +210,10 @@ def _named(term: Term, value: Value) -> str:
 
 
 def _shown(value: Json) -> str:
-    """Answers the JSON of the value as a message shows it: its first 200 bytes, and escaped what a terminal would obey."""
+    """Return the JSON of the value as a message shows it.
+
+    These are its first 200 bytes, and escaped what a terminal would obey.
+    """
     shown = ""
     for character in jsontext.write(value):
         if len(shown.encode()) >= 200:

@@ -1,4 +1,7 @@
-"""Traces: what each call of a history did, and whether a text tells it, from the page on formats in docs/."""
+"""Traces: what each call of a history did, and whether a text is its trace.
+
+They are written from docs/FORMATS.md.
+"""
 
 import jsontext
 from journal import Event, Fire, Fired, History, Reply, Storage, Values, event_json, first_illegal, reply_json
@@ -27,7 +30,7 @@ TRACE_VERSION = 1
 
 
 def write_trace(history: History) -> bytes:
-    """Answers the text of the trace, whether the history is legal or not."""
+    """Return the text of the trace, whether the history is legal or not."""
     header = {
         "agents": history.agents,
         "capacity": history.capacity,
@@ -41,7 +44,7 @@ def write_trace(history: History) -> bytes:
 
 
 def event_line(storage: Storage, number: int, event: Event) -> dict[str, Json]:
-    """Answers the line of an event; the storage follows what the event tells, be it right or not."""
+    """Return the line of an event; the storage follows the event, right or wrong."""
     line = event_json(event) | {"event": number}
     right = storage.judged(event.call)
     if type(right) is not type(event.reply) or right != event.reply:
@@ -54,7 +57,10 @@ def event_line(storage: Storage, number: int, event: Event) -> dict[str, Json]:
 
 
 def _right_json(given: Reply, right: Reply) -> Json:
-    """Answers the right reply beside the given one; of a read the positions of the values that differ stand for them."""
+    """Return the right reply beside the given one.
+
+    For a read, the reply has only the positions of the values that differ.
+    """
     if not (isinstance(given, Values) and isinstance(right, Values)):
         return reply_json(right)
     differs = [i for i, value in enumerate(right.values) if given.values[i : i + 1] != [value]]
@@ -85,13 +91,14 @@ def _elements_json(elements: frozenset[Element]) -> Json:
 
 
 class NoTrace(Exception):
-    """A text isn't a trace of the history, for the reason that is told."""
+    """A text isn't a trace of the history, for the given reason."""
 
 
 def check_trace(history: History, text: bytes) -> None:
-    """Raises `NoTrace` where `right` stands elsewhere than the check says, or the changes leave another state.
+    """Raise `NoTrace` if `right` isn't where the check says, or the state differs.
 
-    That each line has the journal's call and reply is seen by comparing with `write_trace`.
+    The state is the one after the changes. That each line has the journal's call and reply is seen by comparing with
+    `write_trace`.
     """
     header, *lines = map(jsontext.read, text.splitlines())
     rights = [number for number, line in enumerate(lines) if "right" in line]
@@ -112,7 +119,7 @@ def check_trace(history: History, text: bytes) -> None:
 
 
 def _changed(state: State, change: Json, number: int) -> tuple[Location, Value]:
-    """Answers what a change makes of a location; it has to tell what the state has there."""
+    """Return the value of a location after a change, which must have the old value."""
     place, *told = change
     at = read_location(place)
     old = state.get(at, UNDEF)

@@ -1,8 +1,8 @@
 """Elements, locations and values: their orders and their JSON forms.
 
-An element is a pair of its kind's rank and its content, a list's content the number of its items and these, and a
-location its name, the number of its arguments and these, so that the order of Python's tuples is the order of elements
-and of locations. Texts are ordered by code points, which is the order of their bytes in UTF-8.
+An element is a pair of its kind's rank and its content, a list's content the number of its items and these, and a location its
+name, the number of its arguments and these. So the order of Python's tuples is the order of elements and of locations. Texts
+are ordered by code points, which is the order of their bytes in UTF-8.
 """
 
 import re
@@ -33,7 +33,7 @@ COUNTS = U32[1:]
 
 
 class WrongShape(Exception):
-    """A JSON value is none of the forms that may stand where it stands."""
+    """A JSON value is none of the forms that are allowed at its place."""
 
 
 @dataclass(frozen=True)
@@ -48,7 +48,7 @@ class BagValue:
     counts: dict[Element, int]
 
 
-# An element is a value too, and stands for itself.
+# An element is a value too, and represents itself.
 Value = Union[Element, SetValue, BagValue]
 State = dict[Location, Value]
 
@@ -58,7 +58,7 @@ def is_element(value: Value) -> bool:
 
 
 def write_to(state: State, at: Location, value: Value) -> None:
-    """Gives a location its value; a state holds no undef."""
+    """Assign a location its value; a state holds no undef."""
     if value == UNDEF:
         state.pop(at, None)
     else:
@@ -84,7 +84,7 @@ def members(value: Json, count: int) -> list[Json]:
 
 
 def entries(value: Json, *keys: str) -> list[Json]:
-    """Answers what an object of exactly these keys holds, in the order of the keys that are passed."""
+    """Return the values of an object of exactly these keys, in the order of the keys."""
     if not isinstance(value, dict) or set(value) != set(keys):
         raise WrongShape
     return [value[key] for key in keys]
@@ -95,7 +95,7 @@ def has_key(value: Json, key: str) -> bool:
 
 
 def distinct(keys: Iterable[Read]) -> list[Read]:
-    """Answers the list; one that has a thing twice is a wrong shape."""
+    """Return the list; one that has an item twice is a wrong shape."""
     listed = list(keys)
     if len(set(listed)) != len(listed):
         raise WrongShape
@@ -103,7 +103,7 @@ def distinct(keys: Iterable[Read]) -> list[Read]:
 
 
 def read_element(value: Json, depth: int = 0) -> Element:
-    """Reads an element that stands in as many lists as the depth."""
+    """Read an element that is in as many lists as the depth."""
     if has_key(value, "list"):
         if depth == MAX_LIST_DEPTH:
             raise WrongShape
@@ -156,7 +156,10 @@ def value_json(value: Value) -> Json:
 
 
 def read_state(value: Json) -> State:
-    """Reads a list of pairs; one with undef holds nothing, and its location may still stand only once."""
+    """Read a list of pairs; one with undef holds nothing.
+
+    Its location must still occur only once.
+    """
     pairs = [members(it, 2) for it in items(value)]
     places = distinct(read_location(at) for at, _ in pairs)
     state: State = {}

@@ -1,11 +1,12 @@
 /* A library for LD_PRELOAD that refuses one allocation of the program.
  *
- * The allocations that the program makes from the start of its main on are counted from 1. The one with the number in
- * the environment's FAIL_AT is answered as where there is no memory. Where that happens, an empty file is made at the
- * path in REFUSED_MARK, so that whoever tries one number after the other knows where to end.
+ * The allocations of the program are counted from 1, from the start of its main. The one with the
+ * number in the environment's FAIL_AT fails as if there were no memory. An empty file is then
+ * created at the path in REFUSED_MARK, so that a caller that tries one number after the other knows
+ * where to end.
  *
- * Where the environment has ASKED_FOR, how many allocations were asked for, how many bytes in all, and how many blocks were not
- * freed is written to that file as the program exits. */
+ * If the environment has ASKED_FOR, then the number of allocations, their bytes in all, and the
+ * number of blocks that were not freed are written to that file as the program exits. */
 #define _GNU_SOURCE
 #include <dlfcn.h>
 #include <errno.h>
@@ -32,8 +33,8 @@ static long fail_at;
 static const char *mark;
 static Main *program;
 
-/* Tells whether this call, which asks for so many bytes, is the one that is refused. Until the program's main begins, none is
- * counted. */
+/* Returns whether this call, which asks for this many bytes, is the one that is refused. Until
+ * the program's main begins, none is counted. */
 static int refuses(size_t size) {
     atomic_fetch_add(&asked, size);
     if (atomic_fetch_add(&calls, 1) + 1 != fail_at) {
@@ -47,7 +48,7 @@ static int refuses(size_t size) {
     return 1;
 }
 
-/* Counts a new block, which is none where memory ran out. */
+/* Counts a new block; there is none if memory ran out. */
 static void *hold(void *block) {
     atomic_fetch_add(&held, block != NULL);
     return block;
@@ -59,7 +60,7 @@ void *calloc(size_t count, size_t size) {
     return refuses(count * size) ? NULL : hold(__libc_calloc(count, size));
 }
 
-/* A block that only moves is held as before; one of no bytes is freed. */
+/* A block that only moves is counted as before; one of no bytes is freed. */
 void *realloc(void *old, size_t size) {
     if (!old) {
         return malloc(size);
@@ -103,7 +104,7 @@ static int main_that_counts(int argc, char **argv, char **environment) {
     return program(argc, argv, environment);
 }
 
-/* Frees what the C library keeps for itself, such as the stacks of ended threads. */
+/* Frees what the C library retains for itself, such as the stacks of ended threads. */
 static void free_own(void) {
     void (*free_all)(void) = (void (*)(void))dlsym(RTLD_DEFAULT, "__libc_freeres");
     if (free_all) {
@@ -124,14 +125,14 @@ static __attribute__((destructor)) void tell_asked(void) {
     close(file);
 }
 
-/* The program may end so, and then no destructor runs. */
+/* The program may end here, and then no destructor runs. */
 void _exit(int status) {
     tell_asked();
     syscall(SYS_exit_group, status);
     __builtin_unreachable();
 }
 
-/* What a program's first instructions call; it is handed the program's main. */
+/* What a program's first instructions call; its argument is the program's main. */
 int __libc_start_main(Main *given, int argc, char **argv, void (*init)(void), void (*fini)(void),
                       void (*loader_fini)(void), void *stack_end) {
     typedef int Start(Main *, int, char **, void (*)(void), void (*)(void), void (*)(void), void *);

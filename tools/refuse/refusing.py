@@ -1,4 +1,7 @@
-"""Runs a program with each of its allocations refused in turn, by the library that `refuse.c` is built into."""
+"""Run a program with each of its allocations refused in turn.
+
+It uses the library that `refuse.c` is built into.
+"""
 
 import os
 import subprocess
@@ -15,7 +18,10 @@ DID_NOT_END = -1000
 
 
 class Ended(NamedTuple):
-    """How a run ended, and how many blocks of memory it hadn't freed then; a signal's number is negative."""
+    """How a run ended, and how many blocks of memory it hadn't freed then.
+
+    A signal's number is negative.
+    """
 
     status: int
     output: bytes
@@ -28,7 +34,7 @@ class Ended(NamedTuple):
 
 
 class Sweep(NamedTuple):
-    """The runs of one program: what those came to that ended well, and which ended otherwise."""
+    """The runs of one program: results of those that ended well, and the other ones."""
 
     sorts: Counter[str]
     faults: dict[int, Ended]
@@ -43,7 +49,7 @@ class Asked(NamedTuple):
 
 
 class Refuser:
-    """The built library, in a folder of its own that lasts as long as this."""
+    """The built library, in a separate folder that lasts as long as this."""
 
     def __init__(self, jobs: int) -> None:
         self.jobs = jobs
@@ -56,7 +62,10 @@ class Refuser:
         )
 
     def run(self, words: list[str], text: bytes, number: int = 0) -> tuple[Ended, bool]:
-        """Runs the program with the call of this number refused (of 0: none); says also whether one was refused."""
+        """Run the program with the call of this number refused (of 0: none).
+
+        Return also whether one was refused.
+        """
         mark = Path(f"{self.folder.name}/mark_{number}")
         given = {"FAIL_AT": str(number), "REFUSED_MARK": str(mark)}
         ended, _ = self.ended(words, text, given, f"asked_{number}")
@@ -65,13 +74,19 @@ class Refuser:
         return ended, is_refused
 
     def asked(self, words: list[str], text: bytes = b"") -> tuple[Ended, Asked | None]:
-        """Runs the program with no call refused, and returns what it asked for; nothing where it was stopped."""
+        """Run the program with no call refused, and return what it asked for.
+
+        Return nothing if it was stopped.
+        """
         return self.ended(words, text, {}, "asked")
 
     def ended(
         self, words: list[str], text: bytes, given: dict[str, str], name: str
     ) -> tuple[Ended, Asked | None]:
-        """Runs the program over the library, with this in its environment, and a file of this name for what it asked for."""
+        """Run the program over the library, with a file for what it asked for.
+
+        The environment has these settings, and the file has this name.
+        """
         told = Path(f"{self.folder.name}/{name}")
         ended = self.ran(words, text, {"ASKED_FOR": str(told), **given})
         if not told.exists():
@@ -81,7 +96,7 @@ class Refuser:
         return ended._replace(held=held), Asked(allocations, size)
 
     def ran(self, words: list[str], text: bytes, given: dict[str, str]) -> Ended:
-        """Runs the program over the library, with this in its environment."""
+        """Run the program over the library, with this in its environment."""
         try:
             ran = subprocess.run(
                 words,
@@ -103,7 +118,10 @@ class Refuser:
         sort_of: Callable[[Ended], str | None],
         most: int | None = None,
     ) -> Sweep:
-        """Refuses each call in turn until none is refused, or as many as `most`; `sort_of` is None for a bad end."""
+        """Refuse each call in turn until none is refused, or as many as `most`.
+
+        `sort_of` is None for a bad end.
+        """
         sorts: Counter[str] = Counter()
         faults: dict[int, Ended] = {}
         for number, (ended, is_refused) in enumerate(self.runs(words, text), 1):
@@ -117,7 +135,10 @@ class Refuser:
         raise AssertionError("the runs have no end of their own")
 
     def runs(self, words: list[str], text: bytes) -> Iterator[tuple[Ended, bool]]:
-        """Answers the runs in the order of the calls that they refuse, some of them made beside each other."""
+        """Yield the runs in the order of the calls that they refuse.
+
+        Some of them run in parallel.
+        """
         at_once = 4 * self.jobs
         with ThreadPoolExecutor(self.jobs) as pool:
             for first in count(1, at_once):

@@ -1,4 +1,4 @@
-/* Does each work by the library and by the twin in turn, and writes a line of it: its name, and
+/* Does each work by the library and by the twin in turn, and writes a line for it: its name, and
  * the medians of the nanoseconds that one call took, for all threads together: the library's and
  * the twin's by the clock, and both of processor time.
  *
@@ -13,13 +13,13 @@
 
 enum { LEAST = 5, MOST = 9 };
 
-/* A work has no further rounds after so many seconds, and beyond the least number of them. */
+/* A work has no further rounds after this many seconds, beyond the minimum number of rounds. */
 static double seconds = 0.9;
 /* What the numbers of calls are divided by. */
 static unsigned part = 1;
 
-/* The twin is called so many times as often, so that a round of either is as long, and other work
- * on the machine interrupts both alike. */
+/* The twin is called this many times as often, so that a round of either is as long, and other
+ * work on the machine interrupts both alike. */
 typedef struct row {
     const char *name;
     enum work work;
@@ -77,8 +77,9 @@ static double seconds_of(clockid_t clock) {
 
 static double now(void) { return seconds_of(CLOCK_MONOTONIC); }
 
-/* Moves the thread to a processor of its own, if there are as many, and lets it go from there: else
- * the scheduler may leave all threads on one for the short time of a round. */
+/* Moves the thread to a separate processor, if there are as many, and then removes that
+ * restriction: otherwise the scheduler may leave all threads on one for the short time of a
+ * round. */
 static void spread(unsigned number) {
     cpu_set_t all, own;
     REQUIRE(!sched_getaffinity(0, sizeof all, &all));
@@ -103,7 +104,7 @@ static void *run_worker(void *argument) {
     return NULL;
 }
 
-/* Makes so many calls, which the threads share out among them. */
+/* Makes this many calls, which the threads share out among them. */
 static taken timed(work_call *work, const crowd *crowd, unsigned calls) {
     double begin = 0, end = 0, used = seconds_of(CLOCK_PROCESS_CPUTIME_ID);
     REQUIRE(!pthread_barrier_init(&gate, NULL, crowd->threads));
@@ -124,7 +125,7 @@ static taken timed(work_call *work, const crowd *crowd, unsigned calls) {
     return (taken){1e9 * (end - begin) / calls, 1e9 * used / calls};
 }
 
-/* A round on a storage of its own, whose locations have to tell each fire. */
+/* A round on a separate storage, whose locations must show each fire. */
 static taken round_of(const side *side, const row *row, const crowd *crowd, unsigned calls) {
     side->open(calls);
     taken time = timed(side->works[row->work], crowd, calls);

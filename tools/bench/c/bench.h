@@ -10,21 +10,22 @@
 
 enum { THREADS = 16, LOCATIONS = 64 };
 
-/* READ_FIRE: read, answer, and a fire of one put that names what was read. STEP: begin, get, push
- * of one put, commit. PUSH_POP: a push on a step that was begun before, and its pop. The PLAIN ones
- * are the same without text. */
+/* READ_FIRE: read, answer, and a fire of one put that names what was read. STEP: begin, get,
+ * push of one put, commit. PUSH_POP: a push on a step that was begun before, and its pop. The
+ * PLAIN ones are the same without text. */
 enum work { READ_FIRE, STEP, PLAIN_STEP, PEEK, PLAIN_PEEK, PUSH_POP, WORKS };
 
-/* Does the work once, as the agent of the thread, at the location with this number; whether it was
- * done: else something was stale, and it is to be done again. A work that fires adds 1 there. */
+/* Does the work once, as the agent of the thread, at the location with this number. Returns
+ * whether it was done: otherwise something was stale, and the work must be repeated. A work that
+ * fires adds 1 there. */
 typedef bool work_call(unsigned thread, unsigned location);
 
-/* One that does the works: the library or the twin. */
+/* A side that does the works: the library or the twin. */
 typedef struct side {
-    /* Opens a storage for so many moves, with 0 at each location, and agents for the threads. */
+    /* Opens a storage for this many moves, with 0 at each location, and agents for the threads. */
     void (*open)(unsigned moves);
     work_call *works[WORKS];
-    /* The sum of all locations; the storage is released. */
+    /* The sum of all locations; the storage is freed. */
     int64_t (*close)(void);
 } side;
 

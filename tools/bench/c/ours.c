@@ -7,7 +7,7 @@
 enum { ROOM = 256, INIT = 32 * LOCATIONS };
 
 typedef struct agent {
-    /* A slot of its own line of the processor's cache. */
+    /* A slot on a separate line of the processor's cache. */
     _Alignas(128) struct asm_agent handle;
     struct asm_step step, idle;
     struct asm_move move;
@@ -78,7 +78,7 @@ static void push_put(agent *a, struct asm_step *step, unsigned location, long va
                      ROOM - (size_t)written, &length) == ASM_DONE);
 }
 
-/* What the step sees at the location. */
+/* The value that the step sees at the location. */
 static long got(agent *a, struct asm_step *step, unsigned location) {
     char text[ROOM];
     size_t length;

@@ -28,7 +28,7 @@ static void set_key(char *to, const char *key) {
     memcpy(to, key, strlen(key) + 1);
 }
 
-/* The place of the location, which is made where it isn't there. */
+/* The place of the location, which is created if it isn't there. */
 static twin_place *place_of(twin *t, const char *key) {
     uint32_t hash = 2166136261u;
     for (const char *c = key; *c; c++)
@@ -42,7 +42,7 @@ static twin_place *place_of(twin *t, const char *key) {
     return *at;
 }
 
-/* Room for so many more items, of which there are `count`. */
+/* Room for this many more items, of which there are `count`. */
 static void *with_room(void *items, size_t size, size_t count, size_t more, size_t *room) {
     if (count + more <= *room)
         return items;

@@ -1,5 +1,5 @@
-/* A storage as it is written in a day: a hash map and a history behind one mutex. A value is a
- * whole number, and a move puts values. */
+/* A storage as it is written in a day: a hash map and a history behind one mutex. A value is an
+ * integer, and a move puts values. */
 #ifndef TWIN_H
 #define TWIN_H
 
@@ -10,15 +10,15 @@
 
 enum { TWIN_KEY = 16, TWIN_PARTS = 64, TWIN_BUCKETS = 256 };
 
-/* A location with a value that is put there, or with the number of moves under which it is named.
- */
+/* A location with a value that is put there, or with the number of moves under which it is
+ * named. */
 typedef struct twin_part {
     char key[TWIN_KEY];
     int64_t value;
 } twin_part;
 
-/* A call and its answer: a read's number and its one part; or a fire's puts, what it names, and the
- * number of its move, 0 for a stale one. Its parts are those of the history from `first` on. */
+/* A call and its answer: a read's number and its one part; or a fire's puts, what it names, and
+ * the number of its move, 0 for a stale one. Its parts are those of the history from `first` on. */
 typedef struct twin_event {
     uint32_t number;
     uint8_t agent;
@@ -45,7 +45,7 @@ typedef struct twin {
     size_t part_count, part_room;
 } twin;
 
-/* The locations that were got and what was pushed, on the state after so many moves. */
+/* The locations that were read and what was pushed, on the state after this many moves. */
 typedef struct twin_step {
     uint32_t number;
     uint16_t got, pushed;
@@ -59,13 +59,14 @@ void twin_close(twin *t);
 int64_t twin_read(twin *t, uint8_t agent, const char *key, uint32_t *number);
 int64_t twin_peek(twin *t, const char *key, uint32_t *number);
 
-/* Fires the puts, unless a named location was written since; the move's number, 0 for stale. */
+/* Fires the puts, unless a named location was written since. Returns the move's number, 0 for
+ * stale. */
 uint32_t twin_fire(twin *t, uint8_t agent, const twin_part *puts, uint16_t put_count,
                    const twin_part *named, uint16_t named_count);
 
 void twin_begin(twin *t, twin_step *step);
 
-/* Gets what the step sees; false where that was written since the step began. */
+/* Reads the value that the step sees. Returns false if it was written since the step began. */
 bool twin_get(twin *t, twin_step *step, const char *key, int64_t *value);
 bool twin_push(twin_step *step, const char *key, int64_t value);
 bool twin_pop(twin_step *step);

@@ -1,9 +1,9 @@
-"""Takes steps by the library and by the twin in turn, with texts and without, and writes a line for each crowd of threads.
+"""Run steps by the library and by the twin in turn, with texts and without.
 
     python3 bench.py [--quick]
 
-A line has the crowd's name, and the medians of the nanoseconds that one step took, for all threads together: the library's and
-the twin's by the clock, and both of processor time.
+It writes a line for each crowd of threads. A line has the crowd's name, and the medians of the nanoseconds that one step took,
+for all threads together: the library's and the twin's by the clock, and both of processor time.
 """
 import gc
 import statistics
@@ -17,18 +17,24 @@ from folugben import Location as Prepared
 from twin import Location, MovedError, Twin
 
 THREADS, LOCATIONS, LEAST, MOST = 16, 64, 5, 9
-# The twin's rounds have so many times as many steps, so that they are as long.
+# The twin's rounds have this many times as many steps, so that they are as long.
 TWIN_TIMES = 8
 
 
 class Side(Protocol):
-    """One that takes steps: the library or the twin. It is opened for so many moves, with 0 at each location."""
+    """A side that runs steps: the library or the twin.
+
+    It is opened for a number of moves, with 0 at each location.
+    """
 
     def step(self, thread: int, location: int) -> bool:
-        """Adds 1 at the location by a get and a push; whether it fired: else it was stale, and is to be taken again."""
+        """Add 1 at the location by a get and a push; return whether it fired.
+
+        If it did not, it was stale, and must be repeated.
+        """
 
     def close(self) -> int:
-        """The sum of all locations; the storage is released."""
+        """Return the sum of all locations; the storage is released."""
 
 
 class Ours:
@@ -112,14 +118,14 @@ def work(side: Side, thread: int, location: int, steps: int) -> None:
 
 
 class Taken(NamedTuple):
-    """What one step took, in nanoseconds."""
+    """Return what one step took, in nanoseconds."""
 
     clock: float
     processor: float
 
 
 def timed(side: Side, crowd: Crowd, steps: int) -> Taken:
-    """Takes so many steps, which the threads share out among them."""
+    """Run this many steps, which the threads share out among them."""
     threads = [
         threading.Thread(target=work, args=(side, k, 0 if crowd.shares else k, steps // crowd.threads))
         for k in range(crowd.threads)
@@ -133,7 +139,7 @@ def timed(side: Side, crowd: Crowd, steps: int) -> Taken:
 
 
 def round_of(kind: type[Ours] | type[Theirs], crowd: Crowd, steps: int) -> Taken:
-    """A round on a storage of its own, whose locations have to tell each step."""
+    """Run a round on a separate storage, whose locations must show each step."""
     side = kind(steps)
     gc.collect()
     taken = timed(side, crowd, steps)

@@ -1,10 +1,11 @@
-"""A run without an end beside the same moves without journals: time and memory.
+"""Compare a run without an end to its moves without journals: time and memory.
 
 usage: endless.py run MOVES FOLDER | plain MOVES | audit FOLDER
 
-Eight agents in threads each raise a number of their own, in steps without text. `run` writes the parts of a Run, of 100,000 moves
-each, into the folder, and tells the peak of memory once three parts are on the disk beside that at the end. `plain` has storages of
-as many moves, which are released without being closed. `audit` tells how many calls a second it judges, in how much memory.
+Eight agents in threads each increment a separate number, in steps without text. `run` writes the parts of a Run, of 100,000
+moves each, into the folder, and reports the peak of memory once three parts are on the disk, and at the end. `plain` has
+storages of as many moves, which are released without being closed. `audit` reports how many calls a second it checks, and in
+how much memory.
 """
 import resource
 import sys
@@ -20,12 +21,12 @@ INIT = [[["own", own], 0] for own in range(AGENTS)]
 
 
 def peak():
-    """The most memory so far, in MB."""
+    """Return the most memory so far, in MB."""
     return resource.getrusage(resource.RUSAGE_SELF).ru_maxrss / 1024
 
 
 def raises(storage, times):
-    """What each thread does."""
+    """Run the work of each thread."""
 
     def work(own):
         at, move = Location(["own", own]), Move()

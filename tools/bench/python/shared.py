@@ -1,9 +1,11 @@
-"""Moves of a SharedRun beside a bare loop of transactions in the same database, for 1, 4 and 16 agents that wait at once.
+"""Compare moves of a SharedRun to a bare loop of transactions.
+
+Both use the same database. The comparison has 1, 4 and 16 agents that wait at once.
 
 usage: shared.py TARGET [SECONDS]
 
-TARGET is a new file of SQLite, or postgresql://.. with a new schema. The bare loop inserts as many rows of the size of a call in each
-transaction as there are agents. Each side has so many seconds (2) in each of three rounds, in turn.
+TARGET is a new SQLite file, or postgresql://.. with a new schema. The bare loop inserts in each transaction as many rows of the
+size of a call as there are agents. Each side has SECONDS (2) in each of three rounds, in turn.
 """
 import contextlib
 import secrets
@@ -20,7 +22,7 @@ ROUNDS, CALL = 3, '{"fire":[["put",["own",10],1000]],"reads":[[["own",10],1000]]
 
 
 def bare(database, size, seconds):
-    """How many rows a second are inserted, so many by each transaction."""
+    """Return how many rows a second are inserted, this many by each transaction."""
     count, end = 0, time.perf_counter() + seconds
     while time.perf_counter() < end:
         database.run("begin")
@@ -33,7 +35,7 @@ def bare(database, size, seconds):
 
 
 def shared(run, agents, seconds):
-    """How many moves a second the agents fire, each at a location of its own."""
+    """Return how many moves a second the agents fire, each at a separate location."""
     counts, end = [0] * agents, time.perf_counter() + seconds
 
     def work(own):

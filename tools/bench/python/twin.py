@@ -1,4 +1,7 @@
-"""A storage as it is written in a day: a dict and a history behind one lock. A move puts values."""
+"""A storage as it is written in a day: a dict and a history behind one lock.
+
+A move puts values.
+"""
 import threading
 from typing import NamedTuple
 
@@ -10,7 +13,10 @@ class MovedError(Exception):
 
 
 class Event(NamedTuple):
-    """A fire: what it puts, what it names at which number, and its move's number, 0 for a stale one."""
+    """A fire: its puts, its named locations with numbers, and its move's number.
+
+    The move's number is 0 for a stale fire.
+    """
 
     agent: int
     puts: dict[Location, int]
@@ -20,7 +26,10 @@ class Event(NamedTuple):
 
 
 class Twin:
-    """The values with the numbers of the moves that wrote them, and all calls that were answered."""
+    """The values with the numbers of their moves, and all calls that were answered.
+
+    The move of a value is the one that wrote it.
+    """
 
     def __init__(self, state: dict[Location, int]) -> None:
         self.lock = threading.Lock()
@@ -33,7 +42,7 @@ class Twin:
 
 
 class Step:
-    """What is got and pushed on the state after so many moves."""
+    """What is read and pushed on the state after a number of moves."""
 
     def __init__(self, twin: Twin, agent: int) -> None:
         self._twin, self._agent = twin, agent
@@ -59,7 +68,7 @@ class Step:
         self._puts.update(puts)
 
     def commit(self) -> bool:
-        """Whether it fired: else something that was got was written since."""
+        """Fire; return False if something that was read was written since."""
         twin, at, number = self._twin, self._number, 0
         with twin.lock:
             if all(twin.state.get(place, (0, 0))[1] <= at for place in self._got):
