@@ -1,5 +1,6 @@
-/* A storage with as many moves as one can hold, and states of many locations. What walks all that is
- * there, where it has to look at a little, doesn't end within the limit of processor time. */
+/* A storage with the largest number of moves, and states of many locations. A call that walks
+ * over everything, though it needs only a little, doesn't end within the limit of processor
+ * time. */
 #include "tests.h"
 
 #include <sys/resource.h>
@@ -21,7 +22,7 @@ typedef struct text {
     size_t length, room;
 } text;
 
-/* Appends the format, without its comma behind a bracket. */
+/* Appends the format, without its comma after a bracket. */
 static void append(text *it, const char *format, const char *name, size_t number) {
     if (it->room - it->length < 100) {
         it->room = 2 * it->room + 100;
@@ -37,7 +38,7 @@ static void append_all(text *it, const char *format, const char *name, size_t fi
         append(it, format, name, i);
 }
 
-/* The text of a list, which is to be freed. */
+/* The text of a list; the caller must free it. */
 static text list_of(const char *format, const char *name, size_t count) {
     text it = {0};
     append(&it, "[", "", 0);
@@ -87,7 +88,7 @@ static void full_row(void) {
     asm_free_storage(&storage);
 }
 
-/* A storage that opens with many locations before and behind the three of the function m. */
+/* A storage that opens with many locations before and after the three of the function m. */
 static void open_many(struct asm_storage *storage) {
     text it = {0};
     append(&it, "[", "", 0);
@@ -99,7 +100,7 @@ static void open_many(struct asm_storage *storage) {
     free(it.at);
 }
 
-/* Moves put a value at so many locations with this name. */
+/* Moves put a value at this many locations with this name. */
 static void write_all(struct asm_agent *agent, const char *name, size_t count) {
     asm_numbers numbers;
     for (size_t first = 0; first < count; first += AT_ONCE) {
@@ -112,7 +113,7 @@ static void write_all(struct asm_agent *agent, const char *name, size_t count) {
     }
 }
 
-/* The length of the text that a scan tells. */
+/* The length of the text that a scan writes. */
 static size_t scanned(struct asm_agent *agent, const char *name) {
     uint32_t number;
     size_t length;
@@ -120,7 +121,7 @@ static size_t scanned(struct asm_agent *agent, const char *name) {
     return length;
 }
 
-/* A scan, and a fire over a scan, look at the locations of one function alone. */
+/* A scan, and a fire over a scan, check only the locations of one function. */
 static void small_function(void) {
     struct asm_storage storage = {0};
     struct asm_agent agent = {0};
@@ -141,7 +142,7 @@ static void small_function(void) {
     asm_free_storage(&storage);
 }
 
-/* The values at so many locations with the name f, each of one digit, are peeked at once. */
+/* The values at this many locations with the name f, each of one digit, are peeked at once. */
 static void peek_all(struct asm_agent *agent, size_t count) {
     text it = list_of(place, "f", count);
     char empty[64];
@@ -162,7 +163,7 @@ static void tell_all(struct asm_agent *agent, size_t count, size_t length) {
     peek_all(agent, count);
 }
 
-/* A storage where f has so many locations, and two agents; the length of their pairs. */
+/* A storage in which f has this many locations, and two agents; the length of their pairs. */
 static size_t open_function(struct asm_storage *storage, struct asm_agent *agents, size_t count) {
     text it = list_of(pair, "f", count);
     REQUIRE(asm_open(bytes(it.at), it.length, 64, storage) == ASM_DONE);
@@ -171,7 +172,7 @@ static size_t open_function(struct asm_storage *storage, struct asm_agent *agent
     return it.length;
 }
 
-/* The functions of a state are told, be their values of the opening state or of moves. */
+/* The functions of a state are reported, for values of the opening state and of moves. */
 static void tell_functions(size_t count) {
     struct asm_storage storage = {0};
     struct asm_agent agents[2] = {0};
@@ -202,7 +203,8 @@ static size_t got(struct asm_agent *agent, struct asm_step *step, const char *na
     return length;
 }
 
-/* A step puts each location of g, increments each of f, some of these twice, and rests on the latter. */
+/* A step puts each location of g, increments each of f, some of these twice, and depends on the
+ * latter. */
 static void play_step(size_t count) {
     struct asm_storage storage = {0};
     struct asm_agent agents[2] = {0};

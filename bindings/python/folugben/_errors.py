@@ -204,7 +204,10 @@ class UnknownError(RuntimeError):
 
 
 class TooLongError(Error):
-    """A line of the journal would be longer than an audit reads, `LINE_LIMIT` bytes; nothing was done."""
+    """A line of the journal would be longer than an audit reads; nothing was done.
+
+    An audit reads lines of `LINE_LIMIT` bytes.
+    """
 
 
 class OverError(Error):
@@ -215,16 +218,20 @@ class OverError(Error):
 
 
 class MissingError(Error):
-    """A move has no receipt among the agents that were given back; `numbers` has its number, and `said` tells who isn't."""
+    """A move has no receipt among the agents that were returned to the storage.
+
+    `numbers` has its number, and `said` names the agents that weren't returned.
+    """
 
 
 class BadJournalError(Error):
-    """The journal is illegal, or is none; `numbers` has the number of the call or of the line, if there is one.
+    """The journal is illegal, or is none.
 
-    An audit tells the number of the part besides, from 0 up.
+    `numbers` has the number of the call or of the line, if there is one. An audit also reports the number of the part, counted
+    from 0.
     """
 
-    # What it says is of a line of JSON.
+    # Its message is of a line of JSON.
     _said_alone = _SAID - {Code.SHAPE}
     part: int | None = None
 

@@ -10,7 +10,7 @@ INIT = [[["s"], {"set": [1, 2]}], [["b"], {"bag": [["e", 2]]}], [["x"], 7]]
 
 
 def journal_of_two() -> bytes:
-    """Return a move that changes a set, a bag and a number, and a fire made stale by it."""
+    """Return a move that changes a set, a bag and a number, and a fire it makes stale."""
     with Storage(INIT, 10) as storage:
         with storage.agent(0) as first, storage.agent(1) as second:
             number, _values = second.read([["x"]])
