@@ -328,7 +328,10 @@ LISTED_IN = {
 
 
 def written(journal: str) -> str:
-    """Return the journal as it is written: in version 2, with its keys in order, and without locations that hold nothing."""
+    """Return the journal as it is written.
+
+    It is in version 2, with its keys in order, and without locations that hold nothing.
+    """
     head, *events = map(json.loads, journal.removesuffix("\n").split("\n"))
     head |= {"version": 2, "init": [it for it in head["init"] if it[1] is not None]}
     lines = (json.dumps(it, ensure_ascii=False, separators=(",", ":"), sort_keys=True) for it in (head, *events))

@@ -62,7 +62,7 @@ HISTORIES = (
 
 
 def both_ways(name: str, journal: str, line: str) -> Iterator[Case]:
-    """The check reports this line for the journal, and its rewriting is the journal itself."""
+    """The check reports this line for the journal, which is its own rewriting."""
     yield Case(f"check_{name}", ("check",), journal.encode(), f"{line}\n".encode(), int(line.startswith("illegal")))
     yield rewritten(name, journal, journal)
 
@@ -80,7 +80,10 @@ def event_of(name: str) -> str:
 
 
 def legal() -> Iterator[Case]:
-    """A legal journal is its own rewriting. It is also the rewriting of the same journal in version 1, if it has no list."""
+    """A legal journal is its own rewriting.
+
+    It is also the rewriting of the same journal in version 1, if it has no list.
+    """
     for name, journal in (("moves", AGENTS), ("a_stale_move", SAME), ("increments", INCREMENTS), ("clashes", CLASHES)):
         yield rewritten(name, journal, journal)
         yield rewritten(f"{name}_of_version_1", journal.replace('"version":2', '"version":1'), journal)

@@ -27,7 +27,10 @@ def report(pairs: list, moves: int, *faults: str) -> bytes:
 
 
 def played(name: str, init: list, blocks: list, pairs: list, *faults: str) -> Case:
-    """One agent makes one step of these blocks, which leaves the pairs, or ends with these faults."""
+    """Play one step of one agent, with these blocks.
+
+    It leaves the pairs, or ends with these faults.
+    """
     return Case(name, ("run",), script(init, [blocks]), report(pairs, 0 if faults else 1, *faults))
 
 
@@ -100,7 +103,10 @@ def moves_of(n: int) -> Iterator[Case]:
 
 
 def composed() -> Iterator[Case]:
-    """Three blocks that compose to as many instructions as a move may have, and to one more."""
+    """Yield three blocks that compose to the largest number of instructions.
+
+    It is as many as a move may have; others compose to one more.
+    """
     for last, faults in ((96, ()), (97, ("agent 0 step 0 many",))):
         blocks = [[["put", [name, i], 1] for i in range(count)] for name, count in zip("abc", (2000, 2000, last))]
         left = [[it[1], 1] for block in blocks for it in block]
@@ -129,8 +135,10 @@ def texts(n: int) -> Iterator[Case]:
 
 
 def reads(n: int) -> Iterator[Case]:
-    """A step that reads n locations: by `val`, one of them twice, or as the targets of partial updates before its last
-    block."""
+    """Yield a step that reads n locations.
+
+    It reads them by `val`, one of them twice, or as the targets of partial updates before its last block.
+    """
     init = [[it, it[1]] for it in places(n)]
     step = [["put", ["b", i], {"val": ["a", i]}] for i in range(n)] + [["put", ["b", 0], {"val": ["a", 0]}]] * min(n, 1)
     sets, adds = [[it, set_of(1)] for it in places(n)], [["add", it, 1] for it in places(n)]
@@ -161,7 +169,10 @@ def blocks_of(n: int) -> Iterator[Case]:
 
 
 def agents(n: int) -> Iterator[Case]:
-    """Agents that increment one counter and write a location of their own, and agents without a step."""
+    """Yield agents that increment one counter and each write their own location.
+
+    There are also agents without a step.
+    """
     given = script([[N, 0]], *([[[["inc", N, 1], ["put", ["a", i], i]]]] for i in range(n)))
     cases = [
         Case(f"{n}_agents", ("run",), given, report([[["a", i], i] for i in range(n)] + [[N, n]], n)),
@@ -173,7 +184,10 @@ def agents(n: int) -> Iterator[Case]:
 
 
 def causes() -> Iterator[Case]:
-    """Scripts with a block of one instruction too many, and another fault before or behind it. The first one is reported."""
+    """Yield scripts with a block of one instruction too many, and another fault.
+
+    The other fault is before or after it. The first one is reported.
+    """
     block = ",".join(['["add",["s"],1]'] * 4097)
     for place, before, behind, cause in (
         ("before_a_step_without_blocks", "[[[", "]],[]]", "instructions"),

@@ -45,7 +45,10 @@ def plain(n: int) -> Iterator[Case]:
 
 
 def long(pairs: int) -> Iterator[Case]:
-    """A journal of this many reads, each with a fire that declares it: legal, and with a wrong answer in its last line."""
+    """A journal of this many reads, each with a fire that declares it.
+
+    It is legal, and also has a wrong answer in its last line.
+    """
     init = [[N, 0]]
     reads = [event('{"read":[["n"]]}', f'{{"number":{k},"values":[{k}]}}') for k in range(pairs)]
     calls = [f'{{"fire":[["put",["n"],{k + 1}]],"reads":[[["n"],{k}]]}}' for k in range(pairs)]
@@ -69,7 +72,10 @@ def long(pairs: int) -> Iterator[Case]:
 
 
 def growing(n: int) -> Iterator[Case]:
-    """A set or a bag that grows n times by one element. For each move, the trace has only what it adds."""
+    """A set or a bag that grows n times by one element.
+
+    For each move, the trace has only what it adds.
+    """
     for name, at, init, call, changed in (
         ("set", S, {"set": []}, '["add",["s"],%d]', '{"added":[%d],"removed":[]}'),
         ("bag", B, {"bag": []}, '["bagadd",["b"],%d,3]', '{"counts":[[%d,0,3]]}'),
@@ -83,7 +89,10 @@ def growing(n: int) -> Iterator[Case]:
 
 
 def misread(n: int) -> Iterator[Case]:
-    """A location that holds a text of n bytes is read 256 times at once, wrongly. The trace doesn't repeat what it holds."""
+    """A location that holds a text of n bytes is read 256 times at once, wrongly.
+
+    The trace doesn't repeat what it holds.
+    """
     init = [[X, "x" * n]]
     told = event(text({"read": [X] * 256}), text({"number": 1, "values": [None] * 256}))
     head = text({"agents": 1, "capacity": 1048576, "events": 1, "init": init, "trace": 1}) + "\n"
@@ -92,8 +101,10 @@ def misread(n: int) -> Iterator[Case]:
 
 
 def calls_of(n: int) -> Iterator[Case]:
-    """A read of n locations, and fires of n declared reads and of n instructions. They are written as they are read, or are too
-    long."""
+    """A read of n locations, and fires of n declared reads and of n instructions.
+
+    They are written as they are read, or are too long.
+    """
     places, undef = ",".join(['["x"]'] * n), ",".join(["null"] * n)
     named, raised = ",".join(['[["n"],0]'] * n), ",".join(['["inc",["n"],1]'] * n)
     for name, most, call, told in (
@@ -113,8 +124,10 @@ def run_of(n: int) -> str:
 
 
 def parts(n: int) -> Iterator[Case]:
-    """A run of this many segments, longer than any other input: legal, and with a last segment that opens with another state or
-    has a wrong answer."""
+    """A run of this many segments, longer than any other input.
+
+    It is legal, and also has a last segment that opens with another state or has a wrong answer.
+    """
     run, legal = run_of(n), f"legal {n} {n} {n}\n"
     yield Case(f"audit_{n}_parts", ("audit",), run.encode(), legal.encode())
     told = "".join(f"so far {k} {k} {k}\n" for k in range(4096, n + 1, 4096))
@@ -126,14 +139,16 @@ def parts(n: int) -> Iterator[Case]:
 
 
 def window(n: int, before: int, calls: list[str], **part: int) -> str:
-    """Return the trace of a window of these calls, which begins when the number is n and this many moves of its segment have
-    fired."""
+    """Return the trace of a window of these calls.
+
+    The window begins when the number is n and this many moves of its segment have fired.
+    """
     head = {"agents": 1, "capacity": 1048576, "events": len(calls), "init": [[N, n]], "moves": before, "trace": 2, **part}
     return text(dict(sorted(head.items()))) + "\n" + "".join(calls)
 
 
 def windows(n: int) -> Iterator[Case]:
-    """The last of this many segments, and one behind it, which doesn't exist."""
+    """The last of this many segments, and one after it, which doesn't exist."""
     call = event('{"fire":[["inc",["n"],1]],"reads":[]},"event":0', f'{{"fired":1}},"updates":[[["n"],{n - 1},{n}]]')
     told = window(n - 1, 0, [call], **{"from": 0, "part": n - 1})
     yield Case(f"trace_the_last_of_{n}_parts", ("trace", "--part", f"{n - 1}"), run_of(n).encode(), told.encode())
@@ -142,7 +157,10 @@ def windows(n: int) -> Iterator[Case]:
 
 
 def lines() -> Iterator[Case]:
-    """Lines of a run that are longer than a complete script or journal may be, with their line feed and without."""
+    """Lines of a run that are longer than a complete script or journal may be.
+
+    They occur with their line feed and without.
+    """
     most = 16_777_216
     for name, end in (("", b""), ("_and_its_line_feed", b"\n")):
         name = f"audit_a_line_of_{most + 1}_bytes{name}"
@@ -152,8 +170,10 @@ def lines() -> Iterator[Case]:
 
 
 def cut() -> Iterator[Case]:
-    """A journal that ends before each of its bytes. At the end of a line, before or after its line feed, it is cut; inside a
-    line, that line isn't JSON."""
+    """A journal that ends before each of its bytes.
+
+    At the end of a line, before or after its line feed, it is cut; inside a line, that line isn't JSON.
+    """
     lines = event('{"read":[["s"]]}', '{"number":0,"values":[{"set":[]}]}')
     lines += event('{"fire":[["add",["s"],1],["put",["y"],{"set":[1]}]],"reads":[[["s"],0]]}', '{"fired":1}')
     for word, version in (("check", 2), ("rewrite", 1)):
@@ -203,8 +223,10 @@ def placed() -> Iterator[Case]:
 
 
 def judged(name: str, journal: str, line: str, at: int) -> Iterator[Case]:
-    """A journal of version 2 may have a list in the place, as deep as a list may be. One of version 1 may have a number, but no
-    list."""
+    """A journal of version 2 may have a list in the place, as deep as a list may be.
+
+    One of version 1 may have a number, but no list.
+    """
     deep, deeper = ('{"list":[' * depth + "]}" * depth for depth in (8, 9))
 
     def with_(version: int, element: str) -> bytes:

@@ -1,4 +1,4 @@
-"""Plays scripts, one agent after the other, and writes their reports."""
+"""Play scripts, one agent after the other, and write their reports."""
 
 from typing import NamedTuple
 
