@@ -10,7 +10,7 @@ public final class Tellers {
     static void teller(Agent agent) {
         try (PreparedLocation at = Location.of("balance").prepare(); Move move = new Move()) {
             for (int done = 0; done < 100; done++)
-                agent.play(step -> { // again, if the other was quicker
+                agent.play(step -> { // again on conflict
                     step.push(move.clear().put(at, step.getNumber(at) + 10));
                     return null;
                 });
