@@ -32,7 +32,7 @@
  *    mistake, except possibly while other threads are in asm_learn, asm_take_state or asm_give on
  *    both storages. The behaviour is undefined if a mistake isn't reported.
  *  - Stack. A call without text took less than 16 KiB of its thread's stack, one with well-formed
- *    texts less than 40 KiB, and one with a text that is nested as deep as any is read up to 100 KiB;
+ *    texts less than 40 KiB, and one with a text that is nested as deep as any is read up to 60 KiB;
  *    all were measured. So a thread that makes calls with texts has 128 KiB or more.
  *  - malloc, realloc and free are of one allocator, and malloc aligns a block to each power of two
  *    up to 16 that divides its size.
