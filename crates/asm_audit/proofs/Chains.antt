@@ -14,7 +14,7 @@ use Rattle.asm_audit.specs.Audited.{calls_of, moves_of}
 use Rattle.asm_update.specs.Move.{Move}
 use Rattle.asm_storage.proofs.Run.{run_from}
 use Rattle.asm_journal.specs.Next.{IsRunFromStart}
-use Rattle.asm_journal.proofs.GoesOn.{run_goes_on}
+use Rattle.asm_journal.proofs.GoesOn.{run_continues}
 use Rattle.asm_audit.specs.Run.{all_events}
 use Rattle.asm_audit.specs.Laws.{OneRun}
 
@@ -60,7 +60,7 @@ some_push (j ∷ js) h e = cc
 legal_run : (part : Part) (A : State) (c capacity : ℕ) (es : List Event) → IsLegal (machine part A c) es →
     IsRunFromStart (machine part A capacity) es
 legal_run part A c capacity es legal =
-    run_goes_on (machine part A capacity) c [] es tt
+    run_continues (machine part A capacity) c [] es tt
     (run_from (machine part A c) [] es (legal_behind (machine part A c) [] es legal))
 
 chain_run : (part : Part) (A : State) (hs : List History) → AreLegalFrom part A hs → (capacity : ℕ) →
@@ -68,7 +68,7 @@ chain_run : (part : Part) (A : State) (hs : List History) → AreLegalFrom part 
 chain_run part A [] chain capacity = tt
 chain_run part A (h ∷ hs) chain capacity =
     subst (λ (B : State). IsRunFromStart (machine part B capacity) (h.events ++ all_events hs)) chain.0
-    (run_goes_on (machine part h.init capacity) 0 h.events (all_events hs)
+    (run_continues (machine part h.init capacity) 0 h.events (all_events hs)
     (legal_run part h.init h.capacity capacity h.events chain.1)
     (chain_run part (state_left part h) hs chain.2 0))
 

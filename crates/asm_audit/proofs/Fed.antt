@@ -182,18 +182,18 @@ some_first [] some = absurd (some refl)
 some_first (b ∷ more) some = (b, more, refl)
 
 -- what is reported at a byte that wasn't taken
-told_next : (part : Part) (behind : List ℕ) (b : ℕ) (more : List ℕ) (p q : Progress) (line left : List ℕ)
+reported_next : (part : Part) (behind : List ℕ) (b : ℕ) (more : List ℕ) (p q : Progress) (line left : List ℕ)
     (r : Result Told AuditError) → behind ≡ b ∷ more → legal r ≡ false → IsFedAnswer part (b ∷ []) p line q left r →
     q ≡ p → left ≡ line → IsToldNext part behind q left r
-told_next part behind b more p q line left (Ok Legal) is stop answer same kept = absurd cc
-told_next part behind b more p q line left (Ok (Illegal j c)) is stop answer same kept = (
+reported_next part behind b more p q line left (Ok Legal) is stop answer same kept = absurd cc
+reported_next part behind b more p q line left (Ok (Illegal j c)) is stop answer same kept = (
   b,
   more,
   is,
   subst (λ l. IsFedAnswer part (b ∷ []) q l q left (Ok (Illegal j c))) (sym kept)
       (subst (λ x. IsFedAnswer part (b ∷ []) x line q left (Ok (Illegal j c))) (sym same) answer),
 )
-told_next part behind b more p q line left (Err e) is stop answer same kept = (
+reported_next part behind b more p q line left (Err e) is stop answer same kept = (
   b,
   more,
   is,
@@ -312,7 +312,7 @@ module _ (part : Part) (p q : Progress) (line mid left body rest bytes : List �
         taken = subst (λ x. HasTaken part body p line x left) (sym same)
             (open_taken part p line body left ends.1 (left_is ∙ is) (subst (λ l. length l ≤ line_limit) (sym left_is) within));
         ends = stops part body (10 ∷ rest) q left r stop ends.1
-            (told_next part (10 ∷ rest) 10 rest p q mid left r refl stop (fed_end part p q mid left r answer leaves) same left_is);
+            (reported_next part (10 ∷ rest) 10 rest p q mid left r refl stop (fed_end part p q mid left r answer leaves) same left_is);
       }
 
 -- ---- this many of the bytes
@@ -330,17 +330,17 @@ first_taken part front behind bytes p q line left n r all count taken next = rec
 }
 
 -- what is reported at the next byte is reported of all, since it holds whatever comes after
-pub told_first : (part : Part) (bytes : List ℕ) (p q : Progress) (line left : List ℕ) (n : ℕ) (r : Result Told AuditError) →
+pub reported_first : (part : Part) (bytes : List ℕ) (p q : Progress) (line left : List ℕ) (n : ℕ) (r : Result Told AuditError) →
     HasTakenFirst part bytes p line q left n r → IsFedAnswer part bytes p line q left r
-told_first part bytes p q line left n (Ok Legal) first =
+reported_first part bytes p q line left n (Ok Legal) first =
     subst (λ (t : List ℕ). HasTaken part t p line q left)
     (sym (append-nil (take n bytes)) ∙ ap (λ t. take n bytes ++ t) (sym first.next) ∙ take-append-drop n bytes) first.taken
-told_first part bytes p q line left n (Ok (Illegal j c)) first =
+reported_first part bytes p q line left n (Ok (Illegal j c)) first =
     let (b, more, is, answer) = first.next in
     fed_wrong part (take n bytes ++ b ∷ []) more bytes p q line left j c
     (append_assoc (take n bytes) (b ∷ []) more ∙ ap (λ t. take n bytes ++ t) (sym is) ∙ take-append-drop n bytes)
     (fed_join part (take n bytes) (b ∷ []) p q q line left left (Ok (Illegal j c)) first.taken answer)
-told_first part bytes p q line left n (Err e) first =
+reported_first part bytes p q line left n (Err e) first =
     let (b, more, is, answer) = first.next in
     fed_fault part (take n bytes ++ b ∷ []) more bytes p q line left e
     (append_assoc (take n bytes) (b ∷ []) more ∙ ap (λ t. take n bytes ++ t) (sym is) ∙ take-append-drop n bytes)
@@ -407,11 +407,11 @@ pub fed_short : (part : Part) (text : List ℕ) (p : Progress) (line : List ℕ)
 fed_short part text p line fed = (fed.ended, line, fed.all, fed.short, fed.open_line)
 
 -- what the end reports if the line is empty
-pub end_told : (part : Part) (p : Progress) (line : List ℕ) (r : Result Counts AuditError) → line ≡ [] → IsEnd part p r →
+pub end_reported : (part : Part) (p : Progress) (line : List ℕ) (r : Result Counts AuditError) → line ≡ [] → IsEnd part p r →
     IsFedEnd part p line r
-end_told part p line (Ok w) none is =
+end_reported part p line (Ok w) none is =
     λ text fed. (is text (fed_audited part text p line none fed), fed_short part text p line fed)
-end_told part p line (Err e) none is = λ text fed. is text (fed_audited part text p line none fed)
+end_reported part p line (Err e) none is = λ text fed. is text (fed_audited part text p line none fed)
 
 -- a line without a line feed isn't reported as legal
 pub no_end : (line : List ℕ) → HasLineFeed line → HasNoLineFeed line → ⊥

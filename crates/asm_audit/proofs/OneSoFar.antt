@@ -60,8 +60,8 @@ same_begun text v w count total g h b c =
 -- ---- the end of the complete parts
 
 record EndsAt (part : Part) (text : List ℕ) (whole : List History) (rest : List ℕ) : Type 0 where
-  told : Result Verdict AuditError
-  stopped : IsStopped part text told
+  reported : Result Verdict AuditError
+  stopped : IsStopped part text reported
   all : stopped.hs ≡ whole
   left : stopped.rest ≡ rest
 
@@ -75,7 +75,7 @@ module _ (part : Part) (text : List ℕ) (first : State) where
     stops : (hs : List History) (r : Result Verdict AuditError) → HasJournals hs text f.rest → AreLegalFrom part first hs →
         Stop part first hs f.rest r → EndsAt part text hs f.rest
     stops hs r journals legal stop = record {
-      told = r;
+      reported = r;
       stopped = record {
         first = first;
         hs = hs;
@@ -112,7 +112,7 @@ same_histories part text A B whole all parts both f g =
     y = ends_at part text B parts both g
 
     place : (y.stopped.hs ≡ x.stopped.hs) × (x.stopped.rest ≡ y.stopped.rest)
-    place = same_place part text x.told y.told x.stopped y.stopped
+    place = same_place part text x.reported y.reported x.stopped y.stopped
 
     same : whole ≡ parts
     same = sym x.all ∙ sym place.0 ∙ y.all

@@ -6,7 +6,7 @@ use Rattle.asm_update.specs.Fire.{Part, state_of}
 use Rattle.asm_update.specs.State as state
 use Rattle.asm_update.specs.State.{State, IsProper, val}
 use Rattle.asm_element.specs.Place.{Place}
-use Rattle.asm_state.specs.Stands.{Stands}
+use Rattle.asm_state.specs.FollowsFrom.{FollowsFrom}
 use Rattle.asm_state.specs.View.{value_at}
 use Rattle.asm_storage.specs.declared.history.Event.{Event}
 use Rattle.asm_storage.specs.declared.history.History.{History}
@@ -24,7 +24,7 @@ use Rattle.asm_audit.specs.declared.progress.Counts.{Counts}
 use Rattle.asm_audit.specs.declared.error.AuditError.TheVariants.{Apart}
 use Rattle.asm_audit.specs.Text.{IsLineBefore, IsBegun, HasJournals}
 use Rattle.asm_audit.specs.Chain.{last_left, AreLegalFrom, HasLegal, IsGoing}
-use Rattle.asm_audit.specs.Fault.{counted, told_fault, BreaksNext, IsBehind, IsFaulty}
+use Rattle.asm_audit.specs.Fault.{counted, reported_fault, BreaksNext, IsBehind, IsFaulty}
 use Rattle.asm_audit.specs.Opened.{history_of, IsReading, IsTaken}
 use Rattle.asm_audit.specs.Audited.{calls_of, moves_of, AreCounts, IsAudited, IsWhole, IsFirstIllegal}
 use Rattle.asm_audit.specs.Step.{whole_with, all_with, is_between, HasValues, IsOnTest}
@@ -46,7 +46,7 @@ audited_nothing part = record {
 
 faulty : (part : Part) (text : List ℕ) (j : ℕ) (fault : JournalError) →
     IsBehind part text j (λ A before rest. BreaksNext part A before rest fault) →
-    IsFaulty part text (told_fault j fault)
+    IsFaulty part text (reported_fault j fault)
 faulty part text j (journal_error.NotJson k) h = (λ e. cc, h)
 faulty part text j (journal_error.Shape k) h = (λ e. cc, h)
 faulty part text j journal_error.Version h = (λ e. cc, h)
@@ -62,7 +62,7 @@ legal_more part A hs text rest more h =
 reading_of : (part : Part) (A : State) (text : List ℕ) (o : Opened) (limits : Limits) → limits ≡ o.limits →
     (events : List Event) →
     IsGoing part A limits.version limits.events (history_of limits A events) text [] → o.taken ≡ length events →
-    o.taken ≤ limits.events → Stands part A o.state (fired_moves events) → IsReading part A text o
+    o.taken ≤ limits.events → FollowsFrom part A o.state (fired_moves events) → IsReading part A text o
 reading_of part A text o limits same events going taken within stands = record {
   events = events;
   going = subst (λ (l : Limits). IsGoing part A l.version l.events (history_of l A events) text []) same going;
@@ -101,7 +101,7 @@ module _ (part : Part) (text : List ℕ) (w : Counts) (old : Opened)
   -- the next event is at fault, or no event comes
   pub event_broken : (more : List ℕ) (fault : JournalError) → old.taken < old.limits.events →
       BreaksEvent old.limits.version old.limits.agents (old.taken + 2) more fault →
-      IsFaulty part (text ++ more) (told_fault w.parts fault)
+      IsFaulty part (text ++ more) (reported_fault w.parts fault)
   event_broken more fault less breaks = faulty part (text ++ more) w.parts fault (record {
     first = audited.first;
     before = audited.before;
@@ -173,7 +173,7 @@ module _ (part : Part) (text : List ℕ) (w : Counts) (old : Opened)
         next = reading_of part A (audited.rest ++ line) new old.limits (sym t.limits) (es ++ t.event ∷ []) going
             (t.taken ∙ ap (λ n. n + 1) audited.next.taken ∙ sym (length_push es t.event))
             (next_le old.taken new.taken old.limits.events less t.taken)
-            (subst (Stands part A new.state) (sym (moves_push es t.event)) step.1);
+            (subst (FollowsFrom part A new.state) (sym (moves_push es t.event)) step.1);
       }
 
 -- ---- a header
@@ -189,7 +189,7 @@ pub record IsLast (part : Part) (A : State) (o : Opened) : Type 0 where
   pub opening : State
   pub events : List Event
   pub held : IsHeld opening
-  pub stands : Stands part opening o.state (fired_moves events)
+  pub stands : FollowsFrom part opening o.state (fired_moves events)
   pub left : A ≡ state_of part opening (fired_moves events)
 
 -- what a program holds with these values is the state that is left
@@ -297,9 +297,9 @@ ended_whole part text w o met audited =
 -- one has begun, and isn't complete
 pub ended_cut : (part : Part) (text : List ℕ) (w : Counts) (o : Opened) → o.taken < o.limits.events →
     IsAudited part text (record { before = w; opened = Some o }) →
-    IsFaulty part text (told_fault w.parts journal_error.Cut)
+    IsFaulty part text (reported_fault w.parts journal_error.Cut)
 ended_cut part text w o less audited =
-    subst (λ (t : List ℕ). IsFaulty part t (told_fault w.parts journal_error.Cut)) (append-nil text)
+    subst (λ (t : List ℕ). IsFaulty part t (reported_fault w.parts journal_error.Cut)) (append-nil text)
     (event_broken part text w o audited [] journal_error.Cut less (inl refl))
 
 module _ (part : Part) (text : List ℕ) (w : Counts) (o : Option Opened) (met : is_between o)
@@ -309,7 +309,7 @@ module _ (part : Part) (text : List ℕ) (w : Counts) (o : Option Opened) (met :
 
   -- a header is at fault
   pub header_broken : (rest : List ℕ) (fault : JournalError) → IsLineBefore line rest → BreaksHeader line fault →
-      IsFaulty part (text ++ (line ++ rest)) (told_fault (all_with w o).parts fault)
+      IsFaulty part (text ++ (line ++ rest)) (reported_fault (all_with w o).parts fault)
   header_broken rest fault is breaks =
       faulty part (text ++ (line ++ rest)) (all_with w o).parts fault (record {
         first = b.first;
@@ -366,7 +366,7 @@ module _ (part : Part) (text : List ℕ) (w : Counts) (o : Option Opened) (met :
 
     -- a journal begins
     pub header_right : (new : Opened) → IsLineBefore line [] → test ≡ true → new.limits ≡ header.limits →
-        new.taken ≡ 0 → Stands part header.init new.state [] →
+        new.taken ≡ 0 → FollowsFrom part header.init new.state [] →
         IsAudited part (text ++ line) (record { before = all_with w o; opened = Some new })
     header_right new is true_is limits taken stands =
         let opens = opens_on header.init held test o b.left on true_is in
@@ -382,7 +382,7 @@ module _ (part : Part) (text : List ℕ) (w : Counts) (o : Option Opened) (met :
           next = reading_of part A line new header.limits (sym limits) []
               (record { begun = begun; opens = refl; legal = legal_none (machine part A header.limits.capacity) })
               taken (none_taken new.taken header.limits.events taken)
-              (subst (λ (B : State). Stands part B new.state []) opens.2 stands);
+              (subst (λ (B : State). FollowsFrom part B new.state []) opens.2 stands);
         }
 
     -- a journal that opens with another state

@@ -44,9 +44,9 @@ read_chunk part text p line bytes old new read taken =
     }
 
 -- what the calls report of the complete text
-pub told_more : (part : Part) (text : List ℕ) (p q : Progress) (line next bytes : List ℕ) (left : Option (List ℕ)) →
+pub reported_more : (part : Part) (text : List ℕ) (p q : Progress) (line next bytes : List ℕ) (left : Option (List ℕ)) →
     IsChunk part text p line bytes left → HasTaken part bytes p line q next → IsReadTo part text q next left
-told_more part text p q line next bytes left chunk taken = record {
+reported_more part text p q line next bytes left chunk taken = record {
   done = chunk.done ++ bytes;
   rest = chunk.rest;
   known = chunk.known;
@@ -54,10 +54,10 @@ told_more part text p q line next bytes left chunk taken = record {
   fed = taken chunk.done chunk.fed;
 }
 
-pub told_fault : (part : Part) (text : List ℕ) (p q : Progress) (line next bytes : List ℕ) (left : Option (List ℕ))
+pub reported_fault : (part : Part) (text : List ℕ) (p q : Progress) (line next bytes : List ℕ) (left : Option (List ℕ))
     (e : AuditError) → IsChunk part text p line bytes left → IsFedAnswer part bytes p line q next (Err e) →
     IsFaulty part text e
-told_fault part text p q line next bytes left e chunk answer =
+reported_fault part text p q line next bytes left e chunk answer =
     subst (λ (t : List ℕ). IsFaulty part t e) chunk.all (answer chunk.done chunk.rest chunk.fed)
 
 -- no byte was left

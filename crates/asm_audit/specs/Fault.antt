@@ -16,12 +16,12 @@ abbrev pub counted : ℕ → ℕ
 counted n = min n 18446744073709551615
 
 -- the error for a fault of the journal of the part with this number
-abbrev pub told_fault : ℕ → JournalError → AuditError
-told_fault j (journal_error.NotJson k) = Journal j (journal_error.NotJson k)
-told_fault j (journal_error.Shape k) = Journal j (journal_error.Shape k)
-told_fault j journal_error.Version = Journal j journal_error.Version
-told_fault j journal_error.Cut = Journal j journal_error.Cut
-told_fault j journal_error.Memory = Memory
+abbrev pub reported_fault : ℕ → JournalError → AuditError
+reported_fault j (journal_error.NotJson k) = Journal j (journal_error.NotJson k)
+reported_fault j (journal_error.Shape k) = Journal j (journal_error.Shape k)
+reported_fault j journal_error.Version = Journal j journal_error.Version
+reported_fault j journal_error.Cut = Journal j journal_error.Cut
+reported_fault j journal_error.Memory = Memory
 
 -- after complete parts the text has a line at fault: that of a header, which may be missing before the first part
 -- alone, or that of an event, after a header and legal events

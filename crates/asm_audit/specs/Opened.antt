@@ -3,7 +3,7 @@ use Rattle.std.specs.Prelude.{◌≡◌, ◌≤◌, ◌+◌, ℕ, Bool, true, fa
 use Rattle.serde_json.specs.Data.{Data}
 use Rattle.asm_update.specs.Fire.{Part}
 use Rattle.asm_update.specs.State.{State}
-use Rattle.asm_state.specs.Stands.{Stands}
+use Rattle.asm_state.specs.FollowsFrom.{FollowsFrom}
 use Rattle.asm_storage.specs.History.{fired_moves}
 use Rattle.asm_storage.specs.declared.history.Event.{Event}
 use Rattle.asm_storage.specs.declared.history.History.{History}
@@ -18,7 +18,7 @@ use Rattle.asm_audit.specs.declared.opened.Opened.{Opened}
 use Rattle.asm_audit.specs.declared.progress.Told.{Told}
 use Rattle.asm_audit.specs.declared.progress.Told.TheVariants.{Legal, Illegal}
 use Rattle.asm_audit.specs.Chain.{IsGoing}
-use Rattle.asm_audit.specs.Fault.{told_fault}
+use Rattle.asm_audit.specs.Fault.{reported_fault}
 
 -- the history of these events, after such a header
 abbrev pub history_of : Limits → State → List Event → History
@@ -31,7 +31,7 @@ pub record IsReading (part : Part) (A : State) (text : List ℕ) (o : Opened) : 
   pub going : IsGoing part A o.limits.version o.limits.events (history_of o.limits A events) text []
   pub taken : o.taken ≡ length events
   pub within : o.taken ≤ o.limits.events
-  pub stands : Stands part A o.state (fired_moves events)
+  pub stands : FollowsFrom part A o.state (fired_moves events)
 
 -- one more if the event is right
 abbrev pub taken_after : Bool → ℕ → ℕ
@@ -55,5 +55,5 @@ IsEventAnswer part journal line old new (Ok Legal) = IsTaken part line old new t
 IsEventAnswer part journal line old new (Ok (Illegal j c)) =
     (j ≡ journal) × (c ≡ old.taken) × IsTaken part line old new false
 IsEventAnswer part journal line old new (Err e) =
-    (fault : JournalError) × (e ≡ told_fault journal fault)
+    (fault : JournalError) × (e ≡ reported_fault journal fault)
     × BreaksEvent old.limits.version old.limits.agents (old.taken + 2) line fault

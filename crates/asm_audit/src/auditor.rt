@@ -48,7 +48,7 @@ impl<A: Aggregator + Drop> Auditor<A> {
     pub fn line(&mut self, alloc: Global, line: &[u8]) -> Result<Told, AuditError>
         requires { IsLineBefore line.now [] }
         ensures aggregator { self.new.aggregator ≡ self.old.aggregator }
-        ensures told { IsLineAnswer (A.meaning self.old.aggregator).part line.now self.old.progress self.new.progress result }
+        ensures reported { IsLineAnswer (A.meaning self.old.aggregator).part line.now self.old.progress self.new.progress result }
         ensures kept { IsKept self.old.progress self.new.progress result }
         ensures ended { OnOk result (HasLineFeed line.now) }
     {
@@ -61,7 +61,7 @@ impl<A: Aggregator + Drop> Auditor<A> {
     /// # Errors
     /// - `AuditError::Journal` with `Cut`, and no other: the last part lacks an event, or no line came at all.
     pub fn finish(&self) -> Result<Counts, AuditError>
-        ensures told { IsEnd (A.meaning self.now.aggregator).part self.now.progress result }
+        ensures reported { IsEnd (A.meaning self.now.aggregator).part self.now.progress result }
         ensures cut { IsCutEnd result }
     {
         self.progress.finish()

@@ -22,10 +22,10 @@ fn line_feed_in(bytes: &[u8]) -> Option<usize>
 }
 
 // Return whether each answer so far is right.
-fn is_legal(told: Result<Told, AuditError>) -> bool
-    ensures { result ≡ legal told }
+fn is_legal(reported: Result<Told, AuditError>) -> bool
+    ensures { result ≡ legal reported }
 {
-    matches!(told, Ok(Told::Legal))
+    matches!(reported, Ok(Told::Legal))
 }
 
 /// An auditor of a run whose bytes come in pieces.
@@ -61,7 +61,7 @@ impl<A: Aggregator + Drop> ByteAuditor<A> {
     // Take the line feed that ends the line.
     fn end_line(&mut self, alloc: Global) -> Result<Told, AuditError>
         ensures aggregator { self.new.auditor.aggregator ≡ self.old.auditor.aggregator }
-        ensures told { IsLineAnswer (A.meaning self.old.auditor.aggregator).part (self.old.line.items ++ 10 ∷ [])
+        ensures reported { IsLineAnswer (A.meaning self.old.auditor.aggregator).part (self.old.line.items ++ 10 ∷ [])
             self.old.auditor.progress self.new.auditor.progress result }
         ensures kept { IsKept self.old.auditor.progress self.new.auditor.progress result }
         ensures line { LeavesLine self.old.line.items self.new.line.items result }
@@ -117,11 +117,11 @@ impl<A: Aggregator + Drop> ByteAuditor<A> {
         if !is_legal(kept) {
             return (count, kept);
         }
-        let told = self.end_line(alloc);
-        if !is_legal(told) {
-            return (end, told);
+        let reported = self.end_line(alloc);
+        if !is_legal(reported) {
+            return (end, reported);
         }
-        (end + 1, told)
+        (end + 1, reported)
     }
 
     /// Take the next bytes, and return how many of them were taken.
@@ -135,7 +135,7 @@ impl<A: Aggregator + Drop> ByteAuditor<A> {
     /// - `Memory` only if memory is refused; the rest may be passed again.
     pub fn feed_some(&mut self, alloc: Global, bytes: &[u8]) -> (usize, Result<Told, AuditError>)
         ensures aggregator { self.new.auditor.aggregator ≡ self.old.auditor.aggregator }
-        ensures told { IsFedAnswer (A.meaning self.old.auditor.aggregator).part bytes.now
+        ensures reported { IsFedAnswer (A.meaning self.old.auditor.aggregator).part bytes.now
             self.old.auditor.progress self.old.line.items self.new.auditor.progress self.new.line.items result.1 }
         ensures taken { HasTakenFirst (A.meaning self.old.auditor.aggregator).part bytes.now
             self.old.auditor.progress self.old.line.items self.new.auditor.progress self.new.line.items
@@ -143,10 +143,10 @@ impl<A: Aggregator + Drop> ByteAuditor<A> {
     {
         let mut rest = bytes;
         while !rest.is_empty() {
-            let (count, told) = self.feed_line(alloc, rest);
+            let (count, reported) = self.feed_line(alloc, rest);
             rest = &rest[count..];
-            if !is_legal(told) {
-                return (bytes.len() - rest.len(), told);
+            if !is_legal(reported) {
+                return (bytes.len() - rest.len(), reported);
             }
         }
         (bytes.len(), Ok(Told::Legal))
@@ -155,13 +155,13 @@ impl<A: Aggregator + Drop> ByteAuditor<A> {
     /// Take the next bytes, and report as `feed_some` does.
     pub fn feed(&mut self, alloc: Global, bytes: &[u8]) -> Result<Told, AuditError>
         ensures aggregator { self.new.auditor.aggregator ≡ self.old.auditor.aggregator }
-        ensures told { IsFedAnswer (A.meaning self.old.auditor.aggregator).part bytes.now
+        ensures reported { IsFedAnswer (A.meaning self.old.auditor.aggregator).part bytes.now
             self.old.auditor.progress self.old.line.items self.new.auditor.progress self.new.line.items result }
         ensures taken { HasTakenSome (A.meaning self.old.auditor.aggregator).part bytes.now
             self.old.auditor.progress self.old.line.items self.new.auditor.progress self.new.line.items }
     {
-        let (_, told) = self.feed_some(alloc, bytes);
-        told
+        let (_, reported) = self.feed_some(alloc, bytes);
+        reported
     }
 
     /// Return how many calls, moves and parts the run has, if no further byte comes.
@@ -172,7 +172,7 @@ impl<A: Aggregator + Drop> ByteAuditor<A> {
     /// - `Journal` with `Cut` or `NotJson`: the last line has no line feed.
     /// - `Memory` only if memory is refused, for such a line.
     pub fn finish(&mut self, alloc: Global) -> Result<Counts, AuditError>
-        ensures told { IsFedEnd (A.meaning self.old.auditor.aggregator).part self.old.auditor.progress
+        ensures reported { IsFedEnd (A.meaning self.old.auditor.aggregator).part self.old.auditor.progress
             self.old.line.items result }
         ensures auditor { self.new.auditor ≡ self.old.auditor }
         ensures line { self.new.line.items ≡ self.old.line.items }

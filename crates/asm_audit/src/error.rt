@@ -1,6 +1,6 @@
 //! Why an audit ends without a verdict on the calls.
 ghost use Rattle.std.specs.Prelude.{◌≡◌};
-ghost use Rattle.asm_audit.specs.Fault.{told_fault};
+ghost use Rattle.asm_audit.specs.Fault.{reported_fault};
 ghost use Rattle.asm_audit.specs.declared.error.AuditError.TheVariants as audit_error;
 ghost use Rattle.asm_audit.specs.declared.error.AuditInputError.TheVariants as input_error;
 
@@ -63,8 +63,8 @@ impl From<AuditError> for AuditInputError {
 }
 
 /// Return the error for a fault of the journal of the part with this number.
-pub(crate) fn told_fault(number: u64, fault: JournalError) -> AuditError
-    ensures { result ≡ told_fault number fault }
+pub(crate) fn reported_fault(number: u64, fault: JournalError) -> AuditError
+    ensures { result ≡ reported_fault number fault }
 {
     match fault {
         JournalError::Memory => AuditError::Memory,

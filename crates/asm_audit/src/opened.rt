@@ -1,7 +1,7 @@
 //! The part that is being read.
 ghost use Rattle.std.specs.Prelude.{◌≡◌, ◌<◌, ◌≤◌, ◌+◌, ◌↔◌, [], IsTrue, IfOk, IfErr};
 ghost use Rattle.asm_update.specs.Fire.{Part};
-ghost use Rattle.asm_state.specs.Stands.{Stands};
+ghost use Rattle.asm_state.specs.FollowsFrom.{FollowsFrom};
 ghost use Rattle.asm_journal.specs.Fault.{BreaksEvent};
 ghost use Rattle.asm_audit.specs.Step.{StaysUnlessTrue};
 ghost use Rattle.asm_audit.specs.Opened.{IsTaken};
@@ -28,7 +28,7 @@ impl Opened {
     pub(crate) fn new(alloc: Global, header: Header) -> Result<Opened, AllocError>
         ensures limits { IfOk result (λ o. o.limits ≡ header.limits) }
         ensures taken { IfOk result (λ o. o.taken ≡ 0) }
-        ensures stands { IfOk result (λ o. (part : Part) → Stands part header.init o.state []) }
+        ensures stands { IfOk result (λ o. (part : Part) → FollowsFrom part header.init o.state []) }
     {
         let state = State::new(alloc, header.init)?;
         Ok(Opened {

@@ -8,7 +8,7 @@ ghost use Rattle.asm_audit.specs.Step.{IsKept};
 ghost use Rattle.asm_audit.specs.Audited.{IsAudited, IsLineAnswer, IsEnd, IsCutEnd};
 ghost use Rattle.asm_audit.specs.SoFar.{AreSoFar, IsStateSoFar};
 
-use crate::error::{AuditError, told_fault};
+use crate::error::{AuditError, reported_fault};
 use crate::opened::Opened;
 use asm_journal::{Header, JournalError, read_header};
 use asm_update::{Aggregator, PlainState};
@@ -74,7 +74,7 @@ fn take_event<A: Aggregator>(
     line: &[u8],
 ) -> Result<Told, AuditError>
     requires { opened.old.taken < opened.old.limits.events }
-    ensures told { IsEventAnswer (A.meaning aggregator.now).part number line.now opened.old opened.new result }
+    ensures reported { IsEventAnswer (A.meaning aggregator.now).part number line.now opened.old opened.new result }
     ensures kept { IsKept opened.old opened.new result }
     ensures ended { OnOk result (HasLineFeed line.now) }
 {
@@ -82,7 +82,7 @@ fn take_event<A: Aggregator>(
     match opened.take(alloc, aggregator, line) {
         Ok(true) => Ok(Told::Legal),
         Ok(false) => Ok(Told::Illegal { part: number, call }),
-        Err(fault) => Err(told_fault(number, fault)),
+        Err(fault) => Err(reported_fault(number, fault)),
     }
 }
 
@@ -125,14 +125,14 @@ impl Progress {
     fn open(&mut self, alloc: Global, line: &[u8]) -> Result<Told, AuditError>
         requires line { IsLineBefore line.now [] }
         requires between { is_between self.old.opened }
-        ensures told { (part : Part) → IsLineAnswer part line.now self.old self.new result }
+        ensures reported { (part : Part) → IsLineAnswer part line.now self.old self.new result }
         ensures kept { IsKept self.old self.new result }
         ensures ended { OnOk result (HasLineFeed line.now) }
     {
         let before = self.all();
         let header = match read_header(alloc, line) {
             Ok((header, _)) => header,
-            Err(fault) => return Err(told_fault(before.parts, fault)),
+            Err(fault) => return Err(reported_fault(before.parts, fault)),
         };
         if !self.goes_on(alloc, &header)? {
             return Err(AuditError::Apart { part: before.parts });
@@ -151,7 +151,7 @@ impl Progress {
         line: &[u8],
     ) -> Result<Told, AuditError>
         requires { IsLineBefore line.now [] }
-        ensures told { IsLineAnswer (A.meaning aggregator.now).part line.now self.old self.new result }
+        ensures reported { IsLineAnswer (A.meaning aggregator.now).part line.now self.old self.new result }
         ensures kept { IsKept self.old self.new result }
         ensures ended { OnOk result (HasLineFeed line.now) }
     {
@@ -168,7 +168,7 @@ impl Progress {
 
     /// Return the counts of all that was read, if no line comes after it.
     pub(crate) fn finish(&self) -> Result<Counts, AuditError>
-        ensures told { (part : Part) → IsEnd part self.now result }
+        ensures reported { (part : Part) → IsEnd part self.now result }
         ensures cut { IsCutEnd result }
     {
         match &self.opened {
@@ -176,9 +176,9 @@ impl Progress {
                 if opened.is_whole() {
                     return Ok(self.before.with(opened));
                 }
-                Err(told_fault(self.before.parts, JournalError::Cut))
+                Err(reported_fault(self.before.parts, JournalError::Cut))
             }
-            None => Err(told_fault(0, JournalError::Cut)),
+            None => Err(reported_fault(0, JournalError::Cut)),
         }
     }
 

@@ -16,7 +16,7 @@ use std::alloc::Global;
 /// parts, each a complete journal, one after the other, each of which opens with the state that the one before it
 /// leaves. An audit holds that state and the line that hasn't ended.
 ///
-/// With `ASM_DONE` all bytes were taken, and each answer in the lines that have ended is right. `told` then has the
+/// With `ASM_DONE` all bytes were taken, and each answer in the lines that have ended is right. `reported` then has the
 /// numbers of complete parts, and of calls and moves, so far. With any other code those before the byte at which it
 /// comes were taken, and no others; a line is judged at its line feed. A number that its code doesn't set is 0.
 ///
@@ -35,15 +35,15 @@ pub extern "C" fn asm_audit(
     audit: &mut Slot,
     bytes: &[u8],
     taken: &mut usize,
-    told: &mut AuditNumbers,
+    reported: &mut AuditNumbers,
 ) -> i32
-    ensures { Audits bytes.now (content_of audit.old) (content_of audit.new) taken.new told.new result }
+    ensures { Audits bytes.now (content_of audit.old) (content_of audit.new) taken.new reported.new result }
 {
     *taken = 0;
-    *told = AuditNumbers::none();
+    *reported = AuditNumbers::none();
     match take_shell(alloc, audit) {
-        Some(shell) => feed_in(alloc, audit, shell, bytes, taken, told),
-        None => feed_first(alloc, audit, bytes, taken, told),
+        Some(shell) => feed_in(alloc, audit, shell, bytes, taken, reported),
+        None => feed_first(alloc, audit, bytes, taken, reported),
     }
 }
 
@@ -57,18 +57,18 @@ pub extern "C" fn asm_audit(
 /// - `ASM_EMPTY`: the slot has no audit.
 /// - `ASM_MEMORY`: out of memory.
 #[unsafe(no_mangle)]
-pub extern "C" fn asm_audited(alloc: Global, audit: &mut Slot, told: &mut AuditNumbers) -> i32
-    ensures ends { EndsAudit (content_of audit.old) told.new result }
+pub extern "C" fn asm_audited(alloc: Global, audit: &mut Slot, reported: &mut AuditNumbers) -> i32
+    ensures ends { EndsAudit (content_of audit.old) reported.new result }
     ensures kept { content_of audit.new ≡ content_of audit.old }
 {
-    *told = AuditNumbers::none();
+    *reported = AuditNumbers::none();
     let Some(mut shell) = take_shell(alloc, audit) else {
         return EMPTY;
     };
     let code = match &mut *shell {
         Content::Audit(taken) => {
             let (code, numbers) = ended(alloc, taken);
-            *told = numbers;
+            *reported = numbers;
             code
         }
         _ => EMPTY,

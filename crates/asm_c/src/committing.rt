@@ -60,8 +60,8 @@ pub extern "C" fn asm_commit(
         put_shell(agent, shell);
         return EMPTY;
     };
-    let (code, told) = commit_in(alloc, &mut shell, &held);
-    *numbers = told;
+    let (code, reported) = commit_in(alloc, &mut shell, &held);
+    *numbers = reported;
     put_shell(agent, shell);
     end_step(alloc, step, held, code);
     code
@@ -100,8 +100,8 @@ pub extern "C" fn asm_commit_recorded(
         put_shell(agent, shell);
         return EMPTY;
     };
-    let (code, told) = commit_recorded_in(alloc, &mut shell, &held);
-    *numbers = told;
+    let (code, reported) = commit_recorded_in(alloc, &mut shell, &held);
+    *numbers = reported;
     put_shell(agent, shell);
     end_step(alloc, step, held, code);
     code

@@ -27,7 +27,7 @@ pub extern "C" fn asm_aggregate(
 {
     *written = 0;
     match aggregated(alloc, state, instrs) {
-        Ok(told) => written_as(&told, out, written),
+        Ok(reported) => written_as(&reported, out, written),
         Err(code) => code,
     }
 }
@@ -55,7 +55,7 @@ pub extern "C" fn asm_compose(
 {
     *written = 0;
     match composed(alloc, first, second) {
-        Ok(told) => written_as(&told, out, written),
+        Ok(reported) => written_as(&reported, out, written),
         Err(code) => code,
     }
 }

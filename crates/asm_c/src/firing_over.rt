@@ -37,7 +37,8 @@ pub extern "C" fn asm_try_fire_over(
     ensures { FiresOver call.now scans.now (content_of agent.old) (content_of agent.new) numbers.new result }
 {
     *numbers = Numbers::none();
-    let (code, told) = in_agent!(alloc, agent, inner => fire_over_in(alloc, inner, call, scans));
-    *numbers = told;
+    let (code, reported) =
+        in_agent!(alloc, agent, inner => fire_over_in(alloc, inner, call, scans));
+    *numbers = reported;
     code
 }

@@ -4,8 +4,8 @@ ghost use Rattle.asm_storage.specs.Storage.{IsSameAgent};
 ghost use Rattle.asm_explain.specs.Bytes.{AreLocations, IsNoJson, IsOtherJson};
 ghost use Rattle.asm_slots.specs.AgentCalls.{SeesOn};
 ghost use Rattle.asm_slots.specs.Codes.{IsOneOf, ASM_DONE, ASM_MEMORY, ASM_EMPTY, ASM_SMALL, ASM_NOT_JSON, ASM_SHAPE};
-ghost use Rattle.asm_slots.specs.Looks.{Stands};
-ghost use Rattle.asm_slots.specs.OwnState.{HasFollowed, HasLookedOn, IsPeekOf};
+ghost use Rattle.asm_slots.specs.Looks.{FollowsFrom};
+ghost use Rattle.asm_slots.specs.OwnState.{HasFollowed, HasPolledOn, IsPeekOf};
 ghost use Rattle.asm_slots.specs.Slots.{Goes, Holds, HoldsNoAgent, content_of};
 ghost use Rattle.asm_slots.specs.WrittenText.{TellsText};
 
@@ -27,7 +27,7 @@ pub extern "C" fn asm_follow(alloc: Global, agent: &mut Slot, number: &mut u32) 
     ensures codes { IsOneOf (ASM_DONE ∷ ASM_MEMORY ∷ ASM_EMPTY ∷ []) result }
     ensures followed { result ≡ ASM_DONE →
         Goes (content_of agent.old) (content_of agent.new) (HasFollowed number.new) }
-    ensures memory { result ≡ ASM_MEMORY → Goes (content_of agent.old) (content_of agent.new) HasLookedOn }
+    ensures memory { result ≡ ASM_MEMORY → Goes (content_of agent.old) (content_of agent.new) HasPolledOn }
     ensures same { result ≢ ASM_EMPTY → Goes (content_of agent.old) (content_of agent.new) IsSameAgent }
     ensures seen { result ≢ ASM_EMPTY → Goes (content_of agent.old) (content_of agent.new) SeesOn }
     ensures none { result ≢ ASM_DONE → number.new ≡ 0 }
@@ -103,7 +103,7 @@ pub extern "C" fn asm_stands(
     out: &mut [u8],
     written: &mut usize,
 ) -> i32
-    ensures { Stands reads.now (content_of agent.old) (content_of agent.new) out.old out.new written.new result }
+    ensures { FollowsFrom reads.now (content_of agent.old) (content_of agent.new) out.old out.new written.new result }
 {
     *written = 0;
     match take_agent(alloc, agent) {

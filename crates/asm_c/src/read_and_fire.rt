@@ -66,8 +66,8 @@ pub extern "C" fn asm_try_fire(
     ensures { Fires call.now (content_of agent.old) (content_of agent.new) numbers.new result }
 {
     *numbers = Numbers::none();
-    let (code, told) = in_agent!(alloc, agent, inner => fire_in(alloc, inner, call));
-    *numbers = told;
+    let (code, reported) = in_agent!(alloc, agent, inner => fire_in(alloc, inner, call));
+    *numbers = reported;
     code
 }
 

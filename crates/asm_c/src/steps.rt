@@ -8,7 +8,7 @@ ghost use Rattle.asm_slots.specs.Popping.{IsComposedLast, IsNotPoppedLast};
 ghost use Rattle.asm_slots.specs.Slots.{GoesStep, HasRoomForMove, HoldsMove, HoldsNoStep, HoldsStep, IfHoldsStep};
 ghost use Rattle.asm_slots.specs.Slots.{content_of};
 ghost use Rattle.asm_slots.specs.StepCalls.{HasPoppedOver, WouldTakeMany};
-ghost use Rattle.asm_slots.specs.Tracked.{judged_last, resting_last};
+ghost use Rattle.asm_slots.specs.Tracked.{judged_last, dependencies_last};
 
 use asm_slots::codes::{DONE, EMPTY, MEMORY, TAKEN};
 use asm_slots::popping::{has_room_for_move, pop_in, pop_into};
@@ -178,7 +178,7 @@ pub extern "C" fn asm_pop_move(alloc: Global, step: &mut Slot, instrs: &mut Slot
     ensures codes { IsOneOf (ASM_DONE ∷ ASM_CLASH ∷ ASM_MEMORY ∷ ASM_EMPTY ∷ ASM_MANY ∷ ASM_TAKEN ∷ ASM_LARGE ∷ ASM_NO_PUSH
         ∷ ASM_LONG_MOVE ∷ []) result }
     ensures popped { result ≡ ASM_DONE →
-        GoesStep (content_of step.old) (content_of step.new) (λ s. HasPoppedOver (resting_last s) s) }
+        GoesStep (content_of step.old) (content_of step.new) (λ s. HasPoppedOver (dependencies_last s) s) }
     ensures done { result ≡ ASM_DONE →
         HoldsStep (content_of step.old) (λ s. HoldsMove (content_of instrs.new) (λ M. IsComposedLast s (Ok M))) }
     ensures taken { (result ≡ ASM_TAKEN) ↔ ¬ HasRoomForMove (content_of instrs.old) }

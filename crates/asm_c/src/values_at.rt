@@ -1,7 +1,7 @@
 //! Values at prepared locations.
 ghost use Rattle.std.specs.Prelude.{◌≡◌};
 ghost use Rattle.asm_slots.specs.Slots.{content_of};
-ghost use Rattle.asm_slots.specs.PreparedLooks.{GetsAt, PeeksAt};
+ghost use Rattle.asm_slots.specs.PreparedPolls.{GetsAt, PeeksAt};
 
 use asm_slots::codes::EMPTY;
 use asm_slots::getting_at::get_in_both;

@@ -29,18 +29,18 @@ abbrev pub IsAnswered : Words → Input → Result Ending Refusal → Type 0
 IsAnswered words i (Ok e) = IsAnswer words i e.status (string_bytes e.text)
 IsAnswered words i (Err r) = IsNoAnswer words i r
 
-version_told : (words : Words) (i : Input) (r : Result Ending Refusal) → IsRefusal words Version → IsAnswerTo Version r →
+version_reported : (words : Words) (i : Input) (r : Result Ending Refusal) → IsRefusal words Version → IsAnswerTo Version r →
     IsUnread i → IsAnswered words i r
-version_told words i (Ok e) asks is unread = inr (inr (is.0, inr (asks, is.1), unread))
-version_told words i (Err r) asks is unread = subst (IsNoAnswer words i) (sym is) (inl (tt, unread))
+version_reported words i (Ok e) asks is unread = inr (inr (is.0, inr (asks, is.1), unread))
+version_reported words i (Err r) asks is unread = subst (IsNoAnswer words i) (sym is) (inl (tt, unread))
 
-pub told_of_words : (words : Words) (i : Input) (e : WordsError) (r : Result Ending Refusal) → IsRefusal words e →
+pub reported_of_words : (words : Words) (i : Input) (e : WordsError) (r : Result Ending Refusal) → IsRefusal words e →
     IsAnswerTo e r → IsUnread i → IsAnswered words i r
-told_of_words words i (Help text) r asks is unread =
+reported_of_words words i (Help text) r asks is unread =
     subst (IsAnswered words i) (sym is) (inr (inr (refl, inl asks, unread)))
-told_of_words words i Version r asks is unread = version_told words i r asks is unread
-told_of_words words i Bad r asks is unread = subst (IsAnswered words i) (sym is) (inl (asks, unread))
-told_of_words words i Memory r asks is unread = subst (IsAnswered words i) (sym is) (inl (tt, unread))
+reported_of_words words i Version r asks is unread = version_reported words i r asks is unread
+reported_of_words words i Bad r asks is unread = subst (IsAnswered words i) (sym is) (inl (asks, unread))
+reported_of_words words i Memory r asks is unread = subst (IsAnswered words i) (sym is) (inl (tt, unread))
 
 pub asked_answered : (words : Words) (i : Input) (q : Request) (r : Result Ending Refusal) →
     IfOk r (λ e. (w : Words) → AsksFor w q → IsAnswer w i e.status (string_bytes e.text)) →
@@ -87,15 +87,15 @@ run_is words i o result (Err r) is writes refuses = record {
 -- ---- what is written of an audit
 
 -- behind what was reported meanwhile
-writes_behind : (held mid holds : Known) (failed flushed : Bool) (told text : List ℕ) (status result : ℕ) →
-    Appends held mid told → Writes (output_of mid holds failed flushed) status text result →
-    Writes (output_of held holds failed flushed) status (told ++ text) result
-writes_behind held mid holds failed flushed told text status result before (inl (same, out)) = inl (
+writes_behind : (held mid holds : Known) (failed flushed : Bool) (reported text : List ℕ) (status result : ℕ) →
+    Appends held mid reported → Writes (output_of mid holds failed flushed) status text result →
+    Writes (output_of held holds failed flushed) status (reported ++ text) result
+writes_behind held mid holds failed flushed reported text status result before (inl (same, out)) = inl (
   same,
-  record { all = Appends-trans held mid holds told text before out.all; whole = out.whole; flushed = out.flushed },
+  record { all = Appends-trans held mid holds reported text before out.all; whole = out.whole; flushed = out.flushed },
 )
-writes_behind held mid holds failed flushed told text status result before (inr (same, cut)) =
-    inr (same, record { some = some_behind held mid holds told text before cut.some; failed = cut.failed })
+writes_behind held mid holds failed flushed reported text status result before (inr (same, cut)) =
+    inr (same, record { some = some_behind held mid holds reported text before cut.some; failed = cut.failed })
 
 module _ (every : ℕ) (had left held mid holds : Known) (read failed flushed : Bool) (result : ℕ) where
   abbrev i : Input
@@ -106,35 +106,35 @@ module _ (every : ℕ) (had left held mid holds : Known) (read failed flushed : 
 
   pub watched_verdict : (v : Verdict) → IsWatchEnd every had left read held mid (Ok v) →
       TellsVerdict v (output_of mid holds failed flushed) result → Watches every i o result
-  watched_verdict v (told, before, is) (inl writes) =
-      inl (Ok v, told, _, _, is, (refl, refl), writes_behind held mid holds failed flushed told _ _ result before writes)
-  watched_verdict v (told, before, is) (inr writes) = inl (
+  watched_verdict v (reported, before, is) (inl writes) =
+      inl (Ok v, reported, _, _, is, (refl, refl), writes_behind held mid holds failed flushed reported _ _ result before writes)
+  watched_verdict v (reported, before, is) (inr writes) = inl (
     Err refusal.Memory,
-    told,
+    reported,
     _,
     _,
-    memory_instead every had left read v told is,
+    memory_instead every had left read v reported is,
     (refusal.Memory, inl refl, refl, refl),
-    writes_behind held mid holds failed flushed told _ _ result before writes,
+    writes_behind held mid holds failed flushed reported _ _ result before writes,
   )
 
   pub watched_refusal : (r : Refusal) → IsWatchEnd every had left read held mid (Err (Refused r)) →
       Refuses (output_of mid holds failed flushed) r result → Watches every i o result
-  watched_refusal r (told, before, is) (shown, same, writes) = inl (
+  watched_refusal r (reported, before, is) (shown, same, writes) = inl (
     Err r,
-    told,
+    reported,
     refusal_line shown,
     refusal_status shown,
     is,
     (shown, same, refl, refl),
-    writes_behind held mid holds failed flushed told (refusal_line shown) (refusal_status shown) result before writes,
+    writes_behind held mid holds failed flushed reported (refusal_line shown) (refusal_status shown) result before writes,
   )
 
 pub watched_cut : (every : ℕ) (had left held holds : Known) (read failed flushed : Bool) (result : ℕ) →
     IsWatchEnd every had left read held holds (Err Unwritten) → failed ≡ true → result ≡ 4 →
     Watches every (input_of had left read) (output_of held holds failed flushed) result
-watched_cut every had left held holds read failed flushed result (told, some, cut, reads) noted four =
-    inr (told, cut, reads, four, record { some = some; failed = noted })
+watched_cut every had left held holds read failed flushed result (reported, some, cut, reads) noted four =
+    inr (reported, cut, reads, four, record { some = some; failed = noted })
 
 pub run_watched : (words : Words) (i : Input) (o : Output) (every result : ℕ) → AsksFor words (Audit every) →
     Watches every i o result → IsRun words i o result

@@ -102,7 +102,7 @@ fault_failed : (words : Words) (i : Input) → IsNoAnswer words i refusal.InputF
 fault_failed words i (inl (is, unread)) = absurd is
 fault_failed words i (inr (inl (taken, is))) = is.1
 fault_failed words i (inr (inr (inl (bytes, request, whole, asks, is)))) = absurd (done_reads bytes request is)
-fault_failed words i (inr (inr (inr (w, asks, told)))) = told.2.noted
+fault_failed words i (inr (inr (inr (w, asks, reported)))) = reported.2.noted
 
 -- and a failed read is refused as one
 failed_fault : (words : Words) (i : Input) (r : Refusal) → IsNoAnswer words i r → i.failed ≡ true →
@@ -113,7 +113,7 @@ failed_fault words i refusal.InputFault (inr (inl (taken, is))) e = refl
 failed_fault words i refusal.Memory (inr (inl (taken, is))) e = absurd (both (sym e ∙ is.1))
 failed_fault words i r (inr (inl (taken, is))) e = absurd is
 failed_fault words i r (inr (inr (inl (bytes, request, whole, asks, is)))) e = absurd (both (sym e ∙ whole.whole))
-failed_fault words i r (inr (inr (inr (w, asks, told)))) e = fault_read r (sym told.2.noted ∙ e)
+failed_fault words i r (inr (inr (inr (w, asks, reported)))) e = fault_read r (sym reported.2.noted ∙ e)
 
 pub faults_refused : (given : Words) (i : Input) (o : Output) (r : Refusal) (result : ℕ)
     → IsNoAnswer given i r → Refuses o r result → (result ≡ 4) ↔ HasFailed i o
@@ -146,13 +146,13 @@ read_four (Err r) status text (shown, is, same, written) e =
 
 pub faults_watched : (every : ℕ) (i : Input) (o : Output) (result : ℕ) → Watches every i o result →
     (result ≡ 4) ↔ HasFailed i o
-faults_watched every i o result (inl (r, told, text, status, is, ends, writes)) = (there writes, back writes) where
-  there : Writes o status (told ++ text) result → result ≡ 4 → HasFailed i o
+faults_watched every i o result (inl (r, reported, text, status, is, ends, writes)) = (there writes, back writes) where
+  there : Writes o status (reported ++ text) result → result ≡ 4 → HasFailed i o
   there (inl (same, written)) e = inl (is.noted ∙ ends_four r status text ends (sym same ∙ e))
   there (inr (same, cut)) e = inr cut.failed
 
-  back : Writes o status (told ++ text) result → HasFailed i o → result ≡ 4
+  back : Writes o status (reported ++ text) result → HasFailed i o → result ≡ 4
   back (inr (same, cut)) failed = same
   back (inl (same, written)) (inr failed) = absurd (both (sym failed ∙ written.whole))
   back (inl (same, written)) (inl read) = same ∙ read_four r status text ends (sym is.noted ∙ read)
-faults_watched every i o result (inr (told, cut, reads, same, some)) = (λ e. inr some.failed, λ failed. same)
+faults_watched every i o result (inr (reported, cut, reads, same, some)) = (λ e. inr some.failed, λ failed. same)

@@ -55,21 +55,21 @@ not_fired agent step o never = refl
 -- ---- one more line of a run
 
 -- the text for lines, with the text for one more
-told_push : (every : ℕ) (ls : List (List ℕ)) (l taken told first : List ℕ) → IsToldOfLines every ls taken told →
-    IsToldOfLine every (taken ++ ended_lines ls) l first → IsToldOfLines every (ls ++ l ∷ []) taken (told ++ first)
-told_push every [] l taken told first is of_line = (
+reported_push : (every : ℕ) (ls : List (List ℕ)) (l taken reported first : List ℕ) → IsToldOfLines every ls taken reported →
+    IsToldOfLine every (taken ++ ended_lines ls) l first → IsToldOfLines every (ls ++ l ∷ []) taken (reported ++ first)
+reported_push every [] l taken reported first is of_line = (
   first,
   [],
   subst (λ (t : List ℕ). IsToldOfLine every t l first) (append-nil taken) of_line,
   ap (λ t. t ++ first) is ∙ sym (append-nil first),
   refl,
 )
-told_push every (m ∷ ms) l taken told first (one, rest, fits, all, further) of_line = (
+reported_push every (m ∷ ms) l taken reported first (one, rest, fits, all, further) of_line = (
   one,
   rest ++ first,
   fits,
   ap (λ t. t ++ first) all ∙ append_assoc one rest first,
-  told_push every ms l (taken ++ (m ++ 10 ∷ [])) rest first further
+  reported_push every ms l (taken ++ (m ++ 10 ∷ [])) rest first further
       (subst (λ (t : List ℕ). IsToldOfLine every t l first)
       (sym (append_assoc taken (m ++ 10 ∷ []) (ended_lines ms))) of_line),
 )
@@ -90,10 +90,10 @@ lines_and ls l =
     flat_map-append (λ (x : List ℕ). x ++ 10 ∷ []) ls (l ∷ []) ∙ ap (λ t. ended_lines ls ++ t) (append-nil (l ++ 10 ∷ []))
 
 -- bytes behind the lines whose text is known
-module _ (every : ℕ) (text told front : List ℕ) (w : IsToldOf every text told) where
+module _ (every : ℕ) (text reported front : List ℕ) (w : IsToldOf every text reported) where
   -- none of them ends a line
-  pub told_bytes : HasNoLineFeed front → IsToldOf every (text ++ front) told
-  told_bytes none = record {
+  pub reported_bytes : HasNoLineFeed front → IsToldOf every (text ++ front) reported
+  reported_bytes none = record {
     lines = w.lines;
     line = w.line ++ front;
     all = sym (append_assoc (ended_lines w.lines) w.line front) ∙ ap (λ t. t ++ front) w.all;
@@ -112,8 +112,8 @@ module _ (every : ℕ) (text told front : List ℕ) (w : IsToldOf every text tol
         (ended_is text is.0 w.lines w.line is.1 w.all w.ended w.open_line) is.2
 
     -- the last ends a line, with what is due behind it
-    told_line : (body : List ℕ) → EndsLine front body [] → IsToldOf every (text ++ front) (told ++ first)
-    told_line body (is, none) =
+    reported_line : (body : List ℕ) → EndsLine front body [] → IsToldOf every (text ++ front) (reported ++ first)
+    reported_line body (is, none) =
         let l : List ℕ = w.line ++ body in
         let lines = w.lines ++ l ∷ [] in
         let plain = All-push HasNoLineFeed w.lines l w.ended (All-append (λ b. b ≢ 10) w.line body w.open_line none) in
@@ -128,7 +128,7 @@ module _ (every : ℕ) (text told front : List ℕ) (w : IsToldOf every text tol
           all = whole;
           ended = plain;
           open_line = none_open;
-          of_lines = told_push every w.lines l [] told first w.of_lines (
+          of_lines = reported_push every w.lines l [] reported first w.of_lines (
             x,
             y,
             here,
@@ -139,23 +139,23 @@ module _ (every : ℕ) (text told front : List ℕ) (w : IsToldOf every text tol
         }
 
     -- nothing is due if no line ends
-    told_none : HasNoLineFeed front → IsToldOf every (text ++ front) (told ++ first)
-    unfolding told_bytes
-    told_none none =
-        let more = told_bytes none in
+    reported_none : HasNoLineFeed front → IsToldOf every (text ++ front) (reported ++ first)
+    unfolding reported_bytes
+    reported_none none =
+        let more = reported_bytes none in
         let there = after (text ++ front) next in
         let same = one_count standard_part (ended_lines w.lines) x y here
         (subst (λ (t : List ℕ). HasCounts standard_part t y)
         (ended_is (text ++ front) there.0 more.lines more.line there.1 more.all more.ended more.open_line) there.2) in
         subst (λ (t : List ℕ). IsToldOf every (text ++ front) t)
-        (sym (append-nil told) ∙ ap (λ t. told ++ t) (sym (nothing_due same due))) more
+        (sym (append-nil reported) ∙ ap (λ t. reported ++ t) (sym (nothing_due same due))) more
       where
         nothing_due : x ≡ y → IsDueText every x y first → first ≡ []
         nothing_due same (inl ((some, less, divides), is)) = absurd (omega (arith, less, ap (λ (c : Counts). c.calls) same))
         nothing_due same (inr (never, is)) = is
 
-    pub told_more : (behind : List ℕ) →
+    pub reported_more : (behind : List ℕ) →
         ((body : List ℕ) × EndsLine front body []) ⊎ (HasNoLineFeed front × (behind ≡ [])) →
-        IsToldOf every (text ++ front) (told ++ first)
-    told_more behind (inl (body, ends)) = told_line body ends
-    told_more behind (inr (none, nothing)) = told_none none
+        IsToldOf every (text ++ front) (reported ++ first)
+    reported_more behind (inl (body, ends)) = reported_line body ends
+    reported_more behind (inr (none, nothing)) = reported_none none

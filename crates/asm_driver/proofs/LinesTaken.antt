@@ -40,35 +40,35 @@ any_taken had old new text before at (more, consumed) =
 
 module _ (had left : Known) (failed : Bool) (text : List ℕ) (Told : List ℕ → Refusal → Type 0) where
   -- what is reported of any text
-  pub told_anywhere : (r : Refusal) (behind : List ℕ) → Consumes had left (text ++ behind) →
+  pub reported_anywhere : (r : Refusal) (behind : List ℕ) → Consumes had left (text ++ behind) →
       failed ≡ is_failed_read (Err r) → ((all : List ℕ) → Told all r) → IsToldBehind had left failed text Told r
-  told_anywhere r behind consumed noted any = record {
+  reported_anywhere r behind consumed noted any = record {
     line = [];
     behind = behind;
     consumed = consumed;
     one = inl none_open;
-    told = inr (λ more. any (text ++ more));
+    reported = inr (λ more. any (text ++ more));
     noted = noted;
   }
 
   -- what is reported at a line, whatever follows it
-  pub told_at : (r : Refusal) (line behind : List ℕ) → IsAt had left (text ++ line) behind → IsLineAt left behind line →
+  pub reported_at : (r : Refusal) (line behind : List ℕ) → IsAt had left (text ++ line) behind → IsLineAt left behind line →
       failed ≡ is_failed_read (Err r) → ((rest : List ℕ) → IsLineOf line rest → Told (text ++ (line ++ rest)) r) →
       IsToldBehind had left failed text Told r
-  told_at r line behind at (inl (body, ends)) noted is = record {
+  reported_at r line behind at (inl (body, ends)) noted is = record {
     line = line;
     behind = behind;
     consumed = subst (Consumes had left) (append_assoc text line behind) at;
     one = inr (body, ends);
-    told = inr (λ more. is more (inl (inl (body, ends))));
+    reported = inr (λ more. is more (inl (inl (body, ends))));
     noted = noted;
   }
-  told_at r line behind at (inr (none, nothing, end)) noted is = record {
+  reported_at r line behind at (inr (none, nothing, end)) noted is = record {
     line = line;
     behind = behind;
     consumed = subst (Consumes had left) (append_assoc text line behind) at;
     one = inl none;
-    told = inl (end, nothing, subst (λ (l : List ℕ). Told (text ++ l) r) (append-nil line) (is [] (last line none)));
+    reported = inl (end, nothing, subst (λ (l : List ℕ). Told (text ++ l) r) (append-nil line) (is [] (last line none)));
     noted = noted;
   } where
     last : (l : List ℕ) → HasNoLineFeed l → IsLineOf l []
@@ -77,25 +77,25 @@ module _ (had left : Known) (failed : Bool) (text : List ℕ) (Told : List ℕ �
 
 -- ---- a line that wasn't read
 
-pub unread_told : (had old new : Known) (failed : Bool) (text before behind line : List ℕ)
+pub unread_reported : (had old new : Known) (failed : Bool) (text before behind line : List ℕ)
     (Told : List ℕ → Refusal → Type 0) (e : InputError) → IsAt had old text before →
     IsLineRead old new failed before behind line (Err e) → ((all : List ℕ) → Told all refusal.InputFault) →
     ((all : List ℕ) → Told all refusal.Memory) →
     ((long more : List ℕ) → IsLongLine long → Told (text ++ (long ++ more)) refusal.TooLarge) →
     IsToldBehind had new failed text Told (refusal_of_input e)
-unread_told had old new failed text before behind line Told TooLarge at (long, taken, is, noted) fault memory large = record {
+unread_reported had old new failed text before behind line Told TooLarge at (long, taken, is, noted) fault memory large = record {
   line = long;
   behind = behind;
   consumed = subst (Consumes had new) (append_assoc text long behind) (taken_on had old new text before behind long at taken);
   one = inl is.0;
-  told = inr (λ more. large long more is);
+  reported = inr (λ more. large long more is);
   noted = noted;
 }
-unread_told had old new failed text before behind line Told Fault at (taken, noted) fault memory large =
-    told_anywhere had new failed text Told refusal.InputFault (before ++ taken.0) (any_taken had old new text before at taken)
+unread_reported had old new failed text before behind line Told Fault at (taken, noted) fault memory large =
+    reported_anywhere had new failed text Told refusal.InputFault (before ++ taken.0) (any_taken had old new text before at taken)
     noted fault
-unread_told had old new failed text before behind line Told Memory at (taken, noted) fault memory large =
-    told_anywhere had new failed text Told refusal.Memory (before ++ taken.0) (any_taken had old new text before at taken) noted
+unread_reported had old new failed text before behind line Told Memory at (taken, noted) fault memory large =
+    reported_anywhere had new failed text Told refusal.Memory (before ++ taken.0) (any_taken had old new text before at taken) noted
     memory
 
 -- ---- lines

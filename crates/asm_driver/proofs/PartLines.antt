@@ -3,7 +3,7 @@ use Rattle.std.proofs.Common.{◌≡◌, ◌+◌, ◌≤◌, ◌<◌, ◌⊎◌,
 use Rattle.std.proofs.lemmas.List.{length_push}
 use Rattle.asm_aggregate.specs.Standard.{standard_part}
 use Rattle.asm_update.specs.State.{State}
-use Rattle.asm_state.specs.Stands.{Stands}
+use Rattle.asm_state.specs.FollowsFrom.{FollowsFrom}
 use Rattle.asm_storage.specs.History.{fired_moves}
 use Rattle.asm_storage.specs.declared.history.Event.{Event}
 use Rattle.asm_journal.specs.Check.{machine}
@@ -16,7 +16,7 @@ use Rattle.asm_audit.specs.declared.progress.Counts.{Counts}
 use Rattle.asm_audit.specs.declared.error.AuditError.TheVariants.{Apart}
 use Rattle.asm_audit.specs.Text.{IsLineBefore, IsBegun}
 use Rattle.asm_audit.specs.Chain.{last_left, IsGoing}
-use Rattle.asm_audit.specs.Fault.{counted, told_fault, BreaksNext, IsBehind, IsFaulty}
+use Rattle.asm_audit.specs.Fault.{counted, reported_fault, BreaksNext, IsBehind, IsFaulty}
 use Rattle.asm_audit.specs.Opened.{history_of, IsReading, IsTaken}
 use Rattle.asm_audit.specs.Audited.{calls_of, moves_of, IsAudited}
 use Rattle.asm_audit.proofs.Extended.{begun_more, begun_push, line_before, header_fault, event_fault}
@@ -78,7 +78,7 @@ opened_read number text w o a parts few zero =
       going = subst (λ (es : List Event). IsGoing standard_part A o.limits.version o.limits.events (history_of o.limits A es) a.rest []) none a.next.going;
       taken = zero;
       within = a.next.within;
-      stands = subst (λ (es : List Event). Stands standard_part A o.state (fired_moves es)) none a.next.stands;
+      stands = subst (λ (es : List Event). FollowsFrom standard_part A o.state (fired_moves es)) none a.next.stands;
       few = few;
     }
 
@@ -88,22 +88,22 @@ opened_read number text w o a parts few zero =
 abbrev pub IsLineOf : List ℕ → List ℕ → Type 0
 IsLineOf line rest = IsLineBefore line rest ⊎ ((line ≡ []) × (rest ≡ []))
 
-fault_told : (text : List ℕ) (j : ℕ) (fault : JournalError) → IsFaulty standard_part text (told_fault j fault) →
+fault_reported : (text : List ℕ) (j : ℕ) (fault : JournalError) → IsFaulty standard_part text (reported_fault j fault) →
     IsRefusedRun text (refusal_of_fault j fault)
-fault_told text j (journal_error.NotJson k) is = is
-fault_told text j (journal_error.Shape k) is = is
-fault_told text j journal_error.Version is = is
-fault_told text j journal_error.Cut is = is
-fault_told text j journal_error.Memory is = tt
+fault_reported text j (journal_error.NotJson k) is = is
+fault_reported text j (journal_error.Shape k) is = is
+fault_reported text j journal_error.Version is = is
+fault_reported text j journal_error.Cut is = is
+fault_reported text j journal_error.Memory is = tt
 
-behind_told : (text : List ℕ) (j : ℕ) (fault : JournalError) →
+behind_reported : (text : List ℕ) (j : ℕ) (fault : JournalError) →
     IsBehind standard_part text j (λ A before rest. BreaksNext standard_part A before rest fault) →
     IsRefusedRun text (refusal_of_fault j fault)
-behind_told text j (journal_error.NotJson k) is = ((λ e. cc), is)
-behind_told text j (journal_error.Shape k) is = ((λ e. cc), is)
-behind_told text j journal_error.Version is = ((λ e. cc), is)
-behind_told text j journal_error.Cut is = ((λ e. cc), is)
-behind_told text j journal_error.Memory is = tt
+behind_reported text j (journal_error.NotJson k) is = ((λ e. cc), is)
+behind_reported text j (journal_error.Shape k) is = ((λ e. cc), is)
+behind_reported text j journal_error.Version is = ((λ e. cc), is)
+behind_reported text j journal_error.Cut is = ((λ e. cc), is)
+behind_reported text j journal_error.Memory is = tt
 
 -- nothing at all
 nothing_of : (P : List ℕ → Type 0) (line rest : List ℕ) → line ≡ [] → rest ≡ [] → P line → P (line ++ rest)
@@ -133,7 +133,7 @@ first_read line o is (h, ((d, after, has, form), limits, taken, stands)) =
 pub first_refused : (line rest : List ℕ) (r : Refusal) → IsLineOf line rest → BreaksHeaderOf 0 line r →
     IsRefusedRun (line ++ rest) r
 first_refused line rest r is (fault, same, breaks) = subst (IsRefusedRun (line ++ rest)) (sym same)
-    (behind_told (line ++ rest) 0 fault (record {
+    (behind_reported (line ++ rest) 0 fault (record {
       first = Rattle.asm_update.specs.State.empty;
       before = [];
       rest = line ++ rest;
@@ -196,7 +196,7 @@ module _ (number : ℕ) (text : List ℕ) (o : audit.Opened) (A : State) (es : L
     pub event_refused : (rest : List ℕ) (r : Refusal) → IsLineOf line rest → IsNotTaken number line o r →
         IsRefusedRun (text ++ (line ++ rest)) r
     event_refused rest r is (inl (fault, same, breaks)) = subst (IsRefusedRun (text ++ (line ++ rest))) (sym same)
-        (fault_told (text ++ (line ++ rest)) number fault
+        (fault_reported (text ++ (line ++ rest)) number fault
         (event_broken standard_part text w o read (line ++ rest) fault less
         (event_breaks line rest o.limits.version o.limits.agents (o.taken + 2) fault is breaks)))
     event_refused rest r (inl is) (inr (same, taken)) = subst (IsRefusedRun (text ++ (line ++ rest))) (sym same)
@@ -231,7 +231,7 @@ module _ (number : ℕ) (text : List ℕ) (o : audit.Opened) (A : State) (es : L
               (sym t.limits) going;
           taken = count ∙ ap (λ n. n + 1) was ∙ sym long;
           within = subst (λ (l : Limits). new.taken ≤ l.events) (sym t.limits) within;
-          stands = subst (Stands standard_part A new.state) (sym (moves_push es t.event)) step.1;
+          stands = subst (FollowsFrom standard_part A new.state) (sym (moves_push es t.event)) step.1;
           few = few;
         }
 
@@ -248,8 +248,8 @@ module _ (number : ℕ) (text : List ℕ) (o : audit.Opened) (A : State) (es : L
         let long : counted (number + 1) ≡ counted (length b.all) = b.counts.2 in
         record { first = b.first; parts = b.all; has = b.has; numbered = omega (arith, long, other) }
 
-    pub few_parts_told : (v : Window) → number < v.part → HasFewParts v text (number + 1)
-    few_parts_told v less =
+    pub few_parts_reported : (v : Window) → number < v.part → HasFewParts v text (number + 1)
+    few_parts_reported v less =
         (omega (arith, less), (_, ended_whole standard_part text w o whole read, counted_next))
 
     pub next_read : (line : List ℕ) (new : audit.Opened) → IsLineBefore line [] → IsOpenedNext line o new →
@@ -265,8 +265,8 @@ module _ (number : ℕ) (text : List ℕ) (o : audit.Opened) (A : State) (es : L
         IsRefusedRun (text ++ (line ++ rest)) r
     next_refused line rest r is (inl (fault, same, breaks)) =
         let all = text ++ (line ++ rest) in
-        subst (IsRefusedRun all) (sym same) (fault_told all (number + 1) fault
-        (subst (λ j. IsFaulty standard_part all (told_fault j fault)) counted_next
+        subst (IsRefusedRun all) (sym same) (fault_reported all (number + 1) fault
+        (subst (λ j. IsFaulty standard_part all (reported_fault j fault)) counted_next
         (header_broken standard_part text w (Some o) whole read line rest fault is breaks)))
     next_refused line rest r is (inr (same, (h, (d, after, has, form), on))) =
         let all = text ++ (line ++ rest) in

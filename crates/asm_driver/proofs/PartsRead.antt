@@ -16,9 +16,9 @@ use Rattle.asm_driver.specs.declared.program.parts.Opened.{Opened}
 use Rattle.asm_driver.specs.declared.program.refusal.Refusal.{Refusal}
 use Rattle.asm_driver.specs.declared.program.refusal.Refusal.TheVariants as refusal
 use Rattle.asm_driver.specs.declared.program.words.Window.{Window}
-use Rattle.asm_driver.proofs.PartLines.{IsLineOf, first_read, first_refused, event_read, event_refused, parts_read, few_parts_told, next_read, next_refused}
+use Rattle.asm_driver.proofs.PartLines.{IsLineOf, first_read, first_refused, event_read, event_refused, parts_read, few_parts_reported, next_read, next_refused}
 use Rattle.asm_audit.proofs.OneVerdict.{no_line}
-use Rattle.asm_driver.proofs.LinesTaken.{told_at, line_ended, line_one}
+use Rattle.asm_driver.proofs.LinesTaken.{reported_at, line_ended, line_one}
 use Rattle.asm_driver.proofs.Windows.{refused_window, inside_parts, inside_part, no_parts}
 
 -- ---- refusals of lines are no failed reads
@@ -53,12 +53,12 @@ pub if_ok : {T E P : Type 0} (r : Result T E) → P → IfOk r (λ _. P)
 if_ok (Ok x) p = p
 if_ok (Err e) p = tt
 
-pub event_told : (had left : Known) (failed : Bool) (text line behind : List ℕ) (old new : Opened) (A : State)
+pub event_reported : (had left : Known) (failed : Bool) (text line behind : List ℕ) (old new : Opened) (A : State)
     (es : List Event) (r : Result Event Refusal) → IsAt had left (text ++ line) behind → IsLineAt left behind line →
     failed ≡ false → IsPartRead old.number text (audited old) A es → old.taken < old.limits.events →
     new.number ≡ old.number → IfOk r (IsTakenAs line (audited old) (audited new)) →
     IfErr r (IsNotTaken old.number line (audited old)) → IsEventRead had left failed text behind new A es r
-event_told had left failed text line behind old new A es (Ok e) at here noted read less same (t, is) err =
+event_reported had left failed text line behind old new A es (Ok e) at here noted read less same (t, is) err =
     let more = event_read old.number text (audited old) A es read read.few less line (audited new)
     (line_ended left behind line t.value t.rest here t.has) t in (
       noted,
@@ -69,8 +69,8 @@ event_told had left failed text line behind old new A es (Ok e) at here noted re
             (subst (λ x. IsPartRead old.number (text ++ line) (audited new) A (es ++ x ∷ [])) is more),
       ),
     )
-event_told had left failed text line behind old new A es (Err r) at here noted read less same ok err =
-    told_at had left failed text IsRefusedRun r line behind at here
+event_reported had left failed text line behind old new A es (Err r) at here noted read less same ok err =
+    reported_at had left failed text IsRefusedRun r line behind at here
     (noted ∙ sym (taken_unread old.number line (audited old) r err))
     (λ rest is. event_refused old.number text (audited old) A es read read.few less line rest r is err)
 
@@ -102,12 +102,12 @@ first_opened_as had left failed line behind (Ok o) at here noted zero is =
     first_opened had left failed line behind o at here noted zero is
 first_opened_as had left failed line behind (Err r) at here noted zero is = tt
 
-pub first_told : (w : Window) (had left : Known) (failed : Bool) (line behind : List ℕ) (r : Refusal) →
+pub first_reported : (w : Window) (had left : Known) (failed : Bool) (line behind : List ℕ) (r : Refusal) →
     IsAt had left line behind → IsLineAt left behind line → failed ≡ false → BreaksHeaderOf 0 line r →
     IsNoWindow w had left failed r
-first_told w had left failed line behind r at here noted breaks =
+first_reported w had left failed line behind r at here noted breaks =
     refused_window w had left failed [] r (inside_parts w [] 0 no_parts (omega arith))
-    (told_at had left failed [] IsRefusedRun r line behind at here (noted ∙ sym (header_unread 0 line r breaks))
+    (reported_at had left failed [] IsRefusedRun r line behind at here (noted ∙ sym (header_unread 0 line r breaks))
     (λ rest is. first_refused line rest r is breaks))
 
 -- ---- a further segment
@@ -141,11 +141,11 @@ module _ (had left : Known) (failed : Bool) (text line behind : List ℕ) (old :
         (omega (arith, before))
 
     -- the line is no header of it
-    pub next_told : (r : Refusal) → line ≢ [] → IsNotOpenedNext (old.number + 1) line (audited old) r →
+    pub next_reported : (r : Refusal) → line ≢ [] → IsNotOpenedNext (old.number + 1) line (audited old) r →
         IsNoWindow w had left failed r
-    next_told r some is =
+    next_reported r some is =
         refused_window w had left failed text r next_inside
-        (told_at had left failed text IsRefusedRun r line behind at here
+        (reported_at had left failed text IsRefusedRun r line behind at here
         (noted ∙ sym (next_unread (old.number + 1) line (audited old) r is)) refused)
       where
         refused : (rest : List ℕ) → IsLineOf line rest → IsRefusedRun (text ++ (line ++ rest)) r
@@ -154,8 +154,8 @@ module _ (had left : Known) (failed : Bool) (text line behind : List ℕ) (old :
         refused rest (inr (none, end)) = absurd (some none)
 
     -- there is none
-    pub none_told : line ≡ [] → IsNoWindow w had left failed (refusal.FewParts (old.number + 1))
-    none_told none = (
+    pub none_reported : line ≡ [] → IsNoWindow w had left failed (refusal.FewParts (old.number + 1))
+    none_reported none = (
       text,
       next_inside,
       record {
@@ -163,13 +163,13 @@ module _ (had left : Known) (failed : Bool) (text line behind : List ℕ) (old :
         behind = behind;
         consumed = subst (λ (l : List ℕ). IsAt had left l behind) (ap (λ (l : List ℕ). text ++ l) none ∙ append-nil text) at;
         one = subst IsOneLine none (line_one left behind line here);
-        told = by_end here;
+        reported = by_end here;
         noted = noted;
       },
     ) where
       few : (t : List ℕ) → t ≡ text → IsBadWindow w t (refusal.FewParts (old.number + 1))
       few t is = subst (λ (x : List ℕ). IsBadWindow w x (refusal.FewParts (old.number + 1))) (sym is)
-          (few_parts_told old.number text (audited old) A es read read.few whole other w before)
+          (few_parts_reported old.number text (audited old) A es read read.few whole other w before)
 
       by_end : IsLineAt left behind line → (IsAtEnd left × (behind ≡ []) × IsBadWindow w (text ++ []) (refusal.FewParts (old.number + 1)))
           ⊎ ((more : List ℕ) → IsBadWindow w (text ++ more) (refusal.FewParts (old.number + 1)))
@@ -199,7 +199,7 @@ length_some xs some none = some (ap length none)
 pub event_refused_window : (w : Window) (had left : Known) (failed : Bool) (number calls : ℕ) (text behind : List ℕ) (o new : Opened)
     (A : State) (es : List Event) (r : Refusal) → IsPartRead number text (audited o) A es → IsUpTo w number calls o.limits.events →
     o.taken < calls → IsEventRead had left failed text behind new A es (Err r) → IsNoWindow w had left failed r
-event_refused_window w had left failed number calls text behind o new A es r read up_to less told =
+event_refused_window w had left failed number calls text behind o new A es r read up_to less reported =
     let taken = read.taken in
     refused_window w had left failed text r
-    (inside_part w number calls text (audited o) A es read up_to (omega (arith, taken, less))) told
+    (inside_part w number calls text (audited o) A es read up_to (omega (arith, taken, less))) reported

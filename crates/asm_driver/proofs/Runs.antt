@@ -46,16 +46,16 @@ number_read r number = refl
 -- an allocation failure is also possible if a window is asked for
 memory_shown : (w : Window) (had left : Known) (failed : Bool) (r : Refusal) → has_number r ≡ true →
     IsNoWindow w had left failed r → IsNoWindow w had left failed refusal.Memory
-memory_shown w had left failed r number (taken, inside, told) = (
+memory_shown w had left failed r number (taken, inside, reported) = (
   taken,
   inside,
   record {
-    line = told.line;
-    behind = told.behind;
-    consumed = told.consumed;
-    one = told.one;
-    told = inr (λ more. tt);
-    noted = told.noted ∙ number_read r number;
+    line = reported.line;
+    behind = reported.behind;
+    consumed = reported.consumed;
+    one = reported.one;
+    reported = inr (λ more. tt);
+    noted = reported.noted ∙ number_read r number;
   },
 )
 
@@ -66,28 +66,28 @@ input_plain i refusal.InputFault is e = cc (e)
 input_plain i refusal.Memory is e = cc (e)
 input_plain i r is e = is
 
-memory_told : (words : Words) (i : Input) (r : Refusal) → has_number r ≡ true → IsNoAnswer words i r →
+memory_reported : (words : Words) (i : Input) (r : Refusal) → has_number r ≡ true → IsNoAnswer words i r →
     IsNoAnswer words i refusal.Memory
-memory_told words i r number (inl (bad, unread)) = inl (tt, unread)
-memory_told words i r number (inr (inl (taken, is))) = absurd (input_plain i r is number)
-memory_told words i r number (inr (inr (inl (bytes, request, whole, asks, is)))) =
+memory_reported words i r number (inl (bad, unread)) = inl (tt, unread)
+memory_reported words i r number (inr (inl (taken, is))) = absurd (input_plain i r is number)
+memory_reported words i r number (inr (inr (inl (bytes, request, whole, asks, is)))) =
     inr (inr (inl (bytes, request, whole, asks, memory_done bytes request r is)))
-memory_told words i r number (inr (inr (inr (w, asks, is)))) =
+memory_reported words i r number (inr (inr (inr (w, asks, is)))) =
     inr (inr (inr (w, asks, memory_shown w i.had i.left i.failed r number is)))
 
 -- the refusal that is shown says why there is no answer
-shown_told : (words : Words) (i : Input) (r shown : Refusal) → IsNoAnswer words i r → IsShown r shown →
+shown_reported : (words : Words) (i : Input) (r shown : Refusal) → IsNoAnswer words i r → IsShown r shown →
     IsNoAnswer words i shown
-shown_told words i r shown none (inl is) = subst (IsNoAnswer words i) (sym is) none
-shown_told words i r shown none (inr (is, number)) = subst (IsNoAnswer words i) (sym is)
-    (memory_told words i r number none)
+shown_reported words i r shown none (inl is) = subst (IsNoAnswer words i) (sym is) none
+shown_reported words i r shown none (inr (is, number)) = subst (IsNoAnswer words i) (sym is)
+    (memory_reported words i r number none)
 
 pub refused : (given words : Words) (i : Input) (o : Output) (r : Refusal) (result : ℕ) → given ≡ words →
     IsNoAnswer given i r → Refuses o r result → Runs words i o result
 refused given words i o r result same none (shown, is, writes) = inl (
   refusal_status shown,
   refusal_line shown,
-  inr (shown, subst (λ w. IsNoAnswer w i shown) same (shown_told given i r shown none is), refl, refl),
+  inr (shown, subst (λ w. IsNoAnswer w i shown) same (shown_reported given i r shown none is), refl, refl),
   writes,
 )
 
@@ -137,12 +137,12 @@ pub refused_taken : (words : Words) (i : Input) (r : Refusal) → IsNoAnswer wor
 refused_taken words i r (inl (bad, unread)) = inl (none_taken i unread)
 refused_taken words i r (inr (inl (taken, is))) = inl (input_taken i r is)
 refused_taken words i r (inr (inr (inl (bytes, request, whole, asks, is)))) = inl (all_taken i bytes whole)
-refused_taken words i r (inr (inr (inr (w, asks, told)))) =
-    inr (inr (w, asks), (told.0 ++ (told.2.line ++ told.2.behind), told.2.consumed))
+refused_taken words i r (inr (inr (inr (w, asks, reported)))) =
+    inr (inr (w, asks), (reported.0 ++ (reported.2.line ++ reported.2.behind), reported.2.consumed))
 
 pub watched_taken : (words : Words) (i : Input) (o : Output) (every result : ℕ) → AsksFor words (Audit every) →
     Watches every i o result → Takes words i.had i.left
-watched_taken words i o every result asks (inl (r, told, text, status, is, ends, writes)) =
+watched_taken words i o every result asks (inl (r, reported, text, status, is, ends, writes)) =
     inr (inl (every, asks), (is.taken ++ is.behind, is.consumed))
-watched_taken words i o every result asks (inr (told, cut, reads, four, some)) =
+watched_taken words i o every result asks (inr (reported, cut, reads, four, some)) =
     inr (inl (every, asks), (cut.taken ++ cut.behind, cut.consumed))

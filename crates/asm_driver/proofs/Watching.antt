@@ -15,7 +15,7 @@ use Rattle.asm_audit.specs.declared.error.AuditError.TheVariants.{Journal, Apart
 use Rattle.asm_audit.specs.declared.progress.Counts.{Counts}
 use Rattle.asm_audit.specs.declared.progress.Progress.{Progress}
 use Rattle.asm_audit.specs.declared.progress.Told.{Told}
-use Rattle.asm_audit.specs.declared.progress.Told.TheVariants as tells
+use Rattle.asm_audit.specs.declared.progress.Told.TheVariants as reports
 use Rattle.asm_audit.specs.declared.reading.Verdict.{Verdict}
 use Rattle.asm_audit.specs.declared.reading.Verdict.TheVariants.{Legal, Illegal}
 use Rattle.asm_aggregate.specs.Standard.{standard_part}
@@ -27,7 +27,7 @@ use Rattle.asm_driver.specs.declared.program.refusal.Refusal.{Refusal}
 use Rattle.asm_driver.specs.declared.program.refusal.Refusal.TheVariants as refusal
 use Rattle.asm_driver.specs.declared.program.watching.Stop.{Stop}
 use Rattle.asm_driver.specs.declared.program.watching.Stop.TheVariants.{Refused, Unwritten}
-use Rattle.asm_driver.proofs.Lines.{told_bytes, told_more}
+use Rattle.asm_driver.proofs.Lines.{reported_bytes, reported_more}
 
 -- an audit's error as the refusal made from it
 pub bad_run : (text : List ℕ) (e : AuditError) → IsVerdict standard_part text (Err e) → IsBadRun text (refusal_of_audit e)
@@ -45,44 +45,44 @@ no_read Memory = refl
 -- ---- a line
 
 -- the audit ends behind these bytes
-module _ (every : ℕ) (text told rest : List ℕ) (p q : Progress) (line left : List ℕ) (n : ℕ) (w : IsWatched every text p line told)
+module _ (every : ℕ) (text reported rest : List ℕ) (p q : Progress) (line left : List ℕ) (n : ℕ) (w : IsWatched every text p line reported)
   where
     stopped_at : (front behind : List ℕ) (b : ℕ) (more : List ℕ) (r : Result Verdict Refusal) → front ++ behind ≡ rest →
         behind ≡ b ∷ more → HasNoLineFeed front → is_failed_read r ≡ false →
-        ((after : List ℕ) → IsAuditOf ((text ++ front) ++ b ∷ after) r) → IsStopped every text rest told r
+        ((after : List ℕ) → IsAuditOf ((text ++ front) ++ b ∷ after) r) → IsStopped every text rest reported r
     stopped_at front behind b more r all is none noted ends = record {
       front = front;
       next = b;
       behind = more;
       all = ap (λ t. front ++ t) (sym is) ∙ all;
-      watched = told_bytes every text told front w.watched none;
+      watched = reported_bytes every text reported front w.watched none;
       noted = noted;
       ends = ends;
     }
 
-    pub stopped_wrong : (j c : ℕ) → HasTakenLine standard_part rest p line q left n (Ok (tells.Illegal j c)) →
-        IsStopped every text rest told (Ok (Illegal j c))
+    pub stopped_wrong : (j c : ℕ) → HasTakenLine standard_part rest p line q left n (Ok (reports.Illegal j c)) →
+        IsStopped every text rest reported (Ok (Illegal j c))
     stopped_wrong j c t =
         let (none, (b, more, is, answer)) = t.ends in
         stopped_at t.front t.behind b more (Ok (Illegal j c)) t.all is none refl
         (λ after. answer (text ++ t.front) after (t.taken text w.fed))
 
     pub stopped_fault : (e : AuditError) → HasTakenLine standard_part rest p line q left n (Err e) →
-        IsStopped every text rest told (Err (refusal_of_audit e))
+        IsStopped every text rest reported (Err (refusal_of_audit e))
     stopped_fault e t =
         let (none, (b, more, is, answer)) = t.ends in
         stopped_at t.front t.behind b more (Err (refusal_of_audit e)) t.all is none (no_read e)
         (λ after. bad_run ((text ++ t.front) ++ b ∷ after) e (answer (text ++ t.front) after (t.taken text w.fed)))
 
     -- there is no memory for the line that is due
-    pub stopped_memory : rest ≢ [] → IsStopped every text rest told (Err refusal.Memory)
+    pub stopped_memory : rest ≢ [] → IsStopped every text rest reported (Err refusal.Memory)
     stopped_memory some =
         let (b, more, is) = some_first rest some in
         stopped_at [] rest b more (Err refusal.Memory) refl is (All-nil (λ b. b ≢ 10)) refl (λ after. tt)
 
 -- a line was consumed, or what is left of one
 pub line_taken : (every : ℕ) (text before old new rest : List ℕ) (p q : Progress) (line left : List ℕ) (n : ℕ) (x y : Counts) →
-    IsWatched every text p line (before ++ old) → (t : HasTakenLine standard_part rest p line q left n (Ok tells.Legal)) →
+    IsWatched every text p line (before ++ old) → (t : HasTakenLine standard_part rest p line q left n (Ok reports.Legal)) →
     AreFedSoFar standard_part p line x → AreFedSoFar standard_part q left y → AddsDue every x y old new →
     IsWatched every (text ++ t.front) q left (before ++ new)
 line_taken every text before old new rest p q line left n x y w t here there (first, due, added) =
@@ -91,21 +91,21 @@ line_taken every text before old new rest p q line left n x y w t here there (fi
       fed = fed;
       watched = subst (λ (l : List ℕ). IsToldOf every (text ++ t.front) l)
           (append_assoc before old first ∙ ap (λ l. before ++ l) (sym added))
-          (told_more every text (before ++ old) t.front w.watched p q line left x y first w.fed fed here there due t.behind
+          (reported_more every text (before ++ old) t.front w.watched p q line left x y first w.fed fed here there due t.behind
           t.ends.1);
     }
 
 -- if the audit ends within the rest of some bytes, it ends within all of them
-pub stopped_more : (every : ℕ) (text done rest whole told : List ℕ) (r : Result Verdict Refusal) → done ++ rest ≡ whole →
-    IsStopped every (text ++ done) rest told r → IsStopped every text whole told r
-stopped_more every text done rest whole told r all s =
+pub stopped_more : (every : ℕ) (text done rest whole reported : List ℕ) (r : Result Verdict Refusal) → done ++ rest ≡ whole →
+    IsStopped every (text ++ done) rest reported r → IsStopped every text whole reported r
+stopped_more every text done rest whole reported r all s =
     let here : (text ++ done) ++ s.front ≡ text ++ (done ++ s.front) = append_assoc text done s.front in
     record {
       front = done ++ s.front;
       next = s.next;
       behind = s.behind;
       all = append_assoc done s.front (s.next ∷ s.behind) ∙ ap (λ t. done ++ t) s.all ∙ all;
-      watched = subst (λ (t : List ℕ). IsToldOf every t told) here s.watched;
+      watched = subst (λ (t : List ℕ). IsToldOf every t reported) here s.watched;
       noted = s.noted;
       ends = λ more. subst (λ (t : List ℕ). IsAuditOf (t ++ s.next ∷ more) r) here (s.ends more);
     }
@@ -113,12 +113,12 @@ stopped_more every text done rest whole told r all s =
 -- ---- what is written for some bytes
 
 -- the text that was due, if the output failed
-cut_within : (every : ℕ) (text bytes : List ℕ) (q : Progress) (left told : List ℕ) (r : Result Told AuditError) →
-    IsWatchAnswer every text bytes q left told r →
-    (front behind : List ℕ) × (front ++ behind ≡ bytes) × IsToldOf every (text ++ front) told
-cut_within every text bytes q left told (Ok tells.Legal) w = (bytes, [], append-nil bytes, w.watched)
-cut_within every text bytes q left told (Ok (tells.Illegal j c)) s = (s.front, s.next ∷ s.behind, s.all, s.watched)
-cut_within every text bytes q left told (Err e) s = (s.front, s.next ∷ s.behind, s.all, s.watched)
+cut_within : (every : ℕ) (text bytes : List ℕ) (q : Progress) (left reported : List ℕ) (r : Result Told AuditError) →
+    IsWatchAnswer every text bytes q left reported r →
+    (front behind : List ℕ) × (front ++ behind ≡ bytes) × IsToldOf every (text ++ front) reported
+cut_within every text bytes q left reported (Ok reports.Legal) w = (bytes, [], append-nil bytes, w.watched)
+cut_within every text bytes q left reported (Ok (reports.Illegal j c)) s = (s.front, s.next ∷ s.behind, s.all, s.watched)
+cut_within every text bytes q left reported (Err e) s = (s.front, s.next ∷ s.behind, s.all, s.watched)
 
 pub written_cut : (every : ℕ) (text bytes before lines : List ℕ) (q : Progress) (left : List ℕ) (held holds : Known)
     (r : Result Told AuditError) → AppendsSome held holds lines → IsWatchAnswer every text bytes q left (before ++ lines) r →
@@ -130,8 +130,8 @@ written_cut every text bytes before lines q left held holds r some answer =
 pub written_all : (every : ℕ) (text bytes before lines : List ℕ) (q : Progress) (left : List ℕ) (held holds : Known)
     (t : Told) → Appends held holds lines → IsWatchAnswer every text bytes q left (before ++ lines) (Ok t) →
     IsWrittenAnswer every text bytes q left before held holds (Ok t)
-written_all every text bytes before lines q left held holds tells.Legal all answer = (lines, all, answer)
-written_all every text bytes before lines q left held holds (tells.Illegal j c) all answer = (lines, all, answer)
+written_all every text bytes before lines q left held holds reports.Legal all answer = (lines, all, answer)
+written_all every text bytes before lines q left held holds (reports.Illegal j c) all answer = (lines, all, answer)
 
 pub no_lines : (every : ℕ) (text before lines : List ℕ) (p : Progress) (line : List ℕ) → lines ≡ [] →
     IsWatched every text p line before → IsWatched every text p line (before ++ lines)
@@ -140,12 +140,12 @@ no_lines every text before lines p line none w =
     (sym (append-nil before) ∙ ap (λ (t : List ℕ). before ++ t) (sym none)) w
 
 -- what goes out behind some text, and is cut off
-pub some_behind : (held mid holds : Known) (told more : List ℕ) → Appends held mid told → AppendsSome mid holds more →
-    AppendsSome held holds (told ++ more)
-some_behind held mid holds told more before (n, some) = (
-  length told + n,
-  subst (λ (t : List ℕ). Appends held holds t) (sym (take-append-add told more n))
-      (Appends-trans held mid holds told (take n more) before some),
+pub some_behind : (held mid holds : Known) (reported more : List ℕ) → Appends held mid reported → AppendsSome mid holds more →
+    AppendsSome held holds (reported ++ more)
+some_behind held mid holds reported more before (n, some) = (
+  length reported + n,
+  subst (λ (t : List ℕ). Appends held holds t) (sym (take-append-add reported more n))
+      (Appends-trans held mid holds reported (take n more) before some),
 )
 
 -- ---- the complete input
@@ -153,16 +153,16 @@ some_behind held mid holds told more before (n, some) = (
 -- these bytes of the input were fed, and the text that is due for them went out
 pub record IsWatchedTo (every : ℕ) (had left held holds : Known) (p : Progress) (line : List ℕ) : Type 0 where
   pub bytes : List ℕ
-  pub told : List ℕ
+  pub reported : List ℕ
   pub consumed : Consumes had left bytes
-  pub appended : Appends held holds told
-  pub watched : IsWatched every bytes p line told
+  pub appended : Appends held holds reported
+  pub watched : IsWatched every bytes p line reported
 
 pub watched_none : (every : ℕ) (had held : Known) (p : Progress) (line : List ℕ) → IsFed standard_part [] p line →
     IsWatchedTo every had had held held p line
 watched_none every had held p line fed = record {
   bytes = [];
-  told = [];
+  reported = [];
   consumed = Consumes-nil had;
   appended = Appends-nil held;
   watched = record {
@@ -184,7 +184,7 @@ module _ (every : ℕ) (had mid held wrote : Known) (p : Progress) (line : List 
   pub end_unread : (left : Known) (failed : Bool) → Keeps mid left → failed ≡ true →
       IsWatchEnd every had left failed held wrote (Err (Refused refusal.InputFault))
   end_unread left failed kept noted = (
-    w.told,
+    w.reported,
     w.appended,
     record {
       taken = w.bytes;
@@ -208,7 +208,7 @@ module _ (every : ℕ) (had mid held wrote : Known) (p : Progress) (line : List 
     pub end_all : (c : Counts) → IsFedEnd standard_part p line (Ok c) →
         IsWatchEnd every had left failed held wrote (Ok (Legal c))
     end_all c is = (
-      w.told,
+      w.reported,
       w.appended,
       record {
         taken = w.bytes;
@@ -223,7 +223,7 @@ module _ (every : ℕ) (had mid held wrote : Known) (p : Progress) (line : List 
     pub end_fault : (e : AuditError) → IsFedEnd standard_part p line (Err e) →
         IsWatchEnd every had left failed held wrote (Err (Refused (refusal_of_audit e)))
     end_fault e is = (
-      w.told,
+      w.reported,
       w.appended,
       record {
         taken = w.bytes;
@@ -241,9 +241,9 @@ module _ (every : ℕ) (had mid held wrote : Known) (p : Progress) (line : List 
     all_consumed : Consumes had left (w.bytes ++ bytes)
     all_consumed = Consumes-trans had mid left w.bytes bytes w.consumed taken
 
-    stopped_to : (told : List ℕ) (r : Result Verdict Refusal) → IsStopped every w.bytes bytes told r →
-        IsWatchTold every had left failed r told
-    stopped_to told r s = record {
+    stopped_to : (reported : List ℕ) (r : Result Verdict Refusal) → IsStopped every w.bytes bytes reported r →
+        IsWatchTold every had left failed r reported
+    stopped_to reported r s = record {
       taken = w.bytes ++ s.front;
       behind = s.next ∷ s.behind;
       consumed = subst (λ (bs : List ℕ). Consumes had left bs)
@@ -253,34 +253,34 @@ module _ (every : ℕ) (had mid held wrote : Known) (p : Progress) (line : List 
       noted = noted ∙ sym s.noted;
     }
 
-    pub chunk_on : IsWrittenAnswer every w.bytes bytes q next w.told wrote holds (Ok tells.Legal) →
+    pub chunk_on : IsWrittenAnswer every w.bytes bytes q next w.reported wrote holds (Ok reports.Legal) →
         IsWatchedTo every had left held holds q next
     chunk_on (more, appended, watched) = record {
       bytes = w.bytes ++ bytes;
-      told = w.told ++ more;
+      reported = w.reported ++ more;
       consumed = all_consumed;
-      appended = Appends-trans held wrote holds w.told more w.appended appended;
+      appended = Appends-trans held wrote holds w.reported more w.appended appended;
       watched = watched;
     }
 
-    pub chunk_wrong : (j c : ℕ) → IsWrittenAnswer every w.bytes bytes q next w.told wrote holds (Ok (tells.Illegal j c)) →
+    pub chunk_wrong : (j c : ℕ) → IsWrittenAnswer every w.bytes bytes q next w.reported wrote holds (Ok (reports.Illegal j c)) →
         IsWatchEnd every had left failed held holds (Ok (Illegal j c))
     chunk_wrong j c (more, appended, s) = (
-      w.told ++ more,
-      Appends-trans held wrote holds w.told more w.appended appended,
-      stopped_to (w.told ++ more) (Ok (Illegal j c)) s,
+      w.reported ++ more,
+      Appends-trans held wrote holds w.reported more w.appended appended,
+      stopped_to (w.reported ++ more) (Ok (Illegal j c)) s,
     )
 
-    pub chunk_stopped : (stop : Stop) → IsWrittenAnswer every w.bytes bytes q next w.told wrote holds (Err stop) →
+    pub chunk_stopped : (stop : Stop) → IsWrittenAnswer every w.bytes bytes q next w.reported wrote holds (Err stop) →
         IsWatchEnd every had left failed held holds (Err stop)
     chunk_stopped (Refused r) (more, appended, s) = (
-      w.told ++ more,
-      Appends-trans held wrote holds w.told more w.appended appended,
-      stopped_to (w.told ++ more) (Err r) s,
+      w.reported ++ more,
+      Appends-trans held wrote holds w.reported more w.appended appended,
+      stopped_to (w.reported ++ more) (Err r) s,
     )
     chunk_stopped Unwritten (more, front, behind, some, all, watched) = (
-      w.told ++ more,
-      some_behind held wrote holds w.told more w.appended some,
+      w.reported ++ more,
+      some_behind held wrote holds w.reported more w.appended some,
       record {
         taken = w.bytes ++ front;
         behind = behind;
@@ -292,9 +292,9 @@ module _ (every : ℕ) (had mid held wrote : Known) (p : Progress) (line : List 
     )
 
 -- there is no memory for the line of a verdict
-pub memory_instead : (every : ℕ) (had left : Known) (failed : Bool) (v : Verdict) (told : List ℕ) →
-    IsWatchTold every had left failed (Ok v) told → IsWatchTold every had left failed (Err refusal.Memory) told
-memory_instead every had left failed v told w = record {
+pub memory_instead : (every : ℕ) (had left : Known) (failed : Bool) (v : Verdict) (reported : List ℕ) →
+    IsWatchTold every had left failed (Ok v) reported → IsWatchTold every had left failed (Err refusal.Memory) reported
+memory_instead every had left failed v reported w = record {
   taken = w.taken;
   behind = w.behind;
   consumed = w.consumed;

@@ -4,7 +4,7 @@ use Rattle.std.specs.Io.KnownBytes.{Consumes, IsAtEnd}
 use Rattle.asm_aggregate.specs.Standard.{standard_part}
 use Rattle.asm_update.specs.State.{State}
 use Rattle.asm_update.specs.State as plain
-use Rattle.asm_state.specs.Stands.{Stands}
+use Rattle.asm_state.specs.FollowsFrom.{FollowsFrom}
 use Rattle.asm_state.specs.View.{StateView}
 use Rattle.asm_storage.specs.History.{fired_moves}
 use Rattle.asm_storage.specs.Limits.{events_limit}
@@ -34,7 +34,7 @@ use Rattle.asm_driver.specs.Window.{end_in, LiesIn, window_header, window_header
 use Rattle.asm_driver.specs.declared.program.refusal.Refusal.{Refusal}
 use Rattle.asm_driver.specs.declared.program.refusal.Refusal.TheVariants as refusal
 use Rattle.asm_driver.specs.declared.program.words.Window.{Window}
-use Rattle.asm_driver.proofs.LinesTaken.{told_anywhere}
+use Rattle.asm_driver.proofs.LinesTaken.{reported_anywhere}
 
 -- ---- refusals
 
@@ -46,24 +46,24 @@ bad_window w text r is = is
 
 pub refused_window : (w : Window) (had left : Known) (failed : Bool) (text : List ℕ) (r : Refusal) → IsInside w text →
     IsToldBehind had left failed text IsRefusedRun r → IsNoWindow w had left failed r
-refused_window w had left failed text r inside told = (
+refused_window w had left failed text r inside reported = (
   text,
   inside,
   record {
-    line = told.line;
-    behind = told.behind;
-    consumed = told.consumed;
-    one = told.one;
-    told = by_end told.told;
-    noted = told.noted;
+    line = reported.line;
+    behind = reported.behind;
+    consumed = reported.consumed;
+    one = reported.one;
+    reported = by_end reported.reported;
+    noted = reported.noted;
   },
 ) where
-  by_end : (IsAtEnd left × (told.behind ≡ []) × IsRefusedRun (text ++ told.line) r)
-      ⊎ ((more : List ℕ) → IsRefusedRun (text ++ (told.line ++ more)) r) →
-      (IsAtEnd left × (told.behind ≡ []) × IsBadWindow w (text ++ told.line) r)
-      ⊎ ((more : List ℕ) → IsBadWindow w (text ++ (told.line ++ more)) r)
-  by_end (inl (end, nothing, is)) = inl (end, nothing, bad_window w (text ++ told.line) r is)
-  by_end (inr is) = inr (λ more. bad_window w (text ++ (told.line ++ more)) r (is more))
+  by_end : (IsAtEnd left × (reported.behind ≡ []) × IsRefusedRun (text ++ reported.line) r)
+      ⊎ ((more : List ℕ) → IsRefusedRun (text ++ (reported.line ++ more)) r) →
+      (IsAtEnd left × (reported.behind ≡ []) × IsBadWindow w (text ++ reported.line) r)
+      ⊎ ((more : List ℕ) → IsBadWindow w (text ++ (reported.line ++ more)) r)
+  by_end (inl (end, nothing, is)) = inl (end, nothing, bad_window w (text ++ reported.line) r is)
+  by_end (inr is) = inr (λ more. bad_window w (text ++ (reported.line ++ more)) r (is more))
 
 -- complete segments
 pub inside_parts : (w : Window) (text : List ℕ) (number : ℕ) → AreParts number text → number ≤ w.part → IsInside w text
@@ -90,7 +90,7 @@ pub memory_window : (w : Window) (had left : Known) (failed : Bool) (bytes : Lis
 memory_window w had left failed bytes consumed noted = (
   [],
   inside_parts w [] 0 no_parts (omega arith),
-  told_anywhere had left failed [] (IsBadWindow w) refusal.Memory bytes consumed noted (λ all. tt),
+  reported_anywhere had left failed [] (IsBadWindow w) refusal.Memory bytes consumed noted (λ all. tt),
 )
 
 -- the window goes beyond its segment
@@ -106,7 +106,7 @@ few_calls w had left failed text l behind number o A same are one read at noted 
     behind = behind;
     consumed = subst (Consumes had left) (append_assoc text l behind) at;
     one = one;
-    told = inr (λ more. subst (λ (t : List ℕ). IsBadWindow w t (refusal.FewCalls w.part o.limits.events))
+    reported = inr (λ more. subst (λ (t : List ℕ). IsBadWindow w t (refusal.FewCalls w.part o.limits.events))
         (append_assoc text l more) (refl, calls more));
     noted = noted;
   },
@@ -132,19 +132,19 @@ few_calls w had left failed text l behind number o A same are one read at noted 
 -- ---- the window
 
 pub window_shown : (w : Window) (had left : Known) (failed : Bool) (text behind : List ℕ) (o : audit.Opened) (A : State)
-    (es shown : List Event) (notes : List Note) (told : List ℕ) → IsAt had left text behind → failed ≡ false →
+    (es shown : List Event) (notes : List Note) (reported : List ℕ) → IsAt had left text behind → failed ≡ false →
     IsPartRead w.part text o A (es ++ shown) → LiesIn w o.limits.events → length es ≡ w.from →
     length (es ++ shown) ≡ end_in w o.limits.events →
     AreNotesOf (machine standard_part A o.limits.capacity) (fired_moves es) (length es) shown notes →
-    told ≡ line (window_header w.part (history_of o.limits A (es ++ shown)) es (length shown)) ++ notes_text notes →
-    IsWindow w had left failed told
-window_shown w had left failed text behind o A es shown notes told at noted read lies from end are is = record {
+    reported ≡ line (window_header w.part (history_of o.limits A (es ++ shown)) es (length shown)) ++ notes_text notes →
+    IsWindow w had left failed reported
+window_shown w had left failed text behind o A es shown notes reported at noted read lies from end are is = record {
   bytes = text ++ behind;
   consumed = at;
-  shown = λ more. subst (λ (t : List ℕ). IsShown w t told) (sym (append_assoc text behind more)) (here (behind ++ more));
+  shown = λ more. subst (λ (t : List ℕ). IsShown w t reported) (sym (append_assoc text behind more)) (here (behind ++ more));
   noted = noted;
 } where
-  here : (rest : List ℕ) → IsShown w (text ++ rest) told
+  here : (rest : List ℕ) → IsShown w (text ++ rest) reported
   here rest = record {
     first = read.first;
     parts = read.parts;
@@ -176,15 +176,15 @@ pub record AreNotedTo (capacity : ℕ) (A : State) (es shown : List Event) (s : 
   pub notes : List Note
   pub are : AreNotesOf (machine standard_part A capacity) (fired_moves es) (length es) shown notes
   pub text : new ≡ old ++ notes_text notes
-  pub stands : Stands standard_part A s (fired_moves (es ++ shown))
+  pub stands : FollowsFrom standard_part A s (fired_moves (es ++ shown))
 
 pub noted_none : (capacity : ℕ) (A : State) (es : List Event) (s : StateView) (old : List ℕ) →
-    Stands standard_part A s (fired_moves es) → AreNotedTo capacity A es [] s old old
+    FollowsFrom standard_part A s (fired_moves es) → AreNotedTo capacity A es [] s old old
 noted_none capacity A es s old stands = record {
   notes = [];
   are = tt;
   text = sym (append-nil old);
-  stands = subst (λ (xs : List Event). Stands standard_part A s (fired_moves xs)) (sym (append-nil es)) stands;
+  stands = subst (λ (xs : List Event). FollowsFrom standard_part A s (fired_moves xs)) (sym (append-nil es)) stands;
 }
 
 pub noted_more : (capacity : ℕ) (A : State) (es shown : List Event) (e : Event) (n : ℕ) (s t : StateView)
@@ -205,13 +205,13 @@ noted_more capacity A es shown e n s t old mid new so_far number step =
       text = done.0.2 ∙ ap (λ b. b ++ line (note_json_of x)) so_far.text
           ∙ append_assoc old (notes_text so_far.notes) (line (note_json_of x))
           ∙ ap (λ b. old ++ b) (sym (text_more so_far.notes x));
-      stands = subst (λ (xs : List Event). Stands standard_part A t (fired_moves xs)) (append_assoc es shown (e ∷ []))
-          (subst (Stands standard_part A t) (sym (fired_moves-append (es ++ shown) (e ∷ []))) done.1);
+      stands = subst (λ (xs : List Event). FollowsFrom standard_part A t (fired_moves xs)) (append_assoc es shown (e ∷ []))
+          (subst (FollowsFrom standard_part A t) (sym (fired_moves-append (es ++ shown) (e ∷ []))) done.1);
     }
 
 -- the state has followed fewer moves than can be counted
 pub few_followed : (number n count : ℕ) (text : List ℕ) (o : audit.Opened) (A : State) (es : List Event) (s : StateView) →
-    IsPartRead number text o A es → Stands standard_part A s (fired_moves es) → length es < count → count ≤ events_limit →
+    IsPartRead number text o A es → FollowsFrom standard_part A s (fired_moves es) → length es < count → count ≤ events_limit →
     s.number < events_limit
 few_followed number n count text o A es s read stands less few =
     let moves = few_moves es in
@@ -228,7 +228,7 @@ part_held number text o A es read = form_held A read.going.begun.header.3 read.g
   form_held B pairs form = subst IsHeld (sym form.2.1) (written_held form.0)
 
 pub header_is : (o : Opened) (init A : State) (es all : List Event) (count : ℕ) (d : Data) → HasValues o.state init → IsHeld A →
-    o.taken ≡ length es → Stands standard_part A o.state (fired_moves es) →
+    o.taken ≡ length es → FollowsFrom standard_part A o.state (fired_moves es) →
     d ≡ window_header_with o.limits.agents o.limits.capacity count o.taken init o.state.number o.number →
     d ≡ window_header o.number (history_of o.limits A all) es count
 header_is o init A es all count d has held taken stands is =

@@ -52,7 +52,7 @@ IsRunText bytes capacity asked text =
 -- the report of the script of these bytes, played with this capacity, and behind it a text on terms without a value
 abbrev pub IsTermsText : List ℕ → ℕ → List ℕ → Type 0
 IsTermsText bytes capacity text =
-    (p : Played) × (told : List ℕ) × IsPlayed bytes capacity p × (text ≡ report_of standard_part p ++ told)
+    (p : Played) × (reported : List ℕ) × IsPlayed bytes capacity p × (text ≡ report_of standard_part p ++ reported)
 
 -- why nothing is written of a played script: the journal is asked for, and the history is beyond a journal's limits;
 -- nothing is claimed of an allocation failure

@@ -4,7 +4,7 @@ use Rattle.asm_storage.specs.declared.history.History.{History}
 use Rattle.asm_journal.specs.Reading as journal
 use Rattle.asm_explain.specs.Forms.{IsOfForm, IsOfNoForm}
 use Rattle.asm_journal.specs.Reading.{HasNoLineFeed}
-use Rattle.asm_explain.specs.Lines.{TellsRefusal}
+use Rattle.asm_explain.specs.Lines.{ReportsRefusal}
 use Rattle.asm_explain.specs.declared.explaining.Form.TheVariants as form
 use Rattle.asm_driver.specs.Report.{line}
 use Rattle.asm_driver.specs.declared.program.words.TextKind.{TextKind}
@@ -19,7 +19,7 @@ IsAccepted Journal bytes = (h : History) × journal.ReadsAs bytes h
 -- first fault
 abbrev pub IsRefused : TextKind → List ℕ → List ℕ → Type 0
 IsRefused Script bytes sentence = IsOfNoForm form.Script bytes × (sentence ≢ []) × HasNoLineFeed sentence
-IsRefused Journal bytes sentence = TellsRefusal bytes sentence
+IsRefused Journal bytes sentence = ReportsRefusal bytes sentence
 
 -- nothing with status 0 if the bytes are accepted, or a line with status 1 if they are refused
 abbrev pub IsExplained : List ℕ → TextKind → ℕ → List ℕ → Type 0

@@ -4,7 +4,7 @@ use Rattle.std.specs.Io.KnownBytes.{Consumes, IsAtEnd}
 use Rattle.serde_json.specs.Data.{Data}
 use Rattle.asm_aggregate.specs.Standard.{standard_part}
 use Rattle.asm_update.specs.State.{State}
-use Rattle.asm_state.specs.Stands.{Stands}
+use Rattle.asm_state.specs.FollowsFrom.{FollowsFrom}
 use Rattle.asm_storage.specs.History.{fired_moves}
 use Rattle.asm_storage.specs.declared.history.Event.{Event}
 use Rattle.asm_storage.specs.declared.history.History.{History}
@@ -48,7 +48,7 @@ BreaksHeaderOf number line r =
 -- the line is this header, and the segment has no event yet
 abbrev pub IsOpened : List ℕ → Header → audit.Opened → Type 0
 IsOpened line h o =
-    HasHeader line h × (o.limits ≡ h.limits) × (o.taken ≡ 0) × Stands standard_part h.init o.state []
+    HasHeader line h × (o.limits ≡ h.limits) × (o.taken ≡ 0) × FollowsFrom standard_part h.init o.state []
 
 -- the first segment was opened by its header
 abbrev pub IsOpenedFirst : List ℕ → audit.Opened → Type 0
@@ -89,7 +89,7 @@ pub record IsPartRead (number : ℕ) (text : List ℕ) (o : audit.Opened) (A : S
   pub going : IsGoing standard_part A o.limits.version o.limits.events (history_of o.limits A es) rest []
   pub taken : o.taken ≡ length es
   pub within : o.taken ≤ o.limits.events
-  pub stands : Stands standard_part A o.state (fired_moves es)
+  pub stands : FollowsFrom standard_part A o.state (fired_moves es)
   pub few : number ≤ 4294967295
 
 -- the text is this many complete legal segments
@@ -120,7 +120,7 @@ pub record IsToldBehind (had left : Known) (failed : Bool) (taken : List ℕ) (T
   pub behind : List ℕ
   pub consumed : Consumes had left (taken ++ (line ++ behind))
   pub one : IsOneLine line
-  pub told : (IsAtEnd left × (behind ≡ []) × Told (taken ++ line) r)
+  pub reported : (IsAtEnd left × (behind ≡ []) × Told (taken ++ line) r)
       ⊎ ((more : List ℕ) → Told (taken ++ (line ++ more)) r)
   pub noted : failed ≡ is_failed_read (Err r)
 

@@ -183,14 +183,14 @@ TellsVerdict v o result =
 -- an audit, which writes its progress after each so many calls, and then how it ends
 abbrev pub TellsAll : ℕ → Input → Output → ℕ → Type 0
 TellsAll every i o result =
-    (r : Result Verdict Refusal) × (told text : List ℕ) × (status : ℕ) × IsWatchTold every i.had i.left i.failed r told
-    × EndsAs r status text × Writes o status (told ++ text) result
+    (r : Result Verdict Refusal) × (reported text : List ℕ) × (status : ℕ) × IsWatchTold every i.had i.left i.failed r reported
+    × EndsAs r status text × Writes o status (reported ++ text) result
 
 -- such an audit, or one whose output failed before its end
 abbrev pub Watches : ℕ → Input → Output → ℕ → Type 0
 Watches every i o result =
     TellsAll every i o result
-    ⊎ ((told : List ℕ) × IsWatchCut every i.had i.left told × (i.failed ≡ false) × (result ≡ 4) × IsCut o told)
+    ⊎ ((reported : List ℕ) × IsWatchCut every i.had i.left reported × (i.failed ≡ false) × (result ≡ 4) × IsCut o reported)
 
 -- a run of the program: how it ends, and what it wrote; an audit may write before its end
 abbrev pub Runs : Words → Input → Output → ℕ → Type 0

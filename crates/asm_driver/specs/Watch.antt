@@ -11,7 +11,7 @@ use Rattle.asm_audit.specs.declared.error.AuditError.{AuditError}
 use Rattle.asm_audit.specs.declared.progress.Counts.{Counts}
 use Rattle.asm_audit.specs.declared.progress.Progress.{Progress}
 use Rattle.asm_audit.specs.declared.progress.Told.{Told}
-use Rattle.asm_audit.specs.declared.progress.Told.TheVariants as tells
+use Rattle.asm_audit.specs.declared.progress.Told.TheVariants as reports
 use Rattle.asm_audit.specs.declared.reading.Verdict.{Verdict}
 use Rattle.asm_audit.specs.declared.reading.Verdict.TheVariants.{Illegal}
 use Rattle.asm_driver.specs.Audit.{IsAuditOf, is_failed_read, refusal_of_audit}
@@ -47,19 +47,19 @@ IsToldOfLine every taken l text =
 
 -- the texts for these lines of the run in turn, behind those that were consumed
 abbrev pub IsToldOfLines : ℕ → List (List ℕ) → List ℕ → List ℕ → Type 0
-IsToldOfLines every [] taken told = told ≡ []
-IsToldOfLines every (l ∷ ls) taken told =
-    (first rest : List ℕ) × IsToldOfLine every taken l first × (told ≡ first ++ rest)
+IsToldOfLines every [] taken reported = reported ≡ []
+IsToldOfLines every (l ∷ ls) taken reported =
+    (first rest : List ℕ) × IsToldOfLine every taken l first × (reported ≡ first ++ rest)
     × IsToldOfLines every ls (taken ++ (l ++ 10 ∷ [])) rest
 
 -- the text for these bytes of a run: that for each line that ends in them
-pub record IsToldOf (every : ℕ) (taken told : List ℕ) : Type 0 where
+pub record IsToldOf (every : ℕ) (taken reported : List ℕ) : Type 0 where
   pub lines : List (List ℕ)
   pub line : List ℕ
   pub all : ended_lines lines ++ line ≡ taken
   pub ended : All HasNoLineFeed lines
   pub open_line : HasNoLineFeed line
-  pub of_lines : IsToldOfLines every lines [] told
+  pub of_lines : IsToldOfLines every lines [] reported
 
 -- how the audit ends behind the bytes that were consumed: there is no further one, or a read failed, or the audit
 -- reports it at the next one, whatever follows that
@@ -69,45 +69,45 @@ IsToldBehind left taken (b ∷ bs) r = (is_failed_read r ≡ false) × ((more : 
 
 -- an audit of the input, with the text that is written meanwhile: some bytes of it were read, and the first of these
 -- were consumed
-pub record IsWatchTold (every : ℕ) (had left : Known) (failed : Bool) (r : Result Verdict Refusal) (told : List ℕ) : Type 0
+pub record IsWatchTold (every : ℕ) (had left : Known) (failed : Bool) (r : Result Verdict Refusal) (reported : List ℕ) : Type 0
   where
     pub taken : List ℕ
     pub behind : List ℕ
     pub consumed : Consumes had left (taken ++ behind)
-    pub watched : IsToldOf every taken told
+    pub watched : IsToldOf every taken reported
     pub ends : IsToldBehind left taken behind r
     pub noted : failed ≡ is_failed_read r
 
 -- an audit that ends within the input, with the text that was due up to there
-pub record IsWatchCut (every : ℕ) (had left : Known) (told : List ℕ) : Type 0 where
+pub record IsWatchCut (every : ℕ) (had left : Known) (reported : List ℕ) : Type 0 where
   pub taken : List ℕ
   pub behind : List ℕ
   pub consumed : Consumes had left (taken ++ behind)
-  pub watched : IsToldOf every taken told
+  pub watched : IsToldOf every taken reported
 
 -- ---- on the way
 
 -- these bytes were fed, and this text was due meanwhile
-pub record IsWatched (every : ℕ) (text : List ℕ) (p : Progress) (line told : List ℕ) : Type 0 where
+pub record IsWatched (every : ℕ) (text : List ℕ) (p : Progress) (line reported : List ℕ) : Type 0 where
   pub fed : IsFed standard_part text p line
-  pub watched : IsToldOf every text told
+  pub watched : IsToldOf every text reported
 
 -- of the bytes behind a text the first were consumed, this text was due, and the audit ends in this way at the next
 -- one
-pub record IsStopped (every : ℕ) (text bytes told : List ℕ) (r : Result Verdict Refusal) : Type 0 where
+pub record IsStopped (every : ℕ) (text bytes reported : List ℕ) (r : Result Verdict Refusal) : Type 0 where
   pub front : List ℕ
   pub next : ℕ
   pub behind : List ℕ
   pub all : front ++ next ∷ behind ≡ bytes
-  pub watched : IsToldOf every (text ++ front) told
+  pub watched : IsToldOf every (text ++ front) reported
   pub noted : is_failed_read r ≡ false
   pub ends : (more : List ℕ) → IsAuditOf ((text ++ front) ++ next ∷ more) r
 
 -- what an audit reports behind further bytes
 abbrev pub IsWatchAnswer : ℕ → List ℕ → List ℕ → Progress → List ℕ → List ℕ → Result Told AuditError → Type 0
-IsWatchAnswer every text bytes q left told (Ok tells.Legal) = IsWatched every (text ++ bytes) q left told
-IsWatchAnswer every text bytes q left told (Ok (tells.Illegal j c)) = IsStopped every text bytes told (Ok (Illegal j c))
-IsWatchAnswer every text bytes q left told (Err e) = IsStopped every text bytes told (Err (refusal_of_audit e))
+IsWatchAnswer every text bytes q left reported (Ok reports.Legal) = IsWatched every (text ++ bytes) q left reported
+IsWatchAnswer every text bytes q left reported (Ok (reports.Illegal j c)) = IsStopped every text bytes reported (Ok (Illegal j c))
+IsWatchAnswer every text bytes q left reported (Err e) = IsStopped every text bytes reported (Err (refusal_of_audit e))
 
 -- the bytes are the previous ones with the text that is due
 abbrev pub AddsDue : ℕ → Counts → Counts → List ℕ → List ℕ → Type 0
@@ -121,9 +121,9 @@ is_unwritten _ = false
 -- the answer to further bytes, with the text that went out behind this one; if the output failed, these are the first
 -- bytes of that text, any number of them
 abbrev pub IsWrittenAnswer : ℕ → List ℕ → List ℕ → Progress → List ℕ → List ℕ → Known → Known → Result Told Stop → Type 0
-IsWrittenAnswer every text bytes q left before held holds (Ok tells.Legal) =
+IsWrittenAnswer every text bytes q left before held holds (Ok reports.Legal) =
     (more : List ℕ) × Appends held holds more × IsWatched every (text ++ bytes) q left (before ++ more)
-IsWrittenAnswer every text bytes q left before held holds (Ok (tells.Illegal j c)) =
+IsWrittenAnswer every text bytes q left before held holds (Ok (reports.Illegal j c)) =
     (more : List ℕ) × Appends held holds more × IsStopped every text bytes (before ++ more) (Ok (Illegal j c))
 IsWrittenAnswer every text bytes q left before held holds (Err (Refused r)) =
     (more : List ℕ) × Appends held holds more × IsStopped every text bytes (before ++ more) (Err r)
@@ -134,8 +134,8 @@ IsWrittenAnswer every text bytes q left before held holds (Err Unwritten) =
 -- how a watched audit of the input ends, with what went out meanwhile
 abbrev pub IsWatchEnd : ℕ → Known → Known → Bool → Known → Known → Result Verdict Stop → Type 0
 IsWatchEnd every had left failed held holds (Ok v) =
-    (told : List ℕ) × Appends held holds told × IsWatchTold every had left failed (Ok v) told
+    (reported : List ℕ) × Appends held holds reported × IsWatchTold every had left failed (Ok v) reported
 IsWatchEnd every had left failed held holds (Err (Refused r)) =
-    (told : List ℕ) × Appends held holds told × IsWatchTold every had left failed (Err r) told
+    (reported : List ℕ) × Appends held holds reported × IsWatchTold every had left failed (Err r) reported
 IsWatchEnd every had left failed held holds (Err Unwritten) =
-    (told : List ℕ) × AppendsSome held holds told × IsWatchCut every had left told × (failed ≡ false)
+    (reported : List ℕ) × AppendsSome held holds reported × IsWatchCut every had left reported × (failed ≡ false)

@@ -63,7 +63,7 @@ IsWindowText part h before shown text =
 
 -- the text is complete legal segments that continue each other, as many as the window's number, and one more that is
 -- legal up to the window's end; and this is the window's text
-pub record IsShown (w : Window) (text told : List ℕ) : Type 0 where
+pub record IsShown (w : Window) (text reported : List ℕ) : Type 0 where
   pub first : State
   pub parts : List History
   pub rest : List ℕ
@@ -80,7 +80,7 @@ pub record IsShown (w : Window) (text told : List ℕ) : Type 0 where
   pub events : h.events ≡ before ++ shown
   pub from : length before ≡ w.from
   pub end : length h.events ≡ end_in w count
-  pub is : IsWindowText w.part h before shown told
+  pub is : IsWindowText w.part h before shown reported
 
 -- the text is such segments, and the window's one has this many calls, beyond which the window goes
 pub record HasFewCalls (w : Window) (text : List ℕ) (count : ℕ) : Type 0 where
@@ -115,10 +115,10 @@ IsInside w text =
     × (number ≤ w.part) × (number ≡ w.part → length es < end_in w o.limits.events))
 
 -- some bytes of the input were consumed, and this is the window's text, whatever follows them
-pub record IsWindow (w : Window) (had left : Known) (failed : Bool) (told : List ℕ) : Type 0 where
+pub record IsWindow (w : Window) (had left : Known) (failed : Bool) (reported : List ℕ) : Type 0 where
   pub bytes : List ℕ
   pub consumed : Consumes had left bytes
-  pub shown : (more : List ℕ) → IsShown w (bytes ++ more) told
+  pub shown : (more : List ℕ) → IsShown w (bytes ++ more) reported
   pub noted : failed ≡ false
 
 -- some bytes of the input were consumed, and there is no such window: this is reported at a line before the window's

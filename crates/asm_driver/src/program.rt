@@ -129,7 +129,7 @@ fn write_answer<K: Sink>(alloc: Global, output: &mut K, answer: Result<Ending, R
 fn write_verdict<K: Sink>(alloc: Global, output: &mut K, verdict: Verdict) -> u8
     requires { K.failed output.old ≡ false }
     ensures same_reference { K.lender output.new ≡ K.lender output.old }
-    ensures tells { TellsVerdict verdict
+    ensures reports { TellsVerdict verdict
         (output_of (K.contents output.old) (K.contents output.new) (K.failed output.new) (K.flushed output.new)) result }
 {
     match verdict_ending(alloc, verdict) {

@@ -9,7 +9,7 @@ ghost use Rattle.asm_driver.specs.Report.{agent_lines, moves_line, outcome_lines
 
 use asm_element::{Items, Location};
 use asm_journal::{location_json, pair_json, replay, replay_over, word_of_cause};
-use asm_play::aggregator::chosen;
+use asm_play::aggregator::script_aggregator;
 use asm_play::{Outcome, Played};
 use asm_storage::History;
 use asm_update::PlainState;
@@ -133,7 +133,7 @@ fn push_outcomes(
 pub fn report(alloc: Global, played: &Played) -> Result<String, AllocError>
     ensures { IfOk result (λ text. string_bytes text ≡ report_of standard_part played.now) }
 {
-    let state = replay(alloc, &chosen(), &played.history)?;
+    let state = replay(alloc, &script_aggregator(), &played.history)?;
     let moves = played.history.moves();
     lines_of(alloc, &state, moves, played.outcomes.as_slice())
 }
@@ -149,7 +149,7 @@ pub(crate) fn report_of_owned(alloc: Global, played: Played) -> Result<String, A
         ..
     } = played;
     let History { init, events, .. } = history;
-    let state = replay_over(alloc, &chosen(), init, events.as_slice())?;
+    let state = replay_over(alloc, &script_aggregator(), init, events.as_slice())?;
     lines_of(alloc, &state, moves, outcomes.as_slice())
 }
 

@@ -47,12 +47,16 @@ fn push_line(
     alloc: Global,
     text: &mut String,
     agent: usize,
-    told: &StepTerm,
+    reported: &StepTerm,
 ) -> Result<(), AllocError>
-    ensures { OnOk result (IsTermLine agent told.now (string_bytes text.old) (string_bytes text.new)) }
+    ensures { OnOk result (IsTermLine agent reported.now (string_bytes text.old) (string_bytes text.new)) }
 {
-    let (step, block, instruction) = (told.step, told.term.block, told.term.instruction);
-    let why = why(alloc, &told.term.why)?;
+    let (step, block, instruction) = (
+        reported.step,
+        reported.term.block,
+        reported.term.instruction,
+    );
+    let why = why(alloc, &reported.term.why)?;
     let place = format!(in alloc;
         "agent {agent} step {step} block {block} instruction {instruction}: "
     )?;
@@ -72,8 +76,8 @@ fn push_line(
 pub(crate) fn terms_text(alloc: Global, terms: &[Items<StepTerm>]) -> Result<String, AllocError> {
     let mut text = String::new(alloc);
     for (agent, steps) in terms.iter().enumerate() {
-        for told in steps.as_slice() {
-            push_line(alloc, &mut text, agent, told)?;
+        for reported in steps.as_slice() {
+            push_line(alloc, &mut text, agent, reported)?;
         }
     }
     Ok(text)

@@ -1,6 +1,6 @@
 //! A step whose attempts are lost.
 use asm_aggregate::Standard;
-use asm_play::aggregator::chosen;
+use asm_play::aggregator::script_aggregator;
 use asm_play::{Passage, Player, StepEnd};
 use asm_script::{Script, parse_script};
 use asm_storage::Storage;
@@ -58,7 +58,7 @@ impl<'r, 's> Passage for Meddling<'r, 's> {
         self.0.note(agent == 0 && is_next);
     }
 
-    fn meddle(&self) {
+    fn before_attempt(&self) {
         if self.0.offers.fetch_add(1, Ordering::SeqCst) < 64 {
             self.0.note(fires(self.0.alloc, self.0.storage));
         }
@@ -83,7 +83,7 @@ fn fired_among_rivals<R: Wait>(
     let Some(steps) = script.agents().first() else {
         return Ok(None);
     };
-    let aggregator = chosen();
+    let aggregator = script_aggregator();
     let player = Player {
         alloc,
         aggregator: &aggregator,
@@ -104,7 +104,7 @@ fn fired_among_rivals<R: Wait>(
 #[test]
 fn a_step_whose_offers_are_lost_is_tried_again(rt: HostRuntime) -> Result<(), Fail> {
     let alloc = rt.alloc();
-    let storage = Storage::new(alloc, chosen(), PlainState::new(alloc), 100)?;
+    let storage = Storage::new(alloc, script_aggregator(), PlainState::new(alloc), 100)?;
     let script = parse_script(alloc, STEP.as_bytes())?;
     let rivalry = Rivalry {
         storage: &storage,

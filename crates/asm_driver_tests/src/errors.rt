@@ -2,7 +2,7 @@
 use asm_play::RunError;
 use asm_script::{FaultyTerm, NoValue, ScriptCause, ScriptError, StepFault};
 use asm_step::StepError;
-use asm_test_support::{are_told_apart, location};
+use asm_test_support::{are_distinct, location};
 use asm_update::{Cause, Clash};
 use std::alloc::Global;
 use std::test::Fail;
@@ -24,9 +24,9 @@ fn errors_have_their_texts(rt: HostRuntime) -> Result<(), Fail> {
 }
 
 #[test]
-fn errors_are_told_apart(rt: HostRuntime) {
+fn errors_are_distinct(rt: HostRuntime) {
     assert!(rt;
-        are_told_apart(&[
+        are_distinct(&[
             RunError::BadCapacity,
             RunError::NoThread,
             RunError::Missing(1),
@@ -54,9 +54,9 @@ fn errors_of_scripts_have_their_texts(rt: HostRuntime) -> Result<(), Fail> {
 }
 
 #[test]
-fn causes_of_scripts_are_told_apart(rt: HostRuntime) {
+fn causes_of_scripts_are_distinct(rt: HostRuntime) {
     assert!(rt;
-        are_told_apart(&[
+        are_distinct(&[
             ScriptCause::NotJson,
             ScriptCause::Shape,
             ScriptCause::Agents,
@@ -104,9 +104,9 @@ fn have_texts(alloc: Global, errors: &[StepError]) -> Result<bool, Fail> {
 }
 
 #[test]
-fn errors_of_steps_are_told_apart(rt: HostRuntime) -> Result<(), Fail> {
+fn errors_of_steps_are_distinct(rt: HostRuntime) -> Result<(), Fail> {
     let errors = step_errors(rt.alloc())?;
-    assert!(rt; are_told_apart(errors.as_slice()));
+    assert!(rt; are_distinct(errors.as_slice()));
     assert!(rt; have_texts(rt.alloc(), errors.as_slice())?);
     Ok(())
 }

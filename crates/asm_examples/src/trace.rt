@@ -16,7 +16,7 @@ const TRACE: &str = r#"{"agents":1,"capacity":8,"events":2,"init":[[["s"],{"set"
 "#;
 
 #[test]
-fn a_trace_tells_what_changed_and_what_is_wrong(rt: HostRuntime) -> Result<(), Fail> {
+fn a_trace_reports_what_changed_and_what_is_wrong(rt: HostRuntime) -> Result<(), Fail> {
     let alloc = rt.alloc();
     let history = from_text(alloc, JOURNAL.as_bytes())?;
     assert_eq!(rt; trace_text(alloc, &standard(), &history)?.as_str(), TRACE);

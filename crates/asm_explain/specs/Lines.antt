@@ -11,8 +11,8 @@ abbrev pub line_sentence : ℕ → List ℕ → List ℕ
 line_sentence k why = codes "journal line " ++ decimal k ++ codes ": " ++ why
 
 -- the sentence names this line, and then says something of it, in one line
-abbrev pub TellsOfLine : ℕ → List ℕ → Type 0
-TellsOfLine k sentence =
+abbrev pub NamesLine : ℕ → List ℕ → Type 0
+NamesLine k sentence =
     (why : List ℕ) × (why ≢ []) × HasNoLineFeed why × (sentence ≡ line_sentence k why)
 
 -- the number of the last line: it is behind all line feeds, and is empty where the text ends with one
@@ -20,13 +20,13 @@ abbrev pub last_line : List ℕ → ℕ
 last_line text = count_by (λ b. b == 10) text + 1
 
 -- the sentence names the line of this fault of the text; of a journal that is cut, its last line, which isn't complete
-abbrev pub TellsFault : List ℕ → JournalError → List ℕ → Type 0
-TellsFault text (error.NotJson k) sentence = TellsOfLine k sentence
-TellsFault text (error.Shape k) sentence = TellsOfLine k sentence
-TellsFault text error.Version sentence = TellsOfLine 1 sentence
-TellsFault text error.Cut sentence = TellsOfLine (last_line text) sentence
-TellsFault text error.Memory sentence = ⊥
+abbrev pub ReportsFault : List ℕ → JournalError → List ℕ → Type 0
+ReportsFault text (error.NotJson k) sentence = NamesLine k sentence
+ReportsFault text (error.Shape k) sentence = NamesLine k sentence
+ReportsFault text error.Version sentence = NamesLine 1 sentence
+ReportsFault text error.Cut sentence = NamesLine (last_line text) sentence
+ReportsFault text error.Memory sentence = ⊥
 
 -- the text is refused as a journal, and the sentence names the line of its first fault
-abbrev pub TellsRefusal : List ℕ → List ℕ → Type 0
-TellsRefusal text sentence = (e : JournalError) × IsRefused text e × TellsFault text e sentence
+abbrev pub ReportsRefusal : List ℕ → List ℕ → Type 0
+ReportsRefusal text sentence = (e : JournalError) × IsRefused text e × ReportsFault text e sentence

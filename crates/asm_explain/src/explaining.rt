@@ -9,7 +9,7 @@ ghost use Rattle.asm_explain.specs.declared.explaining.Form.TheVariants as forms
 use crate::faults::{fault_of_event, fault_of_locations, fault_of_move, fault_of_state};
 use crate::reading::{TextError, fire_of, read_as};
 use crate::script::wrong_script;
-use crate::sentence::{not_json, told};
+use crate::sentence::{as_one_line, not_json};
 use asm_element::Location;
 use asm_journal::{FromJson, Listed};
 use asm_script::{ScriptError, parse_script};
@@ -106,7 +106,7 @@ fn sentence(alloc: Global, form: Form, text: &[u8]) -> Result<String, AllocError
         Err(error) if error.is_memory() => return Err(AllocError),
         Err(error) => not_json(alloc, text, &error, form == Form::Script)?,
     };
-    told(alloc, said)
+    as_one_line(alloc, said)
 }
 
 /// Explain where and why a text isn't of this form; return None if it is.
@@ -122,7 +122,7 @@ fn sentence(alloc: Global, form: Form, text: &[u8]) -> Result<String, AllocError
 pub fn explain(alloc: Global, form: Form, text: &[u8]) -> Result<Option<String>, AllocError>
     ensures accepted { IfOk result (λ said. IfNone said (IsOfForm form text.now)) }
     ensures refused { IfOk result (λ said. IfSome said (λ s. IsOfNoForm form text.now)) }
-    ensures tells { IfOk result (λ said. IfSome said (λ s. string_bytes s ≢ [])) }
+    ensures reports { IfOk result (λ said. IfSome said (λ s. string_bytes s ≢ [])) }
     ensures one_line { IfOk result (λ said. IfSome said (λ s. HasNoLineFeed (string_bytes s))) }
 {
     if accepts(alloc, form, text)? {

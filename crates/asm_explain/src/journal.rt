@@ -3,11 +3,11 @@ ghost use Rattle.std.specs.Prelude.{◌≡◌, IfOk, IfNone, IfSome, string_byte
 ghost use Rattle.asm_storage.specs.declared.history.History.{History};
 ghost use Rattle.asm_journal.specs.Reading.{ReadsAs};
 ghost use Rattle.asm_explain.specs.Lines.{last_line as last_of, line_sentence as sentence_of};
-ghost use Rattle.asm_explain.specs.Lines.{TellsFault, TellsOfLine, TellsRefusal};
+ghost use Rattle.asm_explain.specs.Lines.{ReportsFault, NamesLine, ReportsRefusal};
 
 use crate::faults::{fault_of_event, is_of};
 use crate::script::wrong_init;
-use crate::sentence::{not_json, told};
+use crate::sentence::{as_one_line, not_json};
 use asm_journal::{FromJson, JournalError, from_text};
 use asm_row::CAPACITY_LIMIT;
 use asm_storage::{AGENTS_LIMIT, Event};
@@ -209,15 +209,15 @@ fn line_sentence(alloc: Global, line: u64, why: &String) -> Result<String, Alloc
 
 // The same, in any case with something behind the line.
 fn at_line(alloc: Global, line: u64, said: String) -> Result<String, AllocError>
-    ensures { IfOk result (λ s. TellsOfLine line (string_bytes s)) }
+    ensures { IfOk result (λ s. NamesLine line (string_bytes s)) }
 {
-    let why = told(alloc, said)?;
+    let why = as_one_line(alloc, said)?;
     line_sentence(alloc, line, &why)
 }
 
 // The sentence on this fault of the text.
 fn sentence(alloc: Global, text: &[u8], fault: JournalError) -> Result<String, AllocError>
-    ensures { IfOk result (λ s. TellsFault text.now fault (string_bytes s)) }
+    ensures { IfOk result (λ s. ReportsFault text.now fault (string_bytes s)) }
 {
     match fault {
         JournalError::NotJson(line) => at_line(alloc, line, why_not_json(alloc, text, line)?),
@@ -242,7 +242,7 @@ fn sentence(alloc: Global, text: &[u8], fault: JournalError) -> Result<String, A
 /// - `AllocError` only if memory is refused.
 pub fn explain_journal(alloc: Global, text: &[u8]) -> Result<Option<String>, AllocError>
     ensures accepted { IfOk result (λ said. IfNone said ((h : History) × ReadsAs text.now h)) }
-    ensures refused { IfOk result (λ said. IfSome said (λ s. TellsRefusal text.now (string_bytes s))) }
+    ensures refused { IfOk result (λ said. IfSome said (λ s. ReportsRefusal text.now (string_bytes s))) }
 {
     let fault = match from_text(alloc, text) {
         Ok(_history) => return Ok(None),

@@ -84,7 +84,7 @@ fn has_no_line_feed(text: &[u8]) -> bool
 /// Return the sentence if it is one line and not empty.
 ///
 /// Else return the sentence that the text has another shape.
-pub(crate) fn told(alloc: Global, said: String) -> Result<String, AllocError>
+pub(crate) fn as_one_line(alloc: Global, said: String) -> Result<String, AllocError>
     ensures some { IfOk result (λ s. string_bytes s ≢ []) }
     ensures one_line { IfOk result (λ s. HasNoLineFeed (string_bytes s)) }
 {

@@ -31,9 +31,9 @@ use Rattle.asm_journal.specs.Reading.{IsJson, HasNoLineFeed}
 pub use Rattle.asm_journal.specs.readback.{put_all, IsCleanNumber, IsClean, AreCleanItems, AreCleanMembers}
 
 -- an item with a list
-pub item_tells : (vs : List Json) (k : ℕ) (v : Json) → k < length vs → v ≡ get_or vs k v → has_list (view v) ≡ true
+pub item_reports : (vs : List Json) (k : ℕ) (v : Json) → k < length vs → v ≡ get_or vs k v → has_list (view v) ≡ true
     → items_have_list (items_view vs) ≡ true
-item_tells vs k v below is has = at vs k below (ap (λ j. has_list (view j)) (sym is) ∙ has) where
+item_reports vs k v below is has = at vs k below (ap (λ j. has_list (view j)) (sym is) ∙ has) where
   at : (ws : List Json) (k : ℕ) → k < length ws → has_list (view (get_or ws k v)) ≡ true
       → items_have_list (items_view ws) ≡ true
   at [] k below has = absurd (omega (arith, below))

@@ -211,8 +211,8 @@ event_once x y d h k =
     let same = same_three _ _ _ _ _ _ _ _ _ (sym h.3 ∙ k.3) in
     let agent = number_once x.agent y.agent k.0 (subst (IsNumberForm x.agent) same.0 h.4) k.4 in
     let asked = call_once x.call y.call k.1 (subst (IsCallForm x.call) same.1 h.5) k.5 in
-    let told = answer_once x.answer y.answer k.2 (subst (IsAnswerForm x.answer) same.2 h.6) k.6 in
-    event_same x y agent asked told
+    let reported = answer_once x.answer y.answer k.2 (subst (IsAnswerForm x.answer) same.2 h.6) k.6 in
+    event_same x y agent asked reported
 
 -- ---- reading
 

@@ -4,11 +4,11 @@ use Rattle.std.specs.List.{cons_option}
 use Rattle.asm_update.specs.Move.{Move}
 use Rattle.asm_update.specs.State.{State}
 use Rattle.asm_update.specs.Fire.{state_of}
-use Rattle.asm_state.specs.Stands.{after_move}
+use Rattle.asm_state.specs.FollowsFrom.{after_move}
 use Rattle.asm_storage.specs.declared.history.Event.{Event}
 use Rattle.asm_storage.specs.History.{move_of, fired_moves, IsRun, RunStep, steps_from, step_and}
 use Rattle.asm_storage.specs.Machine.{Machine, machine_state}
-use Rattle.asm_journal.specs.Next.{RunGoesOn}
+use Rattle.asm_journal.specs.Next.{RunContinues}
 
 module _ (m : Machine) (init : State) (capacity : ℕ) where
   abbrev other : Machine
@@ -46,7 +46,7 @@ rest_of_run m A (e ∷ first) second run rest = by_move (move_of e) (λ B. rest_
   by_move None shorter run rest = shorter A run rest
   by_move (Some M) shorter run rest = (run.0, shorter (after_move m.part A M) run.1 rest)
 
-pub run_goes_on : RunGoesOn
-run_goes_on m capacity first second run more =
+pub run_continues : RunContinues
+run_continues m capacity first second run more =
     let A = machine_state m (fired_moves first) in
     rest_of_run m m.init first second run (other_run m A capacity A second more)

@@ -11,7 +11,7 @@ use Rattle.asm_update.specs.State.{State, Updates, val}
 use Rattle.asm_update.specs.Fire.{Part, aggregated, overwritten, state_of}
 use Rattle.asm_update.specs.declared.clash.Clash.{Clash}
 use Rattle.asm_state.specs.View.{StateView, value_at}
-use Rattle.asm_state.specs.Stands.{Stands}
+use Rattle.asm_state.specs.FollowsFrom.{FollowsFrom}
 use Rattle.asm_state.specs.Verdict.{IsObjection, least_stale}
 use Rattle.asm_state.specs.declared.named.Named.{Named}
 use Rattle.asm_state.specs.declared.verdict.Objection.{Objection}
@@ -40,7 +40,7 @@ legal-push m h e left right = legal-append m [] h (e ∷ []) left (right, tt)
 -- the first events are legal, and the state stands for their moves
 abbrev pub IsCheckedTo : Part → State → ℕ → List Event → StateView → ℕ → Type 0
 IsCheckedTo part init capacity events s i =
-    Stands part init s (fired_moves (take i events)) × IsLegalFrom (machine part init capacity) [] (take i events)
+    FollowsFrom part init s (fired_moves (take i events)) × IsLegalFrom (machine part init capacity) [] (take i events)
 
 module _ (part : Part) (init : State) (capacity : ℕ) (events : List Event) (i : ℕ) (e : Event) (old new : StateView) (b : Bool)
     (within : i < length events) (here : e ≡ get_or events i e) (step : IsStep part capacity e old new b) (checked : IsCheckedTo part init capacity events old i) where
@@ -48,7 +48,7 @@ module _ (part : Part) (init : State) (capacity : ℕ) (events : List Event) (i 
   checked_more true_is =
       let done = subst (IsStep part capacity e old new) true_is step init (fired_moves (take i events)) checked.0 in
       let more : take (i + 1) events ≡ take i events ++ e ∷ [] = take_more events i e within ∙ ap (λ x. take i events ++ x ∷ []) (sym here) in (
-        subst (Stands part init new) (sym (ap fired_moves more ∙ fired_moves-append (take i events) (e ∷ []))) done.1,
+        subst (FollowsFrom part init new) (sym (ap fired_moves more ∙ fired_moves-append (take i events) (e ∷ []))) done.1,
         subst (IsLegalFrom (machine part init capacity) []) (sym more) (legal-push (machine part init capacity) (take i events) e checked.1 done.0),
       )
 
@@ -70,20 +70,20 @@ same_read n k vs ws e = (cc, cc)
 
 pub read_step : (part : Part) (capacity : ℕ) (e : Event) (s : StateView) (places : List Place) (n : ℕ) (vs : List Value) (b : Bool)
     → e.call ≡ call.Read places → e.answer ≡ answer.Read n vs → (IsTrue b ↔ ((n ≡ s.number) × (map (value_at s) places ≡ vs))) → IsStep part capacity e s s b
-read_step part capacity e s places n vs true call-is answer-is tells = λ init q stands.
-    let is = tells.0 refl in
+read_step part capacity e s places n vs true call-is answer-is reports = λ init q stands.
+    let is = reports.0 refl in
     let values : vs ≡ map (val (machine_state (machine part init capacity) q)) places = sym is.1 ∙ ap (λ (f : Place → Value). map f places) (same_old part init q s stands) in
     let answered = answer-is ∙ ap₂ answer.Read (is.0 ∙ stands.number) values ∙ sym (ap (reply_to (machine part init capacity) q) call-is) in
     let quiet : move_of e ≡ None = ap₂ fired call-is answer-is in
-    (answered, subst (Stands part init s) (sym (ap (λ o. q ++ cons_option o []) quiet ∙ append-nil q)) stands) where
+    (answered, subst (FollowsFrom part init s) (sym (ap (λ o. q ++ cons_option o []) quiet ∙ append-nil q)) stands) where
       fired : Call → Answer → Option Move
       fired c a = move_of (record { agent = e.agent; call = c; answer = a })
-read_step part capacity e s places n vs false call-is answer-is tells = (
+read_step part capacity e s places n vs false call-is answer-is reports = (
   refl,
   λ init q stands same.
       let parts = same_read _ _ _ _ (sym answer-is ∙ same ∙ ap (reply_to (machine part init capacity) q) call-is) in
       let values = ap (λ (f : Place → Value). map f places) (same_old part init q s stands) ∙ sym parts.1 in
-      true_and_false false (tells.1 (parts.0 ∙ sym stands.number, values)) refl,
+      true_and_false false (reports.1 (parts.0 ∙ sym stands.number, values)) refl,
 )
 
 -- ---- one fire
@@ -102,13 +102,13 @@ module _ (part : Part) (capacity : ℕ) (init : State) (q : List Move) (reads : 
         taken (Err c) ok = absurd (cc ok)
 
   -- the reply after the moves, which a state stands for, is the one to a move with this objection or with none
-  pub replied : (s : StateView) (v : Option Objection) → Stands part init s q → IsObjection part init q reads M (Ok v) → reply_to (machine part init capacity) q (call.Fire reads M) ≡ answer.Fire (judged_reply capacity s.number v)
+  pub replied : (s : StateView) (v : Option Objection) → FollowsFrom part init s q → IsObjection part init q reads M (Ok v) → reply_to (machine part init capacity) q (call.Fire reads M) ≡ answer.Fire (judged_reply capacity s.number v)
   replied s v stands judged = ap answer.Fire (objection_is v judged ∙ ap (λ n. judged_reply capacity n v) (sym stands.number))
 
 module _ (part : Part) (capacity : ℕ) (e : Event) (old : StateView) (reads : List Named) (M : Move) (r : Reply) (v : Option Objection)
     (call-is : e.call ≡ call.Fire reads M) (answer-is : e.answer ≡ answer.Fire r)
-    (judged : (init : State) (q : List Move) → Stands part init old q → IsObjection part init q reads M (Ok v)) where
-  reply_is : (init : State) (q : List Move) → Stands part init old q → reply_to (machine part init capacity) q e.call ≡ answer.Fire (judged_reply capacity old.number v)
+    (judged : (init : State) (q : List Move) → FollowsFrom part init old q → IsObjection part init q reads M (Ok v)) where
+  reply_is : (init : State) (q : List Move) → FollowsFrom part init old q → reply_to (machine part init capacity) q e.call ≡ answer.Fire (judged_reply capacity old.number v)
   reply_is init q stands = ap (reply_to (machine part init capacity) q) call-is ∙ replied part capacity init q reads M old v stands (judged init q stands)
 
   pub wrong_fire : (r ≡ judged_reply capacity old.number v → ⊥) → IsStep part capacity e old old false
@@ -116,7 +116,7 @@ module _ (part : Part) (capacity : ℕ) (e : Event) (old : StateView) (reads : L
     same_fire : (x y : Reply) → answer.Fire x ≡ answer.Fire y → x ≡ y
     same_fire x y e = cc
 
-  right : r ≡ judged_reply capacity old.number v → (init : State) (q : List Move) → Stands part init old q → e.answer ≡ reply_to (machine part init capacity) q e.call
+  right : r ≡ judged_reply capacity old.number v → (init : State) (q : List Move) → FollowsFrom part init old q → e.answer ≡ reply_to (machine part init capacity) q e.call
   right is init q stands = answer-is ∙ ap answer.Fire is ∙ sym (reply_is init q stands)
 
   move-is : (s : Reply) → r ≡ s → move_of e ≡ move_of (record { agent = e.agent; call = call.Fire reads M; answer = answer.Fire s })
@@ -124,16 +124,16 @@ module _ (part : Part) (capacity : ℕ) (e : Event) (old : StateView) (reads : L
 
   pub quiet_fire : r ≡ judged_reply capacity old.number v → was_fired r ≡ false → IsStep part capacity e old old true
   quiet_fire is none = λ init q stands.
-      (right is init q stands, subst (Stands part init old) (sym (ap (λ o. q ++ cons_option o []) (move-is r refl ∙ quiet r none) ∙ append-nil q)) stands) where
+      (right is init q stands, subst (FollowsFrom part init old) (sym (ap (λ o. q ++ cons_option o []) (move-is r refl ∙ quiet r none) ∙ append-nil q)) stands) where
         quiet : (s : Reply) → was_fired s ≡ false → move_of (record { agent = e.agent; call = call.Fire reads M; answer = answer.Fire s }) ≡ None
         quiet (reply.Fired k) none = absurd cc
         quiet (reply.Stale l) none = refl
         quiet (reply.Clash c) none = refl
         quiet reply.Full none = refl
 
-  pub taken_fire : (new : StateView) → r ≡ judged_reply capacity old.number v → was_fired r ≡ true → ((init : State) (q : List Move) → Stands part init old q → Stands part init new (q ++ M ∷ [])) → IsStep part capacity e old new true
+  pub taken_fire : (new : StateView) → r ≡ judged_reply capacity old.number v → was_fired r ≡ true → ((init : State) (q : List Move) → FollowsFrom part init old q → FollowsFrom part init new (q ++ M ∷ [])) → IsStep part capacity e old new true
   taken_fire new is fired followed = λ init q stands.
-      (right is init q stands, subst (Stands part init new) (sym (ap (λ o. q ++ cons_option o []) (move-is r refl ∙ taken r fired))) (followed init q stands)) where
+      (right is init q stands, subst (FollowsFrom part init new) (sym (ap (λ o. q ++ cons_option o []) (move-is r refl ∙ taken r fired))) (followed init q stands)) where
         taken : (s : Reply) → was_fired s ≡ true → move_of (record { agent = e.agent; call = call.Fire reads M; answer = answer.Fire s }) ≡ Some M
         taken (reply.Fired k) fired = refl
         taken (reply.Stale l) fired = absurd cc

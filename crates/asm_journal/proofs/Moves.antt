@@ -15,7 +15,7 @@ use Rattle.asm_update.specs.declared.clash.Clash.{Clash}
 use Rattle.asm_update.proofs.FireLemmas.{fire_updates, fire_clash, stored, stored_or, get-write, get-overwrite, same_state}
 use Rattle.asm_element.specs.Ascending.{rising_rest, first_gone}
 use Rattle.asm_state.specs.Change.{IsOneChange}
-use Rattle.asm_state.specs.Stands.{after_move}
+use Rattle.asm_state.specs.FollowsFrom.{after_move}
 use Rattle.asm_state.proofs.InPlace.{nothing, alone, updates_here, clash_here}
 
 -- ---- the state after a move, from what aggregation answers

@@ -5,10 +5,10 @@ use Rattle.asm_update.specs.Move.{Move}
 use Rattle.asm_update.specs.State.{State}
 use Rattle.asm_update.specs.Fire.{Part}
 use Rattle.asm_state.specs.View.{StateView}
-use Rattle.asm_state.specs.Stands.{Stands}
+use Rattle.asm_state.specs.FollowsFrom.{FollowsFrom}
 use Rattle.asm_state.specs.declared.verdict.Objection.{Objection}
 use Rattle.asm_state.specs.declared.verdict.Objection.TheVariants as objection
-use Rattle.asm_storage.specs.Machine.{Machine, reply_to, taken_reply}
+use Rattle.asm_storage.specs.Machine.{Machine, reply_to, fired_or_full}
 use Rattle.asm_storage.specs.History.{move_of, fired_moves, IsLegal}
 use Rattle.asm_storage.specs.declared.call.Reply.{Reply}
 use Rattle.asm_storage.specs.declared.call.Reply.TheVariants as reply
@@ -50,7 +50,7 @@ objection_reply (objection.Clash c) = reply.Clash c
 -- the reply, after so many moves, to a move with this objection or with none
 abbrev pub judged_reply : ℕ → ℕ → Option Objection → Reply
 judged_reply capacity number (Some o) = objection_reply o
-judged_reply capacity number None = taken_reply capacity number
+judged_reply capacity number None = fired_or_full capacity number
 
 -- whether the move was fired
 abbrev pub was_fired : Reply → Bool
@@ -64,7 +64,7 @@ moves_with q e = q ++ cons_option (move_of e) []
 -- whether the answer is right after the moves that the state has followed; if so, the new state has followed the
 -- event's move too, and else it is the old one
 abbrev pub IsStep : Part → ℕ → Event → StateView → StateView → Bool → Type 0
-IsStep part capacity e old new true = (init : State) (q : List Move) → Stands part init old q →
-    (e.answer ≡ reply_to (machine part init capacity) q e.call) × Stands part init new (moves_with q e)
-IsStep part capacity e old new false = (new ≡ old) × ((init : State) (q : List Move) → Stands part init old q →
+IsStep part capacity e old new true = (init : State) (q : List Move) → FollowsFrom part init old q →
+    (e.answer ≡ reply_to (machine part init capacity) q e.call) × FollowsFrom part init new (moves_with q e)
+IsStep part capacity e old new false = (new ≡ old) × ((init : State) (q : List Move) → FollowsFrom part init old q →
     e.answer ≢ reply_to (machine part init capacity) q e.call)

@@ -43,8 +43,8 @@ BreaksEvent v agents k text (Shape n) =
 BreaksEvent v agents k text e = BreaksLine k text e
 
 -- behind the header there are some events and then a line at fault, or all events and then a byte more
-abbrev pub BreaksBehind : List ℕ → JournalError → Type 0
-BreaksBehind text e =
+abbrev pub BreaksAfterHeader : List ℕ → JournalError → Type 0
+BreaksAfterHeader text e =
     (d : Data) × (rest : List ℕ) × (v agents capacity count : ℕ) × (init : State)
     × HasLine text d rest × IsHeader v agents capacity count init d
     × (es : List Event) × (left : List ℕ) × HasEvents v agents rest es left
@@ -53,7 +53,7 @@ BreaksBehind text e =
 
 -- the text is refused with this fault, in its header or behind it; an allocation failure says nothing of the text
 abbrev pub IsRefused : List ℕ → JournalError → Type 0
-IsRefused text e = BreaksHeader text e ⊎ BreaksBehind text e
+IsRefused text e = BreaksHeader text e ⊎ BreaksAfterHeader text e
 
 -- the history, or an allocation failure
 abbrev pub GivesHistory : History → Result History JournalError → Type 0

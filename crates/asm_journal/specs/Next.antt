@@ -14,6 +14,6 @@ IsRunFromStart m h = IsRun m m.init (steps_from m m.init h)
 
 -- Where the moves of a history are a run, and those of another are a run of the machine that opens with the state which
 -- the first ones leave, all of them in turn are a run of the first machine.
-abbrev pub RunGoesOn : Type 0
-RunGoesOn = (m : Machine) (capacity : ℕ) (first second : List Event) → IsRunFromStart m first →
+abbrev pub RunContinues : Type 0
+RunContinues = (m : Machine) (capacity : ℕ) (first second : List Event) → IsRunFromStart m first →
     IsRunFromStart (next_machine m first capacity) second → IsRunFromStart m (first ++ second)

@@ -1,7 +1,7 @@
 //! Whether a history is one that the storage of one thread could have.
 ghost use Rattle.std.specs.Prelude.{◌≡◌, ◌↔◌, IsTrue, IfOk, OnErr};
 ghost use Rattle.asm_journal.specs.Check.{machine_of, IsLegality, objection_reply, judged_reply, was_fired, IsStep};
-ghost use Rattle.asm_storage.specs.Machine.{taken_reply};
+ghost use Rattle.asm_storage.specs.Machine.{fired_or_full};
 
 use asm_state::{Objection, State};
 use asm_storage::{Answer, Call, Event, History, Reply, have_values};
@@ -18,13 +18,13 @@ pub enum Legality {
 }
 
 /// Return whether the reply reports the objection to a move.
-fn tells(objection: &Objection, reply: &Reply) -> bool
+fn reports(objection: &Objection, reply: &Reply) -> bool
     ensures { IsTrue result ↔ (reply.now ≡ objection_reply objection.now) }
 {
     match (objection, reply) {
-        (Objection::Stale(at), Reply::Stale(told)) => at == told,
-        (Objection::Clash(clash), Reply::Clash(told)) => {
-            clash.at == told.at && clash.cause == told.cause
+        (Objection::Stale(at), Reply::Stale(reported)) => at == reported,
+        (Objection::Clash(clash), Reply::Clash(reported)) => {
+            clash.at == reported.at && clash.cause == reported.cause
         }
         _ => false,
     }
@@ -33,11 +33,11 @@ fn tells(objection: &Objection, reply: &Reply) -> bool
 /// Return whether this is the reply to a move without an objection.
 ///
 /// The move comes after so many others.
-fn is_taken(capacity: u32, number: u32, reply: &Reply) -> bool
-    ensures { IsTrue result ↔ (reply.now ≡ taken_reply capacity number) }
+fn is_fired_or_full(capacity: u32, number: u32, reply: &Reply) -> bool
+    ensures { IsTrue result ↔ (reply.now ≡ fired_or_full capacity number) }
 {
     match reply {
-        Reply::Fired(told) => number < capacity && *told == number + 1,
+        Reply::Fired(reported) => number < capacity && *reported == number + 1,
         Reply::Full => capacity <= number,
         Reply::Stale(_) | Reply::Clash(_) => false,
     }
@@ -50,8 +50,8 @@ fn is_reply(objection: &Option<Objection>, capacity: u32, number: u32, reply: &R
     ensures { IsTrue result ↔ (reply.now ≡ judged_reply capacity number objection.now) }
 {
     match objection {
-        Some(objection) => tells(objection, reply),
-        None => is_taken(capacity, number, reply),
+        Some(objection) => reports(objection, reply),
+        None => is_fired_or_full(capacity, number, reply),
     }
 }
 

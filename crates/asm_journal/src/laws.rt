@@ -5,7 +5,7 @@ ghost use Rattle.asm_storage.specs.declared.history.History.{History as Log};
 ghost use Rattle.asm_journal.specs.Text.{text_of};
 ghost use Rattle.asm_journal.specs.Reading.{ReadsAs, TextReadsBack, OneReading, RewrittenReadsBack};
 ghost use Rattle.asm_journal.specs.Fault.{RefusedReadsAsNone, OneFault, SomeFault};
-ghost use Rattle.asm_journal.specs.Next.{RunGoesOn};
+ghost use Rattle.asm_journal.specs.Next.{RunContinues};
 
 use asm_storage::History;
 
@@ -57,7 +57,7 @@ pub fn reads_back(history: &History)
 ///
 /// These are the moves of a history, and then those of another whose storage opened with the state that the first ones
 /// leave. They are one run from the first opening state.
-#[tactic(auto, using(crate::proofs::GoesOn::run_goes_on))]
-pub fn run_goes_on()
-    ensures { RunGoesOn }
+#[tactic(auto, using(crate::proofs::GoesOn::run_continues))]
+pub fn run_continues()
+    ensures { RunContinues }
 {}

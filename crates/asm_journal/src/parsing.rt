@@ -65,7 +65,7 @@ pub struct Limits {
 /// Return whether a journal of this version is read.
 ///
 /// It must be allowed so many agents and this capacity.
-fn are_taken(version: u32, agents: u32, capacity: u32) -> bool
+fn are_supported(version: u32, agents: u32, capacity: u32) -> bool
     ensures { IsTrue result ↔ (IsVersion version
         × (agents ≤ agents_limit) × (1 ≤ capacity) × (capacity ≤ capacity_limit)) }
 {
@@ -85,7 +85,7 @@ fn limits_of(agents: &Json, capacity: &Json, events: &Json, version: &Json) -> O
     let capacity = read_number(capacity)?;
     let events = read_number(events)?;
     let version = read_number(version)?;
-    if !are_taken(version, agents, capacity) {
+    if !are_supported(version, agents, capacity) {
         return None;
     }
     Some(Limits {
@@ -133,7 +133,7 @@ fn compact_header(alloc: Global, text: &[u8]) -> Option<(Header, &[u8])>
     let fourth = behind(later, b",\"init\":")?;
     let (init, end) = PlainState::from_front(alloc, fourth)?;
     let rest = behind(end, b",\"version\":2}\n")?;
-    if !are_taken(2, agents, capacity) {
+    if !are_supported(2, agents, capacity) {
         return None;
     }
     let limits = Limits {
@@ -149,7 +149,7 @@ fn compact_header(alloc: Global, text: &[u8]) -> Option<(Header, &[u8])>
 ///
 /// It has a stack frame of its own.
 #[inline(never)]
-fn whole_header(alloc: Global, text: &[u8]) -> Result<(Header, &[u8]), JournalError>
+fn header_by_tree(alloc: Global, text: &[u8]) -> Result<(Header, &[u8]), JournalError>
     ensures ok { IfOk result (λ p. (d : Data) × HasLine text.now d p.1.now
         × IsHeader p.0.limits.version p.0.limits.agents p.0.limits.capacity p.0.limits.events p.0.init d) }
     ensures err { IfErr result (BreaksHeader text.now) }
@@ -182,7 +182,7 @@ pub fn read_header(alloc: Global, text: &[u8]) -> Result<(Header, &[u8]), Journa
 {
     match compact_header(alloc, text) {
         Some(read) => Ok(read),
-        None => whole_header(alloc, text),
+        None => header_by_tree(alloc, text),
     }
 }
 
@@ -211,7 +211,7 @@ fn compact_event(alloc: Global, text: &[u8], limits: Limits) -> Option<(Event, &
 ///
 /// It has a stack frame of its own.
 #[inline(never)]
-fn whole_event(
+fn event_by_tree(
     alloc: Global,
     text: &[u8],
     number: u64,
@@ -256,7 +256,7 @@ pub fn read_event(
 {
     match compact_event(alloc, text, limits) {
         Some(read) => Ok(read),
-        None => whole_event(alloc, text, number, limits),
+        None => event_by_tree(alloc, text, number, limits),
     }
 }
 

@@ -5,7 +5,7 @@ ghost use Rattle.asm_update.specs.State.{overwrite};
 ghost use Rattle.asm_update.specs.Fire.{state_of};
 ghost use Rattle.asm_update.specs.Move.{Move};
 ghost use Rattle.asm_state.specs.Change.{IsOneChange};
-ghost use Rattle.asm_state.specs.Stands.{after_move};
+ghost use Rattle.asm_state.specs.FollowsFrom.{after_move};
 ghost use Rattle.asm_storage.specs.History.{fired_moves};
 ghost use Rattle.asm_storage.specs.Storage.{machine_of};
 ghost use Rattle.asm_storage.specs.declared.error.StorageError.TheVariants as storage_error;
@@ -160,7 +160,7 @@ pub fn replay<A: Aggregator>(
 /// Open a storage that continues where a history ended.
 ///
 /// It is for at most `capacity` moves, from 1 to 1,048,576. It opens with the state that the history's moves leave, and
-/// its agents start again. What is then fired continues the history's run (`laws::run_goes_on`); its moves are numbered
+/// its agents start again. What is then fired continues the history's run (`laws::run_continues`); its moves are numbered
 /// from 1 again.
 ///
 /// # Errors

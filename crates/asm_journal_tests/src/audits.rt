@@ -28,7 +28,7 @@ impl Read for BrokenOff<'_> {
 }
 
 /// Return the verdict on an input that gives this text and then fails.
-fn told_of_broken_off(alloc: Global, text: &str) -> Result<Verdict, AuditInputError> {
+fn reported_of_broken_off(alloc: Global, text: &str) -> Result<Verdict, AuditInputError> {
     audit(
         alloc,
         standard(),
@@ -71,13 +71,13 @@ nothing
 ];
 
 #[test]
-fn what_is_wrong_is_told_before_the_end_of_the_input(rt: HostRuntime) -> Result<(), Fail> {
+fn what_is_wrong_is_reported_before_the_end_of_the_input(rt: HostRuntime) -> Result<(), Fail> {
     for (text, wanted) in BROKEN_OFF.iter() {
-        let told = told_of_broken_off(rt.alloc(), text);
-        if told == Err(AuditInputError::Audit(AuditError::Memory)) {
+        let reported = reported_of_broken_off(rt.alloc(), text);
+        if reported == Err(AuditInputError::Audit(AuditError::Memory)) {
             return Err(Fail::from(std::alloc::AllocError));
         }
-        assert!(rt; told == *wanted, "{text}");
+        assert!(rt; reported == *wanted, "{text}");
     }
     Ok(())
 }

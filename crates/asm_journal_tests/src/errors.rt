@@ -1,6 +1,6 @@
 //! The errors, and the answers of checks.
 use asm_journal::{JournalError, Legality, WriteError};
-use asm_test_support::are_told_apart;
+use asm_test_support::are_distinct;
 use std::alloc::{AllocError, Global};
 use std::fmt::Display;
 use std::test::Fail;
@@ -8,7 +8,7 @@ use std::test::Fail;
 #[test]
 fn legalities_differ_in_each_number(rt: HostRuntime) -> Result<(), Fail> {
     assert!(rt;
-        are_told_apart(&[
+        are_distinct(&[
             Legality::Legal { calls: 3, moves: 1 },
             Legality::Legal { calls: 4, moves: 1 },
             Legality::Legal {
@@ -29,7 +29,7 @@ fn legalities_differ_in_each_number(rt: HostRuntime) -> Result<(), Fail> {
 #[test]
 fn errors_differ_in_each_number(rt: HostRuntime) -> Result<(), Fail> {
     assert!(rt;
-        are_told_apart(&[
+        are_distinct(&[
             JournalError::NotJson(1),
             JournalError::NotJson(2),
             JournalError::NotJson(4_294_967_297),
@@ -42,7 +42,7 @@ fn errors_differ_in_each_number(rt: HostRuntime) -> Result<(), Fail> {
         ])
     );
     assert!(rt;
-        are_told_apart(&[
+        are_distinct(&[
             WriteError::Output { written: 0 },
             WriteError::Output { written: 1 },
             WriteError::Output {

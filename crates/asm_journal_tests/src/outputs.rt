@@ -76,12 +76,12 @@ fn goes_out(
         writes_the_rest: true,
     };
     let whole = BLOCKS.len();
-    let told = match write_text(alloc, &mut out, history) {
+    let reported = match write_text(alloc, &mut out, history) {
         Ok(()) => whole <= room,
         Err(WriteError::Output { written }) => room < whole && written == room as u64,
         Err(WriteError::Memory) => return Err(AllocError),
     };
-    Ok(told && out.writes_the_rest && out.taken == room.min(whole) && out.calls == calls)
+    Ok(reported && out.writes_the_rest && out.taken == room.min(whole) && out.calls == calls)
 }
 
 // `BLOCKS` has 271 bytes.
@@ -107,7 +107,9 @@ fn blocks_go_out(alloc: Global, row: Row) -> Result<bool, JournalError> {
 }
 
 #[test]
-fn what_went_out_is_told_and_nothing_follows_a_failed_write(rt: HostRuntime) -> Result<(), Fail> {
+fn what_went_out_is_reported_and_nothing_follows_a_failed_write(
+    rt: HostRuntime,
+) -> Result<(), Fail> {
     for (index, row) in ROWS.iter().enumerate() {
         assert!(rt; blocks_go_out(rt.alloc(), *row)?, "{index}");
     }

@@ -14,7 +14,7 @@ use Rattle.asm_update.specs.Fire.{fire}
 use Rattle.asm_update.specs.Move.{Move}
 use Rattle.asm_update.specs.State.{State, val}
 use Rattle.asm_update.specs.declared.clash.Clash.{Clash}
-use Rattle.asm_state.specs.Stands.{is_stale}
+use Rattle.asm_state.specs.FollowsFrom.{is_stale}
 use Rattle.asm_state.specs.Verdict.{least_stale}
 use Rattle.asm_state.specs.declared.named.Named.{Named}
 use Rattle.asm_storage.specs.Agents.{event_of, moves_seen}
@@ -83,9 +83,9 @@ fresh_value m q r none le l there =
 pub clashed_by : (m : Machine) (q : List Move) (reads : List Named) (M : Move) (c : Clash) →
     answer.Fire (reply.Clash c) ≡ reply_to m q (call.Fire reads M) →
     (least_stale m.part m.init q reads ≡ None) × (fire m.part (machine_state m q) M ≡ Err c)
-clashed_by m q reads M c is = by_stale (least_stale m.part m.init q reads) refl told where
-  told : reply.Clash c ≡ fire_reply m q M (least_stale m.part m.init q reads)
-  told = cc is
+clashed_by m q reads M c is = by_stale (least_stale m.part m.init q reads) refl reported where
+  reported : reply.Clash c ≡ fire_reply m q M (least_stale m.part m.init q reads)
+  reported = cc is
 
   not_taken : (b : Bool) → reply.Clash c ≡ cond b (reply.Fired (length q + 1)) reply.Full → ⊥
   not_taken true is = cc is
@@ -110,9 +110,9 @@ pub record FoundNoRoom (m : Machine) (q : List Move) (reads : List Named) (M : M
 
 pub no_room_by : (m : Machine) (q : List Move) (reads : List Named) (M : Move) →
     answer.Fire reply.Full ≡ reply_to m q (call.Fire reads M) → FoundNoRoom m q reads M
-no_room_by m q reads M is = by_stale (least_stale m.part m.init q reads) refl told where
-  told : reply.Full ≡ fire_reply m q M (least_stale m.part m.init q reads)
-  told = cc is
+no_room_by m q reads M is = by_stale (least_stale m.part m.init q reads) refl reported where
+  reported : reply.Full ≡ fire_reply m q M (least_stale m.part m.init q reads)
+  reported = cc is
 
   not_taken : (b : Bool) → nat_lt (length q) m.capacity ≡ b →
       reply.Full ≡ cond b (reply.Fired (length q + 1)) reply.Full → m.capacity ≤ length q
@@ -137,9 +137,9 @@ no_room_by m q reads M is = by_stale (least_stale m.part m.init q reads) refl to
 -- a fire that names nothing isn't stale
 pub not_stale : (m : Machine) (q : List Move) (M : Move) (l : Place) →
     answer.Fire (reply.Stale l) ≡ reply_to m q (call.Fire [] M) → ⊥
-not_stale m q M l is = by_answer (fire m.part (machine_state m q) M) told where
-  told : reply.Stale l ≡ firing_reply m q (fire m.part (machine_state m q) M)
-  told = cc is
+not_stale m q M l is = by_answer (fire m.part (machine_state m q) M) reported where
+  reported : reply.Stale l ≡ firing_reply m q (fire m.part (machine_state m q) M)
+  reported = cc is
 
   not_taken : (b : Bool) → reply.Stale l ≡ cond b (reply.Fired (length q + 1)) reply.Full → ⊥
   not_taken true is = cc is

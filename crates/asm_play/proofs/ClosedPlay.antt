@@ -14,16 +14,16 @@ use Rattle.asm_storage.specs.Storage as storage
 use Rattle.asm_storage.specs.declared.error.CloseError.{CloseError}
 use Rattle.asm_storage.specs.declared.error.CloseError.TheVariants as close_error
 use Rattle.asm_storage.specs.declared.history.Event.{Event}
-use Rattle.asm_play.proofs.Later.{are_told_later}
+use Rattle.asm_play.proofs.Later.{are_reported_later}
 use Rattle.asm_play.proofs.ProperMoves.{proper_prefix}
 use Rattle.asm_script.specs.Plan.{Plan}
 use Rattle.asm_play.specs.Play as play
-use Rattle.asm_play.specs.Play.{AreAgentsTold, IsPlayOf}
+use Rattle.asm_play.specs.Play.{AreAgentsEvents, IsPlayOf}
 use Rattle.asm_play.specs.AgentPlay.{AreProper, Plays}
 use Rattle.asm_aggregate.specs.Standard.{standard_meaning, standard_part}
 use Rattle.asm_play.specs.Ends.{outcome_in, terms_in}
-use Rattle.asm_play.specs.StepEvents.{AreTold}
-use Rattle.asm_play.specs.PlayedAgents.{close_error_told, ArePlayed, IsNotClosed}
+use Rattle.asm_play.specs.StepEvents.{AreStepsEvents}
+use Rattle.asm_play.specs.PlayedAgents.{run_error_of_close, ArePlayed, IsNotClosed}
 use Rattle.asm_script.specs.declared.step.Step.{Step}
 use Rattle.asm_play.specs.declared.step_end.StepEnd.{StepEnd}
 use Rattle.asm_play.specs.declared.outcome.Played.{Played}
@@ -72,40 +72,40 @@ module _ {A : Type 0} (meaning : A → Meaning) (s : StorageView A) where
   none_beyond id sss agents oss i played le = absurd played
 
   -- what is told of one agent in a history that tells its receipts, and whose moves begin with what it saw
-  agent_told : (id : ℕ) (ss : List Step) (a : AgentAt A) (os : List StepEnd) (h : List Event) →
+  agent_reported : (id : ℕ) (ss : List Step) (a : AgentAt A) (os : List StepEnd) (h : List Event) →
       (meaning s.agg).part ≡ standard_part → AreProper s.init (fired_moves h) →
       Plays meaning standard_meaning (at_start s id) a ss os →
       events_of h a.account.id ≡ map (event_of a.account.id) a.account.receipts →
       IsPrefix (moves_seen a.account.seen) (fired_moves h) →
-      AreTold standard_meaning (storage.machine_of meaning s) (fired_moves h) ss os (events_of h id)
-  agent_told id ss a os h same proper played mine begins =
+      AreStepsEvents standard_meaning (storage.machine_of meaning s) (fired_moves h) ss os (events_of h id)
+  agent_reported id ss a os h same proper played mine begins =
       let m = storage.machine_of meaning s in
       let seen = moves_seen a.account.seen in
       let proper_seen = proper_prefix s.init seen (fired_moves h) begins proper in
-      let told = are_told_later standard_meaning m seen (fired_moves h) begins ss os _ (played.told same proper_seen) in
+      let reported = are_reported_later standard_meaning m seen (fired_moves h) begins ss os _ (played.reported same proper_seen) in
       let number : a.account.id ≡ id = played.same.id in
       let events : events_of h id ≡ map (event_of id) played.more =
       ap (events_of h) (sym number) ∙ mine ∙ ap (λ i. map (event_of i) a.account.receipts) number
       ∙ ap (map (event_of id)) played.added in
-      subst (AreTold standard_meaning m (fired_moves h) ss os) (sym events) told
+      subst (AreStepsEvents standard_meaning m (fired_moves h) ss os) (sym events) reported
 
   -- and so of each
-  pub agents_told : (id : ℕ) (sss : List (List Step)) (agents : List (AgentAt A)) (oss : List (List StepEnd))
+  pub agents_reported : (id : ℕ) (sss : List (List Step)) (agents : List (AgentAt A)) (oss : List (List StepEnd))
       (h : List Event) → (meaning s.agg).part ≡ standard_part → AreProper s.init (fired_moves h) →
       ArePlayed meaning standard_meaning s id sss agents oss →
       All (λ a. events_of h a.id ≡ map (event_of a.id) a.receipts) (accounts agents) →
       All (λ a. IsPrefix (moves_seen a.seen) (fired_moves h)) (accounts agents) →
-      AreAgentsTold (storage.machine_of meaning s) h id sss oss
-  agents_told id [] [] [] h same proper played own_ones begins = tt
-  agents_told id (ss ∷ sss) (a ∷ agents) (os ∷ oss) h same proper played own_ones begins =
+      AreAgentsEvents (storage.machine_of meaning s) h id sss oss
+  agents_reported id [] [] [] h same proper played own_ones begins = tt
+  agents_reported id (ss ∷ sss) (a ∷ agents) (os ∷ oss) h same proper played own_ones begins =
       let P : AgentView → Type 0 = λ b. events_of h b.id ≡ map (event_of b.id) b.receipts in
       let Q : AgentView → Type 0 = λ b. IsPrefix (moves_seen b.seen) (fired_moves h) in (
-        agent_told id ss a os h same proper played.0 (All-head P a.account (accounts agents) own_ones)
+        agent_reported id ss a os h same proper played.0 (All-head P a.account (accounts agents) own_ones)
             (All-head Q a.account (accounts agents) begins),
-        agents_told (id + 1) sss agents oss h same proper played.1 (All-tail P a.account (accounts agents) own_ones)
+        agents_reported (id + 1) sss agents oss h same proper played.1 (All-tail P a.account (accounts agents) own_ones)
             (All-tail Q a.account (accounts agents) begins),
       )
-  agents_told id sss agents oss h same proper played own_ones begins = absurd played
+  agents_reported id sss agents oss h same proper played own_ones begins = absurd played
 
 -- numbers from one up rise
 pub range_rises : (id n : ℕ) (xs : List ℕ) → xs ≡ range_with_len id n → IsStrictlyIncreasing xs
@@ -116,23 +116,23 @@ range_rises id n xs is = subst IsStrictlyIncreasing (sym is) (λ k lt.
     omega (arith, here, next))
 
 -- an error of closing, as one of the run
-close_error_kept : (agents : List AgentView) (e : CloseError) → IsMissing agents e → IsNotClosed agents (close_error_told e)
+close_error_kept : (agents : List AgentView) (e : CloseError) → IsMissing agents e → IsNotClosed agents (run_error_of_close e)
 close_error_kept agents (close_error.Missing k) missing = missing
 close_error_kept agents close_error.Memory missing = tt
 
 -- the error of closing what was lent
 pub not_closed : {A : Type 0} (lent agents : List (AgentAt A)) (e : CloseError) (r : RunError) → lent ≡ agents →
-    IsMissing (accounts lent) e → r ≡ close_error_told e → IsNotClosed (accounts agents) r
-not_closed lent agents e r same missing told =
+    IsMissing (accounts lent) e → r ≡ run_error_of_close e → IsNotClosed (accounts agents) r
+not_closed lent agents e r same missing reported =
     subst (λ q. IsNotClosed (accounts q) r) same
-    (subst (IsNotClosed (accounts lent)) (sym told) (close_error_kept (accounts lent) e missing))
+    (subst (IsNotClosed (accounts lent)) (sym reported) (close_error_kept (accounts lent) e missing))
 
 -- no error of closing is that of a capacity
-pub told_later : (e : CloseError) (r : RunError) → r ≡ close_error_told e → r ≢ run_error.BadCapacity
-told_later (close_error.Missing k) r told bad =
-    let no : run_error.Missing k ≡ run_error.BadCapacity = sym told ∙ bad in cc no
-told_later close_error.Memory r told bad =
-    let no : run_error.Memory ≡ run_error.BadCapacity = sym told ∙ bad in cc no
+pub reported_later : (e : CloseError) (r : RunError) → r ≡ run_error_of_close e → r ≢ run_error.BadCapacity
+reported_later (close_error.Missing k) r reported bad =
+    let no : run_error.Missing k ≡ run_error.BadCapacity = sym reported ∙ bad in cc no
+reported_later close_error.Memory r reported bad =
+    let no : run_error.Memory ≡ run_error.BadCapacity = sym reported ∙ bad in cc no
 
 -- the history that the agents of a script close to is a play of it
 pub closes : {A : Type 0} (meaning : A → Meaning) (s : StorageView A) (plan : Plan) (lent agents : List (AgentAt A))
@@ -152,7 +152,7 @@ closes meaning s plan lent agents oss p same part init played closed_lent opened
     let machine : storage.machine_of meaning s ≡ play.machine_of plan capacity_of =
     λ i. record { part = part i; init = init i; capacity = capacity_of } in
     let proper = subst (λ A. AreProper A (fired_moves h)) opened proper_h in
-    let told = agents_told meaning s 0 plan.agents agents oss h part proper played closed.own_receipts
+    let reported = agents_reported meaning s 0 plan.agents agents oss h part proper played closed.own_receipts
     closed.seen_first in
     let all = bound_is meaning s 0 plan.agents agents oss played in record {
       opened = opened ∙ init;
@@ -160,7 +160,7 @@ closes meaning s plan lent agents oss p same part init played closed_lent opened
       agents = omega (arith, bound, all);
       legal = subst (λ m. IsLegal m h) machine closed.legal;
       ends = oss;
-      told = subst (λ m. AreAgentsTold m h 0 plan.agents oss) machine told;
+      reported = subst (λ m. AreAgentsEvents m h 0 plan.agents oss) machine reported;
       outcomes = outcomes;
       terms = terms;
       others = λ i le. closed.no_others i

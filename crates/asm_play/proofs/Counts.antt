@@ -13,7 +13,7 @@ use Rattle.asm_storage.specs.declared.call.Call.TheVariants as call
 use Rattle.asm_storage.specs.declared.history.Event.{Event}
 use Rattle.asm_script.specs.Sequencing.{step_move_on}
 use Rattle.asm_script.specs.declared.step.Step.{Step}
-use Rattle.asm_play.specs.Ends.{term_in, told_term, terms_from}
+use Rattle.asm_play.specs.Ends.{term_in, terms_of_end, terms_from}
 use Rattle.asm_play.specs.declared.outcome.StepTerm.{StepTerm}
 use Rattle.asm_play.specs.declared.step_end.StepEnd.{StepEnd}
 use Rattle.asm_play.specs.StepEvents.{name_at, state_at, stale_fires, IsIdle, IsReading, IsTryOf, IsVainTry}
@@ -29,8 +29,8 @@ stale_both (x ∷ xs) ys = omega (arith, stale_both xs ys)
 -- the read of a step that reads something
 pub one_reading : (ps : List Place) (n : ℕ) (vs : List Value) (e : Event) → ps ≢ [] → e.call ≡ call.Read ps →
     e.answer ≡ answer.Read n vs → IsReading ps n (e ∷ [])
-one_reading [] n vs e some asked told = absurd (some refl)
-one_reading (p ∷ ps) n vs e some asked told = (e, vs, refl, asked, told)
+one_reading [] n vs e some asked reported = absurd (some refl)
+one_reading (p ∷ ps) n vs e some asked reported = (e, vs, refl, asked, reported)
 
 module _ (own : Meaning) (m : Machine) (q : List Move) (step : Step) where
   -- a try without a fire, and one with a fire
@@ -70,11 +70,11 @@ none_apart f done all left whole none =
 
 -- a step's end more is told, as its number is how many were told before
 pub one_term : (done new all : List StepTerm) (n k : ℕ) (e : StepEnd) (left rest : List StepEnd) →
-    done ++ terms_from n left ≡ all → left ≡ e ∷ rest → new ≡ done ++ told_term n (term_in e) → k ≡ n + 1 →
+    done ++ terms_from n left ≡ all → left ≡ e ∷ rest → new ≡ done ++ terms_of_end n (term_in e) → k ≡ n + 1 →
     new ++ terms_from k rest ≡ all
 one_term done new all n k e left rest whole step added next =
-    ap (λ ys. ys ++ terms_from k rest) added ∙ append_assoc done (told_term n (term_in e)) (terms_from k rest)
-    ∙ ap (λ m. done ++ (told_term n (term_in e) ++ terms_from m rest)) next
+    ap (λ ys. ys ++ terms_from k rest) added ∙ append_assoc done (terms_of_end n (term_in e)) (terms_from k rest)
+    ∙ ap (λ m. done ++ (terms_of_end n (term_in e) ++ terms_from m rest)) next
     ∙ ap (λ xs. done ++ terms_from n xs) (sym step) ∙ whole
 
 pub no_terms : (done all : List StepTerm) (n : ℕ) (left : List StepEnd) → done ++ terms_from n left ≡ all → left ≡ [] →

@@ -11,10 +11,10 @@ use Rattle.asm_update.specs.declared.clash.Clash.{Clash}
 use Rattle.asm_storage.specs.Machine.{Machine, machine_state}
 use Rattle.asm_storage.specs.declared.history.Event.{Event}
 use Rattle.asm_storage.proofs.Lists.{take-prefix, length-prefix}
-use Rattle.asm_script.specs.Sequencing.{fire_blocks, step_move_on, StandsFor}
+use Rattle.asm_script.specs.Sequencing.{fire_blocks, step_move_on, IsMoveFor}
 use Rattle.asm_play.specs.StepEvents.{IsFiring, IsClashing, HasNoRoom, HasFault, Outgrows}
 use Rattle.asm_play.specs.StepEvents.{AreTries, AreInVain, IsEndedAfter, HasTriesOf, HasTries, IsTryOf, IsVainTry}
-use Rattle.asm_play.specs.StepEvents.{IsTold, AreTold}
+use Rattle.asm_play.specs.StepEvents.{AreStepEvents, AreStepsEvents}
 use Rattle.asm_script.specs.declared.step.Step.{Step}
 use Rattle.asm_script.specs.declared.fault.StepFault.{StepFault}
 use Rattle.asm_script.specs.declared.fault.StepFault.TheVariants as fault
@@ -26,7 +26,7 @@ module _ (own : Meaning) (m : Machine) (q r : List Move) (p : IsPrefix q r) wher
   fault_later step f (n, le, stands) = (
     n,
     omega (arith, le, length-prefix q r p),
-    subst (λ w. StandsFor own (machine_state m w) step (Err f)) (take-prefix n q r p le) stands,
+    subst (λ w. IsMoveFor own (machine_state m w) step (Err f)) (take-prefix n q r p le) stands,
   )
 
   outgrows_later : (step : Step) → Outgrows own m q step → Outgrows own m r step
@@ -79,16 +79,16 @@ module _ (own : Meaning) (m : Machine) (q r : List Move) (p : IsPrefix q r) wher
         ),
       )
 
-  told_later : (step : Step) (o : StepEnd) (es : List Event) → IsTold own m q step o es → IsTold own m r step o es
-  told_later step (step_end.Fired k) es told = (told.0, told.1, told.2, told.3, firing_later step k told.1 told.4)
-  told_later step step_end.Full es told = (told.0, told.1, told.2, told.3, no_room_later step told.1 told.4)
-  told_later step (step_end.Clash c) es (inl told) =
-      inl (told.0, told.1, told.2, told.3, clashing_later step c told.1 told.4)
-  told_later step (step_end.Clash c) es (inr told) = inr (told.0, fault_later step (fault.Clash c) told.1)
-  told_later step (step_end.Term f) es told = (told.0, fault_later step (fault.Term f) told.1)
-  told_later step (step_end.Large l) es told = (told.0, fault_later step (fault.Large l) told.1)
-  told_later step step_end.Many es told = (told.0, outgrows_later step told.1)
-  told_later step step_end.GaveUp es told = told
+  reported_later : (step : Step) (o : StepEnd) (es : List Event) → AreStepEvents own m q step o es → AreStepEvents own m r step o es
+  reported_later step (step_end.Fired k) es reported = (reported.0, reported.1, reported.2, reported.3, firing_later step k reported.1 reported.4)
+  reported_later step step_end.Full es reported = (reported.0, reported.1, reported.2, reported.3, no_room_later step reported.1 reported.4)
+  reported_later step (step_end.Clash c) es (inl reported) =
+      inl (reported.0, reported.1, reported.2, reported.3, clashing_later step c reported.1 reported.4)
+  reported_later step (step_end.Clash c) es (inr reported) = inr (reported.0, fault_later step (fault.Clash c) reported.1)
+  reported_later step (step_end.Term f) es reported = (reported.0, fault_later step (fault.Term f) reported.1)
+  reported_later step (step_end.Large l) es reported = (reported.0, fault_later step (fault.Large l) reported.1)
+  reported_later step step_end.Many es reported = (reported.0, outgrows_later step reported.1)
+  reported_later step step_end.GaveUp es reported = reported
 
   try_later : (step : Step) (places : List Place) (es : List Event) → IsTryOf own m q step places es →
       IsTryOf own m r step places es
@@ -164,15 +164,15 @@ module _ (own : Meaning) (m : Machine) (q r : List Move) (p : IsPrefix q r) wher
   tries_later : (step : Step) (o : StepEnd) (es : List Event) → HasTries own m q step o es → HasTries own m r step o es
   tries_later step o es (places, reads, has) = (places, reads, tries_of_later step places o es has)
 
-  pub are_told_later : (ss : List Step) (os : List StepEnd) (es : List Event) → AreTold own m q ss os es →
-      AreTold own m r ss os es
-  are_told_later [] [] es told = told
-  are_told_later (s ∷ ss) (o ∷ os) es told = (
-    told.0,
-    told.1,
-    told.2,
-    told_later s o told.0 told.3,
-    tries_later s o told.0 told.4,
-    are_told_later ss os told.1 told.5,
+  pub are_reported_later : (ss : List Step) (os : List StepEnd) (es : List Event) → AreStepsEvents own m q ss os es →
+      AreStepsEvents own m r ss os es
+  are_reported_later [] [] es reported = reported
+  are_reported_later (s ∷ ss) (o ∷ os) es reported = (
+    reported.0,
+    reported.1,
+    reported.2,
+    reported_later s o reported.0 reported.3,
+    tries_later s o reported.0 reported.4,
+    are_reported_later ss os reported.1 reported.5,
   )
-  are_told_later ss os es told = absurd told
+  are_reported_later ss os es reported = absurd reported

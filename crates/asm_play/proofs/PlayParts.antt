@@ -67,7 +67,7 @@ pub agents_ended : {X A : Type 0} (meaning : A → Meaning) (mine theirs : A) (o
     first ≡ map (at_start s) (range_with_len 0 (length written)) →
     agents ≡ map xa played_agents → oss ≡ map xo played_agents → ArePlayed meaning other s 0 sss agents oss
 agents_ended {A = A} meaning mine theirs other s xa xo first played_agents written sss agents oss same means is given
-    begun left told =
+    begun left reported =
     let all : map (steps_at written) first ≡ written = ap (map (steps_at written)) begun ∙ steps_of_all s written in
     let played =
     agents_from meaning (meaning mine) s (steps_at written) xa xo 0 first played_agents written given begun all in
@@ -75,7 +75,7 @@ agents_ended {A = A} meaning mine theirs other s xa xo first played_agents writt
     (subst (λ (p : Meaning). ArePlayed meaning p s 0 written agents oss) (ap meaning same ∙ means)
     (subst (λ (p : List (AgentAt A)). ArePlayed meaning (meaning mine) s 0 written p oss) (sym left)
     (subst (λ (p : List (List StepEnd)). ArePlayed meaning (meaning mine) s 0 written (map xa played_agents) p)
-    (sym told) played)))
+    (sym reported) played)))
 
 -- a worker whose thread is missing is one of several, and so is its agent
 pub missing_of_several : {A X : Type 0} (s : StorageView A) (agents : Vec (AgentAt A) Global)
@@ -83,14 +83,14 @@ pub missing_of_several : {A X : Type 0} (s : StorageView A) (agents : Vec (Agent
     agents.items ≡ map (at_start s) (range_with_len 0 (length written)) → written ≡ sss →
     (e ≡ run_error.NoThread → 2 ≤ vec_len agents) → IsErrAnd r (λ f. f ≡ e) → r ≡ Err run_error.NoThread →
     2 ≤ length sss
-missing_of_several s agents written sss e r begun same several told is =
+missing_of_several s agents written sss e r begun same several reported is =
     let first = map (at_start s) (range_with_len 0 (length written)) in
     let count : length first ≡ length written =
     length-map (range_with_len 0 (length written)) (at_start s) ∙ length-range_with_len 0 (length written) in
     let items : length agents.items ≡ length first = ap length begun in
     let all : length written ≡ length sss = ap length same in
     let long : vec_len agents ≡ length agents.items = agents.ok.0 in
-    let two : 2 ≤ vec_len agents = several (sym (subst (λ q. IsErrAnd q (λ f. f ≡ e)) is told)) in
+    let two : 2 ≤ vec_len agents = several (sym (subst (λ q. IsErrAnd q (λ f. f ≡ e)) is reported)) in
     omega (arith, two, long, items, count, all)
 
 -- closing starts no thread

@@ -27,27 +27,27 @@ take_more_at xs i x is = take_more xs i x (slice_get_within xs i x is)
 abbrev pub TellsFrom : ReadingView → Place → ℕ → Type 0
 TellsFrom r l i = value_among r.places r.values l ≡ value_among (drop i r.places) (drop i r.values) l
 
-module _ (r : ReadingView) (l : Place) (i : ℕ) (told : TellsFrom r l i) (p : Place) (v : Value)
+module _ (r : ReadingView) (l : Place) (i : ℕ) (reported : TellsFrom r l i) (p : Place) (v : Value)
     (at : slice_get r.places i ≡ Some p)
     (value : slice_get r.values i ≡ Some v) where
-  first_tells : value_among r.places r.values l ≡ cond (eq_by_cmp location_cmp p l) v
+  first_reports : value_among r.places r.values l ≡ cond (eq_by_cmp location_cmp p l) v
       (value_among (drop (i + 1) r.places) (drop (i + 1) r.values) l)
-  first_tells = told ∙ (λ n. value_among (left_at r.places i p at n) (left_at r.values i v value n) l)
+  first_reports = reported ∙ (λ n. value_among (left_at r.places i p at n) (left_at r.values i v value n) l)
 
   -- the location stands here
-  pub tells_here : eq_by_cmp location_cmp p l ≡ true → value_among r.places r.values l ≡ v
-  tells_here same = first_tells
+  pub reports_here : eq_by_cmp location_cmp p l ≡ true → value_among r.places r.values l ≡ v
+  reports_here same = first_reports
       ∙ ap (λ b. cond b v (value_among (drop (i + 1) r.places) (drop (i + 1) r.values) l)) same
 
   -- another location stands here
-  pub tells_later : eq_by_cmp location_cmp p l ≡ false → TellsFrom r l (i + 1)
-  tells_later other = first_tells
+  pub reports_later : eq_by_cmp location_cmp p l ≡ false → TellsFrom r l (i + 1)
+  reports_later other = first_reports
       ∙ ap (λ b. cond b v (value_among (drop (i + 1) r.places) (drop (i + 1) r.values) l)) other
 
 -- nothing is left
-pub tells_none : (r : ReadingView) (l : Place) (i : ℕ) → TellsFrom r l i → length r.places ≤ i →
+pub reports_none : (r : ReadingView) (l : Place) (i : ℕ) → TellsFrom r l i → length r.places ≤ i →
     value_among r.places r.values l ≡ undef
-tells_none r l i told le = told ∙ ap (λ ps. value_among ps (drop i r.values) l) (drop_all i r.places le)
+reports_none r l i reported le = reported ∙ ap (λ ps. value_among ps (drop i r.values) l) (drop_all i r.places le)
 
 -- the value read is the value
 pub value_mapped : (f : Place → Value) (ps : List Place) (l : Place) → Contains ps l → value_among ps (map f ps) l ≡ f l

@@ -19,7 +19,7 @@ use Rattle.asm_storage.proofs.Lists.{length-prefix}
 use Rattle.asm_play.specs.AgentPlay.{AreProper, Plays}
 use Rattle.asm_play.specs.StepEvents.{IsIdle, IsFiring, IsClashing, HasNoRoom}
 use Rattle.asm_play.specs.StepEvents.{stale_fires, AreTries, IsEndedAfter, HasTriesOf, HasTries, EndsWith}
-use Rattle.asm_play.specs.StepEvents.{IsTryOf, IsVainTry, IsTold, AreTold}
+use Rattle.asm_play.specs.StepEvents.{IsTryOf, IsVainTry, AreStepEvents, AreStepsEvents}
 use Rattle.asm_play.specs.Trying.{Adds, IsAgain, IsVain, Tried, IsStepPlayed}
 use Rattle.asm_script.specs.declared.step.Step.{Step}
 use Rattle.asm_play.specs.declared.step_end.StepEnd.{StepEnd}
@@ -27,7 +27,7 @@ use Rattle.asm_play.specs.declared.step_end.StepEnd.TheVariants as step_end
 use Rattle.asm_play.proofs.ProperMoves.{proper_prefix}
 use Rattle.asm_play.proofs.Counts.{stale_both}
 use Rattle.asm_play.proofs.Adding.{prefix_mapped, adds_then, adds_none}
-use Rattle.asm_play.proofs.Later.{are_tries_later, are_told_later}
+use Rattle.asm_play.proofs.Later.{are_tries_later, are_reported_later}
 
 -- idle events in front change nothing
 idle_front : (P : Event → Type 0) (xs es : List Event) → All IsIdle xs → EndsWith P es → EndsWith P (xs ++ es)
@@ -40,31 +40,31 @@ idle_front P xs es idle ends = (
 )
 
 module _ (own : Meaning) (m : Machine) (q : List Move) (step : Step) where
-  idle_before : (o : StepEnd) (xs es : List Event) → All IsIdle xs → IsTold own m q step o es →
-      IsTold own m q step o (xs ++ es)
-  idle_before (step_end.Fired k) xs es idle told = idle_front (IsFiring own m q step k) xs es idle told
-  idle_before step_end.Full xs es idle told = idle_front (HasNoRoom own m q step) xs es idle told
-  idle_before (step_end.Clash c) xs es idle (inl told) = inl (idle_front (IsClashing own m q step c) xs es idle told)
-  idle_before (step_end.Clash c) xs es idle (inr told) = inr (All-append IsIdle xs es idle told.0, told.1)
-  idle_before step_end.GaveUp xs es idle told = All-append IsIdle xs es idle told
-  idle_before o xs es idle told = (All-append IsIdle xs es idle told.0, told.1)
+  idle_before : (o : StepEnd) (xs es : List Event) → All IsIdle xs → AreStepEvents own m q step o es →
+      AreStepEvents own m q step o (xs ++ es)
+  idle_before (step_end.Fired k) xs es idle reported = idle_front (IsFiring own m q step k) xs es idle reported
+  idle_before step_end.Full xs es idle reported = idle_front (HasNoRoom own m q step) xs es idle reported
+  idle_before (step_end.Clash c) xs es idle (inl reported) = inl (idle_front (IsClashing own m q step c) xs es idle reported)
+  idle_before (step_end.Clash c) xs es idle (inr reported) = inr (All-append IsIdle xs es idle reported.0, reported.1)
+  idle_before step_end.GaveUp xs es idle reported = All-append IsIdle xs es idle reported
+  idle_before o xs es idle reported = (All-append IsIdle xs es idle reported.0, reported.1)
 
 -- one step more
-are_told_more : (own : Meaning) (m : Machine) (q : List Move) (ss : List Step) (os : List StepEnd)
+are_reported_more : (own : Meaning) (m : Machine) (q : List Move) (ss : List Step) (os : List StepEnd)
     (es fs : List Event) (s : Step) (o : StepEnd) →
-    AreTold own m q ss os es → IsTold own m q s o fs × HasTries own m q s o fs →
-    AreTold own m q (ss ++ s ∷ []) (os ++ o ∷ []) (es ++ fs)
-are_told_more own m q [] [] es fs s o told last =
-    (fs, [], ap (λ w. w ++ fs) told ∙ sym (append-nil fs), last.0, last.1, refl)
-are_told_more own m q (t ∷ ss) (p ∷ os) es fs s o told last = (
-  told.0,
-  told.1 ++ fs,
-  ap (λ w. w ++ fs) told.2 ∙ append_assoc told.0 told.1 fs,
-  told.3,
-  told.4,
-  are_told_more own m q ss os told.1 fs s o told.5 last,
+    AreStepsEvents own m q ss os es → AreStepEvents own m q s o fs × HasTries own m q s o fs →
+    AreStepsEvents own m q (ss ++ s ∷ []) (os ++ o ∷ []) (es ++ fs)
+are_reported_more own m q [] [] es fs s o reported last =
+    (fs, [], ap (λ w. w ++ fs) reported ∙ sym (append-nil fs), last.0, last.1, refl)
+are_reported_more own m q (t ∷ ss) (p ∷ os) es fs s o reported last = (
+  reported.0,
+  reported.1 ++ fs,
+  ap (λ w. w ++ fs) reported.2 ∙ append_assoc reported.0 reported.1 fs,
+  reported.3,
+  reported.4,
+  are_reported_more own m q ss os reported.1 fs s o reported.5 last,
 )
-are_told_more own m q ss os es fs s o told last = absurd told
+are_reported_more own m q ss os es fs s o reported last = absurd reported
 
 -- at most 1,000 tries in vain, and the last one
 few_tries : (own : Meaning) (m : Machine) (q : List Move) (step : Step) (places : List Place) (o : StepEnd)
@@ -171,8 +171,8 @@ record HasEnded {A : Type 0} (meaning : A → Meaning) (own : Meaning) (old new 
   adds : Adds old new more
   tries : AreProper old.storage.init (moves_seen new.account.seen) → HasTries own (machine_of meaning old.storage)
       (moves_seen new.account.seen) step o (map (event_of old.account.id) more)
-  told : (meaning old.storage.agg).part ≡ own.part → AreProper old.storage.init (moves_seen new.account.seen) →
-      IsTold own (machine_of meaning old.storage) (moves_seen new.account.seen) step o
+  reported : (meaning old.storage.agg).part ≡ own.part → AreProper old.storage.init (moves_seen new.account.seen) →
+      AreStepEvents own (machine_of meaning old.storage) (moves_seen new.account.seen) step o
       (map (event_of old.account.id) more)
 
 module _ {A : Type 0} (meaning : A → Meaning) (own : Meaning) where
@@ -185,7 +185,7 @@ module _ {A : Type 0} (meaning : A → Meaning) (own : Meaning) where
         more = [];
         adds = subst (λ (a : AgentAt A). Adds old a []) same (adds_none old);
         tries = λ proper. (places, reads, inl (many, refl));
-        told = λ part proper. (All-nil IsIdle, inl (places, reads, many));
+        reported = λ part proper. (All-nil IsIdle, inl (places, reads, many));
       })
   step_ended old new step o (places, reads, inr (few, inl (is, n, count, tried))) =
       let added = tried_adds meaning own step places n old new tried in
@@ -208,7 +208,7 @@ module _ {A : Type 0} (meaning : A → Meaning) (own : Meaning) where
             };
           },
         );
-        told = λ part proper. added.idle;
+        reported = λ part proper. added.idle;
       })
   step_ended old new step o (places, reads, inr (few, inr (n, most, mid, tried, ended))) =
       let first = tried_adds meaning own step places n old mid tried in
@@ -249,13 +249,13 @@ module _ {A : Type 0} (meaning : A → Meaning) (own : Meaning) where
             fresh = last.fresh;
           }),
         );
-        told = λ same proper.
-            let told = subst (λ (s : StorageView A). (meaning s.agg).part ≡ own.part → AreProper s.init q →
-            IsTold own (machine_of meaning s) q step o (map (event_of mid.account.id) last.more))
+        reported = λ same proper.
+            let reported = subst (λ (s : StorageView A). (meaning s.agg).part ≡ own.part → AreProper s.init q →
+            AreStepEvents own (machine_of meaning s) q step o (map (event_of mid.account.id) last.more))
             first.adds.same.storage
-            last.told same proper in
-            subst (IsTold own (machine_of meaning old.storage) q step o) (sym events)
-            (idle_before own (machine_of meaning old.storage) q step o _ _ first.idle told);
+            last.reported same proper in
+            subst (AreStepEvents own (machine_of meaning old.storage) q step o) (sym events)
+            (idle_before own (machine_of meaning old.storage) q step o _ _ first.idle reported);
       }
 
   pub plays_none : (old : AgentAt A) → Plays meaning own old old [] []
@@ -264,7 +264,7 @@ module _ {A : Type 0} (meaning : A → Meaning) (own : Meaning) where
     begins = ([], append-nil old.account.seen);
     more = [];
     added = sym (append-nil old.account.receipts);
-    told = λ same proper. refl;
+    reported = λ same proper. refl;
   }
 
   -- one step more was played
@@ -283,16 +283,16 @@ module _ {A : Type 0} (meaning : A → Meaning) (own : Meaning) where
         begins = adds.begins;
         more = before.more ++ last.more;
         added = adds.added;
-        told = λ same proper.
+        reported = λ same proper.
             let m = machine_of meaning old.storage in
-            let first = are_told_later own m q r p ss os _
-            (before.told same (proper_prefix old.storage.init q r p proper)) in
-            let told = subst (λ (t : StorageView A). (meaning t.agg).part ≡ own.part → AreProper t.init r →
-            IsTold own (machine_of meaning t) r s o (map (event_of mid.account.id) last.more)) before.same.storage
-            last.told same proper in
+            let first = are_reported_later own m q r p ss os _
+            (before.reported same (proper_prefix old.storage.init q r p proper)) in
+            let reported = subst (λ (t : StorageView A). (meaning t.agg).part ≡ own.part → AreProper t.init r →
+            AreStepEvents own (machine_of meaning t) r s o (map (event_of mid.account.id) last.more)) before.same.storage
+            last.reported same proper in
             let tries = subst (λ (t : StorageView A). AreProper t.init r → HasTries own (machine_of meaning t) r s o
             (map (event_of mid.account.id) last.more)) before.same.storage last.tries proper in
-            subst (AreTold own m r (ss ++ s ∷ []) (os ++ o ∷ []))
+            subst (AreStepsEvents own m r (ss ++ s ∷ []) (os ++ o ∷ []))
             (sym (added_events old mid before.more last.more before.same))
-            (are_told_more own m r ss os _ _ s o first (told, tries));
+            (are_reported_more own m r ss os _ _ s o first (reported, tries));
       }

@@ -12,13 +12,13 @@ use Rattle.asm_update.specs.Fire.{fire}
 use Rattle.asm_update.specs.Move.{Move}
 use Rattle.asm_update.specs.State.{val}
 use Rattle.asm_update.specs.declared.clash.Clash.{Clash}
-use Rattle.asm_state.specs.Stands.{after_move}
+use Rattle.asm_state.specs.FollowsFrom.{after_move}
 use Rattle.asm_state.specs.Verdict.{least_stale}
 use Rattle.asm_state.specs.declared.named.Named.{Named}
 use Rattle.asm_storage.specs.Agents.{event_of, moves_seen}
 use Rattle.asm_storage.specs.Calls.{ReadingView, receipt_at, IsReplied}
 use Rattle.asm_storage.specs.Machine.{Machine, machine_state, reply_to}
-use Rattle.asm_storage.specs.Storage.{AgentAt, StorageView, machine_of, has_looked}
+use Rattle.asm_storage.specs.Storage.{AgentAt, StorageView, machine_of, has_polled}
 use Rattle.asm_storage.specs.declared.call.Answer.TheVariants as answer
 use Rattle.asm_storage.specs.declared.call.Call.TheVariants as call
 use Rattle.asm_storage.specs.declared.call.Reply.{Reply}
@@ -29,8 +29,8 @@ use Rattle.asm_storage.specs.declared.receipt.Receipt.{Receipt}
 use Rattle.asm_storage.proofs.Run.{fired_reply}
 use Rattle.asm_play.specs.AgentPlay.{AreProper}
 use Rattle.asm_script.specs.StepReads.{AreReads}
-use Rattle.asm_script.specs.Sequencing.{fired_or_stopped, fire_blocks, step_move_on, IsReadOf, StandsFor, IsStepMove}
-use Rattle.asm_play.specs.StepEvents.{IsIdle, IsFiring, IsClashing, HasNoRoom, HasFault, EndsWith, IsTold}
+use Rattle.asm_script.specs.Sequencing.{fired_or_stopped, fire_blocks, step_move_on, IsReadOf, IsMoveFor, IsStepMove}
+use Rattle.asm_play.specs.StepEvents.{IsIdle, IsFiring, IsClashing, HasNoRoom, HasFault, EndsWith, AreStepEvents}
 use Rattle.asm_play.specs.StepEvents.{stale_fire, stale_fires, IsTryOf, IsVainTry}
 use Rattle.asm_play.specs.Trying.{value_among, read_value, names_of, HasRead, HasTried, end_of}
 use Rattle.asm_play.specs.Trying.{IsEndOf, Adds, IsAgain, IsTry}
@@ -92,17 +92,17 @@ module _ {A : Type 0} (meaning : A → Meaning) where
     fault_here f move proper = (
       length here,
       omega arith,
-      subst (λ q. StandsFor own (machine_state m q) step (Err f)) (sym (take_all (length here) here (omega arith)))
+      subst (λ q. IsMoveFor own (machine_state m q) step (Err f)) (sym (take_all (length here) here (omega arith)))
           (move (machine_state m here) (read_of here proper (λ l there. refl))),
     )
 
     -- a step that has no move ends
-    fault_told : (f : StepFault) (o : StepEnd) (es : List Event) → IsEndOf f o → All IsIdle es →
-        HasFault own m here step f → IsTold own m here step o es
-    fault_told (fault.Clash c) o es is idle has = subst (λ p. IsTold own m here step p es) (sym is) (inr (idle, has))
-    fault_told fault.Many o es is idle has = subst (λ p. IsTold own m here step p es) (sym is) (idle, inr has)
-    fault_told fault.Memory o es is idle has = absurd is
-    fault_told f o es is idle has = subst (λ p. IsTold own m here step p es) (sym is) (idle, has)
+    fault_reported : (f : StepFault) (o : StepEnd) (es : List Event) → IsEndOf f o → All IsIdle es →
+        HasFault own m here step f → AreStepEvents own m here step o es
+    fault_reported (fault.Clash c) o es is idle has = subst (λ p. AreStepEvents own m here step p es) (sym is) (inr (idle, has))
+    fault_reported fault.Many o es is idle has = subst (λ p. AreStepEvents own m here step p es) (sym is) (idle, inr has)
+    fault_reported fault.Memory o es is idle has = absurd is
+    fault_reported f o es is idle has = subst (λ p. AreStepEvents own m here step p es) (sym is) (idle, has)
 
     not_given_up : (f : StepFault) (o : StepEnd) → IsEndOf f o → o ≢ step_end.GaveUp
     not_given_up fault.Memory o is bad = absurd is
@@ -120,8 +120,8 @@ module _ {A : Type 0} (meaning : A → Meaning) where
             fresh = had.fresh;
             once = λ proper. try_without own m here step places had.number (map (event_of old.account.id) had.more)
                 (omega (arith, had.number_is)) had.calls;
-            told = λ same proper.
-                fault_told f o (map (event_of old.account.id) had.more) is had.idle (fault_here f move proper);
+            reported = λ same proper.
+                fault_reported f o (map (event_of old.account.id) had.more) is had.idle (fault_here f move proper);
           },
           not_given_up f o is,
         )
@@ -153,10 +153,10 @@ module _ {A : Type 0} (meaning : A → Meaning) where
 
       -- and the move stands for the step
       stands : (q : List Move) → AreProper old.storage.init q → IsPrefix here q →
-          least_stale m.part m.init q reads_named ≡ None → StandsFor own (machine_state m q) step (Ok M)
+          least_stale m.part m.init q reads_named ≡ None → IsMoveFor own (machine_state m q) step (Ok M)
       stands q proper p none = move (machine_state m q) (read_of q proper (unchanged q p none))
 
-      blocks_fire : (q : List Move) → m.part ≡ own.part → StandsFor own (machine_state m q) step (Ok M) →
+      blocks_fire : (q : List Move) → m.part ≡ own.part → IsMoveFor own (machine_state m q) step (Ok M) →
           fire_blocks m.part (machine_state m q) step ≡ fired_or_stopped (fire m.part (machine_state m q) M)
       blocks_fire q same stands =
           subst (λ p. fire_blocks p (machine_state m q) step ≡ fired_or_stopped (fire p (machine_state m q) M)) (sym same) stands.1
@@ -211,9 +211,9 @@ module _ {A : Type 0} (meaning : A → Meaning) where
           storage_is
 
       -- the fire was answered Fired
-      fired_told : (k : ℕ) → IsReplied meaning mid new reads_named M (reply.Fired k) →
+      fired_reported : (k : ℕ) → IsReplied meaning mid new reads_named M (reply.Fired k) →
           IsTry meaning own old new step places (Some (step_end.Fired k))
-      fired_told k is =
+      fired_reported k is =
           let agent = is.agent in
           let seen = take (k - 1) new.account.seen in
           let q = moves_seen seen in
@@ -240,7 +240,7 @@ module _ {A : Type 0} (meaning : A → Meaning) where
               fresh = none_stale r refl;
               once = tried_once r all refl (prefix_mapped (λ (x : Entry). x.instrs) mid.account.seen new.account.seen
                   (IsPrefix-trans mid.account.seen seen new.account.seen is.begins (entry ∷ [], sym longer)));
-              told = λ same proper.
+              reported = λ same proper.
                   let proper_q = proper_prefix old.storage.init q all (M ∷ [], sym moves_more) proper in
                   let stands_q = stands q proper_q before by.fresh in
                   ends (IsFiring own m all step k) r (
@@ -264,8 +264,8 @@ module _ {A : Type 0} (meaning : A → Meaning) where
 
       -- another answer keeps what was seen
       answered_adds : (r : Reply) → IsPrefix mid.account.seen new.account.seen →
-          new ≡ record (has_looked mid new.account.seen new.misses new.number) {
-            account = record (has_looked mid new.account.seen new.misses new.number).account {
+          new ≡ record (has_polled mid new.account.seen new.misses new.number) {
+            account = record (has_polled mid new.account.seen new.misses new.number).account {
               receipts = mid.account.receipts ++ receipt_at (length new.account.seen) (call.Fire reads_named M)
                   (answer.Fire r) ∷ [];
             };
@@ -290,7 +290,7 @@ module _ {A : Type 0} (meaning : A → Meaning) where
       -- the fire was answered, or it was busy
       pub ended_by_fire : (o : Option Reply) → HasTried meaning mid new reads_named M o →
           IsTry meaning own old new step places (end_of o)
-      ended_by_fire (Some (reply.Fired k)) is = fired_told k is
+      ended_by_fire (Some (reply.Fired k)) is = fired_reported k is
       ended_by_fire (Some (reply.Clash c)) is =
           let all = moves_seen new.account.seen in
           let by = clashed_by m all reads_named M c (replied (reply.Clash c) all is.reply) in
@@ -301,7 +301,7 @@ module _ {A : Type 0} (meaning : A → Meaning) where
               adds = answered_adds (reply.Clash c) is.begins is.agent;
               fresh = none_stale r refl;
               once = tried_once r all refl before;
-              told = λ same proper.
+              reported = λ same proper.
                   let stands_here = stands all proper before by.0 in
                   let whole = take_all (length all) all (omega arith) in
                   inl (ends (IsClashing own m all step c) r (
@@ -328,7 +328,7 @@ module _ {A : Type 0} (meaning : A → Meaning) where
               adds = answered_adds reply.Full is.begins is.agent;
               fresh = none_stale r refl;
               once = tried_once r all refl before;
-              told = λ same proper.
+              reported = λ same proper.
                   let stands_here = stands all proper before by.fresh in
                   let whole = take_all (length all) all (omega arith) in
                   ends (HasNoRoom own m all step) r (

@@ -8,7 +8,7 @@ use Rattle.asm_update.specs.State.{State, IsProper}
 use Rattle.asm_storage.specs.Agents.{event_of, moves_seen}
 use Rattle.asm_storage.specs.Storage.{AgentAt, IsSameAgent, machine_of}
 use Rattle.asm_storage.specs.declared.receipt.Receipt.{Receipt}
-use Rattle.asm_play.specs.StepEvents.{AreTold}
+use Rattle.asm_play.specs.StepEvents.{AreStepsEvents}
 use Rattle.asm_script.specs.declared.step.Step.{Step}
 use Rattle.asm_play.specs.declared.step_end.StepEnd.{StepEnd}
 
@@ -25,6 +25,6 @@ pub record Plays {A : Type 0} (meaning : A → Meaning) (own : Meaning) (old new
   pub begins : IsPrefix old.account.seen new.account.seen
   pub more : List Receipt
   pub added : new.account.receipts ≡ old.account.receipts ++ more
-  pub told : (meaning old.storage.agg).part ≡ own.part → AreProper old.storage.init (moves_seen new.account.seen) →
-      AreTold own (machine_of meaning old.storage) (moves_seen new.account.seen) steps ends
+  pub reported : (meaning old.storage.agg).part ≡ own.part → AreProper old.storage.init (moves_seen new.account.seen) →
+      AreStepsEvents own (machine_of meaning old.storage) (moves_seen new.account.seen) steps ends
       (map (event_of old.account.id) more)

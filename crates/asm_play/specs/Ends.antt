@@ -23,14 +23,14 @@ term_in (Term term) = Some term
 term_in _ = None
 
 -- a step with this number that such a term ended
-abbrev pub told_term : ℕ → Option FaultyTerm → List StepTerm
-told_term n (Some term) = record { step = n; term = term } ∷ []
-told_term n None = []
+abbrev pub terms_of_end : ℕ → Option FaultyTerm → List StepTerm
+terms_of_end n (Some term) = record { step = n; term = term } ∷ []
+terms_of_end n None = []
 
 -- the steps, counted from this number on, that a term without a value ended, each with its term
 abbrev pub terms_from : ℕ → List StepEnd → List StepTerm
 terms_from n [] = []
-terms_from n (e ∷ es) = told_term n (term_in e) ++ terms_from (n + 1) es
+terms_from n (e ∷ es) = terms_of_end n (term_in e) ++ terms_from (n + 1) es
 
 -- the steps of an agent that a term without a value ended, each with its term
 abbrev pub terms_in : List StepEnd → List StepTerm

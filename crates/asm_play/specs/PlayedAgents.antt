@@ -24,9 +24,9 @@ ArePlayed meaning own s id (ss ∷ sss) (a ∷ agents) (os ∷ oss) =
 ArePlayed meaning own s id _ _ _ = ⊥
 
 -- an error of closing as one of the run
-abbrev pub close_error_told : CloseError → RunError
-close_error_told (close_error.Missing k) = run_error.Missing k
-close_error_told close_error.Memory = run_error.Memory
+abbrev pub run_error_of_close : CloseError → RunError
+run_error_of_close (close_error.Missing k) = run_error.Missing k
+run_error_of_close close_error.Memory = run_error.Memory
 
 -- why these agents weren't closed: the move without a receipt is the one that their storage reports, and else memory
 -- was refused

@@ -17,7 +17,7 @@ use Rattle.asm_storage.specs.declared.call.Answer.{Answer}
 use Rattle.asm_storage.specs.declared.call.Answer.TheVariants as answer
 use Rattle.asm_storage.specs.declared.history.Event.{Event}
 use Rattle.asm_script.specs.StepReads.{AreReads}
-use Rattle.asm_script.specs.Sequencing.{Clashes, fire_blocks, step_move_on, StandsFor}
+use Rattle.asm_script.specs.Sequencing.{Clashes, fire_blocks, step_move_on, IsMoveFor}
 use Rattle.asm_script.specs.declared.step.Step.{Step}
 use Rattle.asm_script.specs.declared.fault.StepFault.{StepFault}
 use Rattle.asm_script.specs.declared.fault.StepFault.TheVariants as fault
@@ -66,7 +66,7 @@ HasNoRoom own m q step e =
 
 -- on the state that some first moves leave, the step has this fault, and its blocks stop accordingly
 abbrev pub HasFault : Meaning → Machine → List Move → Step → StepFault → Type 0
-HasFault own m q step f = (n : ℕ) × (n ≤ length q) × StandsFor own (state_at m q n) step (Err f)
+HasFault own m q step f = (n : ℕ) × (n ≤ length q) × IsMoveFor own (state_at m q n) step (Err f)
 
 -- the step reads more than 256 locations, or its moves compose to more than 4,096 instructions
 abbrev pub Outgrows : Meaning → Machine → List Move → Step → Type 0
@@ -165,21 +165,21 @@ abbrev pub EndsWith : (Event → Type 0) → List Event → Type 0
 EndsWith P es = (idle : List Event) × (e : Event) × (es ≡ idle ++ e ∷ []) × All IsIdle idle × P e
 
 -- the events are those of a step that ended so, by an aggregator of this meaning
-abbrev pub IsTold : Meaning → Machine → List Move → Step → StepEnd → List Event → Type 0
-IsTold own m q step (step_end.Fired k) es = EndsWith (IsFiring own m q step k) es
-IsTold own m q step step_end.Full es = EndsWith (HasNoRoom own m q step) es
-IsTold own m q step (step_end.Clash clash) es =
+abbrev pub AreStepEvents : Meaning → Machine → List Move → Step → StepEnd → List Event → Type 0
+AreStepEvents own m q step (step_end.Fired k) es = EndsWith (IsFiring own m q step k) es
+AreStepEvents own m q step step_end.Full es = EndsWith (HasNoRoom own m q step) es
+AreStepEvents own m q step (step_end.Clash clash) es =
     EndsWith (IsClashing own m q step clash) es ⊎ (All IsIdle es × HasFault own m q step (fault.Clash clash))
-IsTold own m q step (step_end.Term term) es = All IsIdle es × HasFault own m q step (fault.Term term)
-IsTold own m q step (step_end.Large l) es = All IsIdle es × HasFault own m q step (fault.Large l)
-IsTold own m q step step_end.Many es = All IsIdle es × Outgrows own m q step
-IsTold own m q step step_end.GaveUp es = All IsIdle es
+AreStepEvents own m q step (step_end.Term term) es = All IsIdle es × HasFault own m q step (fault.Term term)
+AreStepEvents own m q step (step_end.Large l) es = All IsIdle es × HasFault own m q step (fault.Large l)
+AreStepEvents own m q step step_end.Many es = All IsIdle es × Outgrows own m q step
+AreStepEvents own m q step step_end.GaveUp es = All IsIdle es
 
 -- one end for each step, and the events are those of the steps' tries, in order
-abbrev pub AreTold : Meaning → Machine → List Move → List Step → List StepEnd → List Event → Type 0
-AreTold own m q [] [] es = es ≡ []
-AreTold own m q [] (o ∷ os) es = ⊥
-AreTold own m q (s ∷ ss) [] es = ⊥
-AreTold own m q (s ∷ ss) (o ∷ os) es =
-    (mine rest : List Event) × (es ≡ mine ++ rest) × IsTold own m q s o mine × HasTries own m q s o mine
-    × AreTold own m q ss os rest
+abbrev pub AreStepsEvents : Meaning → Machine → List Move → List Step → List StepEnd → List Event → Type 0
+AreStepsEvents own m q [] [] es = es ≡ []
+AreStepsEvents own m q [] (o ∷ os) es = ⊥
+AreStepsEvents own m q (s ∷ ss) [] es = ⊥
+AreStepsEvents own m q (s ∷ ss) (o ∷ os) es =
+    (mine rest : List Event) × (es ≡ mine ++ rest) × AreStepEvents own m q s o mine × HasTries own m q s o mine
+    × AreStepsEvents own m q ss os rest

@@ -13,7 +13,7 @@ use Rattle.asm_state.specs.declared.named.Named.{Named}
 use Rattle.asm_storage.specs.Agents.{event_of, moves_seen}
 use Rattle.asm_storage.specs.Calls.{ReadingView, IsRead, IsReplied}
 use Rattle.asm_storage.specs.Limits.{offers_limit, reads_limit}
-use Rattle.asm_storage.specs.Storage.{AgentAt, IsSameAgent, machine_of, has_looked}
+use Rattle.asm_storage.specs.Storage.{AgentAt, IsSameAgent, machine_of, has_polled}
 use Rattle.asm_storage.specs.declared.call.Answer.TheVariants as answer
 use Rattle.asm_storage.specs.declared.call.Reply.{Reply}
 use Rattle.asm_storage.specs.declared.call.Reply.TheVariants as reply
@@ -21,7 +21,7 @@ use Rattle.asm_storage.specs.declared.receipt.Receipt.{Receipt}
 use Rattle.asm_play.specs.AgentPlay.{AreProper}
 use Rattle.asm_script.specs.StepReads.{AreReads}
 use Rattle.asm_play.specs.Limits.{tries_limit}
-use Rattle.asm_play.specs.StepEvents.{name_at, stale_fires, IsIdle, IsTryOf, IsVainTry, IsTold}
+use Rattle.asm_play.specs.StepEvents.{name_at, stale_fires, IsIdle, IsTryOf, IsVainTry, AreStepEvents}
 use Rattle.asm_script.specs.declared.step.Step.{Step}
 use Rattle.asm_script.specs.declared.fault.StepFault.{StepFault}
 use Rattle.asm_script.specs.declared.fault.StepFault.TheVariants as fault
@@ -53,7 +53,7 @@ HasRead meaning old new places (Some r) = (places ≢ []) × IsRead meaning old 
 pub record WasBusy {A : Type 0} (old new : AgentAt A) : Type 0 where
   pub begins : IsPrefix old.account.seen new.account.seen
   pub longer : length old.account.seen + offers_limit ≤ length new.account.seen
-  pub agent : new ≡ has_looked old new.account.seen new.misses new.number
+  pub agent : new ≡ has_polled old new.account.seen new.misses new.number
 
 -- the fire of a step was answered by this reply; by none where it was busy
 abbrev pub HasTried : {A : Type 0} → (A → Meaning) → AgentAt A → AgentAt A → List Named → Move → Option Reply → Type 0
@@ -116,8 +116,8 @@ pub record IsEnded {A : Type 0} (meaning : A → Meaning) (own : Meaning) (old n
   pub once : AreProper old.storage.init (moves_seen new.account.seen) →
       IsTryOf own (machine_of meaning old.storage) (moves_seen new.account.seen) step places
       (map (event_of old.account.id) more)
-  pub told : (meaning old.storage.agg).part ≡ own.part → AreProper old.storage.init (moves_seen new.account.seen) →
-      IsTold own (machine_of meaning old.storage) (moves_seen new.account.seen) step o
+  pub reported : (meaning old.storage.agg).part ≡ own.part → AreProper old.storage.init (moves_seen new.account.seen) →
+      AreStepEvents own (machine_of meaning old.storage) (moves_seen new.account.seen) step o
       (map (event_of old.account.id) more)
 
 -- one try of a step: the step ended, not by being given up, or must be retried

@@ -8,7 +8,7 @@ use asm_update::Aggregator;
 /// Return the aggregator that scripts are played with.
 ///
 /// It is that of sets, bags and counters, and is chosen here alone.
-pub fn chosen() -> Standard
+pub fn script_aggregator() -> Standard
     ensures { ⟦<Standard as Aggregator>⟧.meaning result ≡ standard_meaning }
 {
     standard()

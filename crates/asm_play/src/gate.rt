@@ -34,21 +34,21 @@ pub trait Passage {
     /// Be called just before each attempt of a fire, when the agent has polled the row.
     ///
     /// If another agent fires here, the attempt is lost.
-    fn meddle(&self);
+    fn before_attempt(&self);
 
     /// Be called just after the call, whatever it answered.
     fn leave<R: Wait>(&self, rt: &R, agent: u32, call: u64);
 }
 
 // The passage through a gate, which isn't called before an attempt.
-pub(crate) struct Through<'g, G>(pub(crate) &'g G);
+pub(crate) struct GatePassage<'g, G>(pub(crate) &'g G);
 
-impl<'g, G: Gate> Passage for Through<'g, G> {
+impl<'g, G: Gate> Passage for GatePassage<'g, G> {
     fn enter<R: Wait>(&self, rt: &R, agent: u32, call: u64) {
         self.0.before(rt, agent, call);
     }
 
-    fn meddle(&self) {}
+    fn before_attempt(&self) {}
 
     fn leave<R: Wait>(&self, rt: &R, agent: u32, call: u64) {
         self.0.after(rt, agent, call);

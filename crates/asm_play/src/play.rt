@@ -10,12 +10,12 @@ ghost use Rattle.asm_play.specs.Play.{IsPlayOf};
 ghost use Rattle.asm_play.specs.declared.step_end.StepEnd.{StepEnd};
 ghost use Rattle.asm_play.specs.AgentPlay.{Plays};
 ghost use Rattle.asm_aggregate.specs.Standard.{standard_meaning};
-ghost use Rattle.asm_play.specs.PlayedAgents.{steps_at, close_error_told, ArePlayed, IsNotClosed};
+ghost use Rattle.asm_play.specs.PlayedAgents.{steps_at, run_error_of_close, ArePlayed, IsNotClosed};
 ghost use Rattle.asm_play.specs.Jobs.{GivesEach, IsUndone};
 ghost use Rattle.asm_play.specs.declared.outcome.RunError.TheVariants as run_error;
 
-use crate::aggregator::chosen;
-use crate::gate::{Gate, Passage, Through};
+use crate::aggregator::script_aggregator;
+use crate::gate::{Gate, GatePassage, Passage};
 use crate::outcome::{Outcome, Played, RunError, StepTerm};
 use crate::player::{PlayedAgent, Player};
 use crate::step_end::agent_ends;
@@ -33,7 +33,7 @@ use std::sync::Wait;
 use std::thread::Threads;
 
 impl From<CloseError> for RunError {
-    ghost from_gives = { λ e r. r ≡ close_error_told e };
+    ghost from_gives = { λ e r. r ≡ run_error_of_close e };
 
     fn from(error: CloseError) -> RunError {
         match error {
@@ -97,7 +97,7 @@ impl<'a, 's, P: Passage + Sync, S: Scripted + Sync> Task<
 
 // Proof: plays each agent on a thread of its own. The steps are a type parameter here, for the goal that `each` asks
 // for a task that is `Sync`.
-fn played_apart<'s, 'a, R: Threads + Wait + Sync, P: Passage + Sync, S: Scripted + Sync>(
+fn play_agents<'s, 'a, R: Threads + Wait + Sync, P: Passage + Sync, S: Scripted + Sync>(
     rt: &R,
     alloc: Global,
     playing: &Playing<'a, P, S>,
@@ -113,8 +113,8 @@ fn played_apart<'s, 'a, R: Threads + Wait + Sync, P: Passage + Sync, S: Scripted
 }
 
 // Plays each agent, on a thread of its own, with the steps at its number in the script. Proof: it is separate from
-// `played_apart` for the goal `played_apart-requires-sync-S`: that the steps of a script are `Sync`.
-fn played_as_written<'s, 'a, 'p, R: Threads + Wait + Sync, P: Passage + Sync>(
+// `play_agents` for the goal `play_agents-requires-sync-S`: that the steps of a script are `Sync`.
+fn play_script_agents<'s, 'a, 'p, R: Threads + Wait + Sync, P: Passage + Sync>(
     rt: &R,
     alloc: Global,
     playing: &Playing<'a, P, WrittenSteps<'p>>,
@@ -126,7 +126,7 @@ fn played_as_written<'s, 'a, 'p, R: Threads + Wait + Sync, P: Passage + Sync>(
     ensures error { IfErr result IsUndone }
     ensures threads { IsErrOf result run_error.NoThread → 2 ≤ vec_len agents.entry }
 {
-    played_apart(rt, alloc, playing, agents)
+    play_agents(rt, alloc, playing, agents)
 }
 
 // The storage that the script opens. The capacity is tested before any memory is asked for.
@@ -141,7 +141,7 @@ fn opened(alloc: Global, script: &Script, capacity: u32) -> Result<Storage<Stand
         return Err(RunError::BadCapacity);
     }
     let init = script.share_init()?;
-    match Storage::over(alloc, chosen(), init, capacity) {
+    match Storage::over(alloc, script_aggregator(), init, capacity) {
         Ok(storage) => Ok(storage),
         Err(_) => Err(RunError::Memory),
     }
@@ -173,7 +173,7 @@ struct Ended<'s> {
     terms: Vec<Items<StepTerm>>,
 }
 
-fn told_apart<'s>(
+fn split_ends<'s>(
     alloc: Global,
     played_agents: Vec<PlayedAgent<'s, Standard>>,
 ) -> Result<Ended<'s>, AllocError>
@@ -188,9 +188,9 @@ fn told_apart<'s>(
     for played in played_agents {
         let PlayedAgent { agent, ends } = played;
         agents.push(agent)?;
-        let told = agent_ends(alloc, ends)?;
-        outcomes.push(Items::new(told.outcomes))?;
-        terms.push(Items::new(told.terms))?;
+        let reported = agent_ends(alloc, ends)?;
+        outcomes.push(Items::new(reported.outcomes))?;
+        terms.push(Items::new(reported.terms))?;
     }
     Ok(Ended {
         agents,
@@ -253,22 +253,22 @@ fn play_on<R: Threads + Wait + Sync, G: Gate>(
     let player = Player {
         alloc,
         aggregator: storage.aggregator(),
-        passage: Through(gate),
+        passage: GatePassage(gate),
     };
     let playing = Playing {
         player,
         scripted: WrittenSteps(scripted),
     };
-    let played = played_as_written(rt, alloc, &playing, agents);
+    let played = play_script_agents(rt, alloc, &playing, agents);
     let Playing {
         player: Player {
             alloc: _,
             aggregator: _,
-            passage: Through(_),
+            passage: GatePassage(_),
         },
         scripted: WrittenSteps(_),
     } = playing;
-    let ended = told_apart(alloc, played?)?;
+    let ended = split_ends(alloc, played?)?;
     closed(alloc, storage, script, ended)
 }
 

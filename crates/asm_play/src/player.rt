@@ -152,7 +152,7 @@ impl<'a, A: Aggregator + Sync + Drop, P: Passage> Player<'a, A, P> {
             self.alloc,
             reads,
             instrs,
-            &mut || passage.meddle(),
+            &mut || passage.before_attempt(),
         );
         self.passage.leave(rt, agent.id(), *calls);
         *calls = calls.saturating_add(1);

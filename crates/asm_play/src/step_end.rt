@@ -1,6 +1,6 @@
 //! How a step of a played script ended.
 ghost use Rattle.std.specs.Prelude.{◌≡◌, ◌++◌, map, IfOk, OnOk};
-ghost use Rattle.asm_play.specs.Ends.{outcome_in, term_in, told_term, terms_in};
+ghost use Rattle.asm_play.specs.Ends.{outcome_in, term_in, terms_of_end, terms_in};
 
 use crate::outcome::{Outcome, StepTerm};
 use asm_element::Location;
@@ -51,7 +51,7 @@ fn push_term(
     step: usize,
     term: Option<FaultyTerm>,
 ) -> Result<(), AllocError>
-    ensures { OnOk result (terms.new.items ≡ terms.old.items ++ told_term step term) }
+    ensures { OnOk result (terms.new.items ≡ terms.old.items ++ terms_of_end step term) }
 {
     if let Some(term) = term {
         terms.push(StepTerm { step, term })?;
@@ -68,8 +68,8 @@ pub(crate) struct AgentEnds {
 
 /// Collect the ends of an agent's steps.
 pub(crate) fn agent_ends(alloc: Global, ends: Vec<StepEnd>) -> Result<AgentEnds, AllocError>
-    ensures outcomes { IfOk result (λ told. told.outcomes.items ≡ map outcome_in ends.items) }
-    ensures terms { IfOk result (λ told. told.terms.items ≡ terms_in ends.items) }
+    ensures outcomes { IfOk result (λ reported. reported.outcomes.items ≡ map outcome_in ends.items) }
+    ensures terms { IfOk result (λ reported. reported.terms.items ≡ terms_in ends.items) }
 {
     let mut outcomes = Vec::new(alloc);
     let mut terms = Vec::new(alloc);

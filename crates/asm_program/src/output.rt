@@ -21,7 +21,7 @@ pub(crate) struct Output<W> {
 }
 
 // Return whether the line reports a term: `agent 0 step 0 block ..`.
-fn tells_of_term(line: &[u8]) -> bool {
+fn reports_of_term(line: &[u8]) -> bool {
     line.starts_with(b"agent ")
         && line.split(|byte| *byte == b' ').nth(4) == Some(b"block".as_slice())
 }
@@ -30,7 +30,7 @@ fn tells_of_term(line: &[u8]) -> bool {
 fn report_length(text: &[u8]) -> usize {
     let mut length = 0usize;
     for line in text.split(|byte| *byte == b'\n') {
-        if tells_of_term(line) {
+        if reports_of_term(line) {
             return length;
         }
         length = length.saturating_add(line.len()).saturating_add(1);

@@ -2,7 +2,7 @@
 use asm_driver::shown_text;
 use asm_element::{Location, Value};
 use asm_journal::{ToJson, from_text, judge_event, value_json};
-use asm_play::aggregator::chosen;
+use asm_play::aggregator::script_aggregator;
 use asm_state::State;
 use asm_storage::{Call, Event};
 use asm_trace::push_standard_note;
@@ -97,7 +97,13 @@ pub(crate) fn wrong_answer(alloc: Global, bytes: &[u8]) -> Result<Option<String>
     };
     let mut state = State::new(alloc, history.init.copy(alloc)?)?;
     for (number, event) in history.events.as_slice().iter().enumerate() {
-        if !judge_event(alloc, &chosen(), &mut state, history.capacity, event)? {
+        if !judge_event(
+            alloc,
+            &script_aggregator(),
+            &mut state,
+            history.capacity,
+            event,
+        )? {
             let said = said_of(alloc, &mut state, history.capacity, number as u64, event)?;
             return Ok(Some(said));
         }

@@ -102,21 +102,21 @@ step_move_on a A before step = step_move_from a A 0 before step
 -- What is required of a step's move on a state that was read: it is the one there. Firing it leaves what the blocks
 -- leave, and its clash is theirs. Where a term is faulty, the blocks stop there. Where blocks clash, or an amount or
 -- a sum is too large, a clash stops them in turn.
-abbrev pub StandsFor : Meaning → State → Step → Result Move StepFault → Type 0
-StandsFor a A step (Ok M) =
+abbrev pub IsMoveFor : Meaning → State → Step → Result Move StepFault → Type 0
+IsMoveFor a A step (Ok M) =
     (step_move_on a A None step ≡ Ok M) × (fire_blocks a.part A step ≡ fired_or_stopped (fire a.part A M))
-StandsFor a A step (Err (Term faulty)) =
+IsMoveFor a A step (Err (Term faulty)) =
     (step_move_on a A None step ≡ Err (Term faulty)) × (fire_blocks a.part A step ≡ Err FaultyTerm)
-StandsFor a A step (Err (Clashing clash)) =
+IsMoveFor a A step (Err (Clashing clash)) =
     (step_move_on a A None step ≡ Err (Clashing clash)) × IsStopped (fire_blocks a.part A step)
-StandsFor a A step (Err (Large l)) =
+IsMoveFor a A step (Err (Large l)) =
     (step_move_on a A None step ≡ Err (Large l)) × IsStopped (fire_blocks a.part A step)
-StandsFor a A step (Err Many) = step_move_on a A None step ≡ Err Many
-StandsFor a A step (Err Memory) = Unit {0}
+IsMoveFor a A step (Err Many) = step_move_on a A None step ≡ Err Many
+IsMoveFor a A step (Err Memory) = Unit {0}
 
 -- the answer is that of the step on each state that was read
 abbrev pub IsStepMove : Meaning → Old → Step → Result Move StepFault → Type 0
-IsStepMove a old step answer = (A : State) → IsReadOf A old step → StandsFor a A step answer
+IsStepMove a old step answer = (A : State) → IsReadOf A old step → IsMoveFor a A step answer
 
 -- the answer is the move's update set, or its clash
 abbrev pub IsFrame : Part → Old → Move → Result Updates StepFault → Type 0

@@ -9,11 +9,11 @@ use Rattle.asm_state.specs.Scans.{has_name}
 use Rattle.asm_state.specs.declared.named.Named.{Named}
 use Rattle.asm_state.specs.declared.scanned.Scanned.{Scanned}
 use Rattle.asm_step.specs.InTurn.{fire_all}
-use Rattle.asm_step.specs.Resting.{left_by, AgreesAtRests}
-use Rattle.asm_step.proofs.Built.{resting_those, sees_there}
+use Rattle.asm_step.specs.Dependencies.{left_by, AgreesAtDependencies}
+use Rattle.asm_step.proofs.Built.{dependencies_those, sees_there}
 use Rattle.asm_step.proofs.OneMove.{one_does}
-use Rattle.asm_step.proofs.Standing.{told_stands}
-use Rattle.asm_step.specs.Layers.{all_moves, one_move, resting_of}
+use Rattle.asm_step.proofs.Standing.{reported_stands}
+use Rattle.asm_step.specs.Layers.{all_moves, one_move, dependencies_of}
 use Rattle.asm_update.specs.Aggregator.{AggregatorLaws}
 use Rattle.asm_update.specs.declared.clash.Clash as clash
 use Rattle.asm_element.specs.Place.{Place}
@@ -22,7 +22,7 @@ use Rattle.asm_aggregate.specs.laws.BagLaws.{bag_laws}
 use Rattle.asm_aggregate.specs.laws.CountLaws.{count_laws}
 use Rattle.asm_aggregate.specs.laws.PairLaws.{pair_laws}
 use Rattle.asm_aggregate.specs.laws.SetLaws.{set_laws}
-use Rattle.asm_storage.proofs.AgentKept.{take-moves_seen}
+use Rattle.asm_storage.proofs.AgentInvariant.{take-moves_seen}
 use Rattle.asm_storage.proofs.Lists.{length-prefix}
 use Rattle.asm_storage.specs.Agents.{moves_seen}
 use Rattle.asm_storage.specs.Calls.{IsReplied, IsBusy, IsCoherentReply, MadeOffers}
@@ -38,7 +38,7 @@ use Rattle.asm_storage.specs.declared.error.FireError.TheVariants.{Busy, ManyRea
 use Rattle.asm_storage.specs.Limits.{reads_limit}
 use Rattle.asm_storage.specs.declared.entry.Entry.{Entry}
 use Rattle.asm_storage.specs.Scans.{with_found, IsKept}
-use Rattle.asm_slots.specs.AgentCalls.{HasLooked, IsRepliedOver, code_of}
+use Rattle.asm_slots.specs.AgentCalls.{HasPolled, IsRepliedOver, code_of}
 use Rattle.asm_slots.specs.Codes.{IsOneOf, ASM_DONE, ASM_STALE, ASM_CLASH, ASM_MEMORY, ASM_FULL, ASM_BUSY, ASM_MANY}
 use Rattle.asm_slots.specs.Commit.{AreWhole, FiresAll, GotStands, HasFiredStep, HasMoved, HasRecorded, HasRecordedStep}
 use Rattle.asm_slots.specs.Commit.{NamesAll, NamesMany, OneDoesAll, ScansAll, StandsAs, TellsFire}
@@ -145,14 +145,14 @@ module _ (a new : AgentAt Standard) (s : StepView) (reads : List Named) (scans :
   rested_stands : s.number ≤ length a.account.seen → (l : Place) → Contains s.got l ⊎ IsOfScanned l s →
       val (state_at new (k - 1)) l ≡ below a s l
   rested_stands le l rested =
-      ⊎_elim (λ has. stands_at le l ((names.locations.same l).1 (Contains-append_left s.got (resting_of s.layers) l has)))
+      ⊎_elim (λ has. stands_at le l ((names.locations.same l).1 (Contains-append_left s.got (dependencies_of s.layers) l has)))
       (λ has. whole le l has) rested
 
   agrees : (groups : List (List Move)) → IsStepOn a s groups →
-      AgreesAtRests (state_at new (k - 1)) (below a s) (all_moves groups)
+      AgreesAtDependencies (state_at new (k - 1)) (below a s) (all_moves groups)
   agrees groups is l rested =
-      stands_at is.0 l ((names.locations.same l).1 (Contains-append_right s.got (resting_of s.layers) l
-      (((resting_those part (below a s) s.layers groups is.1).same l).1 rested)))
+      stands_at is.0 l ((names.locations.same l).1 (Contains-append_right s.got (dependencies_of s.layers) l
+      (((dependencies_those part (below a s) s.layers groups is.1).same l).1 rested)))
 
   -- the fired move leaves a state there
   fired_there : (D : State) × (fire part (state_at new (k - 1)) M ≡ Ok D)
@@ -177,7 +177,7 @@ module _ (a new : AgentAt Standard) (s : StepView) (reads : List Named) (scans :
 
   pub got_stands : s.number ≤ length a.account.seen → GotStands a s k new
   got_stands le then groups l D is same fired named =
-      told_stands standard_laws (below a then) then.layers groups is.1 (state_at new (k - 1)) D l
+      reported_stands standard_laws (below a then) then.layers groups is.1 (state_at new (k - 1)) D l
       (λ sees. rested_stands le l (named (sees_there part (below a then) then.layers groups is.1 l ∙ sees))
       ∙ ap (λ n. val (state_at a n) l) (sym same)) fired
 
@@ -191,34 +191,34 @@ scans_all s lent own same names numbers =
 module _ (a new : AgentAt Standard) (s : StepView) (reads : List Named) (scans : List Scanned) (M : Move) (k : ℕ)
     (names : NamesAll s reads) (scanned : ScansAll s scans) (over : IsRepliedOver a new reads scans M (Fired k)) where
   replied : IsReplied meaning a new reads M (Fired k)
-  replied = subst (λ o. IsReplied meaning a new (with_found reads o) M (Fired k)) over.rests.0 over.replied
+  replied = subst (λ o. IsReplied meaning a new (with_found reads o) M (Fired k)) over.depends.0 over.replied
 
   coherent : IsCoherentReply meaning new reads M (Fired k)
-  coherent = subst (λ o. IsCoherentReply meaning new (with_found reads o) M (Fired k)) over.rests.0 over.coherent
+  coherent = subst (λ o. IsCoherentReply meaning new (with_found reads o) M (Fired k)) over.depends.0 over.coherent
 
   pub over_fires_all : StandsAs s.layers M → FiresAll a s M k new
-  over_fires_all = fires_all a new s reads scans M k names scanned replied coherent over.rests.1
+  over_fires_all = fires_all a new s reads scans M k names scanned replied coherent over.depends.1
 
   pub over_got_stands : s.number ≤ length a.account.seen → GotStands a s k new
-  over_got_stands = got_stands a new s reads scans M k names scanned replied coherent over.rests.1
+  over_got_stands = got_stands a new s reads scans M k names scanned replied coherent over.depends.1
 
   pub over_whole : s.number ≤ length a.account.seen → AreWhole a s k new
-  over_whole = whole a new s reads scans M k names scanned replied coherent over.rests.1
+  over_whole = whole a new s reads scans M k names scanned replied coherent over.depends.1
 
 -- the answer to the fire of a step's one move
 pub step_fired : (s : StepView) (code : ℤ) (fired from to : ℕ) (a new : AgentAt Standard) (reads : List Named)
     (scans : List Scanned) (M : Move) (answer : Result Reply FireError) → NamesAll s reads → ScansAll s scans →
     M ≡ unwrap_or (one_move s.layers) [] → StandsAs s.layers M → TellsFire answer code fired from to →
     (IsErrOf answer ManyReads ↔ (reads_limit < length reads + length scans)) →
-    IfOk answer (IsRepliedOver a new reads scans M) → OnErr answer (HasLooked a new) → IfErr answer (IsBusy a new) →
+    IfOk answer (IsRepliedOver a new reads scans M) → OnErr answer (HasPolled a new) → IfErr answer (IsBusy a new) →
     ((n : ℕ) × MadeOffers a new answer n) → HasFiredStep s code fired from to a new
-step_fired s code fired from to a new reads scans M answer names scanned one fires told many answered refused busy offers = record {
+step_fired s code fired from to a new reads scans M answer names scanned one fires reported many answered refused busy offers = record {
   reads = reads;
   scans = scans;
   answer = answer;
   names = names;
   scanned = scanned;
-  told = told;
+  reported = reported;
   many = many;
   answered = subst (λ (x : Move). IfOk answer (IsRepliedOver a new reads scans x)) one answered;
   refused = refused;
@@ -239,19 +239,19 @@ reply_not_many (Stale l) e = cc
 reply_not_many (Clash c) e = cc
 reply_not_many Full e = cc
 
-many_told : (answer : Result Reply FireError) (code : ℤ) (fired from to : ℕ) → TellsFire answer code fired from to →
+many_reported : (answer : Result Reply FireError) (code : ℤ) (fired from to : ℕ) → TellsFire answer code fired from to →
     code ≡ ASM_MANY → IsErrOf answer ManyReads
-many_told (Ok r) code fired from to told is = absurd (reply_not_many r (sym told.0 ∙ is))
-many_told (Err ManyReads) code fired from to told is = refl
-many_told (Err (Busy f t)) code fired from to told is = absurd (let e = sym told.0 ∙ is in cc)
-many_told (Err Memory) code fired from to told is = absurd (let e = sym told.0 ∙ is in cc)
+many_reported (Ok r) code fired from to reported is = absurd (reply_not_many r (sym reported.0 ∙ is))
+many_reported (Err ManyReads) code fired from to reported is = refl
+many_reported (Err (Busy f t)) code fired from to reported is = absurd (let e = sym reported.0 ∙ is in cc)
+many_reported (Err Memory) code fired from to reported is = absurd (let e = sym reported.0 ∙ is in cc)
 
 -- only a fire that declares too many reads is answered so
 pub many_named : (s : StepView) (answer : Result Reply FireError) (code : ℤ) (fired from to : ℕ) (reads : List Named) (scans : List Scanned) →
     ScansAll s scans → TellsFire answer code fired from to →
     (IsErrOf answer ManyReads ↔ (reads_limit < length reads + length scans)) → code ≡ ASM_MANY → NamesMany s reads
-many_named s answer code fired from to reads scans scanned told many is =
-    let more = many.0 (many_told answer code fired from to told is) in
+many_named s answer code fired from to reads scans scanned reported many is =
+    let more = many.0 (many_reported answer code fired from to reported is) in
     let count = sym (ap length scanned.names) ∙ length-map scans (λ (x : Scanned). string_bytes x.name) in
     omega (arith, more, count)
 

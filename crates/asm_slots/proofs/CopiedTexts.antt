@@ -13,13 +13,13 @@ coded code (inr (inr h)) = absurd h
 module _ (first : List ℤ) (P Q : ℤ → List ℕ → Type 0) (out after : List ℕ) (written : ℕ) (code : ℤ)
     (kinds : (c : ℤ) (text : List ℕ) → P c text → Q c text) where
   -- texts of one kind are texts of another
-  pub tells_too : (K L : List ℕ → Type 0) → ((text : List ℕ) → K text → L text) →
+  pub reports_too : (K L : List ℕ → Type 0) → ((text : List ℕ) → K text → L text) →
       Tells first P K out after written code → Tells first Q L out after written code
-  tells_too K L longs told = record {
-    told = λ one. by_written (told.told one);
-    small = λ small. by_long (told.small small);
-    no_text = told.no_text;
-    unwritten = told.unwritten;
+  reports_too K L longs reported = record {
+    reported = λ one. by_written (reported.reported one);
+    small = λ small. by_long (reported.small small);
+    no_text = reported.no_text;
+    unwritten = reported.unwritten;
   } where
     by_written : IsTextWritten (P code) after written → IsTextWritten (Q code) after written
     by_written (is, fits) = (kinds code (slice_range after 0 written) is, fits)
@@ -28,32 +28,32 @@ module _ (first : List ℤ) (P Q : ℤ → List ℕ → Type 0) (out after : Lis
     by_long (text, is, same, less) = (text, longs text is, same, less)
 
   -- the same, if the kind is that for the code
-  pub tells_one_too : TellsOneOf first P out after written code → TellsOneOf first Q out after written code
-  tells_one_too = tells_too (λ text. (c : ℤ) × P c text) (λ text. (c : ℤ) × Q c text) by_code where
+  pub reports_one_too : TellsOneOf first P out after written code → TellsOneOf first Q out after written code
+  reports_one_too = reports_too (λ text. (c : ℤ) × P c text) (λ text. (c : ℤ) × Q c text) by_code where
     by_code : (text : List ℕ) → ((c : ℤ) × P c text) → (c : ℤ) × Q c text
     by_code text (c, is) = (c, kinds c text is)
 
 -- if these bytes are written, a text of a kind that they are of is written; the code as an i32
-pub retold : (IsText : List ℕ → Type 0) (bytes text out after : List ℕ) (written : ℕ) (code : ℤ) → bytes ≡ text → IsText text →
+pub repeated : (IsText : List ℕ → Type 0) (bytes text out after : List ℕ) (written : ℕ) (code : ℤ) → bytes ≡ text → IsText text →
     IsOneOf (ASM_DONE ∷ ASM_SMALL ∷ []) code → TellsText (λ t. t ≡ bytes) out after written code →
     TellsText IsText out after written (to_z w32 (of_z w32 code))
-retold IsText bytes text out after written code same is codes told =
+repeated IsText bytes text out after written code same is codes reported =
     subst (TellsText IsText out after written) (sym (coded code codes))
-    (tells_too (ASM_DONE ∷ []) (λ c t. t ≡ bytes) (λ c. IsText) out after written code (λ c. kind)
-    (λ t. t ≡ bytes) IsText kind told)
+    (reports_too (ASM_DONE ∷ []) (λ c t. t ≡ bytes) (λ c. IsText) out after written code (λ c. kind)
+    (λ t. t ≡ bytes) IsText kind reported)
   where
     kind : (t : List ℕ) → t ≡ bytes → IsText t
     kind t e = subst IsText (sym (e ∙ same)) is
 
 -- if these bytes are written with a code that is one of the first, a text of the kind for that code is written
-pub told_by : (first : List ℤ) (P : ℤ → List ℕ → Type 0) (c : ℤ) (bytes out after : List ℕ) (written : ℕ) (code : ℤ) →
+pub reported_by : (first : List ℤ) (P : ℤ → List ℕ → Type 0) (c : ℤ) (bytes out after : List ℕ) (written : ℕ) (code : ℤ) →
     IsOneOf first c → ¬ IsOneOf first ASM_SMALL → P c bytes → IsOneOf (c ∷ ASM_SMALL ∷ []) code →
     Tells (c ∷ []) (λ k t. t ≡ bytes) (λ t. t ≡ bytes) out after written code → TellsOneOf first P out after written code
-told_by first P c bytes out after written code among other is codes told = record {
-  told = λ one. by_code one codes;
-  small = λ small. by_long (told.small small);
+reported_by first P c bytes out after written code among other is codes reported = record {
+  reported = λ one. by_code one codes;
+  small = λ small. by_long (reported.small small);
   no_text = λ none. absurd (neither none codes);
-  unwritten = λ none. told.unwritten (λ k. none (moved k));
+  unwritten = λ none. reported.unwritten (λ k. none (moved k));
 } where
   moved : IsOneOf (c ∷ []) code → IsOneOf first code
   moved (inl e) = subst (IsOneOf first) (sym e) among
@@ -61,7 +61,7 @@ told_by first P c bytes out after written code among other is codes told = recor
 
   by_code : IsOneOf first code → IsOneOf (c ∷ ASM_SMALL ∷ []) code → IsTextWritten (P code) after written
   by_code one (inl e) =
-      let text = told.told (inl e) in
+      let text = reported.reported (inl e) in
       (subst (P code) (sym text.0) (subst (λ (k : ℤ). P k bytes) (sym e) is), text.1)
   by_code one (inr (inl e)) = absurd (other (subst (IsOneOf first) e one))
   by_code one (inr (inr h)) = absurd h

@@ -21,11 +21,11 @@ pub all_legal : (bytes : List ℕ) (taken : ℕ) (n : AuditNumbers) (w : Counts)
     IsFedAnswer part bytes old.progress old.line new.progress new.line r →
     HasTakenFirst part bytes old.progress old.line new.progress new.line taken r →
     AreFedSoFar part new.progress new.line w → counts_of n ≡ w → HasAudited bytes taken n ASM_DONE old new
-all_legal bytes taken n w old new r f ok legal told first counts same = record {
+all_legal bytes taken n w old new r f ok legal reported first counts same = record {
   answer = Ok Legal;
-  tells = refl;
-  told = subst (λ (x : Result Told AuditError). IsFedAnswer part bytes old.progress old.line new.progress new.line x)
-      (ok ∙ ap Ok legal) told;
+  reports = refl;
+  reported = subst (λ (x : Result Told AuditError). IsFedAnswer part bytes old.progress old.line new.progress new.line x)
+      (ok ∙ ap Ok legal) reported;
   first = subst (λ (x : Result Told AuditError). HasTakenFirst part bytes old.progress old.line new.progress new.line taken x)
       (ok ∙ ap Ok legal) first;
   counts = λ _. subst (AreFedSoFar part new.progress new.line) (sym same) counts;

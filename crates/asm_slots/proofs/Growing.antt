@@ -25,7 +25,7 @@ use Rattle.asm_slots.specs.StepView.{StepView}
 use Rattle.asm_slots.specs.StepCalls.{AreLastOf, HasGotEach, HasPopped, HasReached, IsPushAnswerBelow, IsGrown, IsLayered, IsNotGrown, IsPushError, IsRefused, TellsTracked, below, from_below, grown}
 use Rattle.asm_slots.specs.declared.owned_step.Way.{Way}
 use Rattle.asm_slots.specs.declared.owned_step.Way.TheVariants as ways
-use Rattle.asm_slots.proofs.CopiedTexts.{tells_one_too}
+use Rattle.asm_slots.proofs.CopiedTexts.{reports_one_too}
 use Rattle.asm_slots.proofs.OwnStates.{IsOwn, below_is}
 
 -- the answer of a push or an extension on well-formed states that have what is below the step where partial updates
@@ -100,15 +100,15 @@ is_grown_of way a s t inside ls M view own same layers answer on step =
 
 -- a move that wasn't accepted changes no layer, and its refusal is reported
 module _ (way : Way) (a : AgentAt Standard) (s : StateView) (t inside : StepView) (ls : List Layer) (M : Move) (e : StepError) where
-  told_of : (after : StepView) (code : ℤ) (text : List ℕ) → inside ≡ t → IsOwn a s → s.number ≡ inside.number →
+  reported_of : (after : StepView) (code : ℤ) (text : List ℕ) → inside ≡ t → IsOwn a s → s.number ≡ inside.number →
       (way ≡ ways.Extend → ¬ (e ≡ Deep)) → ls ≡ inside.layers →
       IsPushAnswer standard (value_at s) inside.layers ls M (Err e) → AnswersOn (value_at s) inside.layers ls M (Err e) →
       TellsTracked M (record inside { layers = ls }) after e code text → IsRefused way M a t after code text
-  told_of after code text view own same deep kept answer on told =
+  reported_of after code text view own same deep kept answer on reported =
       let error = is_push_error way a s inside M e own same deep
       (subst (λ (x : List Layer). IsPushAnswer standard (value_at s) inside.layers x M (Err e)) kept answer)
       (subst (λ (x : List Layer). AnswersOn (value_at s) inside.layers x M (Err e)) kept on) in
-      let tracked = subst (λ (x : List Layer). TellsTracked M (record inside { layers = x }) after e code text) kept told in (
+      let tracked = subst (λ (x : List Layer). TellsTracked M (record inside { layers = x }) after e code text) kept reported in (
         e,
         subst (λ (x : StepView). IsPushError way M a x e) view error,
         subst (λ (x : StepView). TellsTracked M x after e code text) view tracked,
@@ -120,15 +120,15 @@ module _ (way : Way) (a : AgentAt Standard) (s : StateView) (t inside : StepView
       TellsOneOf refusals (TellsTracked M (record inside { layers = ls }) new e) out after written code →
       TellsOneOf refusals (IsRefused way M a t new) out after written code
   is_refused new out after written code view own same deep kept answer on =
-      tells_one_too refusals (TellsTracked M (record inside { layers = ls }) new e) (IsRefused way M a t new)
-      out after written code (λ c text told. told_of new c text view own same deep kept answer on told)
+      reports_one_too refusals (TellsTracked M (record inside { layers = ls }) new e) (IsRefused way M a t new)
+      out after written code (λ c text reported. reported_of new c text view own same deep kept answer on reported)
 
 -- the same of a move whose JSON the bytes are
 pub not_grown : (way : Way) (bytes : List ℕ) (M : Move) (a : AgentAt Standard) (t new : StepView) → ReadAsMove bytes M →
     (out after : List ℕ) (written : ℕ) (code : ℤ) → TellsOneOf refusals (IsRefused way M a t new) out after written code →
     TellsOneOf refusals (IsNotGrown way bytes a t new) out after written code
 not_grown way bytes M a t new reads out after written code =
-    tells_one_too refusals (IsRefused way M a t new) (IsNotGrown way bytes a t new) out after written code
+    reports_one_too refusals (IsRefused way M a t new) (IsNotGrown way bytes a t new) out after written code
     (λ c text refused. (M, reads, refused))
 
 -- ASM_SMALL is no refusal

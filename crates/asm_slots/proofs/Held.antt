@@ -10,27 +10,27 @@ use Rattle.asm_slots.specs.Standard.{Standard}
 use Rattle.asm_slots.specs.StepView.{StepView}
 use Rattle.asm_slots.specs.declared.content.Content.{Content}
 use Rattle.asm_slots.specs.declared.content.Content.TheVariants as content
-use Rattle.asm_slots.proofs.CopiedTexts.{retold, tells_one_too, tells_too}
+use Rattle.asm_slots.proofs.CopiedTexts.{repeated, reports_one_too, reports_too}
 
 pub holds : (o : Option Content) (a : AgentAt Standard) (P : AgentAt Standard → Type 0) → o ≡ Some (content.Agent a) → P a →
     Holds o P
 holds o a P is p = subst (λ (x : Option Content). Holds x P) (sym is) p
 
 -- if these bytes are written, a text is written that has the property for the agent
-pub holds_told : (o : Option Content) (a : AgentAt Standard) (P : AgentAt Standard → List ℕ → Type 0)
+pub holds_reported : (o : Option Content) (a : AgentAt Standard) (P : AgentAt Standard → List ℕ → Type 0)
     (bytes text out after : List ℕ) (written : ℕ) (code : ℤ) → o ≡ Some (content.Agent a) → bytes ≡ text → P a text →
     IsOneOf (ASM_DONE ∷ ASM_SMALL ∷ []) code → TellsText (λ t. t ≡ bytes) out after written code →
     TellsText (λ t. Holds o (λ b. P b t)) out after written (to_z w32 (of_z w32 code))
-holds_told o a P bytes text out after written code is same so =
-    retold (λ t. Holds o (λ b. P b t)) bytes text out after written code same (holds o a (λ b. P b text) is so)
+holds_reported o a P bytes text out after written code is same so =
+    repeated (λ t. Holds o (λ b. P b t)) bytes text out after written code same (holds o a (λ b. P b text) is so)
 
 -- if these bytes are written, a text is written that has the property for the audit
-pub audit_told : (o : Option Content) (a : AuditView) (P : AuditView → List ℕ → Type 0)
+pub audit_reported : (o : Option Content) (a : AuditView) (P : AuditView → List ℕ → Type 0)
     (bytes text out after : List ℕ) (written : ℕ) (code : ℤ) → o ≡ Some (content.Audit a) → bytes ≡ text → P a text →
     IsOneOf (ASM_DONE ∷ ASM_SMALL ∷ []) code → TellsText (λ t. t ≡ bytes) out after written code →
     TellsText (λ t. HoldsAudit o (λ b. P b t)) out after written (to_z w32 (of_z w32 code))
-audit_told o a P bytes text out after written code is same so =
-    retold (λ t. HoldsAudit o (λ b. P b t)) bytes text out after written code same
+audit_reported o a P bytes text out after written code is same so =
+    repeated (λ t. HoldsAudit o (λ b. P b t)) bytes text out after written code same
     (subst (λ (x : Option Content). HoldsAudit x (λ b. P b text)) (sym is) so)
 
 hold_both : (agent step : Option Content) (a : AgentAt Standard) (s : StepView) (P : AgentAt Standard → StepView → Type 0) →
@@ -49,31 +49,31 @@ module _ (first : List ℤ) (agent step after_step : Option Content) (a : AgentA
     (written : ℕ) (code : ℤ) (e : agent ≡ Some (content.Agent a)) (f : step ≡ Some (content.Step s))
     (g : after_step ≡ Some (content.Step t)) where
   -- what is reported of an agent and a step, before and after, is reported of their slots
-  pub both_told : (P : AgentAt Standard → StepView → StepView → ℤ → List ℕ → Type 0) →
+  pub both_reported : (P : AgentAt Standard → StepView → StepView → ℤ → List ℕ → Type 0) →
       TellsOneOf first (P a s t) out after written code →
       TellsOneOf first (λ c text. HoldBoth agent step (λ b r. HoldsStep after_step (λ q. P b r q c text))) out after written code
-  both_told P =
-      tells_one_too first (P a s t) (λ c text. HoldBoth agent step (λ b r. HoldsStep after_step (λ q. P b r q c text)))
+  both_reported P =
+      reports_one_too first (P a s t) (λ c text. HoldBoth agent step (λ b r. HoldsStep after_step (λ q. P b r q c text)))
       out after written code (λ c text is. hold_three agent step after_step a s t (λ b r q. P b r q c text) e f g is)
 
   -- and of the move in a box
-  pub move_told : (P : Move → AgentAt Standard → StepView → StepView → ℤ → List ℕ → Type 0) (held : Content) (M : Move) →
+  pub move_reported : (P : Move → AgentAt Standard → StepView → StepView → ℤ → List ℕ → Type 0) (held : Content) (M : Move) →
       held ≡ content.Move M → TellsOneOf first (P M a s t) out after written code →
       TellsOneOf first (λ c text. HoldsMove (Some held) (λ N. HoldBoth agent step (λ b r. HoldsStep after_step (λ q. P N b r q c text))))
       out after written code
-  move_told P held M is =
-      tells_one_too first (P M a s t)
+  move_reported P held M is =
+      reports_one_too first (P M a s t)
       (λ c text. HoldsMove (Some held) (λ N. HoldBoth agent step (λ b r. HoldsStep after_step (λ q. P N b r q c text))))
       out after written code
       (λ c text so. subst (λ (x : Content). HoldsMove (Some x) (λ N. HoldBoth agent step (λ b r. HoldsStep after_step
       (λ q. P N b r q c text)))) (sym is) (hold_three agent step after_step a s t (λ b r q. P M b r q c text) e f g so))
 
 -- the same of a text of one kind
-pub both_text_told : (agent step : Option Content) (a : AgentAt Standard) (s : StepView) (out after : List ℕ) (written : ℕ) (code : ℤ) →
+pub both_text_reported : (agent step : Option Content) (a : AgentAt Standard) (s : StepView) (out after : List ℕ) (written : ℕ) (code : ℤ) →
     agent ≡ Some (content.Agent a) → step ≡ Some (content.Step s) → (P : AgentAt Standard → StepView → List ℕ → Type 0) →
     TellsText (P a s) out after written code → TellsText (λ t. HoldBoth agent step (λ b r. P b r t)) out after written code
-both_text_told agent step a s out after written code e f P =
+both_text_reported agent step a s out after written code e f P =
     let Both : List ℕ → Type 0 = λ t. HoldBoth agent step (λ b r. P b r t) in
     let held : (t : List ℕ) → P a s t → HoldBoth agent step (λ b r. P b r t) =
     λ t is. hold_both agent step a s (λ b r. P b r t) e f is in
-    tells_too (ASM_DONE ∷ []) (λ c. P a s) (λ c. Both) out after written code (λ c. held) (P a s) Both held
+    reports_too (ASM_DONE ∷ []) (λ c. P a s) (λ c. Both) out after written code (λ c. held) (P a s) Both held

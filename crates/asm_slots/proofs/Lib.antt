@@ -9,7 +9,7 @@ pub mod Held
 pub mod FedAudits
 pub mod OwnAgents
 pub mod OwnStates
-pub mod GoingOn
+pub mod ExtendingInPlace
 pub mod Growing
 pub mod WholeScans
 pub mod Commits

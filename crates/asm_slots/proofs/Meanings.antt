@@ -20,21 +20,21 @@ use Rattle.asm_slots.specs.declared.operands.Verb.TheVariants as verbs
 -- ---- kinds
 
 -- a kind whose bytes are JSON is not that of undef, a truth value, a number or a text
-told_apart : (k : ℤ) → IsByJson k →
+distinct : (k : ℤ) → IsByJson k →
     (k ≢ ASM_KIND_UNDEF) × (k ≢ ASM_KIND_BOOL) × (k ≢ ASM_KIND_NUM) × (k ≢ ASM_KIND_TEXT)
-told_apart k (inl is) = (λ other. cc, λ other. cc, λ other. cc, λ other. cc)
-told_apart k (inr (inl is)) = (λ other. cc, λ other. cc, λ other. cc, λ other. cc)
-told_apart k (inr (inr is)) = (λ other. cc, λ other. cc, λ other. cc, λ other. cc)
+distinct k (inl is) = (λ other. cc, λ other. cc, λ other. cc, λ other. cc)
+distinct k (inr (inl is)) = (λ other. cc, λ other. cc, λ other. cc, λ other. cc)
+distinct k (inr (inr is)) = (λ other. cc, λ other. cc, λ other. cc, λ other. cc)
 
 -- an operand is of its kind
-kind_told : (k n : ℤ) (bs : List ℕ) (v : Value) → IsOperand k n bs v → k ≡ kind_of v
-kind_told k n bs (Plain Undef) h = h.0
-kind_told k n bs (Plain (Truth b)) h = h.0
-kind_told k n bs (Plain (Num m)) h = h.0
-kind_told k n bs (Plain (Text s)) h = h.0
-kind_told k n bs (Plain (Inner ds)) h = h.1.2.0
-kind_told k n bs (Set s) h = h.1.2.0
-kind_told k n bs (Bag b) h = h.1.2.0
+kind_reported : (k n : ℤ) (bs : List ℕ) (v : Value) → IsOperand k n bs v → k ≡ kind_of v
+kind_reported k n bs (Plain Undef) h = h.0
+kind_reported k n bs (Plain (Truth b)) h = h.0
+kind_reported k n bs (Plain (Num m)) h = h.0
+kind_reported k n bs (Plain (Text s)) h = h.0
+kind_reported k n bs (Plain (Inner ds)) h = h.1.2.0
+kind_reported k n bs (Set s) h = h.1.2.0
+kind_reported k n bs (Bag b) h = h.1.2.0
 
 -- no element has the kind of a set or of a bag
 no_element : (k : ℤ) (e : Element) → k ≡ kind_of (Plain e) → (k ≢ ASM_KIND_SET) × (k ≢ ASM_KIND_BAG)
@@ -46,12 +46,12 @@ no_element k (Inner ds) is = (λ other. cc, λ other. cc)
 
 -- ---- elements
 
-pub told_means : (k n : ℤ) (bs : List ℕ) (e : Element) → IsTextOrPlain k n bs e → IsOperand k n bs (Plain e)
-told_means k n bs Undef h = h.0
-told_means k n bs (Truth b) h = h.0
-told_means k n bs (Num m) h = h.0
-told_means k n bs (Text s) h = h.0
-told_means k n bs (Inner ds) h = absurd (h.1 h.0.0)
+pub reported_means : (k n : ℤ) (bs : List ℕ) (e : Element) → IsTextOrPlain k n bs e → IsOperand k n bs (Plain e)
+reported_means k n bs Undef h = h.0
+reported_means k n bs (Truth b) h = h.0
+reported_means k n bs (Num m) h = h.0
+reported_means k n bs (Text s) h = h.0
+reported_means k n bs (Inner ds) h = absurd (h.1 h.0.0)
 
 -- if these are no element and the kind isn't one of JSON, nothing is meant
 pub none_means : (k n : ℤ) (bs : List ℕ) → ¬ IsByJson k → ((e : Element) → ¬ IsTextOrPlain k n bs e) → (v : Value) → ¬ IsOperand k n bs v
@@ -79,20 +79,20 @@ coded code (inr (inr (inr none))) = elim none [ ]
 -- ---- JSON
 
 pub read_means : (k n : ℤ) (bs : List ℕ) (v : Value) → IsByJson k → k ≡ kind_of v → n ≡ pos 0 → ReadAs IsValueForm bs v → IsOperand k n bs v
-read_means k n bs (Plain Undef) by is zero read = absurd ((told_apart k by).0 is)
-read_means k n bs (Plain (Truth b)) by is zero read = absurd ((told_apart k by).1 is)
-read_means k n bs (Plain (Num m)) by is zero read = absurd ((told_apart k by).2 is)
-read_means k n bs (Plain (Text s)) by is zero read = absurd ((told_apart k by).3 is)
+read_means k n bs (Plain Undef) by is zero read = absurd ((distinct k by).0 is)
+read_means k n bs (Plain (Truth b)) by is zero read = absurd ((distinct k by).1 is)
+read_means k n bs (Plain (Num m)) by is zero read = absurd ((distinct k by).2 is)
+read_means k n bs (Plain (Text s)) by is zero read = absurd ((distinct k by).3 is)
 read_means k n bs (Plain (Inner ds)) by is zero (d, json, form) = (zero, (d, json, (is, form)))
 read_means k n bs (Set s) by is zero (d, json, form) = (zero, (d, json, (is, form)))
 read_means k n bs (Bag b) by is zero (d, json, form) = (zero, (d, json, (is, form)))
 
 -- with a number nothing of these kinds is meant
 pub none_numbered : (k n : ℤ) (bs : List ℕ) → IsByJson k → n ≢ pos 0 → (v : Value) → ¬ IsOperand k n bs v
-none_numbered k n bs by other (Plain Undef) h = (told_apart k by).0 h.0
-none_numbered k n bs by other (Plain (Truth b)) h = (told_apart k by).1 h.0
-none_numbered k n bs by other (Plain (Num m)) h = (told_apart k by).2 h.0
-none_numbered k n bs by other (Plain (Text s)) h = (told_apart k by).3 h.0
+none_numbered k n bs by other (Plain Undef) h = (distinct k by).0 h.0
+none_numbered k n bs by other (Plain (Truth b)) h = (distinct k by).1 h.0
+none_numbered k n bs by other (Plain (Num m)) h = (distinct k by).2 h.0
+none_numbered k n bs by other (Plain (Text s)) h = (distinct k by).3 h.0
 none_numbered k n bs by other (Plain (Inner ds)) h = other h.0
 none_numbered k n bs by other (Set s) h = other h.0
 none_numbered k n bs by other (Bag b) h = other h.0
@@ -140,28 +140,28 @@ no_put (verbs.BagRemove m) n amount v is none zero = let one : n ≡ pos 4 = (is
 
 -- it is a set or a bag
 no_plain : (verb : Verb) (k : ℤ) (v : Value) → CannotTake verb v → k ≡ kind_of v → (e : Element) → k ≢ kind_of (Plain e)
-no_plain verb k (Set s) none is e told = (no_element k e told).0 is
-no_plain verb k (Bag b) none is e told = (no_element k e told).1 is
-no_plain verbs.Put k (Plain x) none is e told = absurd none
-no_plain verbs.Add k (Plain x) none is e told = absurd none
-no_plain verbs.Remove k (Plain x) none is e told = absurd none
-no_plain (verbs.BagAdd m) k (Plain x) none is e told = absurd none
-no_plain (verbs.BagRemove m) k (Plain x) none is e told = absurd none
+no_plain verb k (Set s) none is e reported = (no_element k e reported).0 is
+no_plain verb k (Bag b) none is e reported = (no_element k e reported).1 is
+no_plain verbs.Put k (Plain x) none is e reported = absurd none
+no_plain verbs.Add k (Plain x) none is e reported = absurd none
+no_plain verbs.Remove k (Plain x) none is e reported = absurd none
+no_plain (verbs.BagAdd m) k (Plain x) none is e reported = absurd none
+no_plain (verbs.BagRemove m) k (Plain x) none is e reported = absurd none
 
 -- a value that the verb can't take makes no action
 pub untaken : (verb : Verb) (n k number : ℤ) (bs : List ℕ) (amount : ℕ) (v : Value) → IsVerb n amount verb → CannotTake verb v →
     IsOperand k number bs v → IsNoAction n k number bs amount
 untaken verb n k number bs amount v is none meant (Regular w) h = no_put verb n amount v is none h.0
 untaken verb n k number bs amount v is none meant (SetAdd e) h =
-    no_plain verb k v none (kind_told k number bs v meant) e (kind_told k number bs (Plain e) h.2)
+    no_plain verb k v none (kind_reported k number bs v meant) e (kind_reported k number bs (Plain e) h.2)
 untaken verb n k number bs amount v is none meant (SetRemove e) h =
-    no_plain verb k v none (kind_told k number bs v meant) e (kind_told k number bs (Plain e) h.2)
+    no_plain verb k v none (kind_reported k number bs v meant) e (kind_reported k number bs (Plain e) h.2)
 untaken verb n k number bs amount v is none meant (BagAdd e m) h =
-    no_plain verb k v none (kind_told k number bs v meant) e (kind_told k number bs (Plain e) h.2)
+    no_plain verb k v none (kind_reported k number bs v meant) e (kind_reported k number bs (Plain e) h.2)
 untaken verb n k number bs amount v is none meant (BagRemove e m) h =
-    no_plain verb k v none (kind_told k number bs v meant) e (kind_told k number bs (Plain e) h.2)
+    no_plain verb k v none (kind_reported k number bs v meant) e (kind_reported k number bs (Plain e) h.2)
 untaken verb n k number bs amount v is none meant (Increment m) h =
-    no_plain verb k v none (kind_told k number bs v meant) (Num m) (kind_told k number bs (Plain (Num m)) h.2)
+    no_plain verb k v none (kind_reported k number bs v meant) (Num m) (kind_reported k number bs (Plain (Num m)) h.2)
 
 -- ---- with the words of numbers
 

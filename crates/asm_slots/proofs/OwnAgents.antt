@@ -48,6 +48,6 @@ replied_over a new reads scans M (Ok t) is = record {
   found = is.found;
   replied = is.answered;
   coherent = is.coherent;
-  rests = is.rests;
+  depends = is.depends;
 }
 replied_over a new reads scans M (Err e) is = tt

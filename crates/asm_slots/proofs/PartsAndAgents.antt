@@ -39,9 +39,9 @@ rises_again s t new old same rises =
     subst IsStrictlyIncreasing (sym (sym (ids_of s new) ∙ ap (λ (l : List (AgentAt Standard)). ids (accounts l)) same ∙ ids_of t old)) rises
 
 -- what holds of the agents that are made of parts holds of those of the store that has the parts
-pub told_of_store : (P : StorageView Standard → List (AgentAt Standard) → Type 0) (x y z : Shared) (parts : List AgentPart)
+pub reported_of_store : (P : StorageView Standard → List (AgentAt Standard) → Type 0) (x y z : Shared) (parts : List AgentPart)
     (all : List (AgentAt Standard)) → y ≡ x → z ≡ x → all ≡ map (agent_of y.storage) parts → P z.storage all
     → P x.storage (map (agent_of x.storage) parts)
-told_of_store P x y z parts all e f g p =
+reported_of_store P x y z parts all e f g p =
     subst (λ (s : Shared). P s.storage (map (agent_of x.storage) parts)) f
     (subst (λ (s : Shared). P z.storage (map (agent_of s.storage) parts)) e (subst (P z.storage) g p))

@@ -13,7 +13,7 @@ use Rattle.asm_update.specs.State.{val}
 use Rattle.asm_state.specs.Scans.{has_name}
 use Rattle.asm_state.specs.declared.named.Named.{Named}
 use Rattle.asm_state.specs.declared.scanned.Scanned.{Scanned}
-use Rattle.asm_storage.proofs.AgentKept.{take-moves_seen}
+use Rattle.asm_storage.proofs.AgentInvariant.{take-moves_seen}
 use Rattle.asm_storage.proofs.Lists.{length-prefix}
 use Rattle.asm_storage.specs.Agents.{moves_seen}
 use Rattle.asm_storage.specs.Calls.{MadeOffers}
@@ -62,7 +62,7 @@ none_later over n none k d lt = by_test (nat_lt n (get_or over k d).number) refl
 -- so each function is unchanged before the move that fired
 whole_over : (a new : AgentAt Standard) (reads : List Named) (over : List Scanned) (M : Move) (r : Reply) →
     IsRepliedOver a new reads over M r → is_any_over reads over (length a.account.seen) ≡ false → AreWholeOver a over r new
-whole_over a new reads over M r told within k is = fired (subst (IsRepliedOver a new reads over M) is told) where
+whole_over a new reads over M r reported within k is = fired (subst (IsRepliedOver a new reads over M) is reported) where
   seen : ℕ
   seen = length a.account.seen
 
@@ -71,14 +71,14 @@ whole_over a new reads over M r told within k is = fired (subst (IsRepliedOver a
 
   fired : IsRepliedOver a new reads over M (Fired k) →
       All (λ s. (l : Place) → IsTrue (has_name (string_bytes s.name) l) → val (state_at new (k - 1)) l ≡ val (state_at a s.number) l) over
-  fired told j d lt =
-      kept_whole a new k (get_or over j d) (ap (λ (x : AgentAt Standard). x.storage) told.replied.agent) told.replied.begins
-      (few j d lt) (told.rests.1 j d lt)
+  fired reported j d lt =
+      kept_whole a new k (get_or over j d) (ap (λ (x : AgentAt Standard). x.storage) reported.replied.agent) reported.replied.begins
+      (few j d lt) (reported.depends.1 j d lt)
 
 -- what holds of an answered fire over scans
 pub tried_over : (call scans : List ℕ) (code : ℤ) (number : ℕ) (a new : AgentAt Standard) (reads : List Named)
     (over : List Scanned) (M : Move) (r : Reply) → ReadAsFireOver call scans reads over M → code_of r ≡ code →
     number_of r ≡ number → is_any_over reads over (length a.account.seen) ≡ false → IsRepliedOver a new reads over M r →
     ¬ (reads_limit < length reads + length over) → ((n : ℕ) × MadeOffers a new (Ok r) n) → HasTriedFireOver call scans code number a new
-tried_over call scans code number a new reads over M r read code_is number_is within told few offers =
-    (reads, over, M, r, read, code_is, number_is, omega (arith, few), told, whole_over a new reads over M r told within, offers)
+tried_over call scans code number a new reads over M r read code_is number_is within reported few offers =
+    (reads, over, M, r, read, code_is, number_is, omega (arith, few), reported, whole_over a new reads over M r reported within, offers)

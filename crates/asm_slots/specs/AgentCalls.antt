@@ -14,9 +14,9 @@ use Rattle.asm_storage.specs.declared.call.Reply.TheVariants as reply
 use Rattle.asm_storage.specs.declared.error.FireError.TheVariants.{Busy, Memory}
 use Rattle.asm_storage.specs.declared.receipt.Receipt.{Receipt}
 use Rattle.asm_storage.specs.declared.entry.Entry.{Entry}
-use Rattle.asm_storage.specs.Storage.{AgentAt, has_looked, has_seen, last_look, machine_of, Missed}
+use Rattle.asm_storage.specs.Storage.{AgentAt, has_polled, has_seen, last_poll, machine_of, Missed}
 use Rattle.asm_storage.specs.Calls.{ReadingView, IsRead, IsReplied, IsBusy, IsCoherentReply, MadeOffers, judged_on}
-use Rattle.asm_storage.specs.Scans.{with_found, RestsOn}
+use Rattle.asm_storage.specs.Scans.{with_found, DependsOn}
 use Rattle.asm_journal.specs.Event.{answer_json_of}
 pub use Rattle.asm_row.specs.Limits.{IsNoCapacity}
 use Rattle.asm_slots.specs.Standard.{Standard, meaning}
@@ -46,7 +46,7 @@ Makes numbers _ new = ⊥
 abbrev pub HasRead : List ℕ → AgentAt Standard → AgentAt Standard → Type 0
 HasRead bytes old new =
     (locations : List element.Place) × (r : ReadingView) × ReadAsLocations bytes locations
-    × IsRead meaning old new locations r × Missed old (last_look new) new
+    × IsRead meaning old new locations r × Missed old (last_poll new) new
 
 -- the code of a reply
 abbrev pub code_of : Reply → ℤ
@@ -78,23 +78,23 @@ pub record IsRepliedOver (old new : AgentAt Standard) (reads : List Named) (scan
   pub found : Option Named
   pub replied : IsReplied meaning old new (with_found reads found) M r
   pub coherent : IsCoherentReply meaning new (with_found reads found) M r
-  pub rests : RestsOn (machine_of meaning new.storage) (moves_seen (judged_on r new.account.seen)) scans found r
+  pub depends : DependsOn (machine_of meaning new.storage) (moves_seen (judged_on r new.account.seen)) scans found r
 
 -- how many moves had been seen at the start and at the end of a call that lost 64 attempts
 abbrev pub WasBusy : ℕ → ℕ → AgentAt Standard → AgentAt Standard → Type 0
 WasBusy from to old new = IsBusy old new (Busy from to) × ((n : ℕ) × MadeOffers old new (Err (Busy from to)) n)
 
 -- it has polled, and nothing else has changed
-abbrev pub HasLooked : AgentAt Standard → AgentAt Standard → Type 0
-HasLooked old new = new ≡ has_looked old new.account.seen new.misses new.number
+abbrev pub HasPolled : AgentAt Standard → AgentAt Standard → Type 0
+HasPolled old new = new ≡ has_polled old new.account.seen new.misses new.number
 
 -- it has seen what it had seen before, and maybe more
 abbrev pub SeesOn : AgentAt Standard → AgentAt Standard → Type 0
 SeesOn old new = IsPrefix old.account.seen new.account.seen
 
 -- it is unchanged, or has polled to the end for a read that was refused memory
-abbrev pub MayHaveLooked : AgentAt Standard → AgentAt Standard → Type 0
-MayHaveLooked old new = (new ≡ old) ⊎ Missed old (last_look new) new
+abbrev pub MayHavePolled : AgentAt Standard → AgentAt Standard → Type 0
+MayHavePolled old new = (new ≡ old) ⊎ Missed old (last_poll new) new
 
 -- it is unchanged, or has made attempts and polls for a fire that was refused memory
 abbrev pub MayHaveOffered : AgentAt Standard → AgentAt Standard → Type 0

@@ -49,8 +49,8 @@ TellsEnd (Err e) code n = TellsAuditError e code n
 -- and if all is right, these are the numbers so far
 pub record HasAudited (bytes : List ℕ) (taken : ℕ) (n : AuditNumbers) (code : ℤ) (old new : AuditView) : Type 0 where
   pub answer : Result Told AuditError
-  pub tells : TellsAnswer answer code n
-  pub told : IsFedAnswer part bytes old.progress old.line new.progress new.line answer
+  pub reports : TellsAnswer answer code n
+  pub reported : IsFedAnswer part bytes old.progress old.line new.progress new.line answer
   pub first : HasTakenFirst part bytes old.progress old.line new.progress new.line taken answer
   pub counts : code ≡ ASM_DONE → AreFedSoFar part new.progress new.line (counts_of n)
 
@@ -67,8 +67,8 @@ pub record Audits (bytes : List ℕ) (audit after : Option Content) (taken : ℕ
 -- the answer if no byte follows: the run is complete and legal, or this is its fault
 pub record HasEnd (n : AuditNumbers) (code : ℤ) (a : AuditView) : Type 0 where
   pub answer : Result Counts AuditError
-  pub tells : TellsEnd answer code n
-  pub told : IsFedEnd part a.progress a.line answer
+  pub reports : TellsEnd answer code n
+  pub reported : IsFedEnd part a.progress a.line answer
 
 -- the code and the numbers are those of the end of a slot's audit
 pub record EndsAudit (audit : Option Content) (n : AuditNumbers) (code : ℤ) : Type 0 where

@@ -16,10 +16,10 @@ use Rattle.asm_storage.specs.declared.call.Reply.TheVariants.{Fired}
 use Rattle.asm_storage.specs.declared.error.FireError.{FireError}
 use Rattle.asm_storage.specs.declared.error.FireError.TheVariants.{Busy, ManyReads, Memory}
 use Rattle.asm_step.specs.InTurn.{DoesAll, fire_all}
-use Rattle.asm_step.specs.Layers.{IsStepOf, Layer, all_moves, one_move, resting_of, shows_below}
+use Rattle.asm_step.specs.Layers.{IsStepOf, Layer, all_moves, one_move, dependencies_of, shows_below}
 use Rattle.asm_step.specs.Places.{AreEach}
-use Rattle.asm_step.specs.Resting.{AgreesAtRests, left_by}
-use Rattle.asm_slots.specs.AgentCalls.{HasLooked, IsRepliedOver, MissedFew, MissedOne, SeesOn, code_of, number_of}
+use Rattle.asm_step.specs.Dependencies.{AgreesAtDependencies, left_by}
+use Rattle.asm_slots.specs.AgentCalls.{HasPolled, IsRepliedOver, MissedFew, MissedOne, SeesOn, code_of, number_of}
 use Rattle.asm_slots.specs.Codes.{IsOneOf, ASM_DONE, ASM_STALE, ASM_CLASH, ASM_MEMORY, ASM_FULL, ASM_EMPTY, ASM_BUSY, ASM_MANY}
 use Rattle.asm_slots.specs.Codes.{ASM_MOVED}
 use Rattle.asm_slots.specs.OwnState.{state_at}
@@ -41,14 +41,14 @@ TellsFire (Err Memory) code fired from to = (code ≡ ASM_MEMORY) × (fired ≡ 
 -- a read at the step's version is declared for each location on which the step depends: each tracked one, where what
 -- was seen was made from the state below, and each on which the pushed moves depend
 pub record NamesAll (s : StepView) (reads : List Named) : Type 0 where
-  pub locations : AreEach (s.got ++ resting_of s.layers) (map (λ r. r.at) reads)
+  pub locations : AreEach (s.got ++ dependencies_of s.layers) (map (λ r. r.at) reads)
   pub numbers : All (λ r. r.number ≡ s.number) reads
 
 -- the move does what the layers' moves do in turn, on each state that agrees with the one below where they depend on it
 abbrev pub StandsAs : List Layer → Move → Type 0
 StandsAs layers M =
     (m : Meaning) (old : Old) (groups : List (List Move)) (B : State) → AggregatorLaws m → IsStepOf m.part old layers groups →
-    IsProper B → AgreesAtRests B old (all_moves groups) →
+    IsProper B → AgreesAtDependencies B old (all_moves groups) →
     left_by (fire m.part B M) ≡ left_by (fire_all m.part (Ok B) (all_moves groups))
 
 -- the scans are of the functions that the step scanned, each at the step's version
@@ -84,10 +84,10 @@ pub record HasFiredStep (s : StepView) (code : ℤ) (fired from to : ℕ) (old n
   pub answer : Result Reply FireError
   pub names : NamesAll s reads
   pub scanned : ScansAll s scans
-  pub told : TellsFire answer code fired from to
+  pub reported : TellsFire answer code fired from to
   pub many : IsErrOf answer ManyReads ↔ (reads_limit < length reads + length scans)
   pub answered : IfOk answer (IsRepliedOver old new reads scans (unwrap_or (one_move s.layers) []))
-  pub refused : OnErr answer (HasLooked old new)
+  pub refused : OnErr answer (HasPolled old new)
   pub busy : IfErr answer (IsBusy old new)
   pub offers : (n : ℕ) × MadeOffers old new answer n
   pub fires : (k : ℕ) → answer ≡ Ok (Fired k) → FiresAll old s (unwrap_or (one_move s.layers) []) k new

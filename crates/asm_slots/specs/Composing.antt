@@ -45,7 +45,7 @@ pub record IsAggregated (state instrs : List ℕ) (code : ℤ) (text : List ℕ)
   pub state_reads : ReadAsState state old
   pub move_reads : ReadAsMove instrs move
   pub aggregate : IsAggregate part (val old) move answer
-  pub told : TellsAggregate answer code text
+  pub reported : TellsAggregate answer code text
 
 -- what the move of these bytes does on the state of those is reported; or the code says why not
 pub record Aggregates (state instrs out out_after : List ℕ) (written : ℕ) (code : ℤ) : Type 0 where
@@ -71,7 +71,7 @@ pub record IsComposed (first second : List ℕ) (code : ℤ) (text : List ℕ) :
   pub second_reads : ReadAsMove second two
   pub composition : IsComposition standard one two answer
   pub sequence : KeepsSequence part one two answer
-  pub told : TellsComposition answer code text
+  pub reported : TellsComposition answer code text
 
 -- one move that does what the two moves of these bytes do in turn is written, or why there is none; or the code says
 -- why not

@@ -16,7 +16,7 @@ use Rattle.asm_storage.specs.declared.call.Reply.{Reply}
 use Rattle.asm_storage.specs.declared.call.Reply.TheVariants.{Fired}
 use Rattle.asm_journal.specs.Shape.{pair_of, IsListForm, IsNumberForm}
 use Rattle.asm_explain.specs.Bytes.{IsFireForm, ReadAs, ReadAsFire}
-use Rattle.asm_slots.specs.AgentCalls.{HasLooked, IsRepliedOver, IsReplyCode, MayHaveOffered}
+use Rattle.asm_slots.specs.AgentCalls.{HasPolled, IsRepliedOver, IsReplyCode, MayHaveOffered}
 use Rattle.asm_slots.specs.AgentCalls.{MissedFew, MissedOne, SeesOn, WasBusy, code_of, number_of}
 use Rattle.asm_slots.specs.Bytes.{AreMisread}
 use Rattle.asm_slots.specs.Codes.{IsOneOf, ASM_DONE, ASM_STALE, ASM_CLASH, ASM_MEMORY, ASM_FULL}
@@ -99,7 +99,7 @@ pub record FiresOver (call scans : List ℕ) (agent after : Option Content) (num
       Holds agent (FiresOverWithin call scans)
   pub many : code ≡ ASM_MANY → ReadAsManyOver call scans
   pub misread : IsOneOf (ASM_NOT_JSON ∷ ASM_SHAPE ∷ []) code → AreMisread IsFireForm AreScans call scans code
-  pub refused : IsOneOf (ASM_MEMORY ∷ ASM_BUSY ∷ ASM_MANY ∷ ASM_NOT_JSON ∷ ASM_SHAPE ∷ []) code → Goes agent after HasLooked
+  pub refused : IsOneOf (ASM_MEMORY ∷ ASM_BUSY ∷ ASM_MANY ∷ ASM_NOT_JSON ∷ ASM_SHAPE ∷ []) code → Goes agent after HasPolled
   pub busy : code ≡ ASM_BUSY → Goes agent after (WasBusy numbers.from numbers.to)
   pub same : code ≢ ASM_EMPTY → Goes agent after IsSameAgent
   pub seen : code ≢ ASM_EMPTY → Goes agent after SeesOn

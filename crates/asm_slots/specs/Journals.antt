@@ -22,7 +22,7 @@ use Rattle.asm_slots.specs.WrittenText.{TellsText}
 pub record IsChecked (bytes : List ℕ) (l : Legality) : Type 0 where
   pub history : History
   pub reads : ReadsAs bytes history
-  pub told : IsLegality (machine_of part history) history.events l
+  pub reported : IsLegality (machine_of part history) history.events l
 
 -- the bytes are a journal, and this is the text of the state that its moves leave
 pub record IsReplayed (bytes text : List ℕ) : Type 0 where
@@ -48,7 +48,7 @@ TellsError Memory code line = (code ≡ ASM_MEMORY) × (line ≡ 0)
 pub record IsRefusal (bytes : List ℕ) (code : ℤ) (line : ℕ) : Type 0 where
   pub error : JournalError
   pub refused : IsRefused bytes error
-  pub told : TellsError error code line
+  pub reported : TellsError error code line
 
 -- the bytes are a legal journal of so many calls and moves; or the code says why not, with the number of the call or
 -- the line

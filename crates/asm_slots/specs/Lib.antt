@@ -27,7 +27,7 @@ pub mod MadeAgents
 pub mod Tracked
 pub mod StepCalls
 pub mod StepPush
-pub mod PreparedLooks
+pub mod PreparedPolls
 pub mod GetByText
 pub mod Commit
 pub mod Kinds

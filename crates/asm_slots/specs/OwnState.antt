@@ -9,14 +9,14 @@ use Rattle.asm_update.specs.State.{State, IsProper, val}
 use Rattle.asm_state.specs.declared.named.Named.{Named}
 use Rattle.asm_storage.specs.Agents.{moves_seen}
 use Rattle.asm_storage.specs.Calls.{IsStaleRead}
-use Rattle.asm_storage.specs.Storage.{AgentAt, last_look, Missed}
+use Rattle.asm_storage.specs.Storage.{AgentAt, last_poll, Missed}
 use Rattle.asm_storage.specs.Taken.{HasTaken}
 use Rattle.asm_storage.specs.declared.call.Answer.TheVariants as answer
 use Rattle.asm_storage.specs.declared.call.Reply.TheVariants as reply
 use Rattle.asm_journal.specs.Event.{answer_json_of, reply_json_of}
 use Rattle.asm_journal.specs.Text.{state_json_of}
 use Rattle.asm_slots.specs.Bytes.{ReadAsLocations, ReadAsReads}
-use Rattle.asm_slots.specs.AgentCalls.{HasLooked}
+use Rattle.asm_slots.specs.AgentCalls.{HasPolled}
 use Rattle.asm_slots.specs.Kinds.{IsTold, bytes_of}
 use Rattle.asm_slots.specs.Slots.{Holds}
 use Rattle.asm_slots.specs.Standard.{Standard, meaning, part}
@@ -67,12 +67,12 @@ abbrev pub IsOwnOfName : List ℕ → AgentAt Standard → ℕ → List ℕ → 
 IsOwnOfName name a n text = StandsAt a n × IsTextOfState (of_name name (val (state_at a n))) text
 
 -- it has polled until it found nothing more, and nothing else has changed
-abbrev pub HasLookedOn : AgentAt Standard → AgentAt Standard → Type 0
-HasLookedOn old new = HasLooked old new × Missed old (last_look new) new
+abbrev pub HasPolledOn : AgentAt Standard → AgentAt Standard → Type 0
+HasPolledOn old new = HasPolled old new × Missed old (last_poll new) new
 
 -- it has polled until it found nothing more; its own state is at this version, and it has seen as many moves
 abbrev pub HasFollowed : ℕ → AgentAt Standard → AgentAt Standard → Type 0
-HasFollowed n old new = HasLookedOn old new × (n ≡ length new.account.seen) × (n ≡ new.number)
+HasFollowed n old new = HasPolledOn old new × (n ≡ length new.account.seen) × (n ≡ new.number)
 
 -- the bytes are JSON of declared reads, and none of them is stale after what the agent has then seen
 abbrev pub AllStand : List ℕ → AgentAt Standard → Type 0

@@ -9,7 +9,7 @@ use Rattle.asm_slots.specs.Codes.{ASM_CLASH, ASM_LARGE, ASM_LONG_MOVE, ASM_MANY,
 use Rattle.asm_slots.specs.Standard.{Standard, standard, part}
 use Rattle.asm_slots.specs.StepCalls.{IsStepOn, WouldTakeMany}
 use Rattle.asm_slots.specs.StepView.{StepView}
-use Rattle.asm_slots.specs.Tracked.{resting_last}
+use Rattle.asm_slots.specs.Tracked.{dependencies_last}
 
 -- the answer is what the moves of the step's last group compose to, which does what they do in turn, or why they don't compose
 abbrev pub IsComposedLast : StepView → Result Move ComposeError → Type 0
@@ -29,4 +29,4 @@ IsUncomposedLast s code = (e : ComposeError) × IsComposedLast s (Err e) × Tell
 
 -- or the locations on which they depend by themselves would take more than 256 places
 abbrev pub IsNotPoppedLast : StepView → ℤ → Type 0
-IsNotPoppedLast s code = IsUncomposedLast s code ⊎ ((code ≡ ASM_MANY) × WouldTakeMany (resting_last s) s)
+IsNotPoppedLast s code = IsUncomposedLast s code ⊎ ((code ≡ ASM_MANY) × WouldTakeMany (dependencies_last s) s)

@@ -5,7 +5,7 @@ use Rattle.asm_storage.specs.Storage.{IsSameAgent}
 use Rattle.asm_slots.specs.NumbersAhead.{FiresAhead, FiresWithin}
 use Rattle.asm_explain.specs.Bytes.{AreLocations, IsFireForm, IsNoJson, IsOtherJson}
 use Rattle.asm_slots.specs.Bytes.{ReadAsManyLocations, ReadAsManyReads}
-use Rattle.asm_slots.specs.AgentCalls.{HasTriedFire, HasLooked, HasRead, IsReplyCode, MayHaveLooked, MayHaveOffered}
+use Rattle.asm_slots.specs.AgentCalls.{HasTriedFire, HasPolled, HasRead, IsReplyCode, MayHavePolled, MayHaveOffered}
 use Rattle.asm_slots.specs.AgentCalls.{MissedFew, MissedOne, SeesOn, WasBusy}
 use Rattle.asm_slots.specs.Codes.{IsOneOf, ASM_DONE, ASM_STALE, ASM_CLASH, ASM_MEMORY, ASM_FULL}
 use Rattle.asm_slots.specs.Codes.{ASM_EMPTY, ASM_AHEAD, ASM_BUSY, ASM_MANY, ASM_NOT_JSON, ASM_SHAPE}
@@ -17,11 +17,11 @@ use Rattle.asm_slots.specs.declared.read_and_fire.Numbers.{Numbers}
 pub record Reads (locations : List ℕ) (agent after : Option Content) (code : ℤ) : Type 0 where
   pub codes : IsOneOf (ASM_DONE ∷ ASM_MEMORY ∷ ASM_EMPTY ∷ ASM_MANY ∷ ASM_NOT_JSON ∷ ASM_SHAPE ∷ []) code
   pub answered : code ≡ ASM_DONE → Goes agent after (HasRead locations)
-  pub memory : code ≡ ASM_MEMORY → Goes agent after MayHaveLooked
+  pub memory : code ≡ ASM_MEMORY → Goes agent after MayHavePolled
   pub many : code ≡ ASM_MANY → ReadAsManyLocations locations
   pub not_json : code ≡ ASM_NOT_JSON → IsNoJson locations
   pub shape : code ≡ ASM_SHAPE → IsOtherJson AreLocations locations
-  pub refused : IsOneOf (ASM_MEMORY ∷ ASM_MANY ∷ ASM_NOT_JSON ∷ ASM_SHAPE ∷ []) code → Goes agent after HasLooked
+  pub refused : IsOneOf (ASM_MEMORY ∷ ASM_MANY ∷ ASM_NOT_JSON ∷ ASM_SHAPE ∷ []) code → Goes agent after HasPolled
   pub same : code ≢ ASM_EMPTY → Goes agent after IsSameAgent
   pub seen : code ≢ ASM_EMPTY → Goes agent after SeesOn
   pub empty : code ≡ ASM_EMPTY → HoldsNoAgent agent
@@ -45,7 +45,7 @@ pub record Fires (call : List ℕ) (agent after : Option Content) (numbers : Num
   pub many : code ≡ ASM_MANY → ReadAsManyReads call
   pub not_json : code ≡ ASM_NOT_JSON → IsNoJson call
   pub shape : code ≡ ASM_SHAPE → IsOtherJson IsFireForm call
-  pub refused : IsOneOf (ASM_MEMORY ∷ ASM_BUSY ∷ ASM_MANY ∷ ASM_NOT_JSON ∷ ASM_SHAPE ∷ []) code → Goes agent after HasLooked
+  pub refused : IsOneOf (ASM_MEMORY ∷ ASM_BUSY ∷ ASM_MANY ∷ ASM_NOT_JSON ∷ ASM_SHAPE ∷ []) code → Goes agent after HasPolled
   pub busy : code ≡ ASM_BUSY → Goes agent after (WasBusy numbers.from numbers.to)
   pub same : code ≢ ASM_EMPTY → Goes agent after IsSameAgent
   pub seen : code ≢ ASM_EMPTY → Goes agent after SeesOn

@@ -173,18 +173,18 @@ HasGrown way bytes a old new = (M : Move) × ReadAsMove bytes M × IsGrown way M
 
 -- the code and the text of why a move isn't pushed: the clash, the location where an amount or a sum is too large, or
 -- nothing if there are too many instructions or moves
-abbrev pub TellsRefusal : StepError → ℤ → List ℕ → Type 0
-TellsRefusal (Clash c) code text = (code ≡ ASM_CLASH) × (text ≡ clash_text c)
-TellsRefusal (Large l) code text = (code ≡ ASM_LARGE) × (text ≡ large_text l)
-TellsRefusal Many code text = (code ≡ ASM_LONG_MOVE) × (text ≡ [])
-TellsRefusal Deep code text = (code ≡ ASM_DEEP) × (text ≡ [])
-TellsRefusal Memory code text = ⊥
+abbrev pub ReportsRefusal : StepError → ℤ → List ℕ → Type 0
+ReportsRefusal (Clash c) code text = (code ≡ ASM_CLASH) × (text ≡ clash_text c)
+ReportsRefusal (Large l) code text = (code ≡ ASM_LARGE) × (text ≡ large_text l)
+ReportsRefusal Many code text = (code ≡ ASM_LONG_MOVE) × (text ≡ [])
+ReportsRefusal Deep code text = (code ≡ ASM_DEEP) × (text ≡ [])
+ReportsRefusal Memory code text = ⊥
 
 -- code and text report the refusal of a move, and the locations on which it depends are tracked; or these take more
 -- than 256 places, and only that is reported
 abbrev pub TellsTracked : Move → StepView → StepView → StepError → ℤ → List ℕ → Type 0
 TellsTracked M old new e code text =
-    (TellsRefusal e code text × HasGotEach (judged M e) old new)
+    (ReportsRefusal e code text × HasGotEach (judged M e) old new)
     ⊎ ((code ≡ ASM_MANY) × (text ≡ []) × (new ≡ old) × WouldTakeMany (judged M e) old)
 
 -- code and text report why the move is neither pushed nor extends the last one, and the locations below on which that

@@ -3,9 +3,9 @@ use Rattle.std.specs.Prelude.{List, [], ◌∷◌, filter}
 use Rattle.std.specs.Ordering.{is_le}
 use Rattle.asm_element.specs.Place.{Place, location_cmp}
 use Rattle.asm_update.specs.Move.{Move}
-use Rattle.asm_step.specs.Layers.{moves_of, resting_of}
+use Rattle.asm_step.specs.Layers.{moves_of, dependencies_of}
 use Rattle.asm_step.specs.Places.{all_partial_places, partial_places}
-use Rattle.asm_step.specs.Resting.{rests}
+use Rattle.asm_step.specs.Dependencies.{depends}
 use Rattle.asm_step.specs.declared.error.StepError.{StepError}
 use Rattle.asm_step.specs.declared.error.StepError.TheVariants.{Clash, Large, Many, Deep, Memory}
 use Rattle.asm_slots.specs.StepView.{StepView}
@@ -28,5 +28,5 @@ abbrev pub judged_last : StepView → List Place
 judged_last s = all_partial_places (moves_of s.layers)
 
 -- the locations on which the moves that were pushed last depend by themselves
-abbrev pub resting_last : StepView → List Place
-resting_last s = filter (rests (moves_of s.layers)) (resting_of s.layers)
+abbrev pub dependencies_last : StepView → List Place
+dependencies_last s = filter (depends (moves_of s.layers)) (dependencies_of s.layers)

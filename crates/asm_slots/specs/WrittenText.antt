@@ -13,7 +13,7 @@ IsTextTooLong IsText room written = (text : List ℕ) × IsText text × (written
 -- with one of the first codes, a text is written of the kind for that code; with ASM_SMALL, one of the other kind is
 -- longer than the buffer, and `written` is its length; with any other code it is 0. Only a text changes the buffer
 pub record Tells (first : List ℤ) (IsText : ℤ → List ℕ → Type 0) (IsLong : List ℕ → Type 0) (out after : List ℕ) (written : ℕ) (code : ℤ) : Type 0 where
-  pub told : IsOneOf first code → IsTextWritten (IsText code) after written
+  pub reported : IsOneOf first code → IsTextWritten (IsText code) after written
   pub small : code ≡ ASM_SMALL → IsTextTooLong IsLong (length out) written
   pub no_text : ¬ IsOneOf (ASM_SMALL ∷ first) code → written ≡ 0
   pub unwritten : ¬ IsOneOf first code → after ≡ out

@@ -58,7 +58,7 @@ impl Audit {
 
     /// Read the next bytes; return how many of them were read, and the answer.
     pub(crate) fn feed(&mut self, alloc: Global, bytes: &[u8]) -> (usize, Result<Told, AuditError>)
-        ensures told { IsFedAnswer part bytes.now self.old.progress self.old.line self.new.progress self.new.line result.1 }
+        ensures reported { IsFedAnswer part bytes.now self.old.progress self.old.line self.new.progress self.new.line result.1 }
         ensures first { HasTakenFirst part bytes.now self.old.progress self.old.line self.new.progress self.new.line
             result.0 result.1 }
     {
@@ -67,7 +67,7 @@ impl Audit {
 
     /// Return the answer if no further byte comes; the audit is unchanged.
     pub(crate) fn finish(&mut self, alloc: Global) -> Result<Counts, AuditError>
-        ensures told { IsFedEnd part self.old.progress self.old.line result }
+        ensures reported { IsFedEnd part self.old.progress self.old.line result }
         ensures same { self.new ≡ self.old }
     {
         self.auditor.finish(alloc)

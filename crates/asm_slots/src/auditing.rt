@@ -56,7 +56,7 @@ impl AuditNumbers {
 // Return the code of the error, with its numbers.
 fn code_of_audit_error(error: AuditError) -> (i32, AuditNumbers)
     ensures codes { IsOneOf (ASM_MEMORY ∷ ASM_NOT_JSON ∷ ASM_SHAPE ∷ ASM_VERSION ∷ ASM_CUT ∷ ASM_LONG_LINE ∷ ASM_APART ∷ []) result.0 }
-    ensures told { TellsAuditError error result.0 result.1 }
+    ensures reported { TellsAuditError error result.0 result.1 }
 {
     match error {
         AuditError::Journal { part, fault } => {
@@ -75,11 +75,11 @@ fn feed(
     audit: &mut Audit,
     bytes: &[u8],
     taken: &mut usize,
-    told: &mut AuditNumbers,
+    reported: &mut AuditNumbers,
 ) -> i32
     ensures codes { IsOneOf (ASM_DONE ∷ ASM_MEMORY ∷ ASM_ILLEGAL ∷ ASM_NOT_JSON ∷ ASM_SHAPE ∷ ASM_VERSION ∷ ASM_CUT
         ∷ ASM_LONG_LINE ∷ ASM_APART ∷ []) result }
-    ensures audited { HasAudited bytes.now taken.new told.new result audit.old audit.new }
+    ensures audited { HasAudited bytes.now taken.new reported.new result audit.old audit.new }
 {
     let (count, answer) = audit.feed(alloc, bytes);
     *taken = count;
@@ -87,17 +87,17 @@ fn feed(
         Ok(answer) => answer,
         Err(error) => {
             let (code, numbers) = code_of_audit_error(error);
-            *told = numbers;
+            *reported = numbers;
             return code;
         }
     };
     match answer {
         Told::Legal => {
-            *told = AuditNumbers::of(audit.counts());
+            *reported = AuditNumbers::of(audit.counts());
             DONE
         }
         Told::Illegal { part, call } => {
-            *told = AuditNumbers::at(part, call);
+            *reported = AuditNumbers::at(part, call);
             ILLEGAL
         }
     }
@@ -105,7 +105,7 @@ fn feed(
 
 /// Feed the bytes to the audit in the box, and put the box into the slot.
 ///
-/// `taken` is how many of the bytes were read, and `told` has the numbers of the audit.
+/// `taken` is how many of the bytes were read, and `reported` has the numbers of the audit.
 ///
 /// # Errors
 ///
@@ -122,16 +122,16 @@ pub fn feed_in(
     mut shell: Box<Content>,
     bytes: &[u8],
     taken: &mut usize,
-    told: &mut AuditNumbers,
+    reported: &mut AuditNumbers,
 ) -> i32
     requires none { taken.old ≡ 0 }
-    requires no_numbers { AreNoNumbers told.old }
-    ensures audits { Audits bytes.now (Some shell.value) (content_of slot.new) taken.new told.new result }
+    requires no_numbers { AreNoNumbers reported.old }
+    ensures audits { Audits bytes.now (Some shell.value) (content_of slot.new) taken.new reported.new result }
     ensures audited { (a : AuditView) → shell.value ≡ content.Audit a →
-        HoldsAudit (content_of slot.new) (HasAudited bytes.now taken.new told.new result a) }
+        HoldsAudit (content_of slot.new) (HasAudited bytes.now taken.new reported.new result a) }
 {
     let code = match &mut *shell {
-        Content::Audit(audit) => feed(alloc, audit, bytes, taken, told),
+        Content::Audit(audit) => feed(alloc, audit, bytes, taken, reported),
         _ => TAKEN,
     };
     put_shell(slot, shell);
@@ -156,15 +156,15 @@ pub fn feed_first(
     slot: &mut Slot,
     bytes: &[u8],
     taken: &mut usize,
-    told: &mut AuditNumbers,
+    reported: &mut AuditNumbers,
 ) -> i32
     requires empty { content_of slot.old ≡ None }
     requires none { taken.old ≡ 0 }
-    requires no_numbers { AreNoNumbers told.old }
-    ensures { Audits bytes.now None (content_of slot.new) taken.new told.new result }
+    requires no_numbers { AreNoNumbers reported.old }
+    ensures { Audits bytes.now None (content_of slot.new) taken.new reported.new result }
 {
     match begun(alloc) {
-        Ok(shell) => feed_in(alloc, slot, shell, bytes, taken, told),
+        Ok(shell) => feed_in(alloc, slot, shell, bytes, taken, reported),
         Err(AllocError) => MEMORY,
     }
 }

@@ -108,14 +108,14 @@ pub fn copied(bytes: &[u8], out: &mut [u8], written: &mut usize) -> i32
 /// # Errors
 ///
 /// - `ASM_SMALL`: the text is longer than the buffer, which is unchanged; `written` is the room that it needs.
-pub fn written_as(told: &Told, out: &mut [u8], written: &mut usize) -> i32
-    requires { told.now.code ≢ ASM_SMALL }
-    ensures codes { IsOneOf (told.now.code ∷ ASM_SMALL ∷ []) result }
-    ensures text { Tells (told.now.code ∷ []) (λ code text. text ≡ string_bytes told.now.text)
-        (λ text. text ≡ string_bytes told.now.text) out.old out.new written.new result }
+pub fn written_as(reported: &Told, out: &mut [u8], written: &mut usize) -> i32
+    requires { reported.now.code ≢ ASM_SMALL }
+    ensures codes { IsOneOf (reported.now.code ∷ ASM_SMALL ∷ []) result }
+    ensures text { Tells (reported.now.code ∷ []) (λ code text. text ≡ string_bytes reported.now.text)
+        (λ text. text ≡ string_bytes reported.now.text) out.old out.new written.new result }
 {
-    if copied(told.text.as_bytes(), out, written) == DONE {
-        return told.code;
+    if copied(reported.text.as_bytes(), out, written) == DONE {
+        return reported.code;
     }
     SMALL
 }

@@ -22,8 +22,8 @@ use asm_update::Instructions;
 use std::alloc::{AllocError, Global};
 
 // Return the code of a fire's answer, with its numbers.
-fn told_fire(answer: Result<Reply, FireError>) -> (i32, Numbers)
-    ensures told { TellsFire answer result.0 result.1.fired result.1.from result.1.to }
+fn reported_fire(answer: Result<Reply, FireError>) -> (i32, Numbers)
+    ensures reported { TellsFire answer result.0 result.1.fired result.1.from result.1.to }
     ensures codes { IsOneOf (ASM_DONE ∷ ASM_STALE ∷ ASM_CLASH ∷ ASM_MEMORY ∷ ASM_FULL ∷ ASM_BUSY ∷ ASM_MANY ∷ []) result.0 }
 {
     match answer {
@@ -75,7 +75,7 @@ fn fire_prepared(
     ensures missed { result.0 ≡ ASM_DONE → MissedOne agent.old agent.new }
     ensures lost { result.0 ≡ ASM_BUSY → result.1.from + offers_limit ≤ result.1.to }
 {
-    told_fire(agent.fire_over(alloc, reads, &step.scanned, instrs))
+    reported_fire(agent.fire_over(alloc, reads, &step.scanned, instrs))
 }
 
 // Fire the step's one move, if there is memory to prepare it.

@@ -44,8 +44,8 @@ pub(crate) fn large_text(alloc: Global, at: &Location) -> Result<String, AllocEr
     large_json(alloc, at)?.to_string(alloc)
 }
 
-fn told_updates(alloc: Global, answer: Result<UpdateSet, AggError>) -> Result<Told, AllocError>
-    ensures told { IfOk result (λ t. TellsAggregate answer t.code (string_bytes t.text)) }
+fn reported_updates(alloc: Global, answer: Result<UpdateSet, AggError>) -> Result<Told, AllocError>
+    ensures reported { IfOk result (λ t. TellsAggregate answer t.code (string_bytes t.text)) }
     ensures codes { IfOk result (λ t. IsOneOf (ASM_DONE ∷ ASM_CLASH ∷ []) t.code) }
 {
     match answer {
@@ -61,8 +61,11 @@ fn told_updates(alloc: Global, answer: Result<UpdateSet, AggError>) -> Result<To
     }
 }
 
-fn told_move(alloc: Global, answer: Result<Instructions, ComposeError>) -> Result<Told, AllocError>
-    ensures told { IfOk result (λ t. TellsComposition answer t.code (string_bytes t.text)) }
+fn reported_move(
+    alloc: Global,
+    answer: Result<Instructions, ComposeError>,
+) -> Result<Told, AllocError>
+    ensures reported { IfOk result (λ t. TellsComposition answer t.code (string_bytes t.text)) }
     ensures codes { IfOk result (λ t. IsOneOf (ASM_DONE ∷ ASM_CLASH ∷ ASM_LONG_MOVE ∷ ASM_LARGE ∷ []) t.code) }
 {
     match answer {
@@ -105,8 +108,8 @@ pub fn aggregated(alloc: Global, state: &[u8], instrs: &[u8]) -> Result<Told, i3
         Ok(both) => both,
         Err(error) => return Err(code_of_text_error(error)),
     };
-    match told_updates(alloc, aggregate(alloc, &standard(), &old, &step)) {
-        Ok(told) => Ok(told),
+    match reported_updates(alloc, aggregate(alloc, &standard(), &old, &step)) {
+        Ok(reported) => Ok(reported),
         Err(AllocError) => Err(MEMORY),
     }
 }
@@ -131,8 +134,8 @@ pub fn composed(alloc: Global, first: &[u8], second: &[u8]) -> Result<Told, i32>
         Ok(both) => both,
         Err(error) => return Err(code_of_text_error(error)),
     };
-    match told_move(alloc, compose(alloc, &standard(), &one, &two)) {
-        Ok(told) => Ok(told),
+    match reported_move(alloc, compose(alloc, &standard(), &one, &two)) {
+        Ok(reported) => Ok(reported),
         Err(AllocError) => Err(MEMORY),
     }
 }

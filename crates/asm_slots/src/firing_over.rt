@@ -3,7 +3,7 @@ ghost use Rattle.std.specs.Prelude.{◌≡◌, ◌≢◌, ◌≤◌, ◌+◌, �
 ghost use Rattle.asm_storage.specs.Limits.{offers_limit};
 ghost use Rattle.asm_storage.specs.Storage.{IsSameAgent};
 ghost use Rattle.asm_explain.specs.Bytes.{IsFireForm};
-ghost use Rattle.asm_slots.specs.AgentCalls.{HasLooked, IsReplyCode, MayHaveOffered, MissedFew, MissedOne, SeesOn, WasBusy};
+ghost use Rattle.asm_slots.specs.AgentCalls.{HasPolled, IsReplyCode, MayHaveOffered, MissedFew, MissedOne, SeesOn, WasBusy};
 ghost use Rattle.asm_slots.specs.Bytes.{AreMisread, IsEitherMisread};
 ghost use Rattle.asm_slots.specs.Codes.{IsOneOf, ASM_DONE, ASM_STALE, ASM_CLASH, ASM_MEMORY, ASM_FULL};
 ghost use Rattle.asm_slots.specs.Codes.{ASM_AHEAD, ASM_BUSY, ASM_MANY, ASM_NOT_JSON, ASM_SHAPE};
@@ -59,7 +59,7 @@ pub fn fire_over_in(
     ensures unfired { result.0 ≢ ASM_DONE → result.1.fired ≡ 0 }
     ensures not_busy { result.0 ≢ ASM_BUSY → (result.1.from ≡ 0) × (result.1.to ≡ 0) }
     ensures refused { IsOneOf (ASM_MEMORY ∷ ASM_BUSY ∷ ASM_MANY ∷ ASM_NOT_JSON ∷ ASM_SHAPE ∷ []) result.0 →
-        HasLooked agent.old agent.new }
+        HasPolled agent.old agent.new }
     ensures busy { result.0 ≡ ASM_BUSY → WasBusy result.1.from result.1.to agent.old agent.new }
     ensures lost { result.0 ≡ ASM_BUSY → result.1.from + offers_limit ≤ result.1.to }
     ensures same { IsSameAgent agent.old agent.new }

@@ -9,7 +9,7 @@ ghost use Rattle.asm_storage.specs.Limits.{reads_limit};
 ghost use Rattle.asm_slots.specs.Codes.{IsOneOf, ASM_DONE, ASM_MEMORY, ASM_SMALL, ASM_MANY, ASM_MOVED};
 ghost use Rattle.asm_slots.specs.Slots.{content_of};
 ghost use Rattle.asm_slots.specs.StepCalls.{HasGotOne, HasReached, IsCopyFor, IsElsewhere, WouldGetOneMore, seen};
-ghost use Rattle.asm_slots.specs.PreparedLooks.{GetsAt, IsNoValue, TellsValue};
+ghost use Rattle.asm_slots.specs.PreparedPolls.{GetsAt, IsNoValue, TellsValue};
 
 use crate::codes::{DONE, EMPTY, MANY, MEMORY, MOVED};
 use crate::content::Content;

@@ -61,7 +61,7 @@ pub fn give_at(
 /// With any code except `ASM_MISSING`, the number is 0.
 pub fn code_of_unclosed(error: Unclosed) -> (i32, u32)
     ensures codes { IsOneOf (ASM_MEMORY ∷ ASM_MISSING ∷ ASM_MANY_CALLS ∷ []) result.0 }
-    ensures told { TellsUnclosed error result.0 result.1 }
+    ensures reported { TellsUnclosed error result.0 result.1 }
     ensures missing { result.0 ≡ ASM_MISSING → error ≡ unclosed.Missing result.1 }
     ensures large { result.0 ≡ ASM_MANY_CALLS → error ≡ unclosed.Large }
     ensures none { result.0 ≢ ASM_MISSING → result.1 ≡ 0 }

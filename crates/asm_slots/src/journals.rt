@@ -15,7 +15,7 @@ use std::alloc::{AllocError, Global};
 /// Return the code of the error, with the number of the line at fault, or 0.
 pub fn code_of_error(error: JournalError) -> (i32, u64)
     ensures codes { IsOneOf (ASM_MEMORY ∷ ASM_NOT_JSON ∷ ASM_SHAPE ∷ ASM_VERSION ∷ ASM_CUT ∷ []) result.0 }
-    ensures told { TellsError error result.0 result.1 }
+    ensures reported { TellsError error result.0 result.1 }
     ensures none { IsOneOf (ASM_MEMORY ∷ ASM_VERSION ∷ ASM_CUT ∷ []) result.0 → result.1 ≡ 0 }
 {
     match error {

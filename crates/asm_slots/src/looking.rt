@@ -4,10 +4,10 @@ ghost use Rattle.asm_storage.specs.Storage.{IsSameAgent};
 ghost use Rattle.asm_slots.specs.NumbersAhead.{ReadsAhead, ReadsWithin};
 ghost use Rattle.asm_explain.specs.Bytes.{AreLocations, IsNoJson, IsOtherJson};
 ghost use Rattle.asm_slots.specs.Bytes.{AreReads, ReadAsMoreReads};
-ghost use Rattle.asm_slots.specs.AgentCalls.{HasLooked, MayHaveLooked, SeesOn};
+ghost use Rattle.asm_slots.specs.AgentCalls.{HasPolled, MayHavePolled, SeesOn};
 ghost use Rattle.asm_slots.specs.Codes.{IsOneOf, ASM_DONE, ASM_STALE, ASM_MEMORY, ASM_SMALL};
 ghost use Rattle.asm_slots.specs.Codes.{ASM_AHEAD, ASM_MANY, ASM_NOT_JSON, ASM_SHAPE};
-ghost use Rattle.asm_slots.specs.OwnState.{AllStand, HasLookedOn, IsPeekOf};
+ghost use Rattle.asm_slots.specs.OwnState.{AllStand, HasPolledOn, IsPeekOf};
 ghost use Rattle.asm_slots.specs.OwnState.{IsStaleText, values_text};
 ghost use Rattle.asm_slots.specs.Slots.{Holds, content_of};
 ghost use Rattle.asm_slots.specs.WrittenText.{Tells};
@@ -125,10 +125,10 @@ pub fn stands_at(
     ensures stand { result ≡ ASM_DONE → Holds (content_of slot.new) (AllStand reads.now) }
     ensures text { Tells (ASM_STALE ∷ []) (λ code. IsStaleTold reads.now (content_of slot.new))
         (IsStaleTold reads.now (content_of slot.new)) out.old out.new written.new result }
-    ensures looked { IsOneOf (ASM_DONE ∷ ASM_STALE ∷ ASM_SMALL ∷ []) result →
-        Holds (content_of slot.new) (HasLookedOn agent) }
-    ensures memory { result ≡ ASM_MEMORY → Holds (content_of slot.new) (MayHaveLooked agent) }
-    ensures refused { Holds (content_of slot.new) (HasLooked agent) }
+    ensures polled { IsOneOf (ASM_DONE ∷ ASM_STALE ∷ ASM_SMALL ∷ []) result →
+        Holds (content_of slot.new) (HasPolledOn agent) }
+    ensures memory { result ≡ ASM_MEMORY → Holds (content_of slot.new) (MayHavePolled agent) }
+    ensures refused { Holds (content_of slot.new) (HasPolled agent) }
     ensures same { Holds (content_of slot.new) (IsSameAgent agent) }
     ensures seen { Holds (content_of slot.new) (SeesOn agent) }
     ensures range { result ≡ ASM_AHEAD → ReadsAhead reads.now agent }

@@ -11,15 +11,15 @@ ghost use Rattle.asm_storage.specs.declared.error.FireError.TheVariants.{Busy, M
 ghost use Rattle.asm_storage.specs.declared.error.ReadError.TheVariants.{ManyLocations};
 ghost use Rattle.asm_storage.specs.declared.error.RecallError.TheVariants as recall_error;
 ghost use Rattle.asm_storage.specs.Part.{IsFollowing};
-ghost use Rattle.asm_storage.specs.Storage.{at_start, last_look, machine_of, IsSameAgent, Missed};
-ghost use Rattle.asm_storage.specs.Calls.{HasLookedFor, IsReplied, IsBusy, IsCoherentReply, IsRead};
+ghost use Rattle.asm_storage.specs.Storage.{at_start, last_poll, machine_of, IsSameAgent, Missed};
+ghost use Rattle.asm_storage.specs.Calls.{HasPolledFor, IsReplied, IsBusy, IsCoherentReply, IsRead};
 ghost use Rattle.asm_storage.specs.Calls.{IsBehind, IsRecall, IsStaleRead, MadeOffers};
 ghost use Rattle.asm_storage.specs.Taken.{HasTaken};
 ghost use Rattle.asm_slots.specs.Standard.{meaning};
 ghost use Rattle.asm_slots.specs.FireOver.{is_any_over};
 ghost use Rattle.asm_slots.specs.NumbersAhead.{is_any_above};
-ghost use Rattle.asm_slots.specs.OwnState.{HasLookedOn};
-ghost use Rattle.asm_slots.specs.AgentCalls.{HasLearnt, HasLooked, IsRepliedOver, MissedFew, MissedOne, SeesOn, TellsLast};
+ghost use Rattle.asm_slots.specs.OwnState.{HasPolledOn};
+ghost use Rattle.asm_slots.specs.AgentCalls.{HasLearnt, HasPolled, IsRepliedOver, MissedFew, MissedOne, SeesOn, TellsLast};
 
 use crate::shared::Shared;
 use asm_aggregate::Standard;
@@ -102,10 +102,10 @@ impl OwnedAgent {
     ) -> (OwnedAgent, Result<Reading, ReadError>)
         ensures same { IsSameAgent self result.0 }
         ensures answered { IfOk result.1 (IsRead meaning self result.0 locations.now) }
-        ensures looked { OnOk result.1 (Missed self (last_look result.0) result.0) }
+        ensures polled { OnOk result.1 (Missed self (last_poll result.0) result.0) }
         ensures seen { SeesOn self result.0 }
-        ensures refused { OnErr result.1 (HasLooked self result.0) }
-        ensures unread { IfErr result.1 (HasLookedFor self result.0) }
+        ensures refused { OnErr result.1 (HasPolled self result.0) }
+        ensures unread { IfErr result.1 (HasPolledFor self result.0) }
         ensures many { IsErrOf result.1 ManyLocations ↔ (reads_limit < length locations.now) }
     {
         let OwnedAgent { shared, part } = self;
@@ -126,7 +126,7 @@ impl OwnedAgent {
         ensures answered { IfOk result (IsReplied meaning self.old self.new reads.now instrs.now) }
         ensures coherent { IfOk result (IsCoherentReply meaning self.new reads.now instrs.now) }
         ensures seen { SeesOn self.old self.new }
-        ensures refused { OnErr result (HasLooked self.old self.new) }
+        ensures refused { OnErr result (HasPolled self.old self.new) }
         ensures busy { IfErr result (IsBusy self.old self.new) }
         ensures missed { (k : ℕ) → result ≡ Ok (Fired k) → MissedOne self.old self.new }
         ensures few { MissedFew self.old self.new }
@@ -148,7 +148,7 @@ impl OwnedAgent {
         ensures same { IsSameAgent self.old self.new }
         ensures answered { IfOk result (IsRepliedOver self.old self.new reads.now scans.now instrs.now) }
         ensures seen { SeesOn self.old self.new }
-        ensures refused { OnErr result (HasLooked self.old self.new) }
+        ensures refused { OnErr result (HasPolled self.old self.new) }
         ensures busy { IfErr result (IsBusy self.old self.new) }
         ensures missed { (k : ℕ) → result ≡ Ok (Fired k) → MissedOne self.old self.new }
         ensures few { MissedFew self.old self.new }
@@ -198,7 +198,7 @@ impl OwnedAgent {
     /// - `AllocError` only if memory is refused.
     pub fn follow(&mut self, alloc: Global) -> Result<u32, AllocError>
         ensures same { IsSameAgent self.old self.new }
-        ensures looked { HasLookedOn self.old self.new }
+        ensures polled { HasPolledOn self.old self.new }
         ensures seen { SeesOn self.old self.new }
         ensures number { IfOk result (λ n. n ≡ length self.new.account.seen) }
         ensures stands { IfOk result (λ n. n ≡ self.new.number) }
@@ -214,10 +214,10 @@ impl OwnedAgent {
     ) -> (OwnedAgent, Result<Option<Location>, ReadError>)
         ensures same { IsSameAgent self result.0 }
         ensures stale { IfOk result.1 (IsStaleRead meaning result.0 reads.now) }
-        ensures looked { OnOk result.1 (HasLookedOn self result.0) }
+        ensures polled { OnOk result.1 (HasPolledOn self result.0) }
         ensures seen { SeesOn self result.0 }
-        ensures kept { HasLooked self result.0 }
-        ensures unread { IfErr result.1 (HasLookedFor self result.0) }
+        ensures kept { HasPolled self result.0 }
+        ensures unread { IfErr result.1 (HasPolledFor self result.0) }
         ensures many { IsErrOf result.1 ManyLocations ↔ (reads_limit < length reads.now) }
     {
         let OwnedAgent { shared, part } = self;
@@ -313,7 +313,7 @@ impl OwnedAgent {
     /// - `AllocError` only if memory is refused.
     pub fn answer(self, alloc: Global) -> (OwnedAgent, Result<Option<String>, AllocError>)
         ensures same { result.0 ≡ self }
-        ensures told { IfOk result.1 (λ o. TellsLast self (option_map string_bytes o)) }
+        ensures reported { IfOk result.1 (λ o. TellsLast self (option_map string_bytes o)) }
     {
         let OwnedAgent { shared, part } = self;
         let agent = Agent::of(&shared.storage, part);

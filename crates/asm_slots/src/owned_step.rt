@@ -190,8 +190,8 @@ impl OwnedStep {
     pub(crate) fn reads(&self, alloc: Global) -> Result<Items<Named>, AllocError>
         ensures { IfOk result (NamesAll self.now) }
     {
-        let resting = self.step.resting_locations(alloc)?;
-        let locations = each_of(alloc, &self.got, resting)?;
+        let dependencies = self.step.dependency_locations(alloc)?;
+        let locations = each_of(alloc, &self.got, dependencies)?;
         Items::shared(alloc, named_at(alloc, locations, self.number)?)
     }
 }

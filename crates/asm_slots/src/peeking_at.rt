@@ -1,7 +1,7 @@
 //! The value at a prepared location in an agent's own state.
 ghost use Rattle.std.specs.Prelude.{◌≡◌, Some};
 ghost use Rattle.asm_slots.specs.Slots.{content_of};
-ghost use Rattle.asm_slots.specs.PreparedLooks.{IsNoValue, PeeksAt};
+ghost use Rattle.asm_slots.specs.PreparedPolls.{IsNoValue, PeeksAt};
 
 use crate::codes::{DONE, EMPTY};
 use crate::content::Content;

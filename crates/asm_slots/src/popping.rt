@@ -10,7 +10,7 @@ ghost use Rattle.asm_slots.specs.Codes.{ASM_NO_PUSH};
 ghost use Rattle.asm_slots.specs.Popping.{IsComposedLast, IsNotPoppedLast, TellsUncomposed};
 ghost use Rattle.asm_slots.specs.Slots.{HasRoomForMove, HoldsMove, content_of};
 ghost use Rattle.asm_slots.specs.StepCalls.{HasPoppedOver, WouldTakeMany, from_below};
-ghost use Rattle.asm_slots.specs.Tracked.{judged_last, resting_last};
+ghost use Rattle.asm_slots.specs.Tracked.{judged_last, dependencies_last};
 
 use crate::codes::{CLASH, DONE, LARGE, LONG_MOVE, MANY, MEMORY, NO_PUSH};
 use crate::content::Content;
@@ -67,11 +67,11 @@ impl OwnedStep {
 
     // Return all locations that are tracked once these moves are popped as one.
     fn got_at_rest(&self, alloc: Global) -> Result<Vec<Location>, GetError>
-        ensures all { IfOk result (λ all. AreEach (self.now.got ++ from_below self.now (resting_last self.now)) all.items) }
+        ensures all { IfOk result (λ all. AreEach (self.now.got ++ from_below self.now (dependencies_last self.now)) all.items) }
         ensures few { IfOk result (λ all. length all.items + length self.now.scanned ≤ reads_limit) }
-        ensures many { IfErr result (λ e. e ≡ GetError.Many → WouldTakeMany (resting_last self.now) self.now) }
+        ensures many { IfErr result (λ e. e ≡ GetError.Many → WouldTakeMany (dependencies_last self.now) self.now) }
     {
-        tracked(alloc, self, self.resting_last(alloc)?)
+        tracked(alloc, self, self.dependencies_last(alloc)?)
     }
 }
 
@@ -123,7 +123,7 @@ pub fn pop_in(alloc: Global, step: &mut OwnedStep) -> i32
 /// - `ASM_MEMORY`
 pub fn pop_into(alloc: Global, step: &mut OwnedStep, instrs: &mut Slot) -> i32
     ensures codes { IsOneOf (ASM_DONE ∷ ASM_CLASH ∷ ASM_MEMORY ∷ ASM_MANY ∷ ASM_LARGE ∷ ASM_NO_PUSH ∷ ASM_LONG_MOVE ∷ []) result }
-    ensures popped { result ≡ ASM_DONE → HasPoppedOver (resting_last step.old) step.old step.new }
+    ensures popped { result ≡ ASM_DONE → HasPoppedOver (dependencies_last step.old) step.old step.new }
     ensures done { result ≡ ASM_DONE → HoldsMove (content_of instrs.new) (λ M. IsComposedLast step.old (Ok M)) }
     ensures none { result ≡ ASM_NO_PUSH → step.old.layers ≡ [] }
     ensures refused { IsOneOf (ASM_CLASH ∷ ASM_MANY ∷ ASM_LARGE ∷ ASM_LONG_MOVE ∷ []) result → IsNotPoppedLast step.old result }

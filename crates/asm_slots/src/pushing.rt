@@ -8,7 +8,7 @@ ghost use Rattle.asm_slots.specs.Codes.{IsOneOf, ASM_DONE, ASM_CLASH, ASM_MEMORY
 ghost use Rattle.asm_slots.specs.Codes.{ASM_MANY, ASM_NOT_JSON, ASM_SHAPE, ASM_LARGE, ASM_MOVED, ASM_DEEP, ASM_LONG_MOVE};
 ghost use Rattle.asm_slots.specs.StepPush.{Grows, changes, refusals};
 ghost use Rattle.asm_slots.specs.Slots.{content_of};
-ghost use Rattle.asm_slots.specs.StepCalls.{HasGrown, IsElsewhere, IsGrown, IsNotGrown, IsRefused, TellsRefusal};
+ghost use Rattle.asm_slots.specs.StepCalls.{HasGrown, IsElsewhere, IsGrown, IsNotGrown, IsRefused, ReportsRefusal};
 ghost use Rattle.asm_slots.specs.StepCalls.{TellsTracked, WouldTakeMany, from_below};
 ghost use Rattle.asm_slots.specs.Tracked.{judged};
 ghost use Rattle.asm_slots.specs.WrittenText.{TellsOneOf};
@@ -28,8 +28,8 @@ use asm_step::StepError;
 use asm_update::Instructions;
 use std::alloc::{AllocError, Global};
 
-fn told_refusal(alloc: Global, error: StepError) -> Result<Told, AllocError>
-    ensures told { IfOk result (λ t. TellsRefusal error t.code (string_bytes t.text)) }
+fn reported_refusal(alloc: Global, error: StepError) -> Result<Told, AllocError>
+    ensures reported { IfOk result (λ t. ReportsRefusal error t.code (string_bytes t.text)) }
     ensures codes { IfOk result (λ t. IsOneOf (ASM_CLASH ∷ ASM_MANY ∷ ASM_LARGE ∷ ASM_DEEP ∷ ASM_LONG_MOVE ∷ []) t.code) }
     ensures deep { IfOk result (λ t. t.code ≡ ASM_DEEP → error ≡ StepError.Deep) }
 {
@@ -57,7 +57,7 @@ fn told_refusal(alloc: Global, error: StepError) -> Result<Told, AllocError>
 // Why the move isn't pushed, and all locations that are tracked once this is reported.
 #[derive(Drop)]
 struct Refused {
-    told: Told,
+    reported: Told,
     got: Vec<Location>,
 }
 
@@ -67,16 +67,16 @@ fn refusal_of(
     instrs: &Instructions,
     error: StepError,
 ) -> Result<Refused, GetError>
-    ensures told { IfOk result (λ r. TellsRefusal error r.told.code (string_bytes r.told.text)) }
-    ensures codes { IfOk result (λ r. IsOneOf (ASM_CLASH ∷ ASM_MANY ∷ ASM_LARGE ∷ ASM_DEEP ∷ ASM_LONG_MOVE ∷ []) r.told.code) }
-    ensures deep { IfOk result (λ r. r.told.code ≡ ASM_DEEP → error ≡ StepError.Deep) }
+    ensures reported { IfOk result (λ r. ReportsRefusal error r.reported.code (string_bytes r.reported.text)) }
+    ensures codes { IfOk result (λ r. IsOneOf (ASM_CLASH ∷ ASM_MANY ∷ ASM_LARGE ∷ ASM_DEEP ∷ ASM_LONG_MOVE ∷ []) r.reported.code) }
+    ensures deep { IfOk result (λ r. r.reported.code ≡ ASM_DEEP → error ≡ StepError.Deep) }
     ensures got { IfOk result (λ r. AreEach (step.now.got ++ from_below step.now (judged instrs.now error)) r.got.items) }
     ensures few { IfOk result (λ r. length r.got.items + length step.now.scanned ≤ reads_limit) }
     ensures many { IfErr result (λ e. e ≡ GetError.Many → WouldTakeMany (judged instrs.now error) step.now) }
 {
     let got = tracked(alloc, step, judged(alloc, instrs, &error)?)?;
-    let told = told_refusal(alloc, error)?;
-    Ok(Refused { told, got })
+    let reported = reported_refusal(alloc, error)?;
+    Ok(Refused { reported, got })
 }
 
 // Report why the move isn't pushed, and track the locations on which that depends.
@@ -97,7 +97,7 @@ fn refuse(
     match refusal_of(alloc, step, instrs, error) {
         Ok(refused) => {
             step.got = refused.got;
-            written_as(&refused.told, out, written)
+            written_as(&refused.reported, out, written)
         }
         Err(GetError::Many) => MANY,
         Err(_) => MEMORY,

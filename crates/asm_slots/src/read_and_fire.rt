@@ -6,8 +6,8 @@ ghost use Rattle.asm_storage.specs.Storage.{IsSameAgent};
 ghost use Rattle.asm_slots.specs.NumbersAhead.{FiresAhead, FiresWithin};
 ghost use Rattle.asm_explain.specs.Bytes.{AreLocations, IsFireForm, IsNoJson, IsOtherJson};
 ghost use Rattle.asm_slots.specs.Bytes.{ReadAsManyLocations, ReadAsManyReads};
-ghost use Rattle.asm_slots.specs.AgentCalls.{HasTriedFire, HasLooked, HasRead, IsReplyCode, WasBusy};
-ghost use Rattle.asm_slots.specs.AgentCalls.{MayHaveLooked, MayHaveOffered, MissedFew, MissedOne, SeesOn};
+ghost use Rattle.asm_slots.specs.AgentCalls.{HasTriedFire, HasPolled, HasRead, IsReplyCode, WasBusy};
+ghost use Rattle.asm_slots.specs.AgentCalls.{MayHavePolled, MayHaveOffered, MissedFew, MissedOne, SeesOn};
 ghost use Rattle.asm_slots.specs.AgentCalls.{code_of, number_of};
 ghost use Rattle.asm_slots.specs.Codes.{IsOneOf, ASM_DONE, ASM_STALE, ASM_CLASH, ASM_MEMORY, ASM_FULL};
 ghost use Rattle.asm_slots.specs.Codes.{ASM_AHEAD, ASM_BUSY, ASM_MANY, ASM_NOT_JSON, ASM_SHAPE};
@@ -41,10 +41,10 @@ pub fn read_at(
 ) -> i32
     ensures codes { IsOneOf (ASM_DONE ∷ ASM_MEMORY ∷ ASM_MANY ∷ ASM_NOT_JSON ∷ ASM_SHAPE ∷ []) result }
     ensures answered { result ≡ ASM_DONE → Holds (content_of slot.new) (HasRead locations.now agent) }
-    ensures refused { result ≢ ASM_DONE → Holds (content_of slot.new) (HasLooked agent) }
+    ensures refused { result ≢ ASM_DONE → Holds (content_of slot.new) (HasPolled agent) }
     ensures same { Holds (content_of slot.new) (IsSameAgent agent) }
     ensures seen { Holds (content_of slot.new) (SeesOn agent) }
-    ensures memory { result ≡ ASM_MEMORY → Holds (content_of slot.new) (MayHaveLooked agent) }
+    ensures memory { result ≡ ASM_MEMORY → Holds (content_of slot.new) (MayHavePolled agent) }
     ensures many { result ≡ ASM_MANY → ReadAsManyLocations locations.now }
     ensures not_json { result ≡ ASM_NOT_JSON → IsNoJson locations.now }
     ensures shape { result ≡ ASM_SHAPE → IsOtherJson AreLocations locations.now }
@@ -129,7 +129,7 @@ pub fn fire_in(alloc: Global, agent: &mut OwnedAgent, call: &[u8]) -> (i32, Numb
     ensures unfired { result.0 ≢ ASM_DONE → result.1.fired ≡ 0 }
     ensures not_busy { result.0 ≢ ASM_BUSY → (result.1.from ≡ 0) × (result.1.to ≡ 0) }
     ensures refused { IsOneOf (ASM_MEMORY ∷ ASM_BUSY ∷ ASM_MANY ∷ ASM_NOT_JSON ∷ ASM_SHAPE ∷ []) result.0 →
-        HasLooked agent.old agent.new }
+        HasPolled agent.old agent.new }
     ensures busy { result.0 ≡ ASM_BUSY → WasBusy result.1.from result.1.to agent.old agent.new }
     ensures lost { result.0 ≡ ASM_BUSY → result.1.from + offers_limit ≤ result.1.to }
     ensures same { IsSameAgent agent.old agent.new }

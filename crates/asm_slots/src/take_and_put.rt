@@ -207,11 +207,11 @@ pub fn put_both(agent: &mut Slot, step: &mut Slot, both: Both)
 /// Without it the code is `ASM_EMPTY`. The box goes into the slot again.
 #[macro_export]
 macro_rules! in_box {
-    ($alloc:expr, $slot:ident, $look:path, $inner:ident => $call:expr) => {{
+    ($alloc:expr, $slot:ident, $poll:path, $inner:ident => $call:expr) => {{
         let Some(shell) = $crate::take_and_put::take_shell($alloc, $slot) else {
             return $crate::codes::EMPTY;
         };
-        let Some($inner) = $look(&shell) else {
+        let Some($inner) = $poll(&shell) else {
             $crate::take_and_put::put_shell($slot, shell);
             return $crate::codes::EMPTY;
         };

@@ -3,11 +3,11 @@ ghost use Rattle.std.specs.Prelude.{◌≡◌, ◌≢◌, ◌≤◌, ◌+◌, �
 ghost use Rattle.std.specs.Ordering.{is_le};
 ghost use Rattle.asm_element.specs.Place.{location_cmp};
 ghost use Rattle.asm_step.specs.Places.{AreEach, all_partial_places, partial_place, partial_places};
-ghost use Rattle.asm_step.specs.Resting.{one_writes, puts, rests};
+ghost use Rattle.asm_step.specs.Dependencies.{one_writes, puts, depends};
 ghost use Rattle.asm_storage.specs.Limits.{reads_limit};
 ghost use Rattle.asm_update.specs.Move.{writes};
 ghost use Rattle.asm_slots.specs.StepCalls.{WouldTakeMany, from_below};
-ghost use Rattle.asm_slots.specs.Tracked.{judged, judged_last, judged_to, resting_last};
+ghost use Rattle.asm_slots.specs.Tracked.{judged, judged_last, judged_to, dependencies_last};
 
 use crate::owned_step::{OwnedStep, each_of, from_below};
 use crate::steps::GetError;
@@ -154,8 +154,8 @@ fn puts(instrs: &Instructions, at: &Location) -> bool
 }
 
 // Return whether the moves depend on the value below them at the location.
-fn rests(popped: &Popped, at: &Location) -> bool
-    ensures { result ≡ rests popped.now at.now }
+fn depends(popped: &Popped, at: &Location) -> bool
+    ensures { result ≡ depends popped.now at.now }
 {
     let (first, more) = popped.moves();
     if writes(first, at) {
@@ -170,16 +170,16 @@ fn rests(popped: &Popped, at: &Location) -> bool
 }
 
 // Return those of the locations on which the moves depend.
-fn resting_of(
+fn dependencies_of(
     alloc: Global,
     popped: &Popped,
     locations: Vec<Location>,
 ) -> Result<Vec<Location>, AllocError>
-    ensures { IfOk result (λ kept. kept.items ≡ filter (rests popped.now) locations.items) }
+    ensures { IfOk result (λ kept. kept.items ≡ filter (depends popped.now) locations.items) }
 {
     let mut kept = Vec::new(alloc);
     for at in locations {
-        if rests(popped, &at) {
+        if depends(popped, &at) {
             kept.push(at)?;
         }
     }
@@ -206,11 +206,11 @@ impl OwnedStep {
     }
 
     /// Return the locations on which the last pushed moves depend by themselves.
-    pub(crate) fn resting_last(&self, alloc: Global) -> Result<Vec<Location>, AllocError>
-        ensures { IfOk result (λ ls. ls.items ≡ resting_last self.now) }
+    pub(crate) fn dependencies_last(&self, alloc: Global) -> Result<Vec<Location>, AllocError>
+        ensures { IfOk result (λ ls. ls.items ≡ dependencies_last self.now) }
     {
         match self.step.last() {
-            Some(popped) => resting_of(alloc, popped, self.step.resting_locations(alloc)?),
+            Some(popped) => dependencies_of(alloc, popped, self.step.dependency_locations(alloc)?),
             None => Ok(Vec::new(alloc)),
         }
     }

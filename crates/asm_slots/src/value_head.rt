@@ -5,7 +5,7 @@ ghost use Rattle.asm_element.specs.declared.value.Value.TheVariants as values;
 ghost use Rattle.asm_journal.specs.Value.{value_json_of};
 ghost use Rattle.asm_slots.specs.Codes.{IsOneOf, ASM_DONE, ASM_MEMORY, ASM_SMALL};
 ghost use Rattle.asm_slots.specs.Kinds.{bytes_of, kind_of, number_of};
-ghost use Rattle.asm_slots.specs.PreparedLooks.{TellsValue};
+ghost use Rattle.asm_slots.specs.PreparedPolls.{TellsValue};
 
 use crate::codes::{DONE, MEMORY, copied};
 use asm_element::{Element, Location, Value};

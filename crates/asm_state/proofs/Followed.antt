@@ -10,7 +10,7 @@ use Rattle.asm_update.specs.declared.clash.Clash.{Clash}
 use Rattle.asm_update.proofs.FireLemmas.{aggregated-update_set, aggregated-clash, val-overwrite, stored_reads, has_updated}
 use Rattle.asm_state.specs.declared.entries.WrittenValue.{WrittenValue}
 use Rattle.asm_state.specs.View.{StateView, value_over, writer_of, value_at, writer_at}
-use Rattle.asm_state.specs.Stands.{Stands, overwrites, writer}
+use Rattle.asm_state.specs.FollowsFrom.{FollowsFrom, overwrites, writer}
 use Rattle.asm_state.specs.Follow.{entry_after, IsFollowed}
 use Rattle.asm_state.proofs.Writers.{state_of-push, writer_from-push}
 
@@ -22,7 +22,7 @@ writer_after : (n : ℕ) (u : Option Value) (x : Option WrittenValue) → writer
 writer_after n (Some v) x = refl
 writer_after n None x = refl
 
-module _ (part : Part) (init : State) (q : List Move) (old new : StateView) (M : Move) (stands : Stands part init old q) (followed : IsFollowed part old M new) where
+module _ (part : Part) (init : State) (q : List Move) (old new : StateView) (M : Move) (stands : FollowsFrom part init old q) (followed : IsFollowed part old M new) where
   A : State
   A = state_of part init q
 
@@ -43,7 +43,7 @@ module _ (part : Part) (init : State) (q : List Move) (old new : StateView) (M :
       let count : 0 + length q + 1 ≡ old.number + 1 = omega (arith, stands.number) in
       writer_from-push part init 0 q l 0 M ∙ ap (λ k. cond (overwrites part (state_of part init q) M l) k (writer part init q l)) count
 
-  after_fired : (U : Updates) → aggregated part (value_at old) M ≡ Ok U → Stands part init new (q ++ M ∷ [])
+  after_fired : (U : Updates) → aggregated part (value_at old) M ≡ Ok U → FollowsFrom part init new (q ++ M ∷ [])
   after_fired U e =
       let fired = fires_is U e in
       let updates = (aggregated-update_set part (value_at old) M U).0 e in
@@ -62,7 +62,7 @@ module _ (part : Part) (init : State) (q : List Move) (old new : StateView) (M :
             ∙ sym (writer_more l);
       }
 
-  after_clashed : (c : Clash) → aggregated part (value_at old) M ≡ Err c → Stands part init new (q ++ M ∷ [])
+  after_clashed : (c : Clash) → aggregated part (value_at old) M ≡ Err c → FollowsFrom part init new (q ++ M ∷ [])
   after_clashed c e =
       let clashed = clashes_is c e in
       let entries = followed.clashed c e in
@@ -78,9 +78,9 @@ module _ (part : Part) (init : State) (q : List Move) (old new : StateView) (M :
             ∙ sym (writer_more l);
       }
 
-  pub stands_more : Stands part init new (q ++ M ∷ [])
+  pub stands_more : FollowsFrom part init new (q ++ M ∷ [])
   stands_more = by_answer (aggregated part (value_at old) M) refl where
-    by_answer : (r : Result Updates Clash) → aggregated part (value_at old) M ≡ r → Stands part init new (q ++ M ∷ [])
+    by_answer : (r : Result Updates Clash) → aggregated part (value_at old) M ≡ r → FollowsFrom part init new (q ++ M ∷ [])
     by_answer (Ok U) e = after_fired U e
     by_answer (Err c) e = after_clashed c e
 

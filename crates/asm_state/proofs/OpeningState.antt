@@ -7,7 +7,7 @@ use Rattle.asm_update.specs.State.{State, val}
 use Rattle.asm_update.specs.Fire.{Part}
 use Rattle.asm_state.specs.declared.entries.WrittenValue.{WrittenValue}
 use Rattle.asm_state.specs.View.{Entries, StateView, value_over, writer_of, holds_undef, is_unwritten, AreSettled}
-use Rattle.asm_state.specs.Stands.{Stands}
+use Rattle.asm_state.specs.FollowsFrom.{FollowsFrom}
 
 abbrev nothing : Entries
 nothing = finite.empty
@@ -15,7 +15,7 @@ nothing = finite.empty
 abbrev pub opening : State → StateView
 opening init = record { number = 0; base = init; entries = nothing }
 
-pub opening_stands : (init : State) (part : Part) → Stands part init (opening init) []
+pub opening_stands : (init : State) (part : Part) → FollowsFrom part init (opening init) []
 opening_stands init part = record {
   number = refl;
   values = λ q. ap (value_over (val init q)) (finite.get-empty location_cmp q);

@@ -5,7 +5,7 @@ use Rattle.asm_element.specs.Place.{Place}
 use Rattle.asm_update.specs.Move.{Move, writes}
 use Rattle.asm_update.specs.State.{State}
 use Rattle.asm_update.specs.Fire.{Part, fire}
-use Rattle.asm_state.specs.Stands.{overwrites, after_move, writer, is_stale, IsOverwrittenBy, IsStale, IsLastWriter}
+use Rattle.asm_state.specs.FollowsFrom.{overwrites, after_move, writer, is_stale, IsOverwrittenBy, IsStale, IsLastWriter}
 use Rattle.asm_state.proofs.Writers.{stale_is}
 
 -- a move more in front

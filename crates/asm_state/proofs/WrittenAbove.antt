@@ -17,7 +17,7 @@ use Rattle.asm_update.specs.Move.{IsLeast, Move}
 use Rattle.asm_update.specs.State.{State}
 use Rattle.asm_state.specs.declared.entries.WrittenValue.{WrittenValue}
 use Rattle.asm_state.specs.Scans.{has_name, is_newer, is_rewritten, IsLeastOf}
-use Rattle.asm_state.specs.Stands.{Stands}
+use Rattle.asm_state.specs.FollowsFrom.{FollowsFrom}
 use Rattle.asm_state.specs.View.{StateView, writer_at, writer_of}
 use Rattle.asm_state.proofs.Onward.{IsOnward, not_below, onward_has, onward_past, onward_start, onward_step}
 use Rattle.asm_state.proofs.Writers.{stale_is}
@@ -111,8 +111,8 @@ module _ (first : Place) (number : ℕ) (none : first.args ≡ []) where
         by_newer (is_newer first.name number q (writer_of (finite.find location_cmp q ((k, w) ∷ rest)))) refl (left.same q named) where
           by_newer : (b : Bool) → is_newer first.name number q (writer_of (finite.find location_cmp q ((k, w) ∷ rest))) ≡ b →
               is_newer first.name number q (writer_of (finite.find location_cmp q ((k, w) ∷ rest))) ≡ newer_in first number m q → newer_in first number m q ≡ false
-          by_newer false e told = sym told ∙ e
-          by_newer true e told = absurd (false≢true (sym (onward_past first k w rest left.walk other q named) ∙ newer_some first.name number (finite.find location_cmp q ((k, w) ∷ rest)) q e))
+          by_newer false e reported = sym reported ∙ e
+          by_newer true e reported = absurd (false≢true (sym (onward_past first k w rest left.walk other q named) ∙ newer_some first.name number (finite.find location_cmp q ((k, w) ∷ rest)) q e))
 
     of_name : (q : Place) → newer_in first number m q ≡ true → has_name first.name q ≡ true
     of_name q h = (both (has_name first.name q) (nat_lt number (writer_of (finite.get m q))) h).0
@@ -151,6 +151,6 @@ same_least_ok test all (Err e') e h = tt
 
 -- the number of the last writer tells whether a location was written since
 pub rewritten_is : (part : Part) (init : State) (q : List Move) (s : StateView) (name : List ℕ) (number : ℕ) (l : Place) →
-    Stands part init s q → is_rewritten part init q name number l ≡ is_newer name number l (writer_at s l)
+    FollowsFrom part init s q → is_rewritten part init q name number l ≡ is_newer name number l (writer_at s l)
 rewritten_is part init q s name number l stands =
     ap (λ b. has_name name l && b) (stale_is part init q l number ∙ ap (nat_lt number) (sym (stands.writers l)))

@@ -23,7 +23,7 @@ abbrev pub FindsLeast : Type 0
 FindsLeast = (stale : Place → ℕ → Bool) (reads : List Named) → IsLeastNamed stale reads (least_named stale reads)
 
 -- the location that is stale by a verdict
-abbrev pub told_stale : Verdict → Option Place
-told_stale (Stale l) = Some l
-told_stale (Clash c) = None
-told_stale (Ready U) = None
+abbrev pub stale_location : Verdict → Option Place
+stale_location (Stale l) = Some l
+stale_location (Clash c) = None
+stale_location (Ready U) = None

@@ -5,7 +5,7 @@ pub mod Named
 pub mod Plain
 pub mod Replaced
 pub mod Scans
-pub mod Stands
+pub mod FollowsFrom
 pub mod Verdict
 pub mod View
 pub mod Change

@@ -5,7 +5,7 @@ use Rattle.asm_element.specs.Place.{Place}
 use Rattle.asm_update.specs.Fire.{Part}
 use Rattle.asm_update.specs.Move.{Move, IsLeast}
 use Rattle.asm_update.specs.State.{State}
-use Rattle.asm_state.specs.Stands.{is_stale}
+use Rattle.asm_state.specs.FollowsFrom.{is_stale}
 
 -- whether the location has this function name
 abbrev pub has_name : List ℕ → Place → Bool

@@ -7,7 +7,7 @@ use Rattle.asm_element.specs.Place.{Place, location_cmp}
 use Rattle.asm_update.specs.Move.{Move}
 use Rattle.asm_update.specs.State.{State, val}
 use Rattle.asm_update.specs.Fire.{Part, aggregated, state_of}
-use Rattle.asm_state.specs.Stands.{is_stale}
+use Rattle.asm_state.specs.FollowsFrom.{is_stale}
 use Rattle.asm_state.specs.declared.named.Named.{Named}
 use Rattle.asm_state.specs.declared.verdict.Objection.{Objection}
 use Rattle.asm_state.specs.declared.verdict.Objection.TheVariants as objection

@@ -47,8 +47,6 @@ fn group_of(alloc: Global, at: &Location, instructions: &[Instruction]) -> Resul
     ensures { IfOk result (λ g.
         g ≡ record { regular = None; partials = map (λ i. i.action) instructions.now }) }
 {
-    // Proof: what is required speaks of it.
-    let _ = at;
     let mut partials = Vec::with_capacity(alloc, instructions.len())?;
     for instruction in instructions {
         partials.push(instruction.action.clone()?)?;

@@ -12,10 +12,10 @@ ghost use Rattle.asm_aggregate.specs.OnlyPut.{only_put};
 ghost use Rattle.asm_state.specs.Change.{IsOneChange};
 ghost use Rattle.asm_state.specs.View.{value_at, writer_at, holds_undef};
 ghost use Rattle.asm_state.specs.Follow.{entry_after, IsFollowed};
-ghost use Rattle.asm_state.specs.LeastNamed.{IsLeastNamed, told_stale};
+ghost use Rattle.asm_state.specs.LeastNamed.{IsLeastNamed, stale_location};
 ghost use Rattle.asm_state.specs.Limits.{followed_limit};
 ghost use Rattle.asm_state.specs.Scans.{is_rewritten, IsLeastOf};
-ghost use Rattle.asm_state.specs.Stands.{Stands, IsLastWriter, is_stale};
+ghost use Rattle.asm_state.specs.FollowsFrom.{FollowsFrom, IsLastWriter, is_stale};
 ghost use Rattle.asm_state.specs.Verdict.{IsObjection, IsVerdict, least_named, least_stale};
 
 use crate::entries::{Entries, WrittenValue};
@@ -88,7 +88,7 @@ impl State {
     ///
     /// - `AllocError` only if memory is refused.
     pub fn new(alloc: Global, init: PlainState) -> Result<State, AllocError>
-        ensures { IfOk result (λ s. (part : Part) → Stands part init s []) }
+        ensures { IfOk result (λ s. (part : Part) → FollowsFrom part init s []) }
     {
         let base = Arc::new(alloc, init)?;
         Ok(State::over(alloc, base))
@@ -98,7 +98,7 @@ impl State {
     ///
     /// It takes no memory. A move that such a state follows changes nothing for the others.
     pub fn over(alloc: Global, base: Arc<PlainState>) -> State
-        ensures { (part : Part) → Stands part (arc_value base) result [] }
+        ensures { (part : Part) → FollowsFrom part (arc_value base) result [] }
     {
         State {
             number: 0,
@@ -127,7 +127,7 @@ impl State {
     /// below this one.
     pub fn written_at(&self, at: &Location) -> u32
         ensures writer { result ≡ writer_at self.now at.now }
-        ensures last { (part : Part) (init : plain.State) (q : List Move) → Stands part init self.now q →
+        ensures last { (part : Part) (init : plain.State) (q : List Move) → FollowsFrom part init self.now q →
             IsLastWriter part init q at.now result }
     {
         match self.entry(at) {
@@ -150,7 +150,7 @@ impl State {
         name: &str,
         number: u32,
     ) -> Result<Option<&Location>, AllocError>
-        ensures { (part : Part) (init : plain.State) (q : List Move) → Stands part init self.now q →
+        ensures { (part : Part) (init : plain.State) (q : List Move) → FollowsFrom part init self.now q →
             IfOk result (λ found. IsLeastOf (is_rewritten part init q name.now number) (option_copied found)) }
     {
         self.entries.least_written(alloc, name, number)
@@ -178,7 +178,7 @@ impl State {
 
     // The smallest location that was written since it was read; it looks up none where the reads are as new as the state.
     fn least_overtaken<'a>(&self, reads: &'a [Named]) -> Option<&'a Location>
-        ensures { (part : Part) (init : plain.State) (q : List Move) → Stands part init self.now q →
+        ensures { (part : Part) (init : plain.State) (q : List Move) → FollowsFrom part init self.now q →
             option_copied result ≡ least_stale part init q reads.now }
     {
         if are_read_from(self.number(), reads) {
@@ -203,12 +203,12 @@ impl State {
         instructions: &Instructions,
     ) -> Result<Verdict, AllocError>
         ensures verdict { (init : plain.State) (q : List Move) →
-            Stands (A.meaning aggregator.now).part init self.now q →
+            FollowsFrom (A.meaning aggregator.now).part init self.now q →
             IsVerdict (A.meaning aggregator.now).part init q reads.now instructions.now result }
         ensures least { (init : plain.State) (q : List Move) →
-            Stands (A.meaning aggregator.now).part init self.now q →
+            FollowsFrom (A.meaning aggregator.now).part init self.now q →
             IfOk result (λ verdict. IsLeastNamed (is_stale (A.meaning aggregator.now).part init q) reads.now
-            (told_stale verdict)) }
+            (stale_location verdict)) }
     {
         match self.least_overtaken(reads) {
             Some(at) => return Ok(Verdict::Stale(at.copy(alloc)?)),
@@ -236,7 +236,7 @@ impl State {
         reads: &[Named],
         instructions: &Instructions,
     ) -> Result<Option<Objection>, AllocError>
-        ensures { (init : plain.State) (q : List Move) → Stands (A.meaning aggregator.now).part init self.now q →
+        ensures { (init : plain.State) (q : List Move) → FollowsFrom (A.meaning aggregator.now).part init self.now q →
             IsObjection (A.meaning aggregator.now).part init q reads.now instructions.now result }
     {
         match self.least_overtaken(reads) {
@@ -268,8 +268,8 @@ impl State {
     ) -> Result<(), AllocError>
         requires { self.old.number < followed_limit }
         ensures ok { OnOk result ((init : plain.State) (q : List Move) →
-            Stands (A.meaning aggregator.now).part init self.old q →
-            Stands (A.meaning aggregator.now).part init self.new (q ++ instructions.now ∷ [])) }
+            FollowsFrom (A.meaning aggregator.now).part init self.old q →
+            FollowsFrom (A.meaning aggregator.now).part init self.new (q ++ instructions.now ∷ [])) }
         ensures followed { OnOk result (
             IsFollowed (A.meaning aggregator.now).part self.old instructions.now self.new) }
         ensures number { OnOk result (self.new.number ≡ self.old.number + 1) }

@@ -1,6 +1,6 @@
 //! Verdicts and objections are equal where they say the same, and only there.
 use asm_state::{Objection, Verdict};
-use asm_test_support::{are_told_apart, location, number};
+use asm_test_support::{are_distinct, location, number};
 use asm_update::{Cause, Clash, UpdateSet};
 use std::alloc::Global;
 use std::test::Fail;
@@ -74,7 +74,7 @@ fn objections(alloc: Global) -> Result<Vec<Objection>, Fail> {
 
 #[test]
 fn verdicts_and_objections_are_equal_to_themselves_alone(rt: HostRuntime) -> Result<(), Fail> {
-    assert!(rt; are_told_apart(&verdicts(rt.alloc())?));
-    assert!(rt; are_told_apart(&objections(rt.alloc())?));
+    assert!(rt; are_distinct(&verdicts(rt.alloc())?));
+    assert!(rt; are_distinct(&objections(rt.alloc())?));
     Ok(())
 }

@@ -1,6 +1,6 @@
 //! Frames that are pushed, seen and popped.
 use asm_overlay::{Overlay, OverlayError, Seen};
-use asm_test_support::{are_told_apart, location, value};
+use asm_test_support::{are_distinct, location, value};
 use asm_update::UpdateSet;
 use std::alloc::Global;
 use std::process::Abort;
@@ -122,7 +122,7 @@ fn the_65th_frame_is_handed_back(rt: HostRuntime) -> Result<(), Fail> {
 /// Return whether the answer of a push matches whether the frame is on top.
 ///
 /// If it isn't on top, the answer returns it.
-fn is_told(answer: Result<(), OverlayError>, is_on_top: bool, frame: UpdateSet) -> bool {
+fn is_reported(answer: Result<(), OverlayError>, is_on_top: bool, frame: UpdateSet) -> bool {
     match answer {
         Ok(()) => is_on_top,
         Err(OverlayError::Memory(back)) => !is_on_top && back == frame,
@@ -137,7 +137,7 @@ fn is_handed_back(alloc: Global, overlay: &mut Overlay, puts: &[Put]) -> Result<
     let answer = overlay.push(frame(alloc, puts)?);
     let is_on_top = overlay.depth() == depth + 1;
     let is_kept = is_on_top || overlay.depth() == depth;
-    Ok(is_told(answer, is_on_top, frame(alloc, puts)?) && is_kept)
+    Ok(is_reported(answer, is_on_top, frame(alloc, puts)?) && is_kept)
 }
 
 #[test]
@@ -185,7 +185,7 @@ fn errors(alloc: Global) -> Result<Vec<OverlayError>, Fail> {
 #[test]
 fn errors_are_equal_by_their_kind_and_frame(rt: HostRuntime) -> Result<(), Fail> {
     let errors = errors(rt.alloc())?;
-    assert!(rt; errors.len() == 6 && are_told_apart(&errors));
+    assert!(rt; errors.len() == 6 && are_distinct(&errors));
     Ok(())
 }
 

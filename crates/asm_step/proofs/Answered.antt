@@ -14,13 +14,13 @@ use Rattle.asm_overlay.proofs.FrameLemmas.{topmost-append, val-under}
 use Rattle.asm_step.specs.Answer.{HasUpdates, IsPushAnswer, IsPushAnswerOn, IsLastOn}
 use Rattle.asm_step.specs.InTurn.{DoesEach, DoesAll, Agrees, all_but_last}
 use Rattle.asm_step.specs.Layers.{Layer, IsLayerOf, behind, frames_of, one_move_of, top_of, one_move, all_moves, IsStepOf, extended, moves_of}
-use Rattle.asm_step.specs.Next.{KeepsEach, KeepsOrder, NeverFollows, IsComposed, IsContinued, IsNext, IsNextLayer, IsTakenIn}
+use Rattle.asm_step.specs.Next.{KeepsEach, KeepsOrder, NeverFollows, IsComposed, IsContinued, IsNext, IsNextLayer, IsExtensionAnswer}
 use Rattle.asm_step.specs.Outcomes.{frame}
 use Rattle.asm_step.specs.Places.{partial_places}
-use Rattle.asm_step.specs.Resting.{KeepsGroups}
+use Rattle.asm_step.specs.Dependencies.{KeepsGroups}
 use Rattle.asm_step.specs.declared.error.StepError.{StepError}
 use Rattle.asm_step.proofs.Agreeing.{agrees_before, agrees_last, same_clash, same_update_set, does_one, does_last, does_next}
-use Rattle.asm_step.proofs.Built.{builds_push, rests_push}
+use Rattle.asm_step.proofs.Built.{builds_push, depends_push}
 use Rattle.asm_step.proofs.Standing.{each_next, each_one}
 use Rattle.asm_step.proofs.Layered.{extended-push, fires_all, fires_as, group_there, layer_behind, layers_last, layers_push, layers_split, moves-push, no_groups, none_there, seen, top_does, top_is, top_of-push, split_top}
 use Rattle.asm_step.proofs.Prefixes.{has_top}
@@ -64,13 +64,13 @@ next_each a old (x ∷ s) groups M C step first each =
 
 next_keeps : (a : Meaning) (old : Old) (s : List Layer) (groups : List (List Move)) (M C : Move) →
     IsStepOf a.part old s groups → IsContinued a (one_move s) M (Ok C) → KeepsGroups (all_moves groups ++ M ∷ []) C
-next_keeps a old [] groups M C step goes_on =
-    let same : M ≡ C = first_continued a None M C goes_on refl in
+next_keeps a old [] groups M C step extends =
+    let same : M ≡ C = first_continued a None M C extends refl in
     subst (λ gs. KeepsGroups (all_moves gs ++ M ∷ []) C) (sym (none_there a.part old [] groups step))
     (subst (KeepsGroups (M ∷ [])) same (keeps_one M))
-next_keeps a old (x ∷ s) groups M C step goes_on =
+next_keeps a old (x ∷ s) groups M C step extends =
     let top = has_top x s in
-    let after = subst (λ (o : Option Layer). IsContinued a (option_map one_move_of o) M (Ok C)) top.1 goes_on in
+    let after = subst (λ (o : Option Layer). IsContinued a (option_map one_move_of o) M (Ok C)) top.1 extends in
     keeps_push a (all_moves groups) (one_move_of top.0) M C (top_is a.part old (x ∷ s) groups step top.0 top.1).keeps after.0.0
 
 -- the layer of a next move is of all moves and this one
@@ -84,13 +84,13 @@ next_is a old s groups M y step next =
       written = written_more a.part old (all_moves groups) M is.updates next.updates (frame y.outcomes) is.written
           (subst (λ (o : Old). IsUpdateSet a.part o M next.updates) same next.set)
           (λ l. next.written l ∙ ap (option_or (finite.get next.updates l)) (is.show l));
-      does = next_does a old s groups M (one_move_of y) step (first_continued a (one_move s) M (one_move_of y) next.goes_on)
-          next.goes_on.1;
-      each = next_each a old s groups M (one_move_of y) step (first_continued a (one_move s) M (one_move_of y) next.goes_on)
+      does = next_does a old s groups M (one_move_of y) step (first_continued a (one_move s) M (one_move_of y) next.extends)
+          next.extends.1;
+      each = next_each a old s groups M (one_move_of y) step (first_continued a (one_move s) M (one_move_of y) next.extends)
           next.each;
-      keeps = next_keeps a old s groups M (one_move_of y) step next.goes_on;
+      keeps = next_keeps a old s groups M (one_move_of y) step next.extends;
       building = λ l. next.building l ∙ builds_push a.part old s groups step M l;
-      resting = λ l. next.resting l ∙ rests_push a.part old s groups step M l;
+      dependencies = λ l. next.dependencies l ∙ depends_push a.part old s groups step M l;
     }
 
 -- a step that was pushed, extended or popped
@@ -127,7 +127,7 @@ step_pop part old s groups group y step = layers_split part old [] groups s grou
 
 pub answered_ok : (a : Meaning) (old : Old) (s new : List Layer) (M : Move) (y : Layer) → IsNextLayer a old s M y →
     one_move new ≡ Some (one_move_of y) → IsPushAnswer a old s new M (Ok tt)
-answered_ok a old s new M y next is = ((next.updates, next.set), (one_move_of y, is, next.goes_on.0))
+answered_ok a old s new M y next is = ((next.updates, next.set), (one_move_of y, is, next.extends.0))
 
 -- on a state that has what is below, a move that fires is not refused for those before it
 not_refused : (a : Meaning) (old : Old) (s : List Layer) (groups : List (List Move)) (M : Move) (A B : State) →
@@ -253,7 +253,7 @@ module _ (a : Meaning) (old : Old) (s new : List Layer) (M : Move) where
     by_deep (inl k) = k
     by_deep (inr k) = k.1.0
 
-  pub taken_step : (r : Result (Unit {0}) StepError) → IsTakenIn a old s new M r → (z : Layer) → top_of s ≡ Some z →
+  pub taken_step : (r : Result (Unit {0}) StepError) → IsExtensionAnswer a old s new M r → (z : Layer) → top_of s ≡ Some z →
       OnOk r ((groups : List (List Move)) → IsStepOf a.part old s groups → IsStepOf a.part old new (extended groups M))
   taken_step (Ok _) (y, next, is) z top = λ groups step.
       let parts = split_top s z top in
@@ -265,18 +265,18 @@ module _ (a : Meaning) (old : Old) (s new : List Layer) (M : Move) where
       (subst (λ (t : List Layer). IsNextLayer a old t M y) parts next)))
   taken_step (Err e) taken z top = tt
 
-  pub taken_instead : (r : Result (Unit {0}) StepError) → IsTakenIn a old s new M r →
+  pub taken_instead : (r : Result (Unit {0}) StepError) → IsExtensionAnswer a old s new M r →
       OnOk r ((y : Layer) × (new ≡ all_but_last s ++ y ∷ []))
   taken_instead (Ok _) (y, next, is) = (behind (moves_of s) y, is)
   taken_instead (Err e) taken = tt
 
-  pub taken_answer : (r : Result (Unit {0}) StepError) → IsTakenIn a old s new M r → IsPushAnswer a old s new M r
+  pub taken_answer : (r : Result (Unit {0}) StepError) → IsExtensionAnswer a old s new M r → IsPushAnswer a old s new M r
   taken_answer (Ok _) (y, next, is) =
       answered_ok a old s new M y next
       (ap one_move is ∙ ap (option_map one_move_of) (top_of-push (all_but_last s) (behind (moves_of s) y)))
   taken_answer (Err e) taken = refused e taken.0
 
-  pub taken_on : (r : Result (Unit {0}) StepError) → IsTakenIn a old s new M r → (groups : List (List Move)) (B : State) →
+  pub taken_on : (r : Result (Unit {0}) StepError) → IsExtensionAnswer a old s new M r → (groups : List (List Move)) (B : State) →
       IsStepOf a.part old s groups → IsProper B → Agrees B old (all_moves groups ++ M ∷ []) → IsPushAnswerOn a.part B s new M r
   taken_on (Ok _) (y, next, is) groups B step proper has =
       subst (λ (t : List Layer). IsPushAnswerOn a.part B s t M (Ok tt)) (sym is)
@@ -286,10 +286,10 @@ module _ (a : Meaning) (old : Old) (s new : List Layer) (M : Move) where
       subst (λ (t : List Layer). IsPushAnswerOn a.part B s t M (Err e)) (sym taken.1)
       (answered_on_err a old s groups M B step proper has e taken.0)
 
-  pub taken_err : (r : Result (Unit {0}) StepError) → IsTakenIn a old s new M r → OnErr r (new ≡ s)
+  pub taken_err : (r : Result (Unit {0}) StepError) → IsExtensionAnswer a old s new M r → OnErr r (new ≡ s)
   taken_err (Ok _) taken = tt
   taken_err (Err e) taken = taken.1
 
-  pub taken_deep : (r : Result (Unit {0}) StepError) → IsTakenIn a old s new M r → IfErr r (λ e. e ≡ step_error.Deep → ⊥)
+  pub taken_deep : (r : Result (Unit {0}) StepError) → IsExtensionAnswer a old s new M r → IfErr r (λ e. e ≡ step_error.Deep → ⊥)
   taken_deep (Ok _) taken = tt
   taken_deep (Err e) taken = never_deep e taken.0

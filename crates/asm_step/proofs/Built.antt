@@ -6,15 +6,15 @@ use Rattle.asm_element.specs.Place.{Place, location_cmp}
 use Rattle.asm_element.specs.Tests.{or_false}
 use Rattle.asm_update.specs.Fire.{Part, Old}
 use Rattle.asm_update.specs.Move.{Move, writes}
-use Rattle.asm_step.specs.Layers.{Layer, IsStepOf, all_moves, outcomes_of, resting_of, top_of}
-use Rattle.asm_step.specs.Next.{builds_next, rests_next}
-use Rattle.asm_step.specs.Outcomes.{Outcome, builds_at, rests_at, sees_at}
-use Rattle.asm_step.specs.Resting.{builds, one_writes, puts, rests, sees_below, AreThose}
+use Rattle.asm_step.specs.Layers.{Layer, IsStepOf, all_moves, outcomes_of, dependencies_of, top_of}
+use Rattle.asm_step.specs.Next.{builds_next, depends_next}
+use Rattle.asm_step.specs.Outcomes.{Outcome, builds_at, depends_at, sees_at}
+use Rattle.asm_step.specs.Dependencies.{builds, one_writes, puts, depends, sees_below, AreThose}
 use Rattle.asm_step.proofs.Layered.{no_groups, seen, top_is}
 use Rattle.asm_step.proofs.Nexts.{topmost_is}
-use Rattle.asm_step.proofs.OneMove.{resting_are}
-use Rattle.asm_step.proofs.Pushed.{builds-push, rests-push, rests_builds, sets_written, unwritten_seen}
-use Rattle.asm_step.proofs.Rested.{are_resting}
+use Rattle.asm_step.proofs.OneMove.{dependencies_are}
+use Rattle.asm_step.proofs.Pushed.{builds-push, depends-push, depends_builds, sets_written, unwritten_seen}
+use Rattle.asm_step.proofs.Depending.{are_dependencies}
 
 module _ (part : Part) (old : Old) (s : List Layer) (groups : List (List Move)) (step : IsStepOf part old s groups) where
   abbrev Ms : List Move
@@ -42,16 +42,16 @@ module _ (part : Part) (old : Old) (s : List Layer) (groups : List (List Move)) 
         ∙ ap (λ (o : Option Outcome). option_map_or (λ (o : Outcome). o.builds) o false) (finite.get-empty location_cmp l)
         ∙ ap (λ gs. builds (all_moves gs) l) (sym (no_groups part old s groups step top))
 
-  rested_there : (l : Place) → rests_at (outcomes_of s) l ≡ rests Ms l
+  rested_there : (l : Place) → depends_at (outcomes_of s) l ≡ depends Ms l
   rested_there l = by_top (top_of s) refl where
-    by_top : (t : Option Layer) → top_of s ≡ t → rests_at (outcomes_of s) l ≡ rests Ms l
+    by_top : (t : Option Layer) → top_of s ≡ t → depends_at (outcomes_of s) l ≡ depends Ms l
     by_top (Some y) top =
-        ap (λ (t : Option Layer). rests_at (option_map_or (λ (y : Layer). y.outcomes) t finite.empty) l) top
-        ∙ (top_is part old s groups step y top).resting l
+        ap (λ (t : Option Layer). depends_at (option_map_or (λ (y : Layer). y.outcomes) t finite.empty) l) top
+        ∙ (top_is part old s groups step y top).dependencies l
     by_top None top =
-        ap (λ (t : Option Layer). rests_at (option_map_or (λ (y : Layer). y.outcomes) t finite.empty) l) top
-        ∙ ap (λ (o : Option Outcome). option_map_or (λ (o : Outcome). o.rests) o false) (finite.get-empty location_cmp l)
-        ∙ ap (λ gs. rests (all_moves gs) l) (sym (no_groups part old s groups step top))
+        ap (λ (t : Option Layer). depends_at (option_map_or (λ (y : Layer). y.outcomes) t finite.empty) l) top
+        ∙ ap (λ (o : Option Outcome). option_map_or (λ (o : Outcome). o.depends) o false) (finite.get-empty location_cmp l)
+        ∙ ap (λ gs. depends (all_moves gs) l) (sym (no_groups part old s groups step top))
 
   -- what is left is made from what is below where the moves say so
   pub sees_there : (l : Place) → sees_at (outcomes_of s) l ≡ sees_below Ms l
@@ -67,9 +67,9 @@ module _ (part : Part) (old : Old) (s : List Layer) (groups : List (List Move)) 
         ∙ sym (unwritten_seen Ms l (sym (held_written l) ∙ ap is_some e)).0
 
   -- the list of where they rest
-  pub resting_those : AreThose (rests Ms) (resting_of s)
-  resting_those =
-      subst (λ (ls : List Place). AreThose (rests Ms) ls) (resting_are s) (are_resting (outcomes_of s) (rests Ms) rested_there)
+  pub dependencies_those : AreThose (depends Ms) (dependencies_of s)
+  dependencies_those =
+      subst (λ (ls : List Place). AreThose (depends Ms) ls) (dependencies_are s) (are_dependencies (outcomes_of s) (depends Ms) rested_there)
 
   -- with a next move
   module _ (M : Move) where
@@ -87,9 +87,9 @@ module _ (part : Part) (old : Old) (s : List Layer) (groups : List (List Move)) 
           by_tests true false false e =
               (unwritten_seen Ms l e).0 ∙ sym (λ i. (e i && sees_below Ms l) || not (e i))
 
-    pub rests_push : (l : Place) → rests_next (outcomes_of s) M l ≡ rests (Ms ++ M ∷ []) l
-    rests_push l =
-        (λ i. cond (writes M l) (built_there l i) (rested_there l i)) ∙ by_test (writes M l) ∙ sym (rests-push Ms M l) where
+    pub depends_push : (l : Place) → depends_next (outcomes_of s) M l ≡ depends (Ms ++ M ∷ []) l
+    depends_push l =
+        (λ i. cond (writes M l) (built_there l i) (rested_there l i)) ∙ by_test (writes M l) ∙ sym (depends-push Ms M l) where
           all : (b : Bool) → (b && true) ≡ b
           all true = refl
           all false = refl
@@ -98,6 +98,6 @@ module _ (part : Part) (old : Old) (s : List Layer) (groups : List (List Move)) 
           none true = refl
           none false = refl
 
-          by_test : (w : Bool) → cond w (builds Ms l) (rests Ms l) ≡ (rests Ms l || (builds Ms l && w))
-          by_test true = sym (ap (λ b. rests Ms l || b) (all (builds Ms l)) ∙ rests_builds Ms l)
-          by_test false = sym (ap (λ b. rests Ms l || b) (none (builds Ms l)) ∙ or_false (rests Ms l))
+          by_test : (w : Bool) → cond w (builds Ms l) (depends Ms l) ≡ (depends Ms l || (builds Ms l && w))
+          by_test true = sym (ap (λ b. depends Ms l || b) (all (builds Ms l)) ∙ depends_builds Ms l)
+          by_test false = sym (ap (λ b. depends Ms l || b) (none (builds Ms l)) ∙ or_false (depends Ms l))

@@ -25,8 +25,8 @@ use Rattle.asm_aggregate.proofs.Sequence.{all_apart, fired_stored, given, given_
 use Rattle.asm_step.specs.InTurn.{IsSequenceAt}
 use Rattle.asm_step.specs.Answer.{continued, continued_at}
 use Rattle.asm_step.specs.Next.{AreNext, next_at}
-use Rattle.asm_step.specs.Outcomes.{Outcome, Outcomes, acts, actions_in, laid, listed}
-use Rattle.asm_step.proofs.Laid.{get-laid, kept_at}
+use Rattle.asm_step.specs.Outcomes.{Outcome, Outcomes, acts, actions_in, stacked, listed}
+use Rattle.asm_step.proofs.Stacked.{get-stacked, kept_at}
 use Rattle.asm_step.proofs.Placed.{at_kept, each_placed, listed_at, locations_passed, some_few, turn_all, turn_refused}
 use Rattle.std.specs.FinMap as finite
 
@@ -205,10 +205,10 @@ module _ (D M E S O : Move) (split : IsSplit D M E S O) where
 
 -- what the outcomes of a next move have, laid on those before
 pub next_actions : (os own : Outcomes) (U : Updates) (C M : Move) → AreNext os U C M own → (l : Place) →
-    actions_in (laid os own) l ≡ cond (is_some (finite.get U l)) (actions_at C l) (actions_in os l)
+    actions_in (stacked os own) l ≡ cond (is_some (finite.get U l)) (actions_at C l) (actions_in os l)
 next_actions os own U C M next l =
     ap (λ (x : Option Outcome). option_map_or (λ (o : Outcome). o.actions) x [])
-    (get-laid os own l ∙ ap (λ (x : Option Outcome). option_or x (finite.get os l)) (next l))
+    (get-stacked os own l ∙ ap (λ (x : Option Outcome). option_or x (finite.get os l)) (next l))
     ∙ by_update (finite.get U l) where
       by_update : (u : Option Value) →
           option_map_or (λ (o : Outcome). o.actions) (option_or (option_map (next_at os C M l) u) (finite.get os l)) []
@@ -220,13 +220,13 @@ module _ (a : Meaning) (os own : Outcomes) (U : Updates) (D M C : Move)
     (has : (l : Place) → is_some (finite.get U l) ≡ writes M l) (is : (l : Place) → actions_at D l ≡ actions_in os l)
     (next : AreNext os U C M own) where
   -- at the locations of the next move what they compose to, and elsewhere what was there
-  pub actions_are : (l : Place) → cond (writes M l) (actions_at C l) (actions_at D l) ≡ actions_in (laid os own) l
+  pub actions_are : (l : Place) → cond (writes M l) (actions_at C l) (actions_at D l) ≡ actions_in (stacked os own) l
   actions_are l =
       (λ i. cond (sym (has l) i) (actions_at C l) (is l i)) ∙ sym (next_actions os own U C M next l)
 
-  some_there : (l : Place) → writes (D ++ M) l ≡ true → is_some (finite.get (laid os own) l) ≡ true
+  some_there : (l : Place) → writes (D ++ M) l ≡ true → is_some (finite.get (stacked os own) l) ≡ true
   some_there l w =
-      ap is_some (get-laid os own l ∙ ap (λ (x : Option Outcome). option_or x (finite.get os l)) (next l))
+      ap is_some (get-stacked os own l ∙ ap (λ (x : Option Outcome). option_or x (finite.get os l)) (next l))
       ∙ by_update (finite.get U l) refl where
         held : (o : Option Outcome) → finite.get os l ≡ o → writes M l ≡ false → is_some o ≡ true
         held (Some o) e n = refl
@@ -241,7 +241,7 @@ module _ (a : Meaning) (os own : Outcomes) (U : Updates) (D M C : Move)
         by_update (Some v) e = refl
         by_update None e = held (finite.get os l) refl (sym (has l) ∙ ap is_some e)
 
-  none_there : (l : Place) → writes (D ++ M) l ≡ false → actions_in (laid os own) l ≡ []
+  none_there : (l : Place) → writes (D ++ M) l ≡ false → actions_in (stacked os own) l ≡ []
   none_there l w =
       let apart = neither (writes D l) (writes M l)
       (sym (list_any-append (λ (i : Instruction). eq_by_cmp location_cmp i.at l) D M) ∙ w) in
@@ -249,12 +249,12 @@ module _ (a : Meaning) (os own : Outcomes) (U : Updates) (D M C : Move)
 
   -- so it is what the outcomes list
   pub continues_as : (E S O F : Move) → IsSplit D M E S O → composition a E S ≡ Ok F → C ≡ F ++ O →
-      continued a D M ≡ Ok (listed (laid os own))
+      continued a D M ≡ Ok (listed (stacked os own))
   continues_as E S O F split gave is =
       continues D M E S O split a F gave
       ∙ (λ i. Ok (each_placed (λ l. cond (writes M l) (actions_at (sym is i) l) (actions_at D l)) (locations (D ++ M))))
       ∙ (λ i. Ok (each_placed (λ l. actions_are l i) (locations (D ++ M))))
-      ∙ ap (λ (N : Move). Ok N) (listed_at (laid os own) (D ++ M) some_there none_there)
+      ∙ ap (λ (N : Move). Ok N) (listed_at (stacked os own) (D ++ M) some_there none_there)
 
 -- it does what the two do in turn
 module _ {a : Meaning} (laws : AggregatorLaws a) (D M E S O : Move) (split : IsSplit D M E S O)

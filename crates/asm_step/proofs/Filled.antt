@@ -14,7 +14,7 @@ use Rattle.asm_update.specs.declared.action.Instruction.{Instruction}
 use Rattle.asm_aggregate.proofs.Grouped.{actions_at-one, actions_at-append}
 use Rattle.asm_step.specs.Next.{AreFilled, AreMarked, followed, noted, AreNext, AreOpened, next_at, opened_at, is_one, those}
 use Rattle.asm_step.specs.Outcomes.{Outcome, Outcomes, actions_in, listed, with_action, with_put, acts, acts_at}
-use Rattle.asm_step.proofs.Laid.{insert_many, none_listed}
+use Rattle.asm_step.proofs.Stacked.{insert_many, none_listed}
 use Rattle.asm_element.specs.declared.value.Value.{Value}
 use Rattle.asm_update.specs.State.{Updates}
 use Rattle.std.proofs.lemmas.List.Elements.{filter-append}
@@ -110,8 +110,8 @@ noted_more M x old now l had true e =
           ≡ option_map (noted (actions_at M l ++ x.action ∷ [])) o
       both (Some o) =
           ap (λ b. Some (record o { builds = b }))
-          (chosen (list_any is_regular (actions_at M l)) (list_any is_regular (x.action ∷ [])) o.rests o.builds
-          ∙ ap (λ b. cond b o.rests o.builds) (sym (list_any-append is_regular (actions_at M l) (x.action ∷ []))))
+          (chosen (list_any is_regular (actions_at M l)) (list_any is_regular (x.action ∷ [])) o.depends o.builds
+          ∙ ap (λ b. cond b o.depends o.builds) (sym (list_any-append is_regular (actions_at M l) (x.action ∷ []))))
       both None = refl
 noted_more M x old now l had false e =
     had l ∙ ap (λ xs. option_map (noted xs) (finite.get old l)) (sym (actions_at-one M x l false e))
@@ -119,13 +119,13 @@ noted_more M x old now l had false e =
 pub put_marked : (M : Move) (x : Instruction) (old now new : Outcomes) → AreMarked M old now →
     is_regular x.action ≡ true → new ≡ with_put x.at now → AreMarked (M ++ x ∷ []) old new
 put_marked M x old now new had regular is l =
-    ap (λ (os : Outcomes). finite.get os l) is ∙ changed_at now x.at l (λ o. record o { builds = o.rests })
-    ∙ ap (λ b. cond b (option_map (λ (o : Outcome). record o { builds = o.rests }) (finite.get now l)) (finite.get now l))
+    ap (λ (os : Outcomes). finite.get os l) is ∙ changed_at now x.at l (λ o. record o { builds = o.depends })
+    ∙ ap (λ b. cond b (option_map (λ (o : Outcome). record o { builds = o.depends }) (finite.get now l)) (finite.get now l))
     (flipped location_cmp_total l x.at)
     ∙ ap (λ (o : Option Outcome). cond (eq_by_cmp location_cmp x.at l) o (finite.get now l)) (same (finite.get now l))
     ∙ noted_more M x old now l had (eq_by_cmp location_cmp x.at l) refl where
-      same : (o : Option Outcome) → option_map (λ (o : Outcome). record o { builds = o.rests }) o ≡ option_map (noted (x.action ∷ [])) o
-      same (Some o) = ap (λ b. Some (record o { builds = cond (b || false) o.rests o.builds })) (sym regular)
+      same : (o : Option Outcome) → option_map (λ (o : Outcome). record o { builds = o.depends }) o ≡ option_map (noted (x.action ∷ [])) o
+      same (Some o) = ap (λ b. Some (record o { builds = cond (b || false) o.depends o.builds })) (sym regular)
       same None = refl
 
 pub partial_marked : (M : Move) (x : Instruction) (old now : Outcomes) → AreMarked M old now →
@@ -134,7 +134,7 @@ partial_marked M x old now had partial l =
     by_test (eq_by_cmp location_cmp x.at l)
     ∙ noted_more M x old now l had (eq_by_cmp location_cmp x.at l) refl where
       same : (o : Option Outcome) → o ≡ option_map (noted (x.action ∷ [])) o
-      same (Some o) = ap (λ b. Some (record o { builds = cond (b || false) o.rests o.builds })) (sym partial)
+      same (Some o) = ap (λ b. Some (record o { builds = cond (b || false) o.depends o.builds })) (sym partial)
       same None = refl
 
       by_test : (b : Bool) → finite.get now l ≡ cond b (option_map (noted (x.action ∷ [])) (finite.get now l)) (finite.get now l)

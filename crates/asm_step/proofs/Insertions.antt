@@ -13,9 +13,9 @@ use Rattle.asm_update.specs.Aggregator.{Meaning}
 use Rattle.asm_update.specs.Move.{Move}
 use Rattle.asm_update.specs.declared.action.Action.{Action}
 use Rattle.asm_update.specs.declared.action.Instruction.{Instruction}
-use Rattle.asm_step.specs.Front.{IsGoneOn, IsGoneOnAt}
+use Rattle.asm_step.specs.Front.{IsExtendedInPlace, IsExtendedInPlaceAt}
 use Rattle.asm_step.specs.Outcomes.{Outcome, Outcomes, acts, acts_at, AreReplaced, frame}
-use Rattle.asm_step.specs.declared.front.Grown.{Grown}
+use Rattle.asm_step.specs.declared.front.Growth.{Growth}
 use Rattle.asm_element.specs.Tests.{itself}
 use Rattle.asm_aggregate.proofs.Grouped.{ref_cmp, shown, put_in as put_at}
 use Rattle.std.specs.List.Sorted.{IsStrictlySortedBy}
@@ -30,7 +30,7 @@ use Rattle.asm_update.proofs.FireLemmas.{get-write, stored, stored_reads}
 use Rattle.asm_overlay.specs.Frames.{topmost, seen_through}
 use Rattle.asm_step.specs.Layers.{frames_of, layers_on, outcomes_of, scanned}
 use Rattle.asm_step.specs.declared.layer.OwnLayer.{OwnLayer}
-use Rattle.asm_step.proofs.Laid.{find-mapped, get-frame}
+use Rattle.asm_step.proofs.Stacked.{find-mapped, get-frame}
 use Rattle.asm_step.proofs.Nexts.{topmost_is}
 use Rattle.asm_step.proofs.Prefixes.{held-push}
 use Rattle.std.specs.FinMap as finite
@@ -116,11 +116,11 @@ same_insert m l o had = finite.same_map location_cmp_total location_cmp-IsAntisy
       by_test q false e = refl
 
 -- an outcome that goes on in its place
-pub gone_on_there : (a : Meaning) (r : Result (Option Grown) AllocError) (m n : Outcomes) (l : Place) (x : Action) (o w : Outcome) →
-    finite.get m l ≡ Some o → n ≡ finite.insert m l w → IfOk r (IsGoneOn a x o w) → OnErr r (w ≡ o) →
-    IfOk r (IsGoneOnAt a l x m n) × OnErr r (n ≡ m)
+pub gone_on_there : (a : Meaning) (r : Result (Option Growth) AllocError) (m n : Outcomes) (l : Place) (x : Action) (o w : Outcome) →
+    finite.get m l ≡ Some o → n ≡ finite.insert m l w → IfOk r (IsExtendedInPlace a x o w) → OnErr r (w ≡ o) →
+    IfOk r (IsExtendedInPlaceAt a l x m n) × OnErr r (n ≡ m)
 gone_on_there a (Ok (Some grown)) m n l x o w had is gone same =
-    (record { before = o; after = w; there = had; written = is; goes_on = gone }, tt)
+    (record { before = o; after = w; there = had; written = is; extends = gone }, tt)
 gone_on_there a (Ok None) m n l x o w had is gone same = (is ∙ ap (finite.insert m l) gone ∙ same_insert m l o had, tt)
 gone_on_there a (Err e) m n l x o w had is gone same = (tt, is ∙ ap (finite.insert m l) same ∙ same_insert m l o had)
 

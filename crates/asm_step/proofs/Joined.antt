@@ -28,7 +28,7 @@ use Rattle.asm_aggregate.specs.laws.BagAlgebra.{Small, small_bag, small_below}
 use Rattle.asm_aggregate.specs.laws.FamilyLemmas.{all_partial, all_of_both, common_is, nil_parts}
 use Rattle.asm_step.specs.Front.{joined_to, Applied, IsApplied, IsChanged, IsExchanged, IsLonger, bag_list, set_list, set_update, Joins, IsKnown}
 use Rattle.asm_step.specs.Outcomes.{acts}
-use Rattle.asm_step.specs.declared.front.Grown.{Grown}
+use Rattle.asm_step.specs.declared.front.Growth.{Growth}
 use Rattle.asm_step.proofs.BagCounts.{lowered_none, small-lowered, small-raised}
 use Rattle.asm_step.proofs.BagJoins.{bags_added, bags_fair, bags_removed}
 use Rattle.asm_step.proofs.BagLists.{bag_length, list_of_bags, proper_bags}
@@ -88,7 +88,7 @@ none_act [] none = refl
 none_act (x ∷ xs) none = cc
 
 -- the first update
-pub begun : (a : Meaning) (x : Action) (v w : Value) (xs ys : List Action) (grown : Grown) → xs ≡ [] →
+pub begun : (a : Meaning) (x : Action) (v w : Value) (xs ys : List Action) (grown : Growth) → xs ≡ [] →
     a.part v None (x ∷ []) ≡ Ok w → ys ≡ x ∷ [] → grown.more ≡ 1 → grown.less ≡ 0 → Applied a x v xs w ys grown
 begun a x v w xs ys grown none changed one more less = record {
   value = changed;
@@ -99,7 +99,7 @@ begun a x v w xs ys grown none changed one more less = record {
 }
 
 abbrev Answer : Type 0
-Answer = Result (Option Grown) AllocError
+Answer = Result (Option Growth) AllocError
 
 -- the sets have nothing in common
 pub exchanged_apart : (r : Answer) (s t n m : ElementSet) (e : Element) → IfOk r (IsExchanged s n (insert s e)) →
@@ -214,7 +214,7 @@ module _ (a : Meaning) (joins : Joins a Bag bag_joins) (x : Action) (bags : is_o
         turned (Err error) h = tt
 
 -- a put with the value changed
-pub put_ok : (a : Meaning) (x : Action) (v w : Value) (grown : Grown) → is_partial x ≡ true → value.IsProper v →
+pub put_ok : (a : Meaning) (x : Action) (v w : Value) (grown : Growth) → is_partial x ≡ true → value.IsProper v →
     a.part v None (x ∷ []) ≡ Ok w → grown.more ≡ 0 → grown.less ≡ 0 →
     Applied a x v (Regular v ∷ []) w (Regular w ∷ []) grown
 put_ok a x v w grown partial proper changed more less = record {

@@ -125,7 +125,7 @@ layer_behind part old Ms Ns y h = record {
   each = h.each;
   keeps = h.keeps;
   building = h.building;
-  resting = h.resting;
+  dependencies = h.dependencies;
 }
 
 -- where there is a layer, there is a group
@@ -264,9 +264,9 @@ keeps_err part Ms Ns C N compose_error.ManyInstructions does never = tt
 keeps_err part Ms Ns C N compose_error.Memory does never = tt
 
 -- a refusal of memory tells nothing
-pub none_told : (a : Meaning) (M : Move) (Ms : List Move) → IsComposedOf a M Ms (Err compose_error.Memory)
-none_told a M [] = tt
-none_told a M (N ∷ Ns) = inl tt
+pub none_reported : (a : Meaning) (M : Move) (Ms : List Move) → IsComposedOf a M Ms (Err compose_error.Memory)
+none_reported a M [] = tt
+none_reported a M (N ∷ Ns) = inl tt
 
 -- a next one that is composed, and then the others
 pub more_composed : (a : Meaning) (M N D : Move) (Ns : List Move) (r : Result Move ComposeError) →

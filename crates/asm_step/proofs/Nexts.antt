@@ -9,10 +9,10 @@ use Rattle.asm_update.specs.Fire.{Old, IsUpdateSet}
 use Rattle.asm_update.specs.Move.{Move, actions_at, writes}
 use Rattle.asm_update.specs.State.{Updates}
 use Rattle.asm_overlay.specs.Frames.{topmost, seen_through}
-use Rattle.asm_step.specs.Layers.{Layer, IsSound, alone_in, first_of, frames_of, laid_on, one_move, one_move_of, outcomes_of, top_of}
+use Rattle.asm_step.specs.Layers.{Layer, IsSound, alone_in, first_of, frames_of, stacked_on, one_move, one_move_of, outcomes_of, top_of}
 use Rattle.asm_step.specs.InTurn.{IsSequenceAt}
 use Rattle.asm_step.specs.Next.{AreNext, IsComposed, IsContinued, IsLayerFrom, IsNext, IsNextLayer, KeepsEach, first_alone, is_first, next_at, on_top, those}
-use Rattle.asm_step.specs.Outcomes.{Outcome, Outcomes, actions_in, frame, laid, listed, acts_at, builds_at, own_of, put_alone, put_outcome, sees_at}
+use Rattle.asm_step.specs.Outcomes.{Outcome, Outcomes, actions_in, frame, stacked, listed, acts_at, builds_at, own_of, put_alone, put_outcome, sees_at}
 use Rattle.asm_step.specs.declared.error.StepError.{StepError}
 use Rattle.asm_step.specs.declared.layer.OwnLayer.{OwnLayer}
 use Rattle.asm_aggregate.specs.Compose.{composition, placed}
@@ -21,9 +21,9 @@ use Rattle.asm_aggregate.proofs.Grouped.{unwritten}
 use Rattle.asm_update.proofs.FireLemmas.{places}
 use Rattle.asm_step.proofs.Continued.{IsSplit, actions_are, next_actions, continues, continues_as, continues_each, continues_in_turn, has_updates, no_shorter, refused, refused_never, there}
 use Rattle.asm_step.proofs.Placed.{each_placed}
-use Rattle.asm_step.proofs.Laid.{actions_at-listed, get-frame, get-laid, kept_at, kept_within, laid_many, listed_from}
+use Rattle.asm_step.proofs.Stacked.{actions_at-listed, get-frame, get-stacked, kept_at, kept_within, laid_many, listed_from}
 use Rattle.asm_step.proofs.Prefixes.{none_of_empty, top_sound, outcomes_without}
-use Rattle.asm_step.proofs.Rested.{next_building, next_resting, as_put, entries-put, get-put}
+use Rattle.asm_step.proofs.Depending.{next_building, next_dependencies, as_put, entries-put, get-put}
 use Rattle.asm_step.proofs.Filled.{nothing_shared, split_is, split_length, acts_nowhere, all_others, none_shared}
 use Rattle.std.proofs.lemmas.List.Elements.{All-nil}
 use Rattle.std.specs.List.{list_any}
@@ -49,10 +49,10 @@ topmost_is s l = by_top (top_of s) where
 
 -- what the next frame has, and else the frames below
 pub written_over : (s : List Layer) (U : Updates) (C M : Move) (own : Outcomes) → AreNext (outcomes_of s) U C M own → (l : Place) →
-    finite.get (frame (laid (outcomes_of s) own)) l ≡ option_or (finite.get U l) (topmost (frames_of s) l)
+    finite.get (frame (stacked (outcomes_of s) own)) l ≡ option_or (finite.get U l) (topmost (frames_of s) l)
 written_over s U C M own next l =
-    get-frame (laid (outcomes_of s) own) l
-    ∙ ap (option_map (λ (o : Outcome). o.value)) (get-laid (outcomes_of s) own l
+    get-frame (stacked (outcomes_of s) own) l
+    ∙ ap (option_map (λ (o : Outcome). o.value)) (get-stacked (outcomes_of s) own l
     ∙ ap (λ (x : Option Outcome). option_or x (finite.get (outcomes_of s) l)) (next l))
     ∙ by_update (finite.get U l)
     ∙ ap (option_or (finite.get U l)) (sym (topmost_is s l)) where
@@ -119,8 +119,8 @@ module _ {a : Meaning} (laws : AggregatorLaws a) (old : Old) (s : List Layer) (M
       refused (one_move_of z) M E S O split a l TooLarge h.0,
       refused_never laws (one_move_of z) M E S O split proper proper' l TooLarge h.0,
     )
-    refused_some step_error.Many (told, order) =
-        let (C, is, many) = told in
+    refused_some step_error.Many (reported, order) =
+        let (C, is, many) = reported in
         let longer = no_shorter (one_move_of z) M E S O split a C is in
         ((_, continues (one_move_of z) M E S O split a C is, omega (arith, many, longer)), tt)
     refused_some step_error.Deep h = absurd h.0
@@ -156,7 +156,7 @@ module _ {a : Meaning} (laws : AggregatorLaws a) (old : Old) (s : List Layer) (M
 
     -- so many instructions come together
     sum_of : (own : Outcomes) (m : ℕ) → AreNext (outcomes_of s) U C M own → m ≡ (n - length E) + length (listed own) →
-        m ≡ length (listed (laid (outcomes_of s) own))
+        m ≡ length (listed (stacked (outcomes_of s) own))
     sum_of own m next is =
         let all = laid_many (outcomes_of s) own in
         let same : length (kept_at (outcomes_of s) (finite.entries own)) ≡ length E =
@@ -175,11 +175,11 @@ module _ {a : Meaning} (laws : AggregatorLaws a) (old : Old) (s : List Layer) (M
         by_top (Some z) = refl
         by_top None = refl
 
-      long : y.count ≡ length (listed (laid (outcomes_of s) y.own))
+      long : y.count ≡ length (listed (stacked (outcomes_of s) y.own))
       long = sum_of y.own y.count next counted
 
       first_same : (l : Place) → top_of s ≡ None → actions_at C l ≡ actions_at M l →
-          actions_at M l ≡ actions_in (laid (outcomes_of s) y.own) l
+          actions_at M l ≡ actions_in (stacked (outcomes_of s) y.own) l
       first_same l top is =
           by_test (writes M l) refl
           ∙ (λ i. cond (sym (has l) i) (sym is i) (sym nothing i))
@@ -194,27 +194,27 @@ module _ {a : Meaning} (laws : AggregatorLaws a) (old : Old) (s : List Layer) (M
             by_test false w = unwritten M l w ∙ ap (λ b. cond b (actions_at M l) []) (sym w)
 
       -- the move that is alone does what the outcomes say
-      is_alone : (N : Move) → alone_in y ≡ Some N → (l : Place) → actions_at N l ≡ actions_in (laid (outcomes_of s) y.own) l
+      is_alone : (N : Move) → alone_in y ≡ Some N → (l : Place) → actions_at N l ≡ actions_in (stacked (outcomes_of s) y.own) l
       is_alone N is l = by_top (top_of s) refl composed (sym alone_is ∙ is) where
         by_top : (t : Option Layer) → top_of s ≡ t → IsComposed a (option_map (λ (y : Layer). E) t) S (Ok F) →
             option_map_or (λ (y : Layer). no_move) t (Some M) ≡ Some N →
-            actions_at N l ≡ actions_in (laid (outcomes_of s) y.own) l
+            actions_at N l ≡ actions_in (stacked (outcomes_of s) y.own) l
         by_top (Some z) top h e = absurd (cc e)
         by_top None top h e =
             let same : M ≡ N = cc e in
             ap (λ (K : Move). actions_at K l) (sym same) ∙ first_same l top (as_first top h l)
 
       abbrev R : Move
-      R = listed (laid (outcomes_of s) y.own)
+      R = listed (stacked (outcomes_of s) y.own)
 
       goes_each : (z : Layer) → top_of s ≡ Some z → composition a E S ≡ Ok F → IsSequenceAt a.part (one_move_of z) M R
       goes_each z top gave =
           continues_each laws (one_move_of z) M E S O (split z top) proper proper' F R gave
-          (λ l. actions_at-listed (laid (outcomes_of s) y.own) l
+          (λ l. actions_at-listed (stacked (outcomes_of s) y.own) l
           ∙ sym (actions_are a (outcomes_of s) y.own U (one_move_of z) M C has (same_as z top) next l))
 
-      goes_on : IsContinued a (one_move s) M (Ok (one_move_of (laid_on (outcomes_of s) y)))
-      goes_on = by_top (top_of s) refl composed alone_is where
+      extends : IsContinued a (one_move s) M (Ok (one_move_of (stacked_on (outcomes_of s) y)))
+      extends = by_top (top_of s) refl composed alone_is where
         by_top : (t : Option Layer) → top_of s ≡ t → IsComposed a (option_map (λ (y : Layer). E) t) S (Ok F) →
             alone_in y ≡ option_map_or (λ (y : Layer). no_move) t (Some M) →
             IsContinued a (option_map one_move_of t) M (Ok (unwrap_or (alone_in y) R))
@@ -227,7 +227,7 @@ module _ {a : Meaning} (laws : AggregatorLaws a) (old : Old) (s : List Layer) (M
         by_top None top h e =
             subst (λ (o : Option Move). IsContinued a None M (Ok (unwrap_or o R))) (sym e) ((refl, short), tt)
 
-      keeps_each : KeepsEach a.part (one_move s) M (one_move_of (laid_on (outcomes_of s) y))
+      keeps_each : KeepsEach a.part (one_move s) M (one_move_of (stacked_on (outcomes_of s) y))
       keeps_each = by_top (top_of s) refl composed alone_is where
         by_top : (t : Option Layer) → top_of s ≡ t → IsComposed a (option_map (λ (y : Layer). E) t) S (Ok F) →
             alone_in y ≡ option_map_or (λ (y : Layer). no_move) t (Some M) →
@@ -237,15 +237,15 @@ module _ {a : Meaning} (laws : AggregatorLaws a) (old : Old) (s : List Layer) (M
         by_top None top h e = tt
 
       -- the layer of the move
-      pub next_ok : IsNextLayer a old s M (laid_on (outcomes_of s) y)
+      pub next_ok : IsNextLayer a old s M (stacked_on (outcomes_of s) y)
       next_ok = record {
         updates = U;
         set = set;
         written = written_over s U C M y.own next;
-        goes_on = goes_on;
+        extends = extends;
         each = keeps_each;
         building = next_building (outcomes_of s) y.own U C M next has;
-        resting = next_resting (outcomes_of s) y.own U C M next has;
+        dependencies = next_dependencies (outcomes_of s) y.own U C M next has;
         sound = record { count = long; few = few; alone = is_alone };
         moves = moves;
         alone = alone_is;
@@ -255,14 +255,14 @@ module _ {a : Meaning} (laws : AggregatorLaws a) (old : Old) (s : List Layer) (M
     too_many : (own : Outcomes) → AreNext (outcomes_of s) U C M own → length (listed own) ≤ length C →
         4096 < (n - length E) + length (listed own) → IsContinued a (one_move s) M (Err step_error.Many)
     too_many own next few many = by_top (top_of s) refl composed where
-      longer : 4096 < length (listed (laid (outcomes_of s) own))
+      longer : 4096 < length (listed (stacked (outcomes_of s) own))
       longer = let sum = sum_of own _ next refl in omega (arith, sum, many)
 
       by_top : (t : Option Layer) → top_of s ≡ t → IsComposed a (option_map (λ (y : Layer). E) t) S (Ok F) →
           IsContinued a (option_map one_move_of t) M (Err step_error.Many)
       by_top (Some z) top h = (
         (
-          listed (laid (outcomes_of s) own),
+          listed (stacked (outcomes_of s) own),
           continues_as a (outcomes_of s) own U (one_move_of z) M C has (same_as z top) next E S O F (split z top) h.0.0 refl,
           longer,
         ),
@@ -341,13 +341,13 @@ module _ {a : Meaning} (laws : AggregatorLaws a) (old : Old) (s : List Layer) (M
             value = v;
             actions = sym (actions e) i;
             builds = (unbuilt ∙ ap (λ (xs : List Action). cond (list_any is_regular xs) (builds_at (outcomes_of s) l) (sees_at (outcomes_of s) l)) (sym (actions e))) i;
-            rests = unbuilt i;
+            depends = unbuilt i;
           }))
           by_test false e = refl
 
     -- of one put
     pub put_answer : (y : OwnLayer) → y ≡ record { own = own_of M finite.empty; moves = M ∷ []; is_alone = true; count = 1 } →
-        IsNext a old s M (Ok (laid_on (outcomes_of s) y))
+        IsNext a old s M (Ok (stacked_on (outcomes_of s) y))
     put_answer y seen =
         first_answer (alone k v) (only_put_updates a.part (seen_through (frames_of s) old) M k v is) (Ok y) (
           put_next y.own own,

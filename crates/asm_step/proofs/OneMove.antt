@@ -6,10 +6,10 @@ use Rattle.asm_element.specs.Place.{Place, location_cmp}
 use Rattle.asm_update.specs.Fire.{Part, Old}
 use Rattle.asm_update.specs.Move.{Move}
 use Rattle.asm_step.specs.InTurn.{DoesEach, DoesAll}
-use Rattle.asm_step.specs.Layers.{Layer, IsStepOf, all_moves, one_move, one_move_of, outcomes_of, resting_of, top_of}
+use Rattle.asm_step.specs.Layers.{Layer, IsStepOf, all_moves, one_move, one_move_of, outcomes_of, dependencies_of, top_of}
 use Rattle.asm_step.specs.Next.{alone_of}
-use Rattle.asm_step.specs.Outcomes.{Outcome, listed, resting_in}
-use Rattle.asm_step.specs.Resting.{KeepsGroups}
+use Rattle.asm_step.specs.Outcomes.{Outcome, listed, dependencies_in}
+use Rattle.asm_step.specs.Dependencies.{KeepsGroups}
 use Rattle.asm_step.proofs.Standing.{each_none}
 use Rattle.asm_step.proofs.Layered.{does_nothing, no_groups, top_does, top_is}
 use Rattle.asm_step.proofs.Prefixes.{none_of_empty}
@@ -47,18 +47,18 @@ one_does part old s groups one step is = by_top (top_of s) refl where
   by_top None top =
       does_nothing part old s groups step one top (is ∙ ap (λ (t : Option Layer). unwrap_or (option_map one_move_of t) []) top)
 
-pub none_resting : resting_in finite.empty ≡ []
-none_resting =
-    ap (λ (es : List (Place × Outcome)). map (λ (e : Place × Outcome). e.0) (filter (λ (e : Place × Outcome). e.1.rests) es))
+pub no_dependencies : dependencies_in finite.empty ≡ []
+no_dependencies =
+    ap (λ (es : List (Place × Outcome)). map (λ (e : Place × Outcome). e.0) (filter (λ (e : Place × Outcome). e.1.depends) es))
     (no_entries _ (sym (finite.len-entries (finite.empty {X = Outcome} {R = location_cmp})) ∙ finite.len-empty location_cmp Outcome))
 
-pub resting_are : (s : List Layer) → resting_in (outcomes_of s) ≡ resting_of s
-resting_are s = by_top (top_of s) where
+pub dependencies_are : (s : List Layer) → dependencies_in (outcomes_of s) ≡ dependencies_of s
+dependencies_are s = by_top (top_of s) where
   by_top : (t : Option Layer) →
-      resting_in (option_map_or (λ (y : Layer). y.outcomes) t finite.empty)
-      ≡ option_map_or (λ (y : Layer). resting_in y.outcomes) t []
+      dependencies_in (option_map_or (λ (y : Layer). y.outcomes) t finite.empty)
+      ≡ option_map_or (λ (y : Layer). dependencies_in y.outcomes) t []
   by_top (Some y) = refl
-  by_top None = none_resting
+  by_top None = no_dependencies
 
 -- it does so location by location
 pub one_each : (part : Part) (old : Old) (s : List Layer) (groups : List (List Move)) (one : Move) →

@@ -20,7 +20,7 @@ use Rattle.asm_aggregate.proofs.Grouped.{actions_at-append}
 use Rattle.asm_aggregate.proofs.Sequence.{actions_placed}
 use Rattle.asm_aggregate.proofs.Sequence.{outs}
 use Rattle.asm_step.specs.Outcomes.{Outcome, Outcomes, actions_in, listed}
-use Rattle.asm_step.proofs.Laid.{kept_at}
+use Rattle.asm_step.proofs.Stacked.{kept_at}
 
 -- what is given for each of some locations, in turn
 abbrev pub each_placed : (Place → List Action) → List Place → Move

@@ -7,31 +7,31 @@ use Rattle.std.specs.Option.{option_copied, option_map, option_map_or, option_or
 use Rattle.asm_element.specs.Place.{Place, location_cmp}
 use Rattle.asm_update.specs.Move.{Move}
 use Rattle.asm_step.specs.InTurn.{all_but_last}
-use Rattle.asm_step.specs.Layers.{Layer, IsSound, alone_in, behind, first_of, laid_on, layers_on, moves_of, outcomes_of, top_of}
+use Rattle.asm_step.specs.Layers.{Layer, IsSound, alone_in, behind, first_of, stacked_on, layers_on, moves_of, outcomes_of, top_of}
 use Rattle.asm_step.specs.Next.{count_of, is_first}
-use Rattle.asm_step.specs.Outcomes.{Outcome, Outcomes, laid, listed}
+use Rattle.asm_step.specs.Outcomes.{Outcome, Outcomes, stacked, listed}
 use Rattle.asm_step.specs.declared.layer.OwnLayer.{OwnLayer}
-use Rattle.asm_step.proofs.Laid.{get-laid, laid_is, none_listed}
+use Rattle.asm_step.proofs.Stacked.{get-stacked, laid_is, none_listed}
 
 -- all layers laid on what is below them
 abbrev pub all_laid : Outcomes → List OwnLayer → Outcomes
 all_laid m [] = m
-all_laid m (y ∷ s) = all_laid (laid m y.own) s
+all_laid m (y ∷ s) = all_laid (stacked m y.own) s
 
 pub all_laid-push : (m : Outcomes) (s : List OwnLayer) (y : OwnLayer) →
-    all_laid m (s ++ y ∷ []) ≡ laid (all_laid m s) y.own
+    all_laid m (s ++ y ∷ []) ≡ stacked (all_laid m s) y.own
 all_laid-push m [] y = refl
-all_laid-push m (x ∷ s) y = all_laid-push (laid m x.own) s y
+all_laid-push m (x ∷ s) y = all_laid-push (stacked m x.own) s y
 
 pub layers-push : (m : Outcomes) (s : List OwnLayer) (y : OwnLayer) →
-    layers_on m (s ++ y ∷ []) ≡ layers_on m s ++ laid_on (all_laid m s) y ∷ []
+    layers_on m (s ++ y ∷ []) ≡ layers_on m s ++ stacked_on (all_laid m s) y ∷ []
 layers-push m [] y = refl
-layers-push m (x ∷ s) y = ap (λ t. laid_on m x ∷ t) (layers-push (laid m x.own) s y)
+layers-push m (x ∷ s) y = ap (λ t. stacked_on m x ∷ t) (layers-push (stacked m x.own) s y)
 
 outcomes_on : (m : Outcomes) (y : OwnLayer) (s : List OwnLayer) →
-    outcomes_of (layers_on m (y ∷ s)) ≡ all_laid (laid m y.own) s
+    outcomes_of (layers_on m (y ∷ s)) ≡ all_laid (stacked m y.own) s
 outcomes_on m y [] = refl
-outcomes_on m y (z ∷ s) = outcomes_on (laid m y.own) z s
+outcomes_on m y (z ∷ s) = outcomes_on (stacked m y.own) z s
 
 pub outcomes_all : (s : List OwnLayer) → outcomes_of (layers_on finite.empty s) ≡ all_laid finite.empty s
 outcomes_all [] = refl
@@ -43,7 +43,7 @@ pub held-push : (s : List OwnLayer) (y : OwnLayer) (l : Place) →
     ≡ option_or (finite.get y.own l) (finite.get (outcomes_of (layers_on finite.empty s)) l)
 held-push s y l =
     ap (λ (os : Outcomes). finite.get os l) (outcomes_all (s ++ y ∷ []) ∙ all_laid-push finite.empty s y)
-    ∙ get-laid (all_laid finite.empty s) y.own l
+    ∙ get-stacked (all_laid finite.empty s) y.own l
     ∙ ap (λ (os : Outcomes). option_or (finite.get y.own l) (finite.get os l)) (sym (outcomes_all s))
 
 pub held_none : (l : Place) → finite.get (outcomes_of (layers_on finite.empty [])) l ≡ None
@@ -51,10 +51,10 @@ held_none l = finite.get-empty location_cmp l
 
 -- a layer that is put on top of those of a step
 pub on_layers : (s t : List OwnLayer) (y : OwnLayer) (now : List Layer) → t ≡ s ++ y ∷ [] →
-    layers_on finite.empty s ≡ now → layers_on finite.empty t ≡ now ++ laid_on (outcomes_of now) y ∷ []
+    layers_on finite.empty s ≡ now → layers_on finite.empty t ≡ now ++ stacked_on (outcomes_of now) y ∷ []
 on_layers s t y now is seen =
     ap (λ (u : List OwnLayer). layers_on finite.empty u) is ∙ layers-push finite.empty s y
-    ∙ (λ i. seen i ++ laid_on ((sym (outcomes_all s) ∙ ap outcomes_of seen) i) y ∷ [])
+    ∙ (λ i. seen i ++ stacked_on ((sym (outcomes_all s) ∙ ap outcomes_of seen) i) y ∷ [])
 
 -- the topmost layer of its own
 
@@ -80,21 +80,21 @@ pub top_moves : (m : Outcomes) (s : List OwnLayer) →
 unfolding own_top
 top_moves m [] = refl
 top_moves m (y ∷ []) = refl
-top_moves m (y ∷ z ∷ s) = top_moves (laid m y.own) (z ∷ s)
+top_moves m (y ∷ z ∷ s) = top_moves (stacked m y.own) (z ∷ s)
 
 pub top_alone : (m : Outcomes) (s : List OwnLayer) →
     option_map alone_in (own_top s) ≡ option_map (λ (y : Layer). y.alone) (top_of (layers_on m s))
 unfolding own_top
 top_alone m [] = refl
 top_alone m (y ∷ []) = refl
-top_alone m (y ∷ z ∷ s) = top_alone (laid m y.own) (z ∷ s)
+top_alone m (y ∷ z ∷ s) = top_alone (stacked m y.own) (z ∷ s)
 
 pub top_count : (m : Outcomes) (s : List OwnLayer) →
     option_map (λ (y : OwnLayer). y.count) (own_top s) ≡ option_map (λ (y : Layer). y.count) (top_of (layers_on m s))
 unfolding own_top
 top_count m [] = refl
 top_count m (y ∷ []) = refl
-top_count m (y ∷ z ∷ s) = top_count (laid m y.own) (z ∷ s)
+top_count m (y ∷ z ∷ s) = top_count (stacked m y.own) (z ∷ s)
 
 pub has_top : (x : Layer) (s : List Layer) → (y : Layer) × (top_of (x ∷ s) ≡ Some y)
 has_top x [] = (x, refl)
@@ -147,7 +147,7 @@ without_layers (x ∷ s) none = let top = has_top x s in absurd (cc (none, top.1
 
 pub length-layers : (m : Outcomes) (s : List OwnLayer) → length (layers_on m s) ≡ length s
 length-layers m [] = refl
-length-layers m (y ∷ s) = ap (λ n. suc n) (length-layers (laid m y.own) s)
+length-layers m (y ∷ s) = ap (λ n. suc n) (length-layers (stacked m y.own) s)
 
 pub all_push : {X : Type 0} (P : X → Type 0) (s : List X) (y : X) → All P s → P y → All P (s ++ y ∷ [])
 all_push P [] y all last = All-cons P y [] last all
@@ -197,33 +197,33 @@ pub extended_top : (t items : List OwnLayer) (now : List Layer) (x new next : Ow
     items ≡ t ++ x ∷ [] →
     ((l : Place) → finite.get new.own l ≡ option_or (finite.get next.own l) (finite.get x.own l)) →
     new.moves ≡ x.moves ++ next.moves → new.is_alone ≡ false → alone_in next ≡ None → new.count ≡ next.count →
-    layers_on finite.empty (t ++ new ∷ []) ≡ all_but_last now ++ behind (moves_of now) (laid_on (outcomes_of now) next) ∷ []
+    layers_on finite.empty (t ++ new ∷ []) ≡ all_but_last now ++ behind (moves_of now) (stacked_on (outcomes_of now) next) ∷ []
 extended_top t items now x new next seen is own more several later count =
     layers-push finite.empty t new
     ∙ (λ i. before i ++ record { outcomes = outcomes i; moves = moves i; alone = alone i; count = count i } ∷ []) where
-      all : layers_on finite.empty t ++ laid_on (all_laid finite.empty t) x ∷ [] ≡ now
+      all : layers_on finite.empty t ++ stacked_on (all_laid finite.empty t) x ∷ [] ≡ now
       all = sym (layers-push finite.empty t x) ∙ ap (λ (s : List OwnLayer). layers_on finite.empty s) (sym is) ∙ seen
 
       moves : new.moves ≡ moves_of now ++ next.moves
       moves =
           more ∙ ap (λ (Ms : List Move). Ms ++ next.moves)
-          (sym (moves_on_top (layers_on finite.empty t) (laid_on (all_laid finite.empty t) x)) ∙ ap moves_of all)
+          (sym (moves_on_top (layers_on finite.empty t) (stacked_on (all_laid finite.empty t) x)) ∙ ap moves_of all)
 
       alone : alone_in new ≡ alone_in next
       alone = ap (λ b. cond b (first_of new.moves) None) several ∙ sym later
 
       before : layers_on finite.empty t ≡ all_but_last now
-      before = sym (but_last_push (layers_on finite.empty t) (laid_on (all_laid finite.empty t) x)) ∙ ap all_but_last all
+      before = sym (but_last_push (layers_on finite.empty t) (stacked_on (all_laid finite.empty t) x)) ∙ ap all_but_last all
 
-      below : laid (all_laid finite.empty t) x.own ≡ outcomes_of now
+      below : stacked (all_laid finite.empty t) x.own ≡ outcomes_of now
       below = sym (all_laid-push finite.empty t x) ∙ ap (all_laid finite.empty) (sym is) ∙ sym (outcomes_all items) ∙ ap outcomes_of seen
 
-      outcomes : laid (all_laid finite.empty t) new.own ≡ laid (outcomes_of now) next.own
-      outcomes = laid_is (outcomes_of now) next.own (laid (all_laid finite.empty t) new.own) (λ q.
-          get-laid (all_laid finite.empty t) new.own q
+      outcomes : stacked (all_laid finite.empty t) new.own ≡ stacked (outcomes_of now) next.own
+      outcomes = laid_is (outcomes_of now) next.own (stacked (all_laid finite.empty t) new.own) (λ q.
+          get-stacked (all_laid finite.empty t) new.own q
           ∙ ap (λ (o : Option Outcome). option_or o (finite.get (all_laid finite.empty t) q)) (own q)
           ∙ or_both (finite.get next.own q) (finite.get x.own q) (finite.get (all_laid finite.empty t) q)
-          ∙ ap (option_or (finite.get next.own q)) (sym (get-laid (all_laid finite.empty t) x.own q)
+          ∙ ap (option_or (finite.get next.own q)) (sym (get-stacked (all_laid finite.empty t) x.own q)
           ∙ ap (λ (os : Outcomes). finite.get os q) below))
 
 pub sound_items : (s : List Layer) → All IsSound s → All IsSound (all_but_last s)

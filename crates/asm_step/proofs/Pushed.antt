@@ -19,7 +19,7 @@ use Rattle.asm_aggregate.proofs.Sequence.{all_apart, in_turn_lists}
 use Rattle.asm_overlay.specs.Frames.{Frames, seen_through, topmost, under}
 use Rattle.asm_step.specs.Answer.{continued, continued_at}
 use Rattle.asm_step.specs.InTurn.{AreUpdateSets, IsWrittenInTurn}
-use Rattle.asm_step.specs.Resting.{builds, first_actions, one_writes, puts, rests, sees_below, KeepsGroups}
+use Rattle.asm_step.specs.Dependencies.{builds, first_actions, one_writes, puts, depends, sees_below, KeepsGroups}
 use Rattle.asm_update.specs.State.{State, Updates, overwrite}
 use Rattle.asm_overlay.proofs.FrameLemmas.{topmost-append}
 use Rattle.asm_step.specs.Next.{AreMerged}
@@ -51,22 +51,22 @@ first-push (N ∷ Ms) M l = by_test (writes N l) (first-push Ms M l) where
   by_test true later = refl
   by_test false later = later
 
-pub rests-push : (Ms : List Move) (M : Move) (l : Place) →
-    rests (Ms ++ M ∷ []) l ≡ (rests Ms l || (builds Ms l && writes M l))
-rests-push [] M l = by_test (writes M l) (puts M l) where
+pub depends-push : (Ms : List Move) (M : Move) (l : Place) →
+    depends (Ms ++ M ∷ []) l ≡ (depends Ms l || (builds Ms l && writes M l))
+depends-push [] M l = by_test (writes M l) (puts M l) where
   by_test : (w p : Bool) → cond w (not p && false) false ≡ (false || (false && w))
   by_test true true = refl
   by_test true false = refl
   by_test false p = refl
-rests-push (N ∷ Ms) M l = by_test (writes N l) (rests-push Ms M l) where
+depends-push (N ∷ Ms) M l = by_test (writes N l) (depends-push Ms M l) where
   on_put : (p : Bool) → (not p && (one_writes Ms l || writes M l))
       ≡ ((not p && one_writes Ms l) || (not p && writes M l))
   on_put true = refl
   on_put false = refl
 
-  by_test : (b : Bool) → rests (Ms ++ M ∷ []) l ≡ (rests Ms l || (builds Ms l && writes M l)) →
-      cond b (not (puts N l) && one_writes (Ms ++ M ∷ []) l) (rests (Ms ++ M ∷ []) l)
-      ≡ (cond b (not (puts N l) && one_writes Ms l) (rests Ms l)
+  by_test : (b : Bool) → depends (Ms ++ M ∷ []) l ≡ (depends Ms l || (builds Ms l && writes M l)) →
+      cond b (not (puts N l) && one_writes (Ms ++ M ∷ []) l) (depends (Ms ++ M ∷ []) l)
+      ≡ (cond b (not (puts N l) && one_writes Ms l) (depends Ms l)
       || (((b || one_writes Ms l) && cond b (not (puts N l)) (sees_below Ms l)) && writes M l))
   by_test true later = ap (λ b. not (puts N l) && b) (writes-push Ms M l) ∙ on_put (puts N l)
   by_test false later = later
@@ -87,13 +87,13 @@ builds-push Ms M l =
 
 -- where none of them writes
 pub unwritten_seen : (Ms : List Move) (l : Place) → one_writes Ms l ≡ false →
-    (sees_below Ms l ≡ true) × (rests Ms l ≡ false) × (first_actions Ms l ≡ [])
+    (sees_below Ms l ≡ true) × (depends Ms l ≡ false) × (first_actions Ms l ≡ [])
 unwritten_seen [] l h = (refl, refl, refl)
 unwritten_seen (M ∷ Ms) l h =
     let none = neither (writes M l) (one_writes Ms l) h in
     let later = unwritten_seen Ms l none.1 in (
       ap (λ b. cond b (not (puts M l)) (sees_below Ms l)) none.0 ∙ later.0,
-      ap (λ b. cond b (not (puts M l) && one_writes Ms l) (rests Ms l)) none.0 ∙ later.1,
+      ap (λ b. cond b (not (puts M l) && one_writes Ms l) (depends Ms l)) none.0 ∙ later.1,
       ap (λ b. cond b (actions_at M l) (first_actions Ms l)) none.0 ∙ later.2,
     )
 
@@ -143,11 +143,11 @@ pub keeps_push : (a : Meaning) (Ms : List Move) (D M C : Move) → KeepsGroups M
     KeepsGroups (Ms ++ M ∷ []) C
 keeps_push a Ms D M C keeps is l sees alone =
     by_test (one_writes Ms l) refl (sym (sees-push Ms M l) ∙ sees)
-    (neither (rests Ms l) (builds Ms l && writes M l) (sym (rests-push Ms M l) ∙ alone)) ∙ sym (first-push Ms M l)
+    (neither (depends Ms l) (builds Ms l && writes M l) (sym (depends-push Ms M l) ∙ alone)) ∙ sym (first-push Ms M l)
   where
     by_test : (o : Bool) → one_writes Ms l ≡ o →
         cond o (sees_below Ms l) (cond (writes M l) (not (puts M l)) true) ≡ true →
-        (rests Ms l ≡ false) × ((builds Ms l && writes M l) ≡ false) →
+        (depends Ms l ≡ false) × ((builds Ms l && writes M l) ≡ false) →
         actions_at C l ≡ cond o (first_actions Ms l) (cond (writes M l) (actions_at M l) [])
     by_test true o sees alone =
         let still : writes M l ≡ false = sym (λ i. (o i && sees i) && writes M l) ∙ alone.1 in
@@ -160,16 +160,16 @@ keeps_push a Ms D M C keeps is l sees alone =
         ∙ ap (cond (writes M l) (actions_at M l)) nothing
 
 -- where moves rest they build
-pub rests_builds : (Ms : List Move) (l : Place) → (rests Ms l || builds Ms l) ≡ builds Ms l
-rests_builds [] l = refl
-rests_builds (M ∷ Ms) l = by_test (writes M l) (rests_builds Ms l) where
+pub depends_builds : (Ms : List Move) (l : Place) → (depends Ms l || builds Ms l) ≡ builds Ms l
+depends_builds [] l = refl
+depends_builds (M ∷ Ms) l = by_test (writes M l) (depends_builds Ms l) where
   by_tests : (p o : Bool) → ((not p && o) || not p) ≡ not p
   by_tests true o = refl
   by_tests false true = refl
   by_tests false false = refl
 
-  by_test : (b : Bool) → (rests Ms l || builds Ms l) ≡ builds Ms l →
-      (cond b (not (puts M l) && one_writes Ms l) (rests Ms l)
+  by_test : (b : Bool) → (depends Ms l || builds Ms l) ≡ builds Ms l →
+      (cond b (not (puts M l) && one_writes Ms l) (depends Ms l)
       || ((b || one_writes Ms l) && cond b (not (puts M l)) (sees_below Ms l)))
       ≡ ((b || one_writes Ms l) && cond b (not (puts M l)) (sees_below Ms l))
   by_test true later = by_tests (puts M l) (one_writes Ms l)

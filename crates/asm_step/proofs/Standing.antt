@@ -23,7 +23,7 @@ use Rattle.asm_aggregate.proofs.Grouped.{unwritten}
 use Rattle.asm_aggregate.proofs.Sequence.{clash_given, given_fired, gives_some, proper_value}
 use Rattle.asm_overlay.specs.Frames.{Frames, seen_through}
 use Rattle.asm_step.specs.InTurn.{in_column, then_gives, DoesEach, IsSequenceAt, IsClashOfOne, all_but_last, fire_all, AreUpdateSets, DoesAll}
-use Rattle.asm_step.specs.Resting.{first_actions, one_writes, puts, rests, sees_below, left_by, AgreesIfSeen, KeepsGroups}
+use Rattle.asm_step.specs.Dependencies.{first_actions, one_writes, puts, depends, sees_below, left_by, AgreesIfSeen, KeepsGroups}
 use Rattle.asm_step.proofs.Agreeing.{some_actions, all_but_last-push, but_last_ok}
 use Rattle.asm_step.proofs.Pushed.{through_first, same_seen}
 use Rattle.asm_step.specs.Layers.{Layer, all_moves, frames_of, IsStepOf}
@@ -137,7 +137,7 @@ values_some (i ∷ M) l h = by_test (eq_by_cmp location_cmp i.at l) h (values_so
 
 -- where one alone writes by partial updates, or none writes, the column gives what it gives
 pub column_first : (part : Part) (v : Value) (Ms : List Move) (l : Place) → sees_below Ms l ≡ true →
-    rests Ms l ≡ false → in_column part (Ok v) Ms l ≡ gives part v (first_actions Ms l)
+    depends Ms l ≡ false → in_column part (Ok v) Ms l ≡ gives part v (first_actions Ms l)
 column_first part v [] l sees alone = refl
 column_first part v (M ∷ Ms) l sees alone = by_test (writes M l) refl sees alone (column_first part v Ms l) where
   once : (b : Bool) → not b ≡ true → (not b && one_writes Ms l) ≡ false → one_writes Ms l ≡ false
@@ -145,8 +145,8 @@ column_first part v (M ∷ Ms) l sees alone = by_test (writes M l) refl sees alo
   once true sees alone = absurd (false≢true sees)
 
   by_test : (b : Bool) → writes M l ≡ b → cond b (not (puts M l)) (sees_below Ms l) ≡ true →
-      cond b (not (puts M l) && one_writes Ms l) (rests Ms l) ≡ false →
-      (sees_below Ms l ≡ true → rests Ms l ≡ false → in_column part (Ok v) Ms l ≡ gives part v (first_actions Ms l)) →
+      cond b (not (puts M l) && one_writes Ms l) (depends Ms l) ≡ false →
+      (sees_below Ms l ≡ true → depends Ms l ≡ false → in_column part (Ok v) Ms l ≡ gives part v (first_actions Ms l)) →
       in_column part (Ok v) (M ∷ Ms) l ≡ gives part v (cond b (actions_at M l) (first_actions Ms l))
   by_test true w sees alone later =
       column_unwritten part (gives part v (actions_at M l)) Ms l (once (puts M l) sees alone)
@@ -261,9 +261,9 @@ module _ {a : Meaning} (laws : AggregatorLaws a) (old : Old) (s : List Layer) (g
       ∙ (λ i. Ok (same_seen sets (frames_of s) old (λ q. sym (wrote q) ∙ sym (is.show q)) i l))
 
   -- a value that was told is the one that they leave
-  pub told_stands : (B D : State) (l : Place) → AgreesIfSeen B old Ms l → fire_all a.part (Ok B) Ms ≡ Ok D →
+  pub reported_stands : (B D : State) (l : Place) → AgreesIfSeen B old Ms l → fire_all a.part (Ok B) Ms ≡ Ok D →
       seen_through (frames_of s) old l ≡ val D l
-  told_stands B D l has fired =
+  reported_stands B D l has fired =
       ok_is _ _ (sym (column_seen l) ∙ by_test (sees_below Ms l) refl ∙ column_fired a.part B D Ms l fired)
     where
       by_test : (b : Bool) → sees_below Ms l ≡ b → in_column a.part (Ok (old l)) Ms l ≡ in_column a.part (Ok (val B l)) Ms l
@@ -271,10 +271,10 @@ module _ {a : Meaning} (laws : AggregatorLaws a) (old : Old) (s : List Layer) (g
       by_test false is = column_put laws (old l) (val B l) Ms l is
 
   module _ (C : Move) (B : State) (does : DoesAll a.part Ms C) (keeps : KeepsGroups Ms C) (proper : IsProper B)
-      (has : (l : Place) → rests Ms l ≡ true → val B l ≡ old l) where
+      (has : (l : Place) → depends Ms l ≡ true → val B l ≡ old l) where
     each_gives : (D : State) → fire a.part B C ≡ Ok D → (l : Place) → IsOk (in_column a.part (Ok (val B l)) Ms l)
-    each_gives D fired l = by_test (rests Ms l) (sees_below Ms l) refl refl where
-      by_test : (b c : Bool) → rests Ms l ≡ b → sees_below Ms l ≡ c → IsOk (in_column a.part (Ok (val B l)) Ms l)
+    each_gives D fired l = by_test (depends Ms l) (sees_below Ms l) refl refl where
+      by_test : (b c : Bool) → depends Ms l ≡ b → sees_below Ms l ≡ c → IsOk (in_column a.part (Ok (val B l)) Ms l)
       by_test true c is sees =
           subst (λ v. IsOk (in_column a.part (Ok v) Ms l)) (sym (has l is)) (subst IsOk (sym (column_seen l)) refl)
       by_test false false is sees =
@@ -315,11 +315,11 @@ module _ {a : Meaning} (laws : AggregatorLaws a) (old : Old) (s : List Layer) (g
 
     -- a clash of the one move is that of the one of them that writes there
     pub clash_stands : DoesEach a.part Ms C → (c : Clash) → fire a.part B C ≡ Err c → IsClashOfOne a.part B Ms c
-    clash_stands each c clashes = by_test (rests Ms c.at) (sees_below Ms c.at) refl refl where
+    clash_stands each c clashes = by_test (depends Ms c.at) (sees_below Ms c.at) refl refl where
       seen_ok : IsOk (in_column a.part (Ok (old c.at)) Ms c.at)
       seen_ok = subst IsOk (sym (column_seen c.at)) refl
 
-      by_test : (b d : Bool) → rests Ms c.at ≡ b → sees_below Ms c.at ≡ d → IsClashOfOne a.part B Ms c
+      by_test : (b d : Bool) → depends Ms c.at ≡ b → sees_below Ms c.at ≡ d → IsClashOfOne a.part B Ms c
       by_test true d is sees =
           absurd (no_clash_at each c clashes
           (subst (λ v. IsOk (in_column a.part (Ok v) Ms c.at)) (sym (has c.at is)) seen_ok))

@@ -39,22 +39,22 @@ HasUpdates part old s M = (U : Updates) × IsUpdateSet part (seen_through (frame
 
 -- the answer is this move, of at most 4,096 instructions, or why there is none. A first move isn't too long. A
 -- refusal of memory says nothing
-abbrev pub IsTold : Option Move → Result Move (Place × NoJoin) → Result Move StepError → Type 0
-IsTold o r (Ok C) = (r ≡ Ok C) × (length C ≤ instructions_limit)
-IsTold o r (Err (Clash clash)) = r ≡ Err (clash.at, Refused clash.cause)
-IsTold o r (Err (Large l)) = r ≡ Err (l, TooLarge)
-IsTold None r (Err Many) = ⊥
-IsTold (Some D) r (Err Many) = (C : Move) × (r ≡ Ok C) × (instructions_limit < length C)
-IsTold o r (Err Deep) = ⊥
-IsTold o r (Err Memory) = Unit {0}
+abbrev pub IsCompositionAnswer : Option Move → Result Move (Place × NoJoin) → Result Move StepError → Type 0
+IsCompositionAnswer o r (Ok C) = (r ≡ Ok C) × (length C ≤ instructions_limit)
+IsCompositionAnswer o r (Err (Clash clash)) = r ≡ Err (clash.at, Refused clash.cause)
+IsCompositionAnswer o r (Err (Large l)) = r ≡ Err (l, TooLarge)
+IsCompositionAnswer None r (Err Many) = ⊥
+IsCompositionAnswer (Some D) r (Err Many) = (C : Move) × (r ≡ Ok C) × (instructions_limit < length C)
+IsCompositionAnswer o r (Err Deep) = ⊥
+IsCompositionAnswer o r (Err Memory) = Unit {0}
 
 -- the answer is what the step's one move and then the move compose to, or why they don't
 abbrev pub IsFollowedBy : Meaning → Option Move → Move → Result Move StepError → Type 0
-IsFollowedBy a o M r = IsTold o (composed_after a o M) r
+IsFollowedBy a o M r = IsCompositionAnswer o (composed_after a o M) r
 
 -- the answer is the one move extended by the move, or why there is none
 abbrev pub IsContinuedBy : Meaning → Option Move → Move → Result Move StepError → Type 0
-IsContinuedBy a o M r = IsTold o (continued_after a o M) r
+IsContinuedBy a o M r = IsCompositionAnswer o (continued_after a o M) r
 
 -- A move is pushed if it has an update set on what is seen, and composes with those before it, to what is then the
 -- one move; else the first of these that fails is the error. A refusal of memory says nothing.

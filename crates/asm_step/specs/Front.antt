@@ -17,7 +17,7 @@ use Rattle.asm_step.specs.Outcomes.{Outcome, Outcomes}
 use Rattle.asm_step.specs.declared.amounts.Amounts.{Amounts}
 use Rattle.asm_step.specs.declared.front.Front.{Front}
 use Rattle.asm_step.specs.declared.front.Front.TheVariants.{Nothing, Put, Sets, Bags}
-use Rattle.asm_step.specs.declared.front.Grown.{Grown}
+use Rattle.asm_step.specs.declared.front.Growth.{Growth}
 use Rattle.asm_step.specs.declared.sides.Sides.{Sides}
 use Rattle.asm_update.specs.declared.action.Family.{Family}
 use Rattle.asm_step.specs.declared.in_place.Known.{Known}
@@ -78,12 +78,12 @@ IsChanged a x v w true = a.part v None (x ∷ []) ≡ Ok w
 IsChanged a x v w false = w ≡ v
 
 -- the set, or the bag, is the one that is wanted; or nothing is changed
-abbrev pub IsExchanged : {X : Type 0} → X → X → X → Option Grown → Type 0
+abbrev pub IsExchanged : {X : Type 0} → X → X → X → Option Growth → Type 0
 IsExchanged old new wanted (Some grown) = new ≡ wanted
 IsExchanged old new wanted None = new ≡ old
 
 -- what has so many is now so much longer, by one at most
-abbrev pub IsLonger : ℕ → ℕ → Option Grown → Type 0
+abbrev pub IsLonger : ℕ → ℕ → Option Growth → Type 0
 IsLonger old new (Some grown) = (new + grown.less ≡ old + grown.more) × (grown.more ≤ 1)
 IsLonger old new None = Unit {0}
 
@@ -93,7 +93,7 @@ joined_to a [] x = Ok (x ∷ [])
 joined_to a (y ∷ ys) x = composed a (bundle_of (y ∷ ys)) (bundle_of (x ∷ []))
 
 -- a value and the actions that leave it, before and after one more partial update
-pub record Applied (a : Meaning) (x : Action) (v : Value) (xs : List Action) (w : Value) (ys : List Action) (grown : Grown) : Type 0 where
+pub record Applied (a : Meaning) (x : Action) (v : Value) (xs : List Action) (w : Value) (ys : List Action) (grown : Growth) : Type 0 where
   pub value : a.part v None (x ∷ []) ≡ Ok w
   pub joined : joined_to a xs x ≡ Ok ys
   pub longer : length ys + grown.less ≡ length xs + grown.more
@@ -101,33 +101,33 @@ pub record Applied (a : Meaning) (x : Action) (v : Value) (xs : List Action) (w 
   pub proper : AllProper xs
 
 -- so it is; or nothing is changed
-abbrev pub IsApplied : Meaning → Action → Value → List Action → Value → List Action → Option Grown → Type 0
+abbrev pub IsApplied : Meaning → Action → Value → List Action → Value → List Action → Option Growth → Type 0
 IsApplied a x v xs w ys (Some grown) = Applied a x v xs w ys grown
 IsApplied a x v xs w ys None = (w ≡ v) × (ys ≡ xs)
 
 -- an outcome after a partial update of a later move
-pub record GoneOn (a : Meaning) (x : Action) (old new : Outcome) (grown : Grown) : Type 0 where
+pub record ExtendedInPlace (a : Meaning) (x : Action) (old new : Outcome) (grown : Growth) : Type 0 where
   pub partial : is_partial x ≡ true
   pub applied : Applied a x old.value old.actions new.value new.actions grown
   pub builds : new.builds ≡ old.builds
-  pub rests : new.rests ≡ old.builds
+  pub depends : new.depends ≡ old.builds
 
 -- so it is; or nothing is changed
-abbrev pub IsGoneOn : Meaning → Action → Outcome → Outcome → Option Grown → Type 0
-IsGoneOn a x old new (Some grown) = GoneOn a x old new grown
-IsGoneOn a x old new None = new ≡ old
+abbrev pub IsExtendedInPlace : Meaning → Action → Outcome → Outcome → Option Growth → Type 0
+IsExtendedInPlace a x old new (Some grown) = ExtendedInPlace a x old new grown
+IsExtendedInPlace a x old new None = new ≡ old
 
 -- the same at a location
-pub record GoneOnAt (a : Meaning) (l : Place) (x : Action) (old new : Outcomes) (grown : Grown) : Type 0 where
+pub record ExtendedInPlaceAt (a : Meaning) (l : Place) (x : Action) (old new : Outcomes) (grown : Growth) : Type 0 where
   pub before : Outcome
   pub after : Outcome
   pub there : finite.get old l ≡ Some before
   pub written : new ≡ finite.insert old l after
-  pub goes_on : GoneOn a x before after grown
+  pub extends : ExtendedInPlace a x before after grown
 
-abbrev pub IsGoneOnAt : Meaning → Place → Action → Outcomes → Outcomes → Option Grown → Type 0
-IsGoneOnAt a l x old new (Some grown) = GoneOnAt a l x old new grown
-IsGoneOnAt a l x old new None = new ≡ old
+abbrev pub IsExtendedInPlaceAt : Meaning → Place → Action → Outcomes → Outcomes → Option Growth → Type 0
+IsExtendedInPlaceAt a l x old new (Some grown) = ExtendedInPlaceAt a l x old new grown
+IsExtendedInPlaceAt a l x old new None = new ≡ old
 
 -- the aggregator owns the family, and joins lists of its partial updates by this function
 pub record Joins (a : Meaning) (f : Family) (joins : List Action → List Action → Joined) : Type 0 where

@@ -10,7 +10,7 @@ use Rattle.asm_step.specs.Places.{all_partial_places}
 use Rattle.asm_element.specs.declared.value.Value.{Value}
 use Rattle.asm_update.specs.declared.action.Action.{Action}
 use Rattle.asm_aggregate.specs.Compose.{gives}
-use Rattle.asm_step.specs.Resting.{first_actions, rests, sees_below}
+use Rattle.asm_step.specs.Dependencies.{first_actions, depends, sees_below}
 use Rattle.std.specs.FinMap as map
 use Rattle.asm_element.specs.Value as value
 
@@ -73,5 +73,5 @@ DoesEach part Ms C =
 -- the clash is that of the one move that writes at its location, by partial updates alone
 abbrev pub IsClashOfOne : Part → State → List Move → Clash → Type 0
 IsClashOfOne part B Ms c =
-    (sees_below Ms c.at ≡ true) × (rests Ms c.at ≡ false)
+    (sees_below Ms c.at ≡ true) × (depends Ms c.at ≡ false)
     × (gives part (val B c.at) (first_actions Ms c.at) ≡ Err c.cause)

@@ -8,8 +8,8 @@ use Rattle.asm_update.specs.Limits.{instructions_limit}
 use Rattle.asm_update.specs.Move.{Move, actions_at}
 use Rattle.asm_overlay.specs.Frames.{Frames, seen_through}
 use Rattle.asm_step.specs.InTurn.{DoesEach, DoesAll, IsWrittenInTurn}
-use Rattle.asm_step.specs.Outcomes.{Outcomes, actions_in, builds_at, frame, laid, listed, resting_in, rests_at, sees_at}
-use Rattle.asm_step.specs.Resting.{builds, rests, KeepsGroups}
+use Rattle.asm_step.specs.Outcomes.{Outcomes, actions_in, builds_at, frame, stacked, listed, dependencies_in, depends_at, sees_at}
+use Rattle.asm_step.specs.Dependencies.{builds, depends, KeepsGroups}
 use Rattle.asm_step.specs.declared.layer.OwnLayer.{OwnLayer}
 use Rattle.std.specs.Cmp.Lexicographic.{pointwise}
 use Rattle.asm_element.specs.declared.value.Value.{Value}
@@ -40,13 +40,13 @@ abbrev pub alone_in : OwnLayer → Option Move
 alone_in y = if y.is_alone then first_of y.moves else None
 
 -- a layer over what is below it, which has its own outcomes
-abbrev pub laid_on : Outcomes → OwnLayer → Layer
-laid_on below y = record { outcomes = laid below y.own; moves = y.moves; alone = alone_in y; count = y.count }
+abbrev pub stacked_on : Outcomes → OwnLayer → Layer
+stacked_on below y = record { outcomes = stacked below y.own; moves = y.moves; alone = alone_in y; count = y.count }
 
 -- the layers, each over those below it
 abbrev pub layers_on : Outcomes → List OwnLayer → List Layer
 layers_on below [] = []
-layers_on below (y ∷ s) = laid_on below y ∷ layers_on (laid below y.own) s
+layers_on below (y ∷ s) = stacked_on below y ∷ layers_on (stacked below y.own) s
 
 -- the topmost layer, if there is one
 abbrev pub top_of : List Layer → Option Layer
@@ -79,8 +79,8 @@ abbrev pub one_move : List Layer → Option Move
 one_move s = option_map one_move_of (top_of s)
 
 -- where the moves of a step depend on what is below
-abbrev pub resting_of : List Layer → List Place
-resting_of s = option_map_or (λ y. resting_in y.outcomes) (top_of s) []
+abbrev pub dependencies_of : List Layer → List Place
+dependencies_of s = option_map_or (λ y. dependencies_in y.outcomes) (top_of s) []
 
 -- whether what is seen at the location through the layers is made from what is below: none writes there, or they build on it
 abbrev pub shows_below : List Layer → Place → Bool
@@ -106,7 +106,7 @@ pub record IsLayerOf (part : Part) (old : Old) (Ms : List Move) (y : Layer) : Ty
   pub each : DoesEach part Ms (one_move_of y)
   pub keeps : KeepsGroups Ms (one_move_of y)
   pub building : (l : Place) → builds_at y.outcomes l ≡ builds Ms l
-  pub resting : (l : Place) → rests_at y.outcomes l ≡ rests Ms l
+  pub dependencies : (l : Place) → depends_at y.outcomes l ≡ depends Ms l
 
 -- each group of moves has its layer, which keeps them, and is of all moves up to there
 abbrev pub AreLayers : Part → Old → List Move → List (List Move) → List Layer → Type 0

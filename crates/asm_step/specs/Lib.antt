@@ -6,4 +6,4 @@ pub mod Next
 pub mod Outcomes
 pub mod Places
 pub mod Popped
-pub mod Resting
+pub mod Dependencies

@@ -16,14 +16,14 @@ use Rattle.asm_aggregate.specs.Compose.{IsSequence, NeverFires}
 use Rattle.asm_overlay.specs.Frames.{topmost, seen_through}
 use Rattle.asm_step.specs.Answer.{HasUpdates, IsContinuedBy, IsFollowedBy}
 use Rattle.asm_step.specs.InTurn.{IsSequenceAt, all_but_last}
-use Rattle.asm_step.specs.Layers.{Layer, IsSound, frames_of, laid_on, one_move, one_move_of, outcomes_of, top_of, behind, moves_of}
-use Rattle.asm_step.specs.Outcomes.{Outcome, Outcomes, acts_at, builds_at, frame, listed, rests_at, sees_at}
-use Rattle.asm_step.specs.Resting.{puts}
+use Rattle.asm_step.specs.Layers.{Layer, IsSound, frames_of, stacked_on, one_move, one_move_of, outcomes_of, top_of, behind, moves_of}
+use Rattle.asm_step.specs.Outcomes.{Outcome, Outcomes, acts_at, builds_at, frame, listed, depends_at, sees_at}
+use Rattle.asm_step.specs.Dependencies.{puts}
 use Rattle.asm_step.specs.declared.error.StepError.{StepError}
 use Rattle.asm_step.specs.declared.error.StepError.TheVariants.{Clash, Large, Many, Deep, Memory}
 use Rattle.asm_step.specs.declared.layer.OwnLayer.{OwnLayer}
-use Rattle.asm_step.specs.Front.{GoneOnAt}
-use Rattle.asm_step.specs.declared.front.Grown.{Grown}
+use Rattle.asm_step.specs.Front.{ExtendedInPlaceAt}
+use Rattle.asm_step.specs.declared.front.Growth.{Growth}
 use Rattle.std.specs.FinMap as map
 
 -- the answer is the update set of the move on what is seen, or its clash
@@ -73,8 +73,8 @@ abbrev pub builds_next : Outcomes → Move → Place → Bool
 builds_next os M l = if writes M l then (if puts M l then builds_at os l else sees_at os l) else builds_at os l
 
 -- whether they depend on it: those before do, or they build on it and the next one writes there
-abbrev pub rests_next : Outcomes → Move → Place → Bool
-rests_next os M l = if writes M l then builds_at os l else rests_at os l
+abbrev pub depends_next : Outcomes → Move → Place → Bool
+depends_next os M l = if writes M l then builds_at os l else depends_at os l
 
 -- the move, where there is none before it
 abbrev pub first_alone : List Layer → Move → Option Move
@@ -85,10 +85,10 @@ pub record IsNextLayer (a : Meaning) (old : Old) (s : List Layer) (M : Move) (y 
   pub updates : Updates
   pub set : IsUpdateSet a.part (seen_through (frames_of s) old) M updates
   pub written : (l : Place) → map.get (frame y.outcomes) l ≡ option_or (map.get updates l) (topmost (frames_of s) l)
-  pub goes_on : IsContinued a (one_move s) M (Ok (one_move_of y))
+  pub extends : IsContinued a (one_move s) M (Ok (one_move_of y))
   pub each : KeepsEach a.part (one_move s) M (one_move_of y)
   pub building : (l : Place) → builds_at y.outcomes l ≡ builds_next (outcomes_of s) M l
-  pub resting : (l : Place) → rests_at y.outcomes l ≡ rests_next (outcomes_of s) M l
+  pub dependencies : (l : Place) → depends_at y.outcomes l ≡ depends_next (outcomes_of s) M l
   pub sound : IsSound y
   pub moves : y.moves ≡ M ∷ []
   pub alone : y.alone ≡ first_alone s M
@@ -110,7 +110,7 @@ those shared os M = filter (λ (i : Instruction). is_one shared os i.at) M
 
 -- the layer over those of the step, if there is one
 abbrev pub on_top : List Layer → Result OwnLayer StepError → Result Layer StepError
-on_top s (Ok y) = Ok (laid_on (outcomes_of s) y)
+on_top s (Ok y) = Ok (stacked_on (outcomes_of s) y)
 on_top s (Err e) = Err e
 
 -- what a next move comes to at a location where it leaves this value: what it and those before compose to there, and
@@ -120,7 +120,7 @@ next_at os C M l v = record {
   value = v;
   actions = actions_at C l;
   builds = if list_any is_regular (actions_at M l) then builds_at os l else sees_at os l;
-  rests = builds_at os l;
+  depends = builds_at os l;
 }
 
 -- the outcomes of a next move are those at the locations of its update set
@@ -145,7 +145,7 @@ followed xs o = record o { actions = o.actions ++ xs }
 
 -- the outcome with a regular update recorded, if there is one among these
 abbrev pub noted : List Action → Outcome → Outcome
-noted xs o = record o { builds = if list_any is_regular xs then o.rests else o.builds }
+noted xs o = record o { builds = if list_any is_regular xs then o.depends else o.builds }
 
 -- the actions of the instructions are behind those of the outcome at their location
 abbrev pub AreFilled : Move → Outcomes → Outcomes → Type 0
@@ -157,7 +157,7 @@ AreMarked M old new = (l : Place) → map.get new l ≡ option_map (noted (actio
 
 -- a value of no actions so far, over what the moves so far come to at its location
 abbrev pub opened_at : Outcomes → Place → Value → Outcome
-opened_at os l v = record { value = v; actions = []; builds = sees_at os l; rests = builds_at os l }
+opened_at os l v = record { value = v; actions = []; builds = sees_at os l; depends = builds_at os l }
 
 -- the values of the updates, of no actions so far
 abbrev pub AreOpened : Outcomes → Updates → Outcomes → Type 0
@@ -177,30 +177,30 @@ IsLayerFrom s U others C M (Err Deep) = ⊥
 IsLayerFrom s U others C M (Err Memory) = Unit {0}
 
 -- a layer that takes in a move of one partial update
-pub record LayerGoneOn (a : Meaning) (M : Move) (old new : OwnLayer) : Type 0 where
+pub record LayerExtendedInPlace (a : Meaning) (M : Move) (old new : OwnLayer) : Type 0 where
   pub at : Place
   pub action : Action
-  pub grown : Grown
+  pub grown : Growth
   pub one : M ≡ record { at = at; action = action } ∷ []
   pub proper : All IsProperInstruction M
-  pub own : GoneOnAt a at action old.own new.own grown
+  pub own : ExtendedInPlaceAt a at action old.own new.own grown
   pub moves : new.moves ≡ old.moves ++ M ∷ []
   pub alone : new.is_alone ≡ false
   pub count : new.count ≡ (old.count + grown.more) - grown.less
   pub few : old.count < instructions_limit
 
 -- so it is; or nothing is changed
-abbrev pub IsLayerGoneOn : Meaning → Move → OwnLayer → OwnLayer → Bool → Type 0
-IsLayerGoneOn a M old new true = LayerGoneOn a M old new
-IsLayerGoneOn a M old new false = new ≡ old
+abbrev pub IsLayerExtendedInPlace : Meaning → Move → OwnLayer → OwnLayer → Bool → Type 0
+IsLayerExtendedInPlace a M old new true = LayerExtendedInPlace a M old new
+IsLayerExtendedInPlace a M old new false = new ≡ old
 
 -- the topmost layer takes in the layer of the move that is next; or nothing is changed
-abbrev pub IsStepGoneOn : Meaning → Old → List Layer → List Layer → Move → Bool → Type 0
-IsStepGoneOn a old s new M true =
+abbrev pub IsStepExtendedInPlace : Meaning → Old → List Layer → List Layer → Move → Bool → Type 0
+IsStepExtendedInPlace a old s new M true =
     (next : Layer) × IsNextLayer a old s M next × (new ≡ all_but_last s ++ behind (moves_of s) next ∷ [])
-IsStepGoneOn a old s new M false = new ≡ s
+IsStepExtendedInPlace a old s new M false = new ≡ s
 
 -- the answer to an extension, and the layers after it
-abbrev pub IsTakenIn : Meaning → Old → List Layer → List Layer → Move → Result (Unit {0}) StepError → Type 0
-IsTakenIn a old s new M (Ok _) = (y : Layer) × IsNextLayer a old s M y × (new ≡ all_but_last s ++ behind (moves_of s) y ∷ [])
-IsTakenIn a old s new M (Err e) = IsNext a old s M (Err e) × (new ≡ s)
+abbrev pub IsExtensionAnswer : Meaning → Old → List Layer → List Layer → Move → Result (Unit {0}) StepError → Type 0
+IsExtensionAnswer a old s new M (Ok _) = (y : Layer) × IsNextLayer a old s M y × (new ≡ all_but_last s ++ behind (moves_of s) y ∷ [])
+IsExtensionAnswer a old s new M (Err e) = IsNext a old s M (Err e) × (new ≡ s)

@@ -20,14 +20,14 @@ pub record Outcome : Type 0 where
   pub value : Value
   pub actions : List Action
   pub builds : Bool
-  pub rests : Bool
+  pub depends : Bool
 
 -- it is stored as a tuple
 abbrev pub outcome_code : Coded Value → Coded Action → Coded Outcome
 outcome_code v a =
     code_by (Value × (List Action × (Bool × Bool))) (coded× v (coded× (coded_list a) (coded× coded_bool coded_bool)))
-    (λ o. (o.value, (o.actions, (o.builds, o.rests))))
-    (λ p. record { value = p.0; actions = p.1.0; builds = p.1.1.0; rests = p.1.1.1 }) (λ _. refl)
+    (λ o. (o.value, (o.actions, (o.builds, o.depends))))
+    (λ p. record { value = p.0; actions = p.1.0; builds = p.1.1.0; depends = p.1.1.1 }) (λ _. refl)
 
 -- an outcome for each of some locations
 abbrev pub Outcomes : Type 0
@@ -47,8 +47,8 @@ abbrev pub acts_at : Outcomes → Place → Bool
 acts_at os l = acts (actions_in os l)
 
 -- the outcomes above, and at the other locations those below
-abbrev pub laid : Outcomes → Outcomes → Outcomes
-laid below above = finite.from_entries (finite.entries above ++ finite.entries below)
+abbrev pub stacked : Outcomes → Outcomes → Outcomes
+stacked below above = finite.from_entries (finite.entries above ++ finite.entries below)
 
 -- the values that are left
 abbrev pub frame : Outcomes → Updates
@@ -59,12 +59,12 @@ abbrev pub listed : Outcomes → Move
 listed os = flat_map (λ e. placed e.0 e.1.actions) (finite.entries os)
 
 -- where the moves depend on what is below
-abbrev pub resting_in : Outcomes → List Place
-resting_in os = map (λ e. e.0) (filter (λ e. e.1.rests) (finite.entries os))
+abbrev pub dependencies_in : Outcomes → List Place
+dependencies_in os = map (λ e. e.0) (filter (λ e. e.1.depends) (finite.entries os))
 
 -- what a put of a value comes to where it is the first to write
 abbrev pub put_outcome : Value → Outcome
-put_outcome v = record { value = v; actions = Regular v ∷ []; builds = false; rests = false }
+put_outcome v = record { value = v; actions = Regular v ∷ []; builds = false; depends = false }
 
 -- what a put at a location comes to, alone
 abbrev pub put_alone : Place × Value → Outcomes
@@ -81,7 +81,7 @@ with_action l x os =
 
 -- a regular update of the next move at a location, if that has an outcome: nothing is built there by this move
 abbrev pub with_put : Place → Outcomes → Outcomes
-with_put l os = option_map_or (λ o. finite.insert os l (record o { builds = o.rests })) (finite.get os l) os
+with_put l os = option_map_or (λ o. finite.insert os l (record o { builds = o.depends })) (finite.get os l) os
 
 -- writes at these locations in turn lead from the old outcomes to the new, and each is listed with what it replaced
 abbrev pub AreReplaced : List (Place × Option Outcome) → Outcomes → Outcomes → Type 0
@@ -98,5 +98,5 @@ abbrev pub sees_at : Outcomes → Place → Bool
 sees_at os l = option_map_or (λ o. o.builds) (finite.get os l) true
 
 -- whether they depend on it there
-abbrev pub rests_at : Outcomes → Place → Bool
-rests_at os l = option_map_or (λ o. o.rests) (finite.get os l) false
+abbrev pub depends_at : Outcomes → Place → Bool
+depends_at os l = option_map_or (λ o. o.depends) (finite.get os l) false

@@ -10,7 +10,7 @@ ghost use Rattle.asm_step.specs.Front.{IsApplied, IsChanged, IsExchanged, IsLong
 ghost use Rattle.asm_step.specs.Front.{IsKnown};
 ghost use Rattle.asm_step.specs.Outcomes.{acts};
 
-use crate::front::{Grown, changed, one_if};
+use crate::front::{Growth, changed, one_if};
 use crate::in_place::Known;
 use asm_element::{ElemBag, Element, Value};
 use asm_update::{Action, Aggregator, Amount};
@@ -49,7 +49,7 @@ fn recount<A: Aggregator>(
     element: &Element,
     value: &mut Value,
     action: &Action,
-) -> Result<Option<Grown>, AllocError>
+) -> Result<Option<Growth>, AllocError>
     requires partial { is_partial action.now ≡ true }
     requires up { bag.count to.old element.now ≤ up }
     requires down { down ≤ bag.count from.old element.now }
@@ -69,7 +69,7 @@ fn recount<A: Aggregator>(
     match changed(alloc, aggregator, value, action) {
         Ok(true) => {
             from.lower_to(element, down);
-            Ok(Some(Grown {
+            Ok(Some(Growth {
                 more: one_if(comes(before, up)),
                 less: one_if(comes(down, had)),
             }))
@@ -173,7 +173,7 @@ impl Amounts {
         amount: Amount,
         value: &mut Value,
         action: &Action,
-    ) -> Result<Option<Grown>, AllocError>
+    ) -> Result<Option<Growth>, AllocError>
         requires added { action.now ≡ actions.BagAdd element.now amount }
         requires some { acts (amounts_list self.old) ≡ true }
         requires known { IsKnown (A.meaning aggregator.now) family.Bag bag_joins Known.Own }
@@ -210,7 +210,7 @@ impl Amounts {
         amount: Amount,
         value: &mut Value,
         action: &Action,
-    ) -> Result<Option<Grown>, AllocError>
+    ) -> Result<Option<Growth>, AllocError>
         requires removed { action.now ≡ actions.BagRemove element.now amount }
         requires some { acts (amounts_list self.old) ≡ true }
         requires known { IsKnown (A.meaning aggregator.now) family.Bag bag_joins Known.Own }
@@ -250,7 +250,7 @@ impl Amounts {
         aggregator: &A,
         value: &mut Value,
         action: &Action,
-    ) -> Result<Option<Grown>, AllocError>
+    ) -> Result<Option<Growth>, AllocError>
         requires some { acts (amounts_list self.old) ≡ true }
         requires known { IsKnown (A.meaning aggregator.now) family.Bag bag_joins Known.Own }
         ensures ok { IfOk result (IsApplied (A.meaning aggregator.now) action.now value.old (amounts_list self.old)

@@ -20,7 +20,7 @@ use std::alloc::{AllocError, Global};
 
 /// By how much a list is longer.
 #[derive(Clone, Copy, Debug)]
-pub(crate) struct Grown {
+pub(crate) struct Growth {
     /// So many actions came.
     pub(crate) more: usize,
     /// And so many went.
@@ -72,7 +72,7 @@ fn put_changed<A: Aggregator>(
     aggregator: &A,
     value: &mut Value,
     action: &Action,
-) -> Result<Option<Grown>, AllocError>
+) -> Result<Option<Growth>, AllocError>
     requires { is_partial action.now ≡ true }
     ensures ok { IfOk result (IsApplied (A.meaning aggregator.now) action.now
         value.old (Regular value.old ∷ []) value.new (Regular value.new ∷ [])) }
@@ -81,7 +81,7 @@ fn put_changed<A: Aggregator>(
     // Proof: the sequence is promised of well-formed values.
     value.proper();
     if changed(alloc, aggregator, value, action)? {
-        return Ok(Some(Grown { more: 0, less: 0 }));
+        return Ok(Some(Growth { more: 0, less: 0 }));
     }
     Ok(None)
 }
@@ -205,7 +205,7 @@ impl Front {
         aggregator: &A,
         value: &mut Value,
         action: &Action,
-    ) -> Result<Option<Grown>, AllocError>
+    ) -> Result<Option<Growth>, AllocError>
         requires partial { is_partial action.now ≡ true }
         requires some { acts (front_list value.old self.old) ≡ true }
         requires apart { IsFront self.old }

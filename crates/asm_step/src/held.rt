@@ -90,11 +90,11 @@ impl<'a> Held<'a> {
     }
 
     /// Return whether it depends on that.
-    pub(crate) fn rests(&self) -> bool
-        ensures { result ≡ self.now.rests }
+    pub(crate) fn depends(&self) -> bool
+        ensures { result ≡ self.now.depends }
     {
         match self.outcome {
-            Some(outcome) => outcome.rests(),
+            Some(outcome) => outcome.depends(),
             None => false,
         }
     }

@@ -5,12 +5,13 @@ ghost use Rattle.asm_element.specs.Place.{Place};
 ghost use Rattle.asm_update.specs.Aggregator.{Meaning};
 ghost use Rattle.asm_update.specs.Move.{Move};
 ghost use Rattle.std.specs.Option.{option_copied, option_or};
-ghost use Rattle.asm_step.specs.Next.{IsLayerGoneOn};
+ghost use Rattle.asm_step.specs.Next.{IsLayerExtendedInPlace};
 ghost use Rattle.asm_step.specs.Layers.{alone_in};
 ghost use Rattle.asm_step.specs.Next.{IsComposed, IsFrame};
 
 use crate::error::StepError;
 use crate::in_place::InPlace;
+use crate::listing::within_limit;
 use crate::own::Own;
 use crate::popped::Popped;
 use asm_aggregate::{ComposeError, aggregate, compose};
@@ -44,13 +45,13 @@ impl OwnLayer {
     /// Take in a move of one partial update in place; return whether that is done.
     ///
     /// Its location is one that these moves have written. On error, nothing changes.
-    pub(crate) fn go_on<A: InPlace>(
+    pub(crate) fn extend_in_place<A: InPlace>(
         &mut self,
         alloc: Global,
         aggregator: &A,
         instructions: &Instructions,
     ) -> Result<bool, AllocError>
-        ensures ok { IfOk result (IsLayerGoneOn (A.meaning aggregator.now) instructions.now self.old self.new) }
+        ensures ok { IfOk result (IsLayerExtendedInPlace (A.meaning aggregator.now) instructions.now self.old self.new) }
         ensures err { OnErr result (self.new ≡ self.old) }
     {
         if instructions.len() != 1 {
@@ -63,7 +64,10 @@ impl OwnLayer {
         // Proof: what is done in turn is promised of well-formed moves.
         instructions.proper();
         self.moves.push(instructions.copy(alloc)?)?;
-        match self.own.go_on(alloc, aggregator, &one.at, &one.action) {
+        match self
+            .own
+            .extend_in_place(alloc, aggregator, &one.at, &one.action)
+        {
             Ok(Some(grown)) => {
                 self.is_alone = false;
                 self.count = (self.count + grown.more).saturating_sub(grown.less);
@@ -122,8 +126,7 @@ pub(crate) fn frame_on<A: Aggregator, L: Lookup>(
 fn first_move(alloc: Global, instructions: &Instructions) -> Result<Instructions, StepError>
     ensures { (a : Meaning) → IsComposed a None instructions.now result }
 {
-    // Proof: that there are at most 4,096 is what the goal needs.
-    let _few = instructions.len();
+    within_limit(instructions);
     Ok(instructions.copy(alloc)?)
 }
 

@@ -3,7 +3,7 @@ ghost use Rattle.std.specs.Prelude.{◌≡◌, ◌≤◌, ◌+◌, ◌++◌, ◌
 ghost use Rattle.asm_aggregate.specs.Compose.{placed};
 ghost use Rattle.asm_update.specs.Limits.{instructions_limit};
 ghost use Rattle.asm_update.specs.declared.action.Action.TheVariants.{Regular};
-ghost use Rattle.asm_step.specs.Outcomes.{listed, resting_in};
+ghost use Rattle.asm_step.specs.Outcomes.{listed, dependencies_in};
 
 use crate::held::Gathered;
 use asm_element::{Location, Value};
@@ -28,6 +28,13 @@ pub(crate) fn append(
         push_within(list, instruction)?;
     }
     Ok(())
+}
+
+/// State for proofs that a move has at most 4,096 instructions; do nothing at run time.
+pub(crate) fn within_limit(instructions: &Instructions)
+    ensures { length instructions.now ≤ instructions_limit }
+{
+    let _count = instructions.len();
 }
 
 /// Append the instruction, for which there is room.
@@ -74,12 +81,15 @@ pub(crate) fn listing(alloc: Global, all: Gathered<'_>) -> Result<Instructions, 
 }
 
 /// Return where they depend on what is below.
-pub(crate) fn resting_places(alloc: Global, all: Gathered<'_>) -> Result<Vec<Location>, AllocError>
-    ensures { IfOk result (λ places. places.items ≡ resting_in all.entry) }
+pub(crate) fn dependency_places(
+    alloc: Global,
+    all: Gathered<'_>,
+) -> Result<Vec<Location>, AllocError>
+    ensures { IfOk result (λ places. places.items ≡ dependencies_in all.entry) }
 {
     let mut places = Vec::new(alloc);
     for (at, held) in all.into_entries() {
-        if held.rests() {
+        if held.depends() {
             places.push(at.copy(alloc)?)?;
         }
     }

@@ -9,16 +9,16 @@ ghost use Rattle.asm_update.specs.Fire.{Old};
 ghost use Rattle.asm_update.specs.Limits.{instructions_limit};
 ghost use Rattle.asm_update.specs.Move.{Move};
 ghost use Rattle.asm_step.specs.InTurn.{all_but_last};
-ghost use Rattle.asm_step.specs.Layers.{Layer, IsSound, alone_in, behind, laid_on, moves_of, outcomes_of, top_of};
+ghost use Rattle.asm_step.specs.Layers.{Layer, IsSound, alone_in, behind, stacked_on, moves_of, outcomes_of, top_of};
 ghost use Rattle.asm_step.specs.Next.{IsNext, AreFilled, AreMarked, AreOpened, IsLayerFrom, count_of, is_first, on_top, opened_at, those};
-ghost use Rattle.asm_step.specs.Next.{IsStepGoneOn, IsTakenIn};
+ghost use Rattle.asm_step.specs.Next.{IsStepExtendedInPlace, IsExtensionAnswer};
 ghost use Rattle.asm_step.specs.Outcomes.{acts_at, actions_in, listed, own_of, with_put};
 
 use crate::error::StepError;
 use crate::front::one_if;
 use crate::in_place::InPlace;
 use crate::layer::{OwnLayer, frame_on, move_after};
-use crate::listing::push_within;
+use crate::listing::{push_within, within_limit};
 use crate::outcomes::{Outcome, Outcomes};
 use crate::own::Own;
 use crate::popped::Popped;
@@ -77,19 +77,19 @@ fn put_layer(alloc: Global, put: &Instructions) -> Result<OwnLayer, AllocError>
 
 impl Step {
     // Extends the topmost layer by a move in place; whether that is done here. On error, nothing changes.
-    fn go_on<A: InPlace>(
+    fn extend_in_place<A: InPlace>(
         &mut self,
         alloc: Global,
         aggregator: &A,
         instructions: &Instructions,
     ) -> Result<bool, AllocError>
         requires { self.old ≢ [] }
-        ensures ok { IfOk result (λ done. (old : Old) → IsStepGoneOn (A.meaning aggregator.now) old self.old self.new
+        ensures ok { IfOk result (λ done. (old : Old) → IsStepExtendedInPlace (A.meaning aggregator.now) old self.old self.new
             instructions.now done) }
         ensures err { OnErr result (self.new ≡ self.old) }
     {
         let last = self.layers.len() - 1;
-        self.layers[last].go_on(alloc, aggregator, instructions)
+        self.layers[last].extend_in_place(alloc, aggregator, instructions)
     }
 
     // How many instructions the moves come to.
@@ -104,6 +104,14 @@ impl Step {
             Some(top) => top.count,
             None => 0,
         }
+    }
+
+    // State for proofs that the moves come to at most 4,096 instructions; do nothing at run time.
+    pub(crate) fn within_limit(&self)
+        ensures listed { count_of self.now ≡ length (listed (outcomes_of self.now)) }
+        ensures few { count_of self.now ≤ instructions_limit }
+    {
+        let _count = self.count();
     }
 
     // Appends what the moves so far do at the location.
@@ -127,8 +135,7 @@ impl Step {
         ensures { IfOk result (λ earlier. earlier
             ≡ flat_map (λ e. placed e.0 (actions_in (outcomes_of self.now) e.0)) (finite.entries frame.now)) }
     {
-        // Proof: that all moves have at most 4,096 is what an append asks.
-        let _few = self.count();
+        self.within_limit();
         let mut list = Instructions::new(alloc);
         for (at, _) in frame.iter() {
             self.append_earlier(alloc, &mut list, at)?;
@@ -222,8 +229,7 @@ impl Step {
         ensures shared { IfOk result (λ parts. parts.0 ≡ those true (outcomes_of self.now) instructions.now) }
         ensures apart { IfOk result (λ parts. parts.1 ≡ those false (outcomes_of self.now) instructions.now) }
     {
-        // Proof: that there are at most 4,096 is what an append asks.
-        let _few = instructions.len();
+        within_limit(instructions);
         let mut shared = Instructions::new(alloc);
         let mut apart = Instructions::new(alloc);
         for instruction in instructions.as_slice() {
@@ -250,9 +256,8 @@ impl Step {
         mark_each(&mut own, instructions);
         let added = fill(&mut own, composed)?;
         let more = fill(&mut own, apart)?;
-        // Proof: that there are at most 4,096 is what the sum needs.
-        let _few = composed.len();
-        let _few_apart = apart.len();
+        within_limit(composed);
+        within_limit(apart);
         let count = others + added + more;
         if count > INSTRUCTIONS_LIMIT {
             return Err(StepError::Many);
@@ -280,8 +285,7 @@ impl Step {
     {
         // Proof: the invariant is known once a field is read.
         let _ = &self.layers;
-        // Proof: that there are at most 4,096 is what the layer needs.
-        let _few = instructions.len();
+        within_limit(instructions);
         if let Some(_) = only_put(instructions) {
             return Ok(put_layer(alloc, instructions)?);
         }
@@ -303,8 +307,7 @@ impl Step {
     {
         // Proof: the invariant is known once a field is read.
         let _ = &self.layers;
-        // Proof: that there are at most 4,096 is what the layer needs.
-        let _few = instructions.len();
+        within_limit(instructions);
         let frame = frame_on(alloc, aggregator, &self.over(below), instructions)?;
         let earlier = self.earlier_at(alloc, &frame)?;
         let (shared, apart) = self.split(alloc, instructions)?;
@@ -337,11 +340,11 @@ impl Step {
     // Lets the topmost layer take in the layer of a move that extends it. On error, nothing changes.
     fn extend_top(&mut self, alloc: Global, next: OwnLayer) -> Result<(), AllocError>
         requires some { self.old ≢ [] }
-        requires sound { IsSound (laid_on (outcomes_of self.old) next) }
+        requires sound { IsSound (stacked_on (outcomes_of self.old) next) }
         requires one { (M : Move) × (next.moves ≡ M ∷ []) }
         requires later { alone_in next ≡ None }
         ensures ok { OnOk result (self.new ≡ all_but_last self.old
-            ++ behind (moves_of self.old) (laid_on (outcomes_of self.old) next) ∷ []) }
+            ++ behind (moves_of self.old) (stacked_on (outcomes_of self.old) next) ∷ []) }
         ensures err { OnErr result (self.new ≡ self.old) }
     {
         let last = self.layers.len() - 1;
@@ -358,9 +361,9 @@ impl Step {
         instructions: &Instructions,
     ) -> Result<(), StepError>
         requires { (z : Layer) × (top_of self.old ≡ Some z) }
-        ensures { IsTakenIn (A.meaning aggregator.now) (L.value_at below.now) self.old self.new instructions.now result }
+        ensures { IsExtensionAnswer (A.meaning aggregator.now) (L.value_at below.now) self.old self.new instructions.now result }
     {
-        let done = self.go_on(alloc, aggregator, instructions)?;
+        let done = self.extend_in_place(alloc, aggregator, instructions)?;
         if done {
             return Ok(());
         }

@@ -7,10 +7,10 @@ ghost use Rattle.asm_element.specs.Place.{Place};
 ghost use Rattle.asm_aggregate.specs.Compose.{placed};
 ghost use Rattle.asm_update.specs.Action.{is_partial};
 ghost use Rattle.asm_update.specs.Limits.{instructions_limit};
-ghost use Rattle.asm_step.specs.Front.{IsGoneOn, IsGoneOnAt};
-ghost use Rattle.asm_step.specs.Outcomes.{Outcome, Outcomes, acts, with_action, resting_in, with_put, AreReplaced};
+ghost use Rattle.asm_step.specs.Front.{IsExtendedInPlace, IsExtendedInPlaceAt};
+ghost use Rattle.asm_step.specs.Outcomes.{Outcome, Outcomes, acts, with_action, dependencies_in, with_put, AreReplaced};
 
-use crate::front::{Front, Grown, changed};
+use crate::front::{Front, Growth, changed};
 use crate::held::Held;
 use crate::in_place::InPlace;
 use crate::listing::append;
@@ -34,7 +34,7 @@ pub(crate) struct Outcome {
     /// Whether they build on the value below. They do if the first that writes there has partial updates alone.
     builds: bool,
     /// Whether they depend on it: a later one writes there too.
-    rests: bool,
+    depends: bool,
 }
 
 impl Model for Outcome {
@@ -52,7 +52,7 @@ impl Model for Outcome {
       value = o.value;
       actions = front_list o.value o.front ++ o.rest.items;
       builds = o.builds;
-      rests = o.rests;
+      depends = o.depends;
     } };
 
     ghost invariant = { λ o. IsFront o.front };
@@ -60,15 +60,15 @@ impl Model for Outcome {
 
 impl Outcome {
     /// Return the value, of no actions so far.
-    pub(crate) fn new(alloc: Global, value: Value, builds: bool, rests: bool) -> Outcome
-        ensures { result ≡ record { value = value; actions = []; builds = builds; rests = rests } }
+    pub(crate) fn new(alloc: Global, value: Value, builds: bool, depends: bool) -> Outcome
+        ensures { result ≡ record { value = value; actions = []; builds = builds; depends = depends } }
     {
         Outcome {
             value,
             front: Front::Nothing,
             rest: Vec::new(alloc),
             builds,
-            rests,
+            depends,
         }
     }
 
@@ -91,10 +91,10 @@ impl Outcome {
         self.builds
     }
 
-    pub(crate) fn rests(&self) -> bool
-        ensures { result ≡ self.now.rests }
+    pub(crate) fn depends(&self) -> bool
+        ensures { result ≡ self.now.depends }
     {
-        self.rests
+        self.depends
     }
 
     pub(crate) fn add(&mut self, action: Action) -> Result<(), AllocError>
@@ -105,9 +105,9 @@ impl Outcome {
     }
 
     fn mark(&mut self)
-        ensures { self.new ≡ record self.old { builds = self.old.rests } }
+        ensures { self.new ≡ record self.old { builds = self.old.depends } }
     {
-        self.builds = self.rests;
+        self.builds = self.depends;
     }
 
     /// Append a copy of each of the actions, at the location.
@@ -125,7 +125,7 @@ impl Outcome {
     }
 
     // Moves the actions to the front, if there is one.
-    fn settle(&mut self, alloc: Global) -> Result<(), AllocError>
+    fn fill_front(&mut self, alloc: Global) -> Result<(), AllocError>
         ensures { self.new ≡ self.old }
     {
         if let Front::Nothing = self.front {
@@ -144,10 +144,10 @@ impl Outcome {
         alloc: Global,
         aggregator: &A,
         action: &Action,
-    ) -> Result<Option<Grown>, AllocError>
+    ) -> Result<Option<Growth>, AllocError>
         requires partial { is_partial action.now ≡ true }
         requires none { self.old.actions ≡ [] }
-        ensures ok { IfOk result (IsGoneOn (A.meaning aggregator.now) action.now self.old self.new) }
+        ensures ok { IfOk result (IsExtendedInPlace (A.meaning aggregator.now) action.now self.old self.new) }
         ensures err { OnErr result (self.new ≡ self.old) }
     {
         let rest = vec![in alloc; action.clone()?]?;
@@ -156,19 +156,19 @@ impl Outcome {
         }
         self.front = Front::Nothing;
         self.rest = rest;
-        self.rests = self.builds;
-        Ok(Some(Grown { more: 1, less: 0 }))
+        self.depends = self.builds;
+        Ok(Some(Growth { more: 1, less: 0 }))
     }
 
     /// Add one partial update in place; return None if that isn't done here. On error, nothing changes.
     #[tactic(auto, using(crate::proofs::Joined::none_act))]
-    fn go_on<A: InPlace>(
+    fn extend_in_place<A: InPlace>(
         &mut self,
         alloc: Global,
         aggregator: &A,
         action: &Action,
-    ) -> Result<Option<Grown>, AllocError>
-        ensures ok { IfOk result (IsGoneOn (A.meaning aggregator.now) action.now self.old self.new) }
+    ) -> Result<Option<Growth>, AllocError>
+        ensures ok { IfOk result (IsExtendedInPlace (A.meaning aggregator.now) action.now self.old self.new) }
         ensures err { OnErr result (self.new ≡ self.old) }
     {
         if action.family().is_none() {
@@ -177,13 +177,13 @@ impl Outcome {
         if !self.acts() {
             return self.begin(alloc, aggregator, action);
         }
-        self.settle(alloc)?;
+        self.fill_front(alloc)?;
         if !self.rest.is_empty() {
             return Ok(None);
         }
         let grown = self.front.join(alloc, aggregator, &mut self.value, action)?;
         if grown.is_some() {
-            self.rests = self.builds;
+            self.depends = self.builds;
         }
         Ok(grown)
     }
@@ -239,11 +239,11 @@ impl Outcomes {
     }
 
     /// Return whether one of the outcomes depends on what is below.
-    pub(crate) fn rests_somewhere(&self) -> bool
-        ensures { OnFalse result (resting_in self.now ≡ []) }
+    pub(crate) fn depends_somewhere(&self) -> bool
+        ensures { OnFalse result (dependencies_in self.now ≡ []) }
     {
         for (_, outcome) in self.iter() {
-            if outcome.rests() {
+            if outcome.depends() {
                 return true;
             }
         }
@@ -299,20 +299,20 @@ impl Outcomes {
     }
 
     /// Add one partial update at the location in place. `None` is the answer if that isn't done here.
-    pub(crate) fn go_on<A: InPlace>(
+    pub(crate) fn extend_in_place<A: InPlace>(
         &mut self,
         alloc: Global,
         aggregator: &A,
         at: &Location,
         action: &Action,
-    ) -> Result<Option<Grown>, AllocError>
-        ensures ok { IfOk result (IsGoneOnAt (A.meaning aggregator.now) at.now action.now self.old self.new) }
+    ) -> Result<Option<Growth>, AllocError>
+        ensures ok { IfOk result (IsExtendedInPlaceAt (A.meaning aggregator.now) at.now action.now self.old self.new) }
         ensures err { OnErr result (self.new ≡ self.old) }
     {
         let Some(outcome) = self.tree.get_mut(at) else {
             return Ok(None);
         };
-        outcome.go_on(alloc, aggregator, action)
+        outcome.extend_in_place(alloc, aggregator, action)
     }
 
     /// Replace the outcome of the location, and return the old one. If there is none, return this one.

@@ -4,10 +4,10 @@ ghost use Rattle.std.specs.Bool.{OnFalse};
 ghost use Rattle.std.specs.Option.{option_or};
 ghost use Rattle.std.specs.FinMap as map;
 ghost use Rattle.asm_element.specs.Place.{Place};
-ghost use Rattle.asm_step.specs.Front.{IsGoneOnAt};
-ghost use Rattle.asm_step.specs.Outcomes.{own_of, put_alone, resting_in};
+ghost use Rattle.asm_step.specs.Front.{IsExtendedInPlaceAt};
+ghost use Rattle.asm_step.specs.Outcomes.{own_of, put_alone, dependencies_in};
 
-use crate::front::Grown;
+use crate::front::Growth;
 use crate::held::{Gathered, Held};
 use crate::in_place::InPlace;
 use crate::outcomes::{Outcome, Outcomes};
@@ -44,7 +44,7 @@ impl Model for Own {
 }
 
 // The outcome of a put, laid open.
-fn laid_open(alloc: Global, at: &Location, value: &Value) -> Result<Outcomes, AllocError>
+fn outcomes_of_put(alloc: Global, at: &Location, value: &Value) -> Result<Outcomes, AllocError>
     ensures { IfOk result (λ each. each ≡ put_alone (at.now, value.now)) }
 {
     let mut outcome = Outcome::new(alloc, value.copy(alloc)?, false, false);
@@ -85,13 +85,13 @@ impl Own {
     }
 
     /// Return whether one of the outcomes depends on what is below.
-    #[tactic(auto, using(crate::proofs::Rested::put_rests))]
-    pub(crate) fn rests_somewhere(&self) -> bool
-        ensures { OnFalse result (resting_in self.now ≡ []) }
+    #[tactic(auto, using(crate::proofs::Depending::put_depends))]
+    pub(crate) fn depends_somewhere(&self) -> bool
+        ensures { OnFalse result (dependencies_in self.now ≡ []) }
     {
         match only_put(&self.put) {
             Some(_) => false,
-            None => self.each.rests_somewhere(),
+            None => self.each.depends_somewhere(),
         }
     }
 
@@ -108,20 +108,20 @@ impl Own {
     /// Add one partial update of a later move at the location, in place.
     ///
     /// `None` is the answer if that isn't done here. On error, nothing changes.
-    #[tactic(auto, using(crate::proofs::Rested::each_gone_on_err, crate::proofs::Rested::each_gone_on_ok))]
-    pub(crate) fn go_on<A: InPlace>(
+    #[tactic(auto, using(crate::proofs::Depending::each_gone_on_err, crate::proofs::Depending::each_gone_on_ok))]
+    pub(crate) fn extend_in_place<A: InPlace>(
         &mut self,
         alloc: Global,
         aggregator: &A,
         at: &Location,
         action: &Action,
-    ) -> Result<Option<Grown>, AllocError>
-        ensures ok { IfOk result (IsGoneOnAt (A.meaning aggregator.now) at.now action.now self.old self.new) }
+    ) -> Result<Option<Growth>, AllocError>
+        ensures ok { IfOk result (IsExtendedInPlaceAt (A.meaning aggregator.now) at.now action.now self.old self.new) }
         ensures err { OnErr result (self.new ≡ self.old) }
     {
         match only_put(&self.put) {
             Some(_) => Ok(None),
-            None => self.each.go_on(alloc, aggregator, at, action),
+            None => self.each.extend_in_place(alloc, aggregator, at, action),
         }
     }
 
@@ -130,7 +130,7 @@ impl Own {
         ensures { IfOk result (λ each. each ≡ self) }
     {
         match only_put(&self.put) {
-            Some((at, value)) => laid_open(alloc, at, value),
+            Some((at, value)) => outcomes_of_put(alloc, at, value),
             None => Ok(self.each),
         }
     }
@@ -146,7 +146,7 @@ impl Own {
         let Some((at, value)) = only_put(&self.put) else {
             return self.each.take_in(alloc, above);
         };
-        let mut each = laid_open(alloc, at, value)?;
+        let mut each = outcomes_of_put(alloc, at, value)?;
         each.take_in(alloc, above)?;
         *self = Own::of_each(alloc, each);
         Ok(())

@@ -9,7 +9,7 @@ ghost use Rattle.asm_step.specs.Front.{IsApplied, IsChanged, IsExchanged, IsLong
 ghost use Rattle.asm_step.specs.Front.{IsKnown};
 ghost use Rattle.asm_step.specs.Outcomes.{acts};
 
-use crate::front::{Grown, changed, one_if};
+use crate::front::{Growth, changed, one_if};
 use crate::in_place::Known;
 use asm_element::{ElemSet, Element, Value};
 use asm_update::{Action, Aggregator};
@@ -42,7 +42,7 @@ fn exchange<A: Aggregator>(
     element: &Element,
     value: &mut Value,
     action: &Action,
-) -> Result<Option<Grown>, AllocError>
+) -> Result<Option<Growth>, AllocError>
     requires { is_partial action.now ≡ true }
     ensures to { IfOk result (IsExchanged to.old to.new (set.insert to.old element.now)) }
     ensures from { IfOk result (IsExchanged from.old from.new (set.remove from.old element.now)) }
@@ -56,7 +56,7 @@ fn exchange<A: Aggregator>(
     match changed(alloc, aggregator, value, action) {
         Ok(true) => {
             let was_there = from.remove(element);
-            Ok(Some(Grown {
+            Ok(Some(Growth {
                 more: one_if(is_new),
                 less: one_if(was_there),
             }))
@@ -162,7 +162,7 @@ impl Sides {
         aggregator: &A,
         value: &mut Value,
         action: &Action,
-    ) -> Result<Option<Grown>, AllocError>
+    ) -> Result<Option<Growth>, AllocError>
         requires partial { is_partial action.now ≡ true }
         requires some { acts (sides_list self.old) ≡ true }
         requires apart { meets self.old.added self.old.removed ≡ false }

@@ -14,16 +14,16 @@ ghost use Rattle.asm_overlay.specs.Limits.{frames_limit};
 ghost use Rattle.asm_step.specs.Answer.{IsPushAnswer, IsPushAnswerOn, IsFollowedBy, IsLastOn};
 ghost use Rattle.asm_step.specs.InTurn.{IsClashOfOne};
 ghost use Rattle.asm_step.specs.InTurn.{fire_all, all_but_last, Agrees, DoesAll};
-ghost use Rattle.asm_step.specs.Layers.{Layer, frames_of, outcomes_of, one_move, all_moves, resting_of, shows_below};
+ghost use Rattle.asm_step.specs.Layers.{Layer, frames_of, outcomes_of, one_move, all_moves, dependencies_of, shows_below};
 ghost use Rattle.asm_step.specs.Layers.{alone_in, extended, top_of, IsSound, IsStepOf};
 ghost use Rattle.asm_step.specs.Next.{alone_of};
-ghost use Rattle.asm_step.specs.Resting.{left_by, rests, sees_below, AgreesAtRests, AgreesIfSeen, AreThose};
+ghost use Rattle.asm_step.specs.Dependencies.{left_by, depends, sees_below, AgreesAtDependencies, AgreesIfSeen, AreThose};
 
 use crate::error::StepError;
 use crate::held::{Gathered, Held};
 use crate::in_place::InPlace;
 use crate::layer::{OwnLayer, move_after};
-use crate::listing::{listing, resting_places};
+use crate::listing::{dependency_places, listing};
 use crate::over::OverStep;
 use crate::popped::Popped;
 use asm_element::{Location, Value};
@@ -281,8 +281,7 @@ impl Step {
     fn one(&self, alloc: Global) -> Result<Instructions, AllocError>
         ensures { IfOk result (λ one. one ≡ unwrap_or (one_move self.now) []) }
     {
-        // Proof: that there are at most 4,096 is what a listing asks.
-        let _few = self.count();
+        self.within_limit();
         match self.alone_move() {
             Some(alone) => alone.copy(alloc),
             None => listing(alloc, self.gathered(alloc)?),
@@ -296,7 +295,7 @@ impl Step {
     /// the next ones compose it to.
     ///
     /// On a state on which all but the last of the moves fire in turn, it does what they do, clashes of the last
-    /// included. On one that has what is below at each of the `resting_locations`, it fires exactly if all of them fire
+    /// included. On one that has what is below at each of the `dependency_locations`, it fires exactly if all of them fire
     /// in turn, and leaves what they leave. Elsewhere it may fire where an earlier move clashes, so name these
     /// locations in its fire.
     ///
@@ -312,11 +311,11 @@ impl Step {
         ensures one { IfOk result (λ one. one ≡ unwrap_or (one_move self.now) []) }
         ensures stands { (a : Meaning) (old : Old) (groups : List (List Move)) (B : State) →
             AggregatorLaws a → IsStepOf a.part old self.now groups → IsProper B →
-            AgreesAtRests B old (all_moves groups) →
+            AgreesAtDependencies B old (all_moves groups) →
             IfOk result (λ one. left_by (fire a.part B one) ≡ left_by (fire_all a.part (Ok B) (all_moves groups))) }
         ensures clash { (a : Meaning) (old : Old) (groups : List (List Move)) (B : State) (c : Clash) →
             AggregatorLaws a → IsStepOf a.part old self.now groups → IsProper B →
-            AgreesAtRests B old (all_moves groups) →
+            AgreesAtDependencies B old (all_moves groups) →
             IfOk result (λ one. fire a.part B one ≡ Err c → IsClashOfOne a.part B (all_moves groups) c) }
     {
         self.one(alloc)
@@ -352,11 +351,11 @@ impl Step {
     }
 
     // Whether one of the layers has an outcome that depends on what is below.
-    fn rests_somewhere(&self) -> bool
-        ensures { OnFalse result (resting_of self.now ≡ []) }
+    fn depends_somewhere(&self) -> bool
+        ensures { OnFalse result (dependencies_of self.now ≡ []) }
     {
         for layer in &self.layers {
-            if layer.own.rests_somewhere() {
+            if layer.own.depends_somewhere() {
                 return true;
             }
         }
@@ -373,15 +372,15 @@ impl Step {
     ///
     /// # Errors
     /// - `AllocError` only if memory is refused.
-    pub fn resting_locations(&self, alloc: Global) -> Result<Vec<Location>, AllocError>
+    pub fn dependency_locations(&self, alloc: Global) -> Result<Vec<Location>, AllocError>
         ensures those { (part : Part) (old : Old) (groups : List (List Move)) →
-            IsStepOf part old self.now groups → IfOk result (λ ls. AreThose (rests (all_moves groups)) ls.items) }
-        ensures kept { IfOk result (λ ls. ls.items ≡ resting_of self.now) }
+            IsStepOf part old self.now groups → IfOk result (λ ls. AreThose (depends (all_moves groups)) ls.items) }
+        ensures kept { IfOk result (λ ls. ls.items ≡ dependencies_of self.now) }
     {
-        if !self.rests_somewhere() {
+        if !self.depends_somewhere() {
             return Ok(Vec::new(alloc));
         }
-        resting_places(alloc, self.gathered(alloc)?)
+        dependency_places(alloc, self.gathered(alloc)?)
     }
 
     /// Return whether what is seen at the location is made from the value below it.

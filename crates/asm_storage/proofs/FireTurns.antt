@@ -18,13 +18,13 @@ use Rattle.asm_storage.specs.declared.call.Reply.TheVariants as reply
 use Rattle.asm_storage.specs.declared.call.Answer.TheVariants as answer
 use Rattle.asm_storage.specs.declared.entry.Entry.{Entry}
 use Rattle.asm_storage.specs.Machine as machine
-use Rattle.asm_storage.specs.Machine.{Machine, firing_reply, fire_reply, taken_reply, reply_to}
+use Rattle.asm_storage.specs.Machine.{Machine, firing_reply, fire_reply, fired_or_full, reply_to}
 use Rattle.asm_storage.specs.Agents.{moves_seen}
-use Rattle.asm_storage.specs.Part.{IsReplyAt, IsJudged, agent_of, LooksOn, HasWon, IsLost, IsPartOf, IsTurn, offers_in, misses_in, IsOffering}
+use Rattle.asm_storage.specs.Part.{IsReplyAt, IsJudged, agent_of, HasPolledRow, HasWon, HasLostAttempt, IsPartOf, IsTurn, offers_in, misses_in, IsOffering}
 use Rattle.asm_update.specs.Aggregator.{Meaning}
 use Rattle.asm_storage.specs.History.{IsCoherentAt, fired_move}
-use Rattle.asm_storage.specs.Storage.{AgentAt, StorageView, machine_of, FollowsOn, last_look, has_looked, has_seen, with_fired, with_receipt, IsReplyOf, Missed}
-use Rattle.asm_storage.specs.Calls.{after_fire, judged_on, IsReplied, IsCoherentReply, StandsAfter, HasOffered, IsBusy, MadeOffers, receipt_at, after_answer, Ran}
+use Rattle.asm_storage.specs.Storage.{AgentAt, StorageView, machine_of, FollowsOn, last_poll, has_polled, has_seen, with_fired, with_receipt, IsReplyOf, Missed}
+use Rattle.asm_storage.specs.Calls.{after_fire, judged_on, IsReplied, IsCoherentReply, IsVersionAfter, HasOffered, IsBusy, MadeOffers, receipt_at, after_answer, Ran}
 use Rattle.asm_storage.proofs.Run.{coherent_at}
 use Rattle.asm_storage.specs.declared.part.AgentPart.{AgentPart}
 use Rattle.asm_storage.specs.declared.error.FireError.{FireError}
@@ -59,13 +59,13 @@ clashes part A M c e = ap (overwritten A) e
 count : (seen : List Entry) → length (moves_seen seen) ≡ length seen
 count seen = length-map seen (λ (x : Entry). x.instrs)
 
-taken : (m : Machine) (seen : List Entry) → length seen < m.capacity → taken_reply m.capacity (length (moves_seen seen)) ≡ reply.Fired (length seen + 1)
-taken m seen lt = ap (taken_reply m.capacity) (count seen) ∙ (let b : nat_lt (length seen) m.capacity ≡ true = grind (arith, nat_tests) in ap (λ b. cond b (reply.Fired (length seen + 1)) reply.Full) b)
+taken : (m : Machine) (seen : List Entry) → length seen < m.capacity → fired_or_full m.capacity (length (moves_seen seen)) ≡ reply.Fired (length seen + 1)
+taken m seen lt = ap (fired_or_full m.capacity) (count seen) ∙ (let b : nat_lt (length seen) m.capacity ≡ true = grind (arith, nat_tests) in ap (λ b. cond b (reply.Fired (length seen + 1)) reply.Full) b)
 
-full_reply : (m : Machine) (seen : List Entry) → length seen ≡ m.capacity → taken_reply m.capacity (length (moves_seen seen)) ≡ reply.Full
-full_reply m seen e = ap (taken_reply m.capacity) (count seen) ∙ (let b : nat_lt (length seen) m.capacity ≡ false = grind (arith, nat_tests) in ap (λ b. cond b (reply.Fired (length seen + 1)) reply.Full) b)
+full_reply : (m : Machine) (seen : List Entry) → length seen ≡ m.capacity → fired_or_full m.capacity (length (moves_seen seen)) ≡ reply.Full
+full_reply m seen e = ap (fired_or_full m.capacity) (count seen) ∙ (let b : nat_lt (length seen) m.capacity ≡ false = grind (arith, nat_tests) in ap (λ b. cond b (reply.Fired (length seen + 1)) reply.Full) b)
 
-firing_ok : (m : Machine) (q : List Move) (r : Result State Clash) → IsOk r → firing_reply m q r ≡ taken_reply m.capacity (length q)
+firing_ok : (m : Machine) (q : List Move) (r : Result State Clash) → IsOk r → firing_reply m q r ≡ fired_or_full m.capacity (length q)
 firing_ok m q (Ok B) h = refl
 firing_ok m q (Err c) h = absurd (cc h)
 
@@ -102,23 +102,23 @@ answered_coherent meaning old new reads M reply.Full is = tt
 
 -- a later turn's answer is one of the whole call
 pub stands_later : {A : Type 0} (old mid new : AgentAt A) (plain : Bool) (r : Reply) →
-    (plain ≡ true → mid.number ≡ old.number) → StandsAfter mid new plain r → StandsAfter old new plain r
+    (plain ≡ true → mid.number ≡ old.number) → IsVersionAfter mid new plain r → IsVersionAfter old new plain r
 stands_later old mid new true r same stands = stands ∙ same refl
 stands_later old mid new false r same stands = stands
 
 -- an agent that looked on goes on
-pub looked_follows : {A : Type 0} (meaning : A → Meaning) (s : StorageView A) (old new : AgentPart) →
-    LooksOn meaning s old new → FollowsOn (agent_of s old) (agent_of s new)
-looked_follows meaning s old new looks = record { onward = looks.onward; within = looks.part.following.within }
+pub polled_follows : {A : Type 0} (meaning : A → Meaning) (s : StorageView A) (old new : AgentPart) →
+    HasPolledRow meaning s old new → FollowsOn (agent_of s old) (agent_of s new)
+polled_follows meaning s old new polls = record { onward = polls.onward; within = polls.part.following.within }
 
 one_at_most : (b : Bool) → cond b 1 0 ≤ 1
 one_at_most true = omega arith
 one_at_most false = omega arith
 
 module _ {A : Type 0} (old new : AgentAt A) where
-  after_last : (n : ℕ) → n < offers_limit → HasOffered old new n (n + last_look new) → new.misses ≤ old.misses + offers_limit
+  after_last : (n : ℕ) → n < offers_limit → HasOffered old new n (n + last_poll new) → new.misses ≤ old.misses + offers_limit
   after_last n lt offered =
-      let last : last_look new ≤ 1 = one_at_most (nat_lt (length new.account.seen) (length new.storage.row)) in
+      let last : last_poll new ≤ 1 = one_at_most (nat_lt (length new.account.seen) (length new.storage.row)) in
       omega (arith, lt, offered.missed, last)
 
   -- no more looks find nothing than a fire makes offers
@@ -143,8 +143,8 @@ module _ {A : Type 0} (old new : AgentAt A) where
       (from to : ℕ) → r ≡ Err (fire_error.Busy from to) → from + offers_limit ≤ to
   busy_lost r n made busy from to is =
       let lost = subst (λ (q : Result Reply FireError). MadeOffers old new q n) is made in
-      let told = subst (λ (q : Result Reply FireError). IfErr q (IsBusy old new)) is busy in
-      omega (arith, lost.0, lost.1.longer, told.0, told.1)
+      let reported = subst (λ (q : Result Reply FireError). IfErr q (IsBusy old new)) is busy in
+      omega (arith, lost.0, lost.1.longer, reported.0, reported.1)
 
 pub take_before : {X : Type 0} (xs : List X) (x : X) → take (length xs + 1 - 1) (xs ++ x ∷ []) ≡ xs
 take_before xs x =
@@ -173,32 +173,32 @@ module _ {A : Type 0} (meaning : A → Meaning) (old mid : AgentAt A) (reads : L
   quiet_as reply.Full new seen quiet = (refl, refl)
 
   -- an agent that looked on and then kept the receipt of a reply that fired nothing
-  pub answered_quiet : (new : AgentAt A) (r : Reply) → mid ≡ has_looked old mid.account.seen mid.misses mid.number →
+  pub answered_quiet : (new : AgentAt A) (r : Reply) → mid ≡ has_polled old mid.account.seen mid.misses mid.number →
       IsPrefix old.account.seen mid.account.seen → IsReplyOf meaning mid (call.Fire reads M) (answer.Fire r) →
       fired_move (call.Fire reads M) (answer.Fire r) ≡ None →
       new ≡ with_receipt mid (receipt_at (length mid.account.seen) (call.Fire reads M) (answer.Fire r)) →
       IsReplied meaning old new reads M r
-  answered_quiet new r looked begins told quiet is =
+  answered_quiet new r polled begins reported quiet is =
       let receipt : Receipt = receipt_at (length mid.account.seen) (call.Fire reads M) (answer.Fire r) in
       let kept : AgentAt A = with_receipt mid receipt in
       let same = quiet_as r kept mid.account.seen quiet in
       let replies : StorageView A → List Entry → Type 0 = λ s q.
       answer.Fire r ≡ reply_to (machine_of meaning s) (moves_seen q) (call.Fire reads M) in
-      let there = subst (λ q. replies mid.storage q) (sym same.0) told in
+      let there = subst (λ q. replies mid.storage q) (sym same.0) reported in
       subst (λ (n : AgentAt A). IsReplied meaning old n reads M r) (sym is) (record {
-        reply = subst (λ s. replies s (judged_on r mid.account.seen)) (ap (λ (a : AgentAt A). a.storage) looked) there;
+        reply = subst (λ s. replies s (judged_on r mid.account.seen)) (ap (λ (a : AgentAt A). a.storage) polled) there;
         begins = subst (IsPrefix old.account.seen) (sym same.0) begins;
-        agent = ap (λ (a : AgentAt A). with_receipt a receipt) looked ∙ sym same.1;
+        agent = ap (λ (a : AgentAt A). with_receipt a receipt) polled ∙ sym same.1;
       })
 
   -- an agent that looked on and then fired
-  pub answered_fired : (new : AgentAt A) → mid ≡ has_looked old mid.account.seen mid.misses mid.number →
+  pub answered_fired : (new : AgentAt A) → mid ≡ has_polled old mid.account.seen mid.misses mid.number →
       IsPrefix old.account.seen mid.account.seen →
       IsReplyOf meaning mid (call.Fire reads M) (answer.Fire (reply.Fired (length mid.account.seen + 1))) →
       new ≡ with_fired mid (receipt_at (length mid.account.seen) (call.Fire reads M)
       (answer.Fire (reply.Fired (length mid.account.seen + 1)))) M →
       IsReplied meaning old new reads M (reply.Fired (length mid.account.seen + 1))
-  answered_fired new looked begins told is =
+  answered_fired new polled begins reported is =
       let n = length mid.account.seen in
       let r : Reply = reply.Fired (n + 1) in
       let entry : Entry = record { agent = mid.account.id; instrs = M } in
@@ -206,38 +206,38 @@ module _ {A : Type 0} (meaning : A → Meaning) (old mid : AgentAt A) (reads : L
       let number : n ≡ n + 1 - 1 = omega arith in
       let replies : StorageView A → List Entry → Type 0 = λ s q.
       answer.Fire r ≡ reply_to (machine_of meaning s) (moves_seen q) (call.Fire reads M) in
-      let there = subst (λ q. replies mid.storage q) (sym before) told in
+      let there = subst (λ q. replies mid.storage q) (sym before) reported in
       let grown = take (n + 1 - 1) (mid.account.seen ++ entry ∷ []) in
       let receipt : ℕ → Receipt = λ k. receipt_at k (call.Fire reads M) (answer.Fire r) in
       subst (λ (a : AgentAt A). IsReplied meaning old a reads M r) (sym is) (record {
-        reply = subst (λ s. replies s grown) (ap (λ (a : AgentAt A). a.storage) looked) there;
+        reply = subst (λ s. replies s grown) (ap (λ (a : AgentAt A). a.storage) polled) there;
         begins = subst (IsPrefix old.account.seen) (sym before) begins;
-        agent = ap (λ (a : AgentAt A). with_fired a (receipt n) M) looked
-            ∙ ap (λ k. with_fired (has_looked old mid.account.seen mid.misses mid.number) (receipt k) M) number
-            ∙ ap (λ seen. with_fired (has_looked old seen mid.misses mid.number) (receipt (n + 1 - 1)) M) (sym before);
+        agent = ap (λ (a : AgentAt A). with_fired a (receipt n) M) polled
+            ∙ ap (λ k. with_fired (has_polled old mid.account.seen mid.misses mid.number) (receipt k) M) number
+            ∙ ap (λ seen. with_fired (has_polled old seen mid.misses mid.number) (receipt (n + 1 - 1)) M) (sym before);
       })
 
   -- what a turn answers after others were lost is an answer of the whole call
-  pub answered_after : (new : AgentAt A) (r : Reply) → mid ≡ has_looked old mid.account.seen mid.misses mid.number →
+  pub answered_after : (new : AgentAt A) (r : Reply) → mid ≡ has_polled old mid.account.seen mid.misses mid.number →
       IsPrefix old.account.seen mid.account.seen → IsReplied meaning mid new reads M r →
       IsReplied meaning old new reads M r
-  answered_after new r looked begins is = record {
+  answered_after new r polled begins is = record {
     reply = subst (λ s. answer.Fire r ≡
         reply_to (machine_of meaning s) (moves_seen (judged_on r new.account.seen)) (call.Fire reads M))
-        (ap (λ (a : AgentAt A). a.storage) looked) is.reply;
+        (ap (λ (a : AgentAt A). a.storage) polled) is.reply;
     begins = IsPrefix-trans old.account.seen mid.account.seen (judged_on r new.account.seen) begins is.begins;
     agent = is.agent ∙ refired r;
   } where
     refired : (s : Reply) → after_fire mid new reads M s ≡ after_fire old new reads M s
-    refired (reply.Fired k) = ap (λ (a : AgentAt A). after_fire a new reads M (reply.Fired k)) looked
-    refired (reply.Stale l) = ap (λ (a : AgentAt A). after_fire a new reads M (reply.Stale l)) looked
-    refired (reply.Clash c) = ap (λ (a : AgentAt A). after_fire a new reads M (reply.Clash c)) looked
-    refired reply.Full = ap (λ (a : AgentAt A). after_fire a new reads M reply.Full) looked
+    refired (reply.Fired k) = ap (λ (a : AgentAt A). after_fire a new reads M (reply.Fired k)) polled
+    refired (reply.Stale l) = ap (λ (a : AgentAt A). after_fire a new reads M (reply.Stale l)) polled
+    refired (reply.Clash c) = ap (λ (a : AgentAt A). after_fire a new reads M (reply.Clash c)) polled
+    refired reply.Full = ap (λ (a : AgentAt A). after_fire a new reads M reply.Full) polled
 
 -- an agent that looked on keeps its number
-pub looked_id : {A : Type 0} (meaning : A → Meaning) (s : StorageView A) (old new : AgentPart) →
-    LooksOn meaning s old new → new.id ≡ old.id
-looked_id {A} meaning s old new looks = ap (λ (a : AgentAt A). a.account.id) looks.agent
+pub polled_id : {A : Type 0} (meaning : A → Meaning) (s : StorageView A) (old new : AgentPart) →
+    HasPolledRow meaning s old new → new.id ≡ old.id
+polled_id {A} meaning s old new polls = ap (λ (a : AgentAt A). a.account.id) polls.agent
 
 -- what is offered by an agent is so by one of the same number
 pub same_offering : (i k : ℕ) (reads : List Named) (M : Move) (o : Option Offering) → i ≡ k →
@@ -245,57 +245,57 @@ pub same_offering : (i k : ℕ) (reads : List Named) (M : Move) (o : Option Offe
 same_offering i k reads M o e is = subst (λ n. IfSome o (IsOffering n reads M)) e is
 
 module _ {A : Type 0} (meaning : A → Meaning) (s : StorageView A) (old mid new : AgentPart) (reads : List Named) (M : Move)
-    (looks : LooksOn meaning s old mid) where
-  lost_after : IsLost s mid new → IsPartOf meaning s new → LooksOn meaning s old new
+    (polls : HasPolledRow meaning s old mid) where
+  lost_after : HasLostAttempt s mid new → IsPartOf meaning s new → HasPolledRow meaning s old new
   lost_after lost part = record {
-    agent = lost.agent ∙ ap (λ (a : AgentAt A). has_seen a new.progress.seen) looks.agent
-        ∙ (λ i. has_looked (agent_of s old) new.progress.seen (sym (ap (λ (a : AgentAt A). a.misses) lost.agent) i)
+    agent = lost.agent ∙ ap (λ (a : AgentAt A). has_seen a new.progress.seen) polls.agent
+        ∙ (λ i. has_polled (agent_of s old) new.progress.seen (sym (ap (λ (a : AgentAt A). a.misses) lost.agent) i)
         (sym (ap (λ (a : AgentAt A). a.number) lost.agent) i));
-    seen = IsPrefix-trans old.progress.seen mid.progress.seen new.progress.seen looks.seen lost.seen;
-    onward = omega (arith, looks.onward, ap (λ (a : AgentAt A). a.number) lost.agent);
+    seen = IsPrefix-trans old.progress.seen mid.progress.seen new.progress.seen polls.seen lost.seen;
+    onward = omega (arith, polls.onward, ap (λ (a : AgentAt A). a.number) lost.agent);
     part = part;
   }
 
   longer : length old.progress.seen ≤ length mid.progress.seen
-  longer = length-prefix old.progress.seen mid.progress.seen looks.seen
+  longer = length-prefix old.progress.seen mid.progress.seen polls.seen
 
-  looked : length mid.progress.seen < length s.row →
-      Missed (agent_of s old) (last_look (agent_of s mid)) (agent_of s mid) → Missed (agent_of s old) 1 (agent_of s mid)
-  looked room missed =
+  polled : length mid.progress.seen < length s.row →
+      Missed (agent_of s old) (last_poll (agent_of s mid)) (agent_of s mid) → Missed (agent_of s old) 1 (agent_of s mid)
+  polled room missed =
       let one : nat_lt (length mid.progress.seen) (length s.row) ≡ true = grind (arith, nat_tests) in
       missed ∙ ap (λ b. min (old.progress.misses + cond b 1 0) (2 ^ 64 - 1)) one
 
   -- what an offer of a move that was judged to fire makes of the turn
   pub attempted : (r : Result (Option Reply) AllocError) → IsPartOf meaning s new →
       IsReplyOf meaning (agent_of s mid) (call.Fire reads M) (answer.Fire (reply.Fired (length mid.progress.seen + 1))) →
-      IfOk r (λ o. IfSome o (HasWon s mid new reads M)) → IfOk r (λ o. IfNone o (IsLost s mid new)) →
+      IfOk r (λ o. IfSome o (HasWon s mid new reads M)) → IfOk r (λ o. IfNone o (HasLostAttempt s mid new)) →
       IfOk r (IsTurn meaning s old new reads M)
-  attempted (Ok (Some r)) part told won lost =
+  attempted (Ok (Some r)) part reported won lost =
       let first = agent_of s old in
       let is = won.agent ∙ ap (λ t. with_fired (agent_of s mid)
       (receipt_at (length mid.progress.seen) (call.Fire reads M) (answer.Fire t)) M) won.reply in
       subst (IsReplied meaning first (agent_of s new) reads M) (sym won.reply)
-      (answered_fired meaning first (agent_of s mid) reads M (agent_of s new) looks.agent looks.seen told is)
-  attempted (Ok None) part told won lost = lost_after lost part
-  attempted (Err e) part told won lost = tt
+      (answered_fired meaning first (agent_of s mid) reads M (agent_of s new) polls.agent polls.seen reported is)
+  attempted (Ok None) part reported won lost = lost_after lost part
+  attempted (Err e) part reported won lost = tt
 
   -- what was seen begins with what had been seen
   pub attempt_seen : (r : Result (Option Reply) AllocError) →
-      IfOk r (λ o. IfSome o (HasWon s mid new reads M)) → IfOk r (λ o. IfNone o (IsLost s mid new)) →
+      IfOk r (λ o. IfSome o (HasWon s mid new reads M)) → IfOk r (λ o. IfNone o (HasLostAttempt s mid new)) →
       OnErr r (agent_of s new ≡ agent_of s mid) → IsPrefix old.progress.seen new.progress.seen
   attempt_seen (Ok (Some r)) won lost err =
       let entry : Entry = record { agent = mid.id; instrs = M } in
       let grown = sym (ap (λ (a : AgentAt A). a.account.seen) won.agent) in
-      IsPrefix-trans old.progress.seen mid.progress.seen new.progress.seen looks.seen (entry ∷ [], grown)
+      IsPrefix-trans old.progress.seen mid.progress.seen new.progress.seen polls.seen (entry ∷ [], grown)
   attempt_seen (Ok None) won lost err =
-      IsPrefix-trans old.progress.seen mid.progress.seen new.progress.seen looks.seen lost.seen
+      IsPrefix-trans old.progress.seen mid.progress.seen new.progress.seen polls.seen lost.seen
   attempt_seen (Err e) won lost err =
-      subst (IsPrefix old.progress.seen) (sym (ap (λ (a : AgentAt A). a.account.seen) err)) looks.seen
+      subst (IsPrefix old.progress.seen) (sym (ap (λ (a : AgentAt A). a.account.seen) err)) polls.seen
 
   -- an offer that was made adds one entry, and one that was not adds none
   pub attempt_counted : (r : Result (Option Reply) AllocError) → length mid.progress.seen < length s.row →
-      Missed (agent_of s old) (last_look (agent_of s mid)) (agent_of s mid) →
-      IfOk r (λ o. IfSome o (HasWon s mid new reads M)) → IfOk r (λ o. IfNone o (IsLost s mid new)) →
+      Missed (agent_of s old) (last_poll (agent_of s mid)) (agent_of s mid) →
+      IfOk r (λ o. IfSome o (HasWon s mid new reads M)) → IfOk r (λ o. IfNone o (HasLostAttempt s mid new)) →
       OnErr r (agent_of s new ≡ agent_of s mid) →
       HasOffered (agent_of s old) (agent_of s new) (offers_in r) (misses_in (agent_of s new) r)
   attempt_counted (Ok (Some r)) room missed won lost err =
@@ -305,14 +305,14 @@ module _ {A : Type 0} (meaning : A → Meaning) (s : StorageView A) (old mid new
       subst (λ (q : Reply). HasOffered (agent_of s old) (agent_of s new) (offers_in (Ok (Some q))) (misses_in (agent_of s new) (Ok (Some q))))
       (sym won.reply) (record {
         longer = omega (arith, longer, ap length seen, length-append mid.progress.seen (entry ∷ []));
-        missed = misses ∙ looked room missed;
+        missed = misses ∙ polled room missed;
       })
   attempt_counted (Ok None) room missed won lost err = record {
     longer = omega (arith, longer, lost.longer);
-    missed = ap (λ (a : AgentAt A). a.misses) lost.agent ∙ looked room missed;
+    missed = ap (λ (a : AgentAt A). a.misses) lost.agent ∙ polled room missed;
   }
   attempt_counted (Err e) room missed won lost err =
-      subst (λ (a : AgentAt A). HasOffered (agent_of s old) a 0 (last_look a)) (sym err)
+      subst (λ (a : AgentAt A). HasOffered (agent_of s old) a 0 (last_poll a)) (sym err)
       (record { longer = omega (arith, longer); missed = missed })
 
 module _ {A : Type 0} (old mid new : AgentAt A) (n : ℕ) (lost : HasOffered old mid n n) where
@@ -322,8 +322,8 @@ module _ {A : Type 0} (old mid new : AgentAt A) (n : ℕ) (lost : HasOffered old
     missed = omega (arith, lost.missed, more.missed);
   }
 
-  quiet : HasOffered mid new 0 (last_look new) → HasOffered old new (n + 0) (n + 0 + last_look new)
-  quiet more = subst (HasOffered old new (n + 0)) (omega arith) (offered_then 0 (last_look new) more)
+  quiet : HasOffered mid new 0 (last_poll new) → HasOffered old new (n + 0) (n + 0 + last_poll new)
+  quiet more = subst (HasOffered old new (n + 0)) (omega arith) (offered_then 0 (last_poll new) more)
 
   -- the offers of a call of whose turns n were lost and the next one was answered
   pub offers_answered : (r : Reply) → n < offers_limit → HasOffered mid new (offers_in (Ok (Some r))) (misses_in new (Ok (Some r))) →
@@ -334,7 +334,7 @@ module _ {A : Type 0} (old mid new : AgentAt A) (n : ℕ) (lost : HasOffered old
   offers_answered reply.Full lt more = (omega (arith, lt), quiet more)
 
   -- and of one in whose next turn memory was refused
-  pub offers_refused : n < offers_limit → HasOffered mid new 0 (last_look new) →
+  pub offers_refused : n < offers_limit → HasOffered mid new 0 (last_poll new) →
       MadeOffers old new (Err fire_error.Memory) (n + 0)
   offers_refused lt more = (omega (arith, lt), quiet more)
 

@@ -1,13 +1,13 @@
 pub mod Crossing
 pub mod Standard
 pub mod Accounts
-pub mod AgentKept
+pub mod AgentInvariant
 pub mod FireTurns
 pub mod Legal
 pub mod Lists
 pub mod MergedReceipts
 pub mod Moves
-pub mod PartKept
+pub mod PartInvariant
 pub mod ProperResults
 pub mod Rounds
 pub mod Run

@@ -19,7 +19,7 @@ use Rattle.asm_storage.specs.declared.call.Call.TheVariants as call
 use Rattle.asm_storage.specs.declared.call.Reply.TheVariants as reply
 use Rattle.asm_storage.specs.declared.call.Answer.TheVariants as answer
 use Rattle.asm_storage.specs.declared.close.merging.AgentReceipt.{AgentReceipt}
-use Rattle.asm_storage.specs.Agents.{AgentView, is_fired, event_of, is_quiet_at, is_move_at, fired_at, rounds, most, last_stood, merged, next_after, StandInOrder, IsAgent, quiet_at, round, moves_seen, has_receipt, IsGathered, IsHistoryOf}
+use Rattle.asm_storage.specs.Agents.{AgentView, is_fired, event_of, is_quiet_at, is_move_at, fired_at, rounds, most, last_stood, merged, next_after, AreInOrder, IsAgent, quiet_at, round, moves_seen, has_receipt, IsGathered, IsHistoryOf}
 use Rattle.asm_storage.specs.Storage.{AgentAt, accounts}
 use Rattle.asm_storage.specs.ReceiptOrder.{with_id, key, key_of, merged_event, receipts_with_ids, id_and_receipt}
 use Rattle.asm_storage.specs.Machine.{Machine}
@@ -117,11 +117,11 @@ one_agent_more agents i a lt is =
 
 -- one receipt more
 pub one_receipt_more : (before : List (ℕ × Receipt)) (id : ℕ) (receipts : List Receipt) (i : ℕ) (r : Receipt) (all new : List AgentReceipt) (s : AgentReceipt) → i < length receipts → r ≡ get_or receipts i r → map id_and_receipt all ≡ before ++ map (with_id id) (take i receipts) → new ≡ all ++ s ∷ [] → id_and_receipt s ≡ with_id id r → map id_and_receipt new ≡ before ++ map (with_id id) (take (i + 1) receipts)
-one_receipt_more before id receipts i r all new s lt is so_far pushed told =
+one_receipt_more before id receipts i r all new s lt is so_far pushed reported =
     ap (map id_and_receipt) pushed
     ∙ map-append id_and_receipt all (s ∷ [])
     ∙ ap (λ xs. xs ++ id_and_receipt s ∷ []) so_far
-    ∙ ap (λ p. (before ++ map (with_id id) (take i receipts)) ++ p ∷ []) told
+    ∙ ap (λ p. (before ++ map (with_id id) (take i receipts)) ++ p ∷ []) reported
     ∙ append_assoc before (map (with_id id) (take i receipts)) (with_id id r ∷ [])
     ∙ ap (λ xs. before ++ xs) (sym (ap (map (with_id id)) (take_more receipts i r lt ∙ ap (λ q. take i receipts ++ q ∷ []) (sym is)) ∙ map-append (with_id id) (take i receipts) (r ∷ [])))
 
@@ -227,17 +227,17 @@ keys_below agents =
 
 -- a stable sort of the agents' receipts by key is the merged history
 pub merged_from_sort : (agents : List AgentView) (xs ys : List AgentReceipt) → map id_and_receipt xs ≡ receipts_with_ids agents → IsPermutation xs ys → IsNonDecreasingBy key_of ys → IsStableByKey key_of nat_cmp xs ys → map merged_event ys ≡ merged agents
-merged_from_sort agents xs ys told permutation sorted stable =
+merged_from_sort agents xs ys reported permutation sorted stable =
     let count = last_stood agents + 1 in
     let low : ℕ × Receipt → Type 0 = λ p. key_with_id p < 0 + 2 * count in
     let mine : AgentReceipt → Type 0 = λ s. key_of s < 0 + 2 * count in
-    let each = Each-from_map low id_and_receipt xs (subst (AllByRecursion low) (sym told) (keys_below agents)) in
+    let each = Each-from_map low id_and_receipt xs (subst (AllByRecursion low) (sym reported) (keys_below agents)) in
     let below = recursion_from_All mine ys (All-permutation mine xs ys permutation (All-from_recursion mine xs each)) in
     let rises : Rises key_of 0 ys = rises_from key_of 0 ys (λ j d lt. omega arith) sorted in
     ap (map merged_event) (sym (by_key_all key_of (2 * count) 0 ys rises below) ∙ same_keys xs ys stable (2 * count) 0)
     ∙ sym (map-map event_with_id id_and_receipt (by_key key_of 0 (2 * count) xs))
     ∙ ap (map event_with_id)
-    (sym (by_key-map key_with_id id_and_receipt (2 * count) 0 xs) ∙ ap (by_key key_with_id 0 (2 * count)) told)
+    (sym (by_key-map key_with_id id_and_receipt (2 * count) 0 xs) ∙ ap (by_key key_with_id 0 (2 * count)) reported)
     ∙ sym (rounds_by_key agents count 0)
 
 -- the agent with that id, if there is one
@@ -280,13 +280,13 @@ key_bounds r = here (is_fired r) where
   here false = (omega arith, omega arith)
 
 -- receipts that stand in order stand in the order of their keys
-rises_by_key : (n low : ℕ) (rs : List Receipt) → low ≤ 2 * n → StandInOrder n rs → Rises key low rs
+rises_by_key : (n low : ℕ) (rs : List Receipt) → low ≤ 2 * n → AreInOrder n rs → Rises key low rs
 rises_by_key n low [] le order = tt
 rises_by_key n low (r ∷ rs) le order =
     (omega (arith, le, order.0, (key_bounds r).0), rises_by_key (next_after r) (key r) rs (key_bounds r).1 order.1)
 
 -- one agent's rounds are its receipts
-one_agent : (a : AgentView) (count : ℕ) → StandInOrder 0 a.receipts → AllByRecursion (λ r. key r < 0 + 2 * count) a.receipts →
+one_agent : (a : AgentView) (count : ℕ) → AreInOrder 0 a.receipts → AllByRecursion (λ r. key r < 0 + 2 * count) a.receipts →
     rounds (a ∷ []) 0 count ≡ map (event_of a.id) a.receipts
 one_agent a count order below =
     rounds_by_key (a ∷ []) count 0

@@ -14,22 +14,22 @@ use Rattle.asm_storage.specs.declared.entry.Entry.{Entry}
 use Rattle.asm_update.specs.Move.{Move}
 use Rattle.asm_storage.specs.Machine.{Machine, reply_to}
 use Rattle.asm_storage.specs.History.{fired_move, fired_moves, move_of}
-use Rattle.asm_storage.specs.Agents.{AgentView, ids, moves_seen, is_fired, next_after, StandInOrder, StandsInRow, IsAgent, event_of, is_quiet_at, is_move_at, quiet_at, fired_at, round, rounds, has_receipt, IsGathered}
+use Rattle.asm_storage.specs.Agents.{AgentView, ids, moves_seen, is_fired, next_after, AreInOrder, IsInRow, IsAgent, event_of, is_quiet_at, is_move_at, quiet_at, fired_at, round, rounds, has_receipt, IsGathered}
 use Rattle.asm_storage.proofs.Lists.{Each-map_filter, Each-flat_map, Each-weaker, filter-none, slice_get-prefix, take-slice_get}
-use Rattle.asm_storage.proofs.AgentKept.{stood_le, next_fired, stood_within, take-moves_seen}
+use Rattle.asm_storage.proofs.AgentInvariant.{stood_le, next_fired, stood_within, take-moves_seen}
 use Rattle.asm_storage.proofs.Legal.{IsLegalFrom, legal-append, legal_quiet, fired_moves-append}
 
 -- a receipt, told of the whole row
 record IsPlaced (m : Machine) (all : List Entry) (a : AgentView) (r : Receipt) : Type 0 where
   replied : r.answer ≡ reply_to m (take r.stood (moves_seen all)) r.call
-  in_row : StandsInRow a.id all r
+  in_row : IsInRow a.id all r
 
 -- an event, told of the whole row
 pub record IsAt (m : Machine) (all : List Entry) (n : ℕ) (e : Event) : Type 0 where
   replied : e.answer ≡ reply_to m (take n (moves_seen all)) e.call
   in_row : (M : Move) → move_of e ≡ Some M → slice_get all n ≡ Some (record { agent = e.agent; instrs = M })
 
-placed_each : (m : Machine) (all : List Entry) (a : AgentView) → IsPrefix a.seen all → (rs : List Receipt) → AllByRecursion (λ r. r.stood ≤ length a.seen) rs → AllByRecursion (λ r. r.answer ≡ reply_to m (take r.stood (moves_seen a.seen)) r.call) rs → AllByRecursion (StandsInRow a.id a.seen) rs → AllByRecursion (IsPlaced m all a) rs
+placed_each : (m : Machine) (all : List Entry) (a : AgentView) → IsPrefix a.seen all → (rs : List Receipt) → AllByRecursion (λ r. r.stood ≤ length a.seen) rs → AllByRecursion (λ r. r.answer ≡ reply_to m (take r.stood (moves_seen a.seen)) r.call) rs → AllByRecursion (IsInRow a.id a.seen) rs → AllByRecursion (IsPlaced m all a) rs
 placed_each m all a prefix [] within replied in_row = tt
 placed_each m all a prefix (r ∷ rs) within replied in_row = (
   record {
@@ -76,13 +76,13 @@ fired_each m all n a agent prefix =
     (Each-weaker (IsPlaced m all a) (λ r. is_move_at n r ≡ true → IsAt m all n (event_of a.id r) × (is_some (move_of (event_of a.id r)) ≡ true) × (a.id ≡ a.id)) (λ r p test. (at_from m all a n r p (move_stands n r test), move_fired n r test, refl)) a.receipts (placed m all a agent prefix))
 
 -- each receipt stands above n where the list begins above it
-all_above : (n from : ℕ) (rs : List Receipt) → StandInOrder from rs → n < from → AllByRecursion (λ r. n < r.stood) rs
+all_above : (n from : ℕ) (rs : List Receipt) → AreInOrder from rs → n < from → AllByRecursion (λ r. n < r.stood) rs
 all_above n from [] order lt = tt
 all_above n from (r ∷ rs) order lt =
     (omega (arith, order.0, lt), all_above n (next_after r) rs order.1 (omega (arith, stood_le r, order.0, lt)))
 
 -- one agent has at most one fired receipt at n
-pub one_fired : (n from : ℕ) (rs : List Receipt) → StandInOrder from rs → length (filter (is_move_at n) rs) ≤ 1
+pub one_fired : (n from : ℕ) (rs : List Receipt) → AreInOrder from rs → length (filter (is_move_at n) rs) ≤ 1
 one_fired n from [] order = omega arith
 one_fired n from (r ∷ rs) order = here (is_move_at n r) refl (one_fired n (next_after r) rs order.1) where
   here : (b : Bool) → is_move_at n r ≡ b → length (filter (is_move_at n) rs) ≤ 1 → length (cond b (r ∷ filter (is_move_at n) rs) (filter (is_move_at n) rs)) ≤ 1

@@ -19,10 +19,10 @@ use Rattle.std.specs.Ordering.{is_lt}
 use Rattle.asm_update.specs.Fire as firing
 use Rattle.asm_update.specs.Fire.{fire, state_or}
 use Rattle.asm_update.proofs.FireLemmas.{val-unwritten}
-use Rattle.asm_state.specs.Stands.{after_move, overwrites, is_stale}
+use Rattle.asm_state.specs.FollowsFrom.{after_move, overwrites, is_stale}
 use Rattle.asm_state.specs.Verdict.{lesser, least, least_stale}
 use Rattle.asm_state.proofs.Writers.{state_of-push}
-use Rattle.asm_storage.specs.Machine.{Machine, machine_state, taken_reply, firing_reply, fire_reply, reply_to}
+use Rattle.asm_storage.specs.Machine.{Machine, machine_state, fired_or_full, firing_reply, fire_reply, reply_to}
 use Rattle.asm_storage.specs.History.{fired_move, fired_moves, move_of, IsRun, steps_from, step_and, IsCoherentAt, IsCoherent, fired_number, numbers, count_up}
 use Rattle.asm_storage.proofs.Lists.{Each-weaker}
 use Rattle.asm_storage.proofs.Legal.{IsLegalFrom, fired_moves-append}
@@ -34,7 +34,7 @@ pub record IsFiredReply (m : Machine) (q : List Move) (reads : List Named) (M : 
   pub fires : fire m.part (machine_state m q) M ≡ Ok (after_move m.part (machine_state m q) M)
   pub fresh : least_stale m.part m.init q reads ≡ None
 
-taken_fired : (capacity number k : ℕ) → reply.Fired k ≡ taken_reply capacity number → (k ≡ number + 1) × (number < capacity)
+taken_fired : (capacity number k : ℕ) → reply.Fired k ≡ fired_or_full capacity number → (k ≡ number + 1) × (number < capacity)
 taken_fired capacity number k = here (nat_lt number capacity) refl where
   here : (b : Bool) → nat_lt number capacity ≡ b → reply.Fired k ≡ cond b (reply.Fired (number + 1)) reply.Full → (k ≡ number + 1) × (number < capacity)
   here true e is = (cc is, ltb-true number capacity e)
@@ -76,19 +76,19 @@ run_from m q (e ∷ h) legal = here (move_of e) refl (run_from m (q ++ fired_mov
       (f.fires, subst (λ (B : State). IsRun m B (steps_from m B h)) (ap (λ o. machine_state m (q ++ cons_option o [])) is ∙ state_of-push m.part m.init q M) rest)
 
 -- a reply has the next number where it fires a move, and none otherwise
-told : (m : Machine) (q : List Move) (c : Call) (a : Answer) → a ≡ reply_to m q c → ((fired_number a ≡ None) × (fired_move c a ≡ None)) ⊎ ((M : Move) × (fired_number a ≡ Some (length q + 1)) × (fired_move c a ≡ Some M))
-told m q (call.Read places) (answer.Read n vs) is = inl (refl, refl)
-told m q (call.Read places) (answer.Fire r) is = absurd (cc is)
-told m q (call.Fire reads instrs) (answer.Read n vs) is = absurd (cc is)
-told m q (call.Fire reads instrs) (answer.Fire (reply.Fired k)) is = inr (instrs, ap Some (fired_reply m q reads instrs k is).number, refl)
-told m q (call.Fire reads instrs) (answer.Fire (reply.Stale l)) is = inl (refl, refl)
-told m q (call.Fire reads instrs) (answer.Fire (reply.Clash c)) is = inl (refl, refl)
-told m q (call.Fire reads instrs) (answer.Fire reply.Full) is = inl (refl, refl)
+reported : (m : Machine) (q : List Move) (c : Call) (a : Answer) → a ≡ reply_to m q c → ((fired_number a ≡ None) × (fired_move c a ≡ None)) ⊎ ((M : Move) × (fired_number a ≡ Some (length q + 1)) × (fired_move c a ≡ Some M))
+reported m q (call.Read places) (answer.Read n vs) is = inl (refl, refl)
+reported m q (call.Read places) (answer.Fire r) is = absurd (cc is)
+reported m q (call.Fire reads instrs) (answer.Read n vs) is = absurd (cc is)
+reported m q (call.Fire reads instrs) (answer.Fire (reply.Fired k)) is = inr (instrs, ap Some (fired_reply m q reads instrs k is).number, refl)
+reported m q (call.Fire reads instrs) (answer.Fire (reply.Stale l)) is = inl (refl, refl)
+reported m q (call.Fire reads instrs) (answer.Fire (reply.Clash c)) is = inl (refl, refl)
+reported m q (call.Fire reads instrs) (answer.Fire reply.Full) is = inl (refl, refl)
 
 -- the numbers that are answered count up
 pub numbered_from : (m : Machine) (q : List Move) (h : List Event) → IsLegalFrom m q h → numbers h ≡ count_up (length q + 1) (length (fired_moves h))
 numbered_from m q [] legal = refl
-numbered_from m q (e ∷ h) legal = here (told m q e.call e.answer legal.0) (numbered_from m (q ++ fired_moves (e ∷ [])) h legal.1) where
+numbered_from m q (e ∷ h) legal = here (reported m q e.call e.answer legal.0) (numbered_from m (q ++ fired_moves (e ∷ [])) h legal.1) where
   here : ((fired_number e.answer ≡ None) × (fired_move e.call e.answer ≡ None)) ⊎ ((M : Move) × (fired_number e.answer ≡ Some (length q + 1)) × (fired_move e.call e.answer ≡ Some M)) → numbers h ≡ count_up (length (q ++ fired_moves (e ∷ [])) + 1) (length (fired_moves h)) → numbers (e ∷ h) ≡ count_up (length q + 1) (length (fired_moves (e ∷ h)))
   here (inl t) rest =
       let len : length (q ++ fired_moves (e ∷ [])) ≡ length q = ap (λ o. length (q ++ cons_option o [])) t.1 ∙ ap length (append-nil q) in

@@ -14,7 +14,7 @@ use Rattle.asm_update.specs.Fire.{Part}
 use Rattle.asm_update.specs.Move.{Move}
 use Rattle.asm_update.specs.State.{State}
 use Rattle.asm_state.specs.Scans.{has_name}
-use Rattle.asm_state.specs.Stands.{is_stale}
+use Rattle.asm_state.specs.FollowsFrom.{is_stale}
 use Rattle.asm_state.specs.Verdict.{least_stale}
 use Rattle.asm_state.specs.declared.named.Named.{Named}
 use Rattle.asm_state.specs.declared.scanned.Scanned.{Scanned}
@@ -27,13 +27,13 @@ use Rattle.asm_storage.specs.declared.error.FireError.{FireError}
 use Rattle.asm_storage.specs.declared.error.FireError.TheVariants as fire_error
 use Rattle.asm_storage.specs.declared.part.AgentPart.{AgentPart}
 use Rattle.asm_storage.specs.Agents.{moves_seen}
-use Rattle.asm_storage.specs.Calls.{judged_on, IsReplied, IsBusy, IsCoherentReply, IsFire, IsFireOver, MadeOffers, StandsAfter, is_plain, is_plain_over}
+use Rattle.asm_storage.specs.Calls.{judged_on, IsReplied, IsBusy, IsCoherentReply, IsFire, IsFireOver, MadeOffers, IsVersionAfter, is_plain, is_plain_over}
 use Rattle.asm_storage.specs.History.{fired_move}
 use Rattle.asm_storage.specs.Limits.{reads_limit}
 use Rattle.asm_storage.specs.Machine.{Machine, fire_reply, reply_to}
 use Rattle.asm_storage.specs.Part.{agent_of, HasWon, IsTurn, IsTurnOver}
-use Rattle.asm_storage.specs.Scans.{with_found, IsUnwritten, IsOvertaken, IsFound, IsNamedOver, IsKept, RestsOn}
-use Rattle.asm_storage.specs.Storage.{AgentAt, FollowsOn, StorageView, IsSameAgent, machine_of, has_looked}
+use Rattle.asm_storage.specs.Scans.{with_found, IsUnwritten, IsOvertaken, IsFound, IsNamedOver, IsKept, DependsOn}
+use Rattle.asm_storage.specs.Storage.{AgentAt, FollowsOn, StorageView, IsSameAgent, machine_of, has_polled}
 use Rattle.asm_storage.proofs.FireTurns.{won_judged, answered_coherent, busy_lost, few_misses, fired_missed}
 use Rattle.asm_storage.proofs.Lists.{Each-rest}
 use Rattle.asm_storage.proofs.Run.{fresh_each, same_value_from}
@@ -73,12 +73,12 @@ pub all_kept : (m : Machine) (q : List Move) (scans : List Scanned) → All (IsU
 all_kept m q scans each = All-weaker (IsUnwritten m.part m.init q) (IsKept m q) (kept m q) scans each
 
 -- where nothing was found, each function is as it was scanned, whatever the reply
-pub unfound_rests : (m : Machine) (q : List Move) (scans : List Scanned) (r : Reply) →
-    IsFound m.part m.init q scans None → RestsOn m q scans None r
-unfound_rests m q scans (reply.Stale l) h = h
-unfound_rests m q scans (reply.Fired k) h = (refl, all_kept m q scans h)
-unfound_rests m q scans (reply.Clash c) h = (refl, all_kept m q scans h)
-unfound_rests m q scans reply.Full h = (refl, all_kept m q scans h)
+pub unfound_depends : (m : Machine) (q : List Move) (scans : List Scanned) (r : Reply) →
+    IsFound m.part m.init q scans None → DependsOn m q scans None r
+unfound_depends m q scans (reply.Stale l) h = h
+unfound_depends m q scans (reply.Fired k) h = (refl, all_kept m q scans h)
+unfound_depends m q scans (reply.Clash c) h = (refl, all_kept m q scans h)
+unfound_depends m q scans reply.Full h = (refl, all_kept m q scans h)
 
 -- a read that was overtaken is stale
 overtaken_stale : (part : Part) (A : State) (q : List Move) (r : Named) (s : Scanned) → IsOvertaken part A q r s →
@@ -108,15 +108,15 @@ module _ (m : Machine) (q : List Move) (reads : List Named) (scans : List Scanne
         by_least None e = absurd (named_stale m.part m.init q reads n (overtaken_stale m.part m.init q n s over) e)
 
   -- what a reply rests on that is the one to a fire with these names
-  pub rests : (found : Option Named) (r : Reply) → IsFound m.part m.init q scans found →
-      answer.Fire r ≡ reply_to m q (call.Fire (with_found reads found) M) → RestsOn m q scans found r
-  rests None r h is = unfound_rests m q scans r h
-  rests (Some n) r h is = by_reply r (stale_reply n r h is) where
-    by_reply : (r : Reply) → (l : Place) × (r ≡ reply.Stale l) → RestsOn m q scans (Some n) r
-    by_reply (reply.Stale l) told = h
-    by_reply (reply.Fired k) told = absurd (cc told.1)
-    by_reply (reply.Clash c) told = absurd (cc told.1)
-    by_reply reply.Full told = absurd (cc told.1)
+  pub depends : (found : Option Named) (r : Reply) → IsFound m.part m.init q scans found →
+      answer.Fire r ≡ reply_to m q (call.Fire (with_found reads found) M) → DependsOn m q scans found r
+  depends None r h is = unfound_depends m q scans r h
+  depends (Some n) r h is = by_reply r (stale_reply n r h is) where
+    by_reply : (r : Reply) → (l : Place) × (r ≡ reply.Stale l) → DependsOn m q scans (Some n) r
+    by_reply (reply.Stale l) reported = h
+    by_reply (reply.Fired k) reported = absurd (cc reported.1)
+    by_reply (reply.Clash c) reported = absurd (cc reported.1)
+    by_reply reply.Full reported = absurd (cc reported.1)
 
   -- a fire that is to fire has found nothing
   pub fires_unfound : (found : Option Named) (k : ℕ) → IsFound m.part m.init q scans found →
@@ -139,12 +139,12 @@ plain_named m q reads scans named M over not =
 
 module _ (m : Machine) (seen : List Entry) (reads : List Named) (scans : List Scanned) (named : List Named) (M : Move)
     (over : IsNamedOver m (moves_seen seen) reads scans named) (k : ℕ)
-    (told : answer.Fire (reply.Fired k) ≡ reply_to m (moves_seen seen) (call.Fire named M)) where
+    (reported : answer.Fire (reply.Fired k) ≡ reply_to m (moves_seen seen) (call.Fire named M)) where
   -- a fire that is to fire names its reads alone
   nothing : over.found ≡ None
   nothing =
       fires_unfound m (moves_seen seen) reads scans M over.found k over.found_is
-      (told ∙ ap (λ ns. reply_to m (moves_seen seen) (call.Fire ns M)) over.named_is)
+      (reported ∙ ap (λ ns. reply_to m (moves_seen seen) (call.Fire ns M)) over.named_is)
 
   pub names_reads : named ≡ reads
   names_reads = over.named_is ∙ ap (with_found reads) nothing
@@ -169,15 +169,15 @@ module _ {A : Type 0} (meaning : A → Meaning) (s : StorageView A) (old mid new
       answer.Fire r ≡ reply_to (machine_of meaning s) (moves_seen mid.progress.seen) (call.Fire named M) →
       fired_move (call.Fire named M) (answer.Fire r) ≡ None → new.progress.seen ≡ mid.progress.seen →
       IsReplied meaning (agent_of s old) (agent_of s new) named M r → IsTurnOver meaning s old new reads scans M (Some r)
-  turn_quiet named r over told quiet same is =
+  turn_quiet named r over reported quiet same is =
       let m = machine_of meaning s in
       let seen = mid.progress.seen in
-      let rest = rests m (moves_seen seen) reads scans M over.found r over.found_is
-      (told ∙ ap (λ ns. reply_to m (moves_seen seen) (call.Fire ns M)) over.named_is) in
+      let rest = depends m (moves_seen seen) reads scans M over.found r over.found_is
+      (reported ∙ ap (λ ns. reply_to m (moves_seen seen) (call.Fire ns M)) over.named_is) in
       let judged : seen ≡ judged_on r new.progress.seen = sym (quiet_seen named M r new.progress.seen quiet ∙ same) in (
         over.found,
         subst (λ ns. IsReplied meaning (agent_of s old) (agent_of s new) ns M r) over.named_is is,
-        subst (λ q. RestsOn m (moves_seen q) scans over.found r) judged rest,
+        subst (λ q. DependsOn m (moves_seen q) scans over.found r) judged rest,
       )
 
   -- a turn that made an offer
@@ -189,7 +189,7 @@ module _ {A : Type 0} (meaning : A → Meaning) (s : StorageView A) (old mid new
       let m = machine_of meaning s in
       let seen = mid.progress.seen in
       let judged : judged_on r new.progress.seen ≡ seen = won_judged s mid new reads M r won in
-      (None, is, subst (λ q. RestsOn m (moves_seen q) scans None r) (sym judged) (unfound_rests m (moves_seen seen) scans r none))
+      (None, is, subst (λ q. DependsOn m (moves_seen q) scans None r) (sym judged) (unfound_depends m (moves_seen seen) scans r none))
   turn_offered (Ok None) none won is = is
   turn_offered (Err e) none won is = tt
 
@@ -198,10 +198,10 @@ module _ {A : Type 0} (meaning : A → Meaning) (old new : AgentAt A) (reads : L
   pub is_over : (r : Result Reply FireError) (found : Option Named) (n : ℕ) →
       IsSameAgent old new → IsPrefix old.account.seen new.account.seen →
       IfOk r (IsReplied meaning old new (with_found reads found) M) →
-      IfOk r (λ t. RestsOn (machine_of meaning new.storage) (moves_seen (judged_on t new.account.seen)) scans found t) →
-      OnErr r (new ≡ has_looked old new.account.seen new.misses new.number) → IfErr r (IsBusy old new) →
+      IfOk r (λ t. DependsOn (machine_of meaning new.storage) (moves_seen (judged_on t new.account.seen)) scans found t) →
+      OnErr r (new ≡ has_polled old new.account.seen new.misses new.number) → IfErr r (IsBusy old new) →
       IsErrOf r fire_error.ManyReads ↔ (reads_limit < length reads + length scans) → MadeOffers old new r n →
-      FollowsOn old new → IfOk r (StandsAfter old new (is_plain_over reads scans M)) →
+      FollowsOn old new → IfOk r (IsVersionAfter old new (is_plain_over reads scans M)) →
       IsFireOver meaning old new reads scans M r
   is_over r found n same seen answered rested refused busy many made follows stands = record {
     same = same;
@@ -211,7 +211,7 @@ module _ {A : Type 0} (meaning : A → Meaning) (old new : AgentAt A) (reads : L
     found = found;
     answered = answered;
     coherent = coherent r answered;
-    rests = rested;
+    depends = rested;
     many = many;
     refused = refused;
     busy = busy;
@@ -233,8 +233,8 @@ no_scans meaning old new reads M r over = record {
   seen = over.seen;
   follows = over.follows;
   stands = over.stands;
-  answered = names_none r over.rests over.answered;
-  coherent = coherent_none r over.rests over.coherent;
+  answered = names_none r over.depends over.answered;
+  coherent = coherent_none r over.depends over.coherent;
   refused = over.refused;
   busy = over.busy;
   many = subst (λ n. IsErrOf r fire_error.ManyReads ↔ (reads_limit < n)) (omega arith) over.many;
@@ -243,7 +243,7 @@ no_scans meaning old new reads M r over = record {
   few = over.few;
   lost = over.lost;
 } where
-  rest_none : (found : Option Named) (q : List Move) (t : Reply) → RestsOn (machine_of meaning new.storage) q [] found t → found ≡ None
+  rest_none : (found : Option Named) (q : List Move) (t : Reply) → DependsOn (machine_of meaning new.storage) q [] found t → found ≡ None
   rest_none found q (reply.Stale l) is =
       none_found (machine_of meaning new.storage).part (machine_of meaning new.storage).init q found is
   rest_none found q (reply.Fired k) is = is.0
@@ -251,15 +251,15 @@ no_scans meaning old new reads M r over = record {
   rest_none found q reply.Full is = is.0
 
   names_none : (r : Result Reply FireError) →
-      IfOk r (λ t. RestsOn (machine_of meaning new.storage) (moves_seen (judged_on t new.account.seen)) [] over.found t) →
+      IfOk r (λ t. DependsOn (machine_of meaning new.storage) (moves_seen (judged_on t new.account.seen)) [] over.found t) →
       IfOk r (IsReplied meaning old new (with_found reads over.found) M) → IfOk r (IsReplied meaning old new reads M)
-  names_none (Ok t) rests is =
-      subst (λ o. IsReplied meaning old new (with_found reads o) M t) (rest_none over.found (moves_seen (judged_on t new.account.seen)) t rests) is
-  names_none (Err e) rests is = tt
+  names_none (Ok t) depends is =
+      subst (λ o. IsReplied meaning old new (with_found reads o) M t) (rest_none over.found (moves_seen (judged_on t new.account.seen)) t depends) is
+  names_none (Err e) depends is = tt
 
   coherent_none : (r : Result Reply FireError) →
-      IfOk r (λ t. RestsOn (machine_of meaning new.storage) (moves_seen (judged_on t new.account.seen)) [] over.found t) →
+      IfOk r (λ t. DependsOn (machine_of meaning new.storage) (moves_seen (judged_on t new.account.seen)) [] over.found t) →
       IfOk r (IsCoherentReply meaning new (with_found reads over.found) M) → IfOk r (IsCoherentReply meaning new reads M)
-  coherent_none (Ok t) rests is =
-      subst (λ o. IsCoherentReply meaning new (with_found reads o) M t) (rest_none over.found (moves_seen (judged_on t new.account.seen)) t rests) is
-  coherent_none (Err e) rests is = tt
+  coherent_none (Ok t) depends is =
+      subst (λ o. IsCoherentReply meaning new (with_found reads o) M t) (rest_none over.found (moves_seen (judged_on t new.account.seen)) t depends) is
+  coherent_none (Err e) depends is = tt

@@ -41,9 +41,9 @@ abbrev pub next_after : Receipt → ℕ
 next_after r = if is_fired r then r.stood + 1 else r.stood
 
 -- no receipt's number is below that of the one before it, nor below the move that that one fired
-abbrev pub StandInOrder : ℕ → List Receipt → Type 0
-StandInOrder from [] = Unit {0}
-StandInOrder from (r ∷ rs) = (from ≤ r.stood) × StandInOrder (next_after r) rs
+abbrev pub AreInOrder : ℕ → List Receipt → Type 0
+AreInOrder from [] = Unit {0}
+AreInOrder from (r ∷ rs) = (from ≤ r.stood) × AreInOrder (next_after r) rs
 
 -- the smallest number that a receipt after these may have
 abbrev pub next_stood : ℕ → List Receipt → ℕ
@@ -51,16 +51,16 @@ next_stood from [] = from
 next_stood from (r ∷ rs) = next_stood (next_after r) rs
 
 -- the entry of the move that the receipt fired is in what the agent has seen
-abbrev pub StandsInRow : ℕ → List Entry → Receipt → Type 0
-StandsInRow id seen r = (M : Move) → fired_move r.call r.answer ≡ Some M →
+abbrev pub IsInRow : ℕ → List Entry → Receipt → Type 0
+IsInRow id seen r = (M : Move) → fired_move r.call r.answer ≡ Some M →
     slice_get seen r.stood ≡ Some (record { agent = id; instrs = M })
 
 -- what is true of an agent of a storage that was opened with m
 pub record IsAgent (m : Machine) (a : AgentView) : Type 0 where
   pub replied : All (λ r. r.answer ≡ reply_to m (take r.stood (moves_seen a.seen)) r.call) a.receipts
-  pub in_order : StandInOrder 0 a.receipts
+  pub in_order : AreInOrder 0 a.receipts
   pub within : next_stood 0 a.receipts ≤ length a.seen
-  pub in_row : All (StandsInRow a.id a.seen) a.receipts
+  pub in_row : All (IsInRow a.id a.seen) a.receipts
   pub won_is : a.won ≡ length (filter is_fired a.receipts)
 
 -- a receipt as an event of the agent

@@ -26,8 +26,8 @@ use Rattle.asm_storage.specs.declared.receipt.Receipt.{Receipt}
 use Rattle.asm_storage.specs.Machine.{reply_to}
 use Rattle.asm_storage.specs.History.{IsCoherentAt}
 use Rattle.asm_storage.specs.Agents.{moves_seen, next_stood}
-use Rattle.asm_storage.specs.Scans.{with_found, RestsOn}
-use Rattle.asm_storage.specs.Storage.{AgentAt, FollowsOn, IsLevel, IsSameAgent, machine_of, has_looked, with_receipt, with_fired, last_look, Missed}
+use Rattle.asm_storage.specs.Scans.{with_found, DependsOn}
+use Rattle.asm_storage.specs.Storage.{AgentAt, FollowsOn, IsUpToDate, IsSameAgent, machine_of, has_polled, with_receipt, with_fired, last_poll, Missed}
 
 -- whether a move is judged alike on every state: it has no declared read, no partial update and few instructions
 abbrev pub is_plain : List Named → Move → Bool
@@ -62,7 +62,7 @@ receipt_at stood call answer = record { call = call; answer = answer; stood = st
 -- an agent that looked on and then answered: with what it has then seen, and a receipt of the call
 abbrev pub after_answer : {A : Type 0} → AgentAt A → AgentAt A → Call → Answer → AgentAt A
 after_answer old new call answer =
-    with_receipt (has_looked old new.account.seen new.misses new.number) (receipt_at (length new.account.seen) call answer)
+    with_receipt (has_polled old new.account.seen new.misses new.number) (receipt_at (length new.account.seen) call answer)
 
 -- what a fire was judged on: all that the agent has then seen, without the move that it fired
 abbrev pub judged_on : Reply → List Entry → List Entry
@@ -71,14 +71,14 @@ judged_on r seen = seen
 
 -- the version of the agent's own state after a reply: all that the fire was judged on, or the old version, as a plain
 -- move is judged without the state
-abbrev pub StandsAfter : {A : Type 0} → AgentAt A → AgentAt A → Bool → Reply → Type 0
-StandsAfter old new true r = new.number ≡ old.number
-StandsAfter old new false r = new.number ≡ length (judged_on r new.account.seen)
+abbrev pub IsVersionAfter : {A : Type 0} → AgentAt A → AgentAt A → Bool → Reply → Type 0
+IsVersionAfter old new true r = new.number ≡ old.number
+IsVersionAfter old new false r = new.number ≡ length (judged_on r new.account.seen)
 
 -- an agent after an answered fire: `Fired` has the move as its last entry and one more won attempt
 abbrev pub after_fire : {A : Type 0} → AgentAt A → AgentAt A → List Named → Move → Reply → AgentAt A
 after_fire old new reads M (reply.Fired k) =
-    with_fired (has_looked old (judged_on (reply.Fired k) new.account.seen) new.misses new.number)
+    with_fired (has_polled old (judged_on (reply.Fired k) new.account.seen) new.misses new.number)
     (receipt_at (k - 1) (call.Fire reads M) (answer.Fire (reply.Fired k))) M
 after_fire old new reads M r = after_answer old new (call.Fire reads M) (answer.Fire r)
 
@@ -90,7 +90,7 @@ pub record IsRead {A : Type 0} (meaning : A → Meaning) (old new : AgentAt A) (
   pub begins : IsPrefix old.account.seen new.account.seen
   pub locations : r.places ≡ places
   pub agent : new ≡ after_answer old new (call.Read places) (read_answer r)
-  pub level : IsLevel new
+  pub level : IsUpToDate new
 
 -- what an agent's own state has at these locations, which no look is made for: the answer of the storage of one thread
 -- after the first moves that the agent has seen, as many as the number says, which is that of the state
@@ -138,18 +138,18 @@ IsCoherentReply meaning new reads M (reply.Fired k) =
 IsCoherentReply meaning new reads M r = Unit {0}
 
 -- so many attempts were made, each of which added an entry to what is seen, and so many polls found nothing
-pub record HasOffered {A : Type 0} (old new : AgentAt A) (offers looks : ℕ) : Type 0 where
+pub record HasOffered {A : Type 0} (old new : AgentAt A) (offers polls : ℕ) : Type 0 where
   pub longer : length old.account.seen + offers ≤ length new.account.seen
-  pub missed : Missed old looks new
+  pub missed : Missed old polls new
 
 -- how many attempts a fire made: the last one won, or 64 were lost, or fewer were lost before the last poll; each
 -- attempt follows one poll that found nothing
 abbrev pub MadeOffers : {A : Type 0} → AgentAt A → AgentAt A → Result Reply FireError → ℕ → Type 0
 MadeOffers old new (Ok (reply.Fired k)) n = (1 ≤ n) × (n ≤ offers_limit) × HasOffered old new n n
-MadeOffers old new (Ok r) n = (n < offers_limit) × HasOffered old new n (n + last_look new)
+MadeOffers old new (Ok r) n = (n < offers_limit) × HasOffered old new n (n + last_poll new)
 MadeOffers old new (Err fire_error.ManyReads) n = (n ≡ 0) × (new ≡ old)
 MadeOffers old new (Err (fire_error.Busy from to)) n = (n ≡ offers_limit) × HasOffered old new n n
-MadeOffers old new (Err fire_error.Memory) n = (n < offers_limit) × HasOffered old new n (n + last_look new)
+MadeOffers old new (Err fire_error.Memory) n = (n < offers_limit) × HasOffered old new n (n + last_poll new)
 
 -- `Busy` has what had been seen at the call's start and at its end
 abbrev pub IsBusy : {A : Type 0} → AgentAt A → AgentAt A → FireError → Type 0
@@ -164,12 +164,12 @@ pub record IsFire {A : Type 0} (meaning : A → Meaning) (old new : AgentAt A) (
   pub seen : IsPrefix old.account.seen new.account.seen
   -- its own state has the old version or a later one, and after a reply just that one
   pub follows : FollowsOn old new
-  pub stands : IfOk result (StandsAfter old new (is_plain reads M))
+  pub stands : IfOk result (IsVersionAfter old new (is_plain reads M))
   -- a reply is that of the sequential storage, and what fired finds what it named unchanged
   pub answered : IfOk result (IsReplied meaning old new reads M)
   pub coherent : IfOk result (IsCoherentReply meaning new reads M)
   -- after an error it has looked on, and no more
-  pub refused : OnErr result (new ≡ has_looked old new.account.seen new.misses new.number)
+  pub refused : OnErr result (new ≡ has_polled old new.account.seen new.misses new.number)
   pub busy : IfErr result (IsBusy old new)
   pub many : IsErrOf result fire_error.ManyReads ↔ (reads_limit < length reads)
   -- how many attempts it made; the polls that found nothing are one at least before a fired move, counted up to 2^64
@@ -187,17 +187,17 @@ pub record IsFireOver {A : Type 0} (meaning : A → Meaning) (old new : AgentAt 
   pub seen : IsPrefix old.account.seen new.account.seen
   -- its own state has the old version or a later one, and after a reply just that one
   pub follows : FollowsOn old new
-  pub stands : IfOk result (StandsAfter old new (is_plain_over reads scans M))
+  pub stands : IfOk result (IsVersionAfter old new (is_plain_over reads scans M))
   -- a reply is that of the sequential storage to the fire that names what was found too, and depends on the scans
   pub found : Option Named
   pub answered : IfOk result (IsReplied meaning old new (with_found reads found) M)
   pub coherent : IfOk result (IsCoherentReply meaning new (with_found reads found) M)
-  pub rests : IfOk result (λ r.
-      RestsOn (machine_of meaning new.storage) (moves_seen (judged_on r new.account.seen)) scans found r)
+  pub depends : IfOk result (λ r.
+      DependsOn (machine_of meaning new.storage) (moves_seen (judged_on r new.account.seen)) scans found r)
   -- as many reads and scans together as a fire may have reads
   pub many : IsErrOf result fire_error.ManyReads ↔ (reads_limit < length reads + length scans)
   -- the rest is as of any fire
-  pub refused : OnErr result (new ≡ has_looked old new.account.seen new.misses new.number)
+  pub refused : OnErr result (new ≡ has_polled old new.account.seen new.misses new.number)
   pub busy : IfErr result (IsBusy old new)
   pub offers : (n : ℕ) × MadeOffers old new result n
   pub missed : (k : ℕ) → result ≡ Ok (reply.Fired k) → min (old.misses + 1) (2 ^ 64 - 1) ≤ new.misses
@@ -205,9 +205,9 @@ pub record IsFireOver {A : Type 0} (meaning : A → Meaning) (old new : AgentAt 
   pub lost : (from to : ℕ) → result ≡ Err (fire_error.Busy from to) → from + offers_limit ≤ to
 
 -- a read looked on, but where it had too many locations
-abbrev pub HasLookedFor : {A : Type 0} → AgentAt A → AgentAt A → ReadError → Type 0
-HasLookedFor old new read_error.ManyLocations = new ≡ old
-HasLookedFor old new read_error.Memory = Missed old (last_look new) new
+abbrev pub HasPolledFor : {A : Type 0} → AgentAt A → AgentAt A → ReadError → Type 0
+HasPolledFor old new read_error.ManyLocations = new ≡ old
+HasPolledFor old new read_error.Memory = Missed old (last_poll new) new
 
 -- the state in which so many calls in a row leave a closure
 abbrev pub Ran : {F : Type 0} → (F → F → Type 0) → F → ℕ → F → Type 0

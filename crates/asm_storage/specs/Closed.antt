@@ -13,5 +13,5 @@ pub record IsClosed {A : Type 0} (meaning : A → Meaning) (s : StorageView A) (
   pub capacity : history.capacity ≡ length s.row
   pub agents : history.agents ≡ id_bound (accounts all)
   pub events : history.events ≡ merged (accounts all)
-  pub told : IsHistoryOf (machine_of meaning s) (accounts all) history.events
+  pub reported : IsHistoryOf (machine_of meaning s) (accounts all) history.events
   pub none_missing : NoneMissing (accounts all)

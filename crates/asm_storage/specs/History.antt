@@ -5,7 +5,7 @@ use Rattle.std.specs.List.{filter_map}
 use Rattle.asm_update.specs.Move.{Move}
 use Rattle.asm_update.specs.State.{State, val}
 use Rattle.asm_update.specs.Fire.{fire}
-use Rattle.asm_state.specs.Stands.{after_move}
+use Rattle.asm_state.specs.FollowsFrom.{after_move}
 use Rattle.asm_storage.specs.declared.call.Call.{Call}
 use Rattle.asm_storage.specs.declared.call.Call.TheVariants as call
 use Rattle.asm_storage.specs.declared.call.Reply.TheVariants as reply

@@ -25,12 +25,12 @@ abbrev pub machine_state : Machine → List Move → State
 machine_state m q = firing.state_of m.part m.init q
 
 -- the reply to a move that fires: `Fired` while there is room
-abbrev pub taken_reply : ℕ → ℕ → Reply
-taken_reply capacity number = if nat_lt number capacity then reply.Fired (number + 1) else reply.Full
+abbrev pub fired_or_full : ℕ → ℕ → Reply
+fired_or_full capacity number = if nat_lt number capacity then reply.Fired (number + 1) else reply.Full
 
 -- the reply to a move that isn't stale: that of a firing move if it has a state, and else its clash
 abbrev pub firing_reply : Machine → List Move → Result State Clash → Reply
-firing_reply m q (Ok B) = taken_reply m.capacity (length q)
+firing_reply m q (Ok B) = fired_or_full m.capacity (length q)
 firing_reply m q (Err clash) = reply.Clash clash
 
 -- the reply to a move, where this is its least stale location: stale before a clash, and a clash before full

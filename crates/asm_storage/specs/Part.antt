@@ -10,7 +10,7 @@ use mathlib.Core.List.{IsPrefix}
 use Rattle.asm_update.specs.Aggregator.{Meaning}
 use Rattle.asm_update.specs.Fire.{Part, fire, state_of}
 use Rattle.asm_update.specs.State.{State}
-use Rattle.asm_state.specs.Stands.{Stands}
+use Rattle.asm_state.specs.FollowsFrom.{FollowsFrom}
 use Rattle.asm_state.specs.Verdict.{least_stale}
 use Rattle.asm_state.specs.View.{StateView}
 use Rattle.asm_state.specs.declared.scanned.Scanned.{Scanned}
@@ -24,8 +24,8 @@ use Rattle.asm_storage.specs.Machine.{Machine, reply_to}
 use Rattle.asm_storage.specs.History.{fired_move}
 use Rattle.asm_storage.specs.Agents.{AgentView, IsAgent, moves_seen}
 use Rattle.asm_storage.specs.Calls.{receipt_at, judged_on, IsReplied}
-use Rattle.asm_storage.specs.Scans.{with_found, RestsOn}
-use Rattle.asm_storage.specs.Storage.{AgentAt, StorageView, machine_of, has_seen, has_looked, with_fired, last_look}
+use Rattle.asm_storage.specs.Scans.{with_found, DependsOn}
+use Rattle.asm_storage.specs.Storage.{AgentAt, StorageView, machine_of, has_seen, has_polled, with_fired, last_poll}
 
 -- the agent's entry of this move, and the call to fire it with these declared reads
 pub record IsOffering (agent : ℕ) (reads : List Named) (M : Move) (o : Offering) : Type 0 where
@@ -49,7 +49,7 @@ agent_of s p = record { storage = s; misses = p.progress.misses; number = p.stat
 -- the state has followed the first moves that were seen
 pub record IsFollowing (m : Machine) (seen : List Entry) (s : StateView) : Type 0 where
   pub within : s.number ≤ length seen
-  pub stands : Stands m.part m.init s (take s.number (moves_seen seen))
+  pub stands : FollowsFrom m.part m.init s (take s.number (moves_seen seen))
 
 -- the part is of an agent of the storage
 pub record IsPartOf {A : Type 0} (meaning : A → Meaning) (s : StorageView A) (p : AgentPart) : Type 0 where
@@ -61,14 +61,14 @@ pub record IsPartOf {A : Type 0} (meaning : A → Meaning) (s : StorageView A) (
 
 -- the agent has looked on: it has seen more, or counted misses, its state may have followed more, and nothing else of it
 -- has changed
-pub record LooksOn {A : Type 0} (meaning : A → Meaning) (s : StorageView A) (old new : AgentPart) : Type 0 where
-  pub agent : agent_of s new ≡ has_looked (agent_of s old) new.progress.seen new.progress.misses new.state.number
+pub record HasPolledRow {A : Type 0} (meaning : A → Meaning) (s : StorageView A) (old new : AgentPart) : Type 0 where
+  pub agent : agent_of s new ≡ has_polled (agent_of s old) new.progress.seen new.progress.misses new.state.number
   pub seen : IsPrefix old.progress.seen new.progress.seen
   pub onward : old.state.number ≤ new.state.number
   pub part : IsPartOf meaning s new
 
 -- an attempt was lost: one entry more was seen, which is another's
-pub record IsLost {A : Type 0} (s : StorageView A) (old new : AgentPart) : Type 0 where
+pub record HasLostAttempt {A : Type 0} (s : StorageView A) (old new : AgentPart) : Type 0 where
   pub agent : agent_of s new ≡ has_seen (agent_of s old) new.progress.seen
   pub seen : IsPrefix old.progress.seen new.progress.seen
   pub longer : length new.progress.seen ≡ length old.progress.seen + 1
@@ -104,15 +104,15 @@ IsJudged m seen reads M None =
 abbrev pub IsTurn : {A : Type 0} → (A → Meaning) → StorageView A → AgentPart → AgentPart → List Named → Move →
     Option Reply → Type 0
 IsTurn meaning s old new reads M (Some r) = IsReplied meaning (agent_of s old) (agent_of s new) reads M r
-IsTurn meaning s old new reads M None = LooksOn meaning s old new
+IsTurn meaning s old new reads M None = HasPolledRow meaning s old new
 
 -- one turn of a fire that depends on scans: it was answered, and depends on what was found; or an attempt was lost
 abbrev pub IsTurnOver : {A : Type 0} → (A → Meaning) → StorageView A → AgentPart → AgentPart → List Named →
     List Scanned → Move → Option Reply → Type 0
 IsTurnOver meaning s old new reads scans M (Some r) = (found : Option Named)
     × IsReplied meaning (agent_of s old) (agent_of s new) (with_found reads found) M r
-    × RestsOn (machine_of meaning s) (moves_seen (judged_on r new.progress.seen)) scans found r
-IsTurnOver meaning s old new reads scans M None = LooksOn meaning s old new
+    × DependsOn (machine_of meaning s) (moves_seen (judged_on r new.progress.seen)) scans found r
+IsTurnOver meaning s old new reads scans M None = HasPolledRow meaning s old new
 
 -- how many attempts the turn made
 abbrev pub offers_in : Result (Option Reply) AllocError → ℕ
@@ -124,6 +124,6 @@ offers_in (Err e) = 0
 -- how many of its polls found nothing: one before an attempt, and else the last one, if there was one
 abbrev pub misses_in : {A : Type 0} → AgentAt A → Result (Option Reply) AllocError → ℕ
 misses_in new (Ok (Some (reply.Fired k))) = 1
-misses_in new (Ok (Some r)) = last_look new
+misses_in new (Ok (Some r)) = last_poll new
 misses_in new (Ok None) = 1
-misses_in new (Err e) = last_look new
+misses_in new (Err e) = last_poll new

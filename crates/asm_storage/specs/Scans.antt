@@ -7,7 +7,7 @@ use Rattle.asm_update.specs.Fire.{Part}
 use Rattle.asm_update.specs.Move.{Move, IsLeast}
 use Rattle.asm_update.specs.State.{State, val}
 use Rattle.asm_state.specs.Scans.{has_name, is_rewritten}
-use Rattle.asm_state.specs.Stands.{is_stale}
+use Rattle.asm_state.specs.FollowsFrom.{is_stale}
 use Rattle.asm_state.specs.declared.named.Named.{Named}
 use Rattle.asm_state.specs.declared.scanned.Scanned.{Scanned}
 use Rattle.asm_storage.specs.declared.call.Reply.{Reply}
@@ -50,6 +50,6 @@ pub record IsKept (m : Machine) (q : List Move) (s : Scanned) : Type 0 where
 
 -- what a reply after these moves depends on beside the reads. A stale one has a read that is stale, or one that names
 -- what was found of the scans; with any other nothing was found, and each function is as at its scan
-abbrev pub RestsOn : Machine → List Move → List Scanned → Option Named → Reply → Type 0
-RestsOn m q scans found (reply.Stale l) = IsFound m.part m.init q scans found
-RestsOn m q scans found r = (found ≡ None) × All (IsKept m q) scans
+abbrev pub DependsOn : Machine → List Move → List Scanned → Option Named → Reply → Type 0
+DependsOn m q scans found (reply.Stale l) = IsFound m.part m.init q scans found
+DependsOn m q scans found r = (found ≡ None) × All (IsKept m q) scans

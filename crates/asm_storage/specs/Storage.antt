@@ -72,12 +72,12 @@ abbrev pub has_seen : {A : Type 0} → AgentAt A → List Entry → AgentAt A
 has_seen a seen = record a { account = record a.account { seen = seen } }
 
 -- the agent when it has seen this, after polls, and its state has this version
-abbrev pub has_looked : {A : Type 0} → AgentAt A → List Entry → ℕ → ℕ → AgentAt A
-has_looked a seen misses number = record a { misses = misses; number = number; account = record a.account { seen = seen } }
+abbrev pub has_polled : {A : Type 0} → AgentAt A → List Entry → ℕ → ℕ → AgentAt A
+has_polled a seen misses number = record a { misses = misses; number = number; account = record a.account { seen = seen } }
 
 -- its own state has followed all that it has seen
-abbrev pub IsLevel : {A : Type 0} → AgentAt A → Type 0
-IsLevel a = a.number ≡ length a.account.seen
+abbrev pub IsUpToDate : {A : Type 0} → AgentAt A → Type 0
+IsUpToDate a = a.number ≡ length a.account.seen
 
 -- its own state didn't go back, and has followed no more than was seen
 pub record FollowsOn {A : Type 0} (old new : AgentAt A) : Type 0 where
@@ -106,9 +106,9 @@ IsReplyOf meaning a call answer = answer ≡ reply_to (machine_of meaning a.stor
 
 -- how many polls an agent that polls until no move is left counts as misses: one, or none where it has then seen the
 -- whole row
-abbrev pub last_look : {A : Type 0} → AgentAt A → ℕ
-last_look a = if nat_lt (length a.account.seen) (length a.storage.row) then 1 else 0
+abbrev pub last_poll : {A : Type 0} → AgentAt A → ℕ
+last_poll a = if nat_lt (length a.account.seen) (length a.storage.row) then 1 else 0
 
 -- so many more polls found nothing; they are counted up to 2^64 - 1
 abbrev pub Missed : {A : Type 0} → AgentAt A → ℕ → AgentAt A → Type 0
-Missed before looks after = after.misses ≡ min (before.misses + looks) (2 ^ 64 - 1)
+Missed before polls after = after.misses ≡ min (before.misses + polls) (2 ^ 64 - 1)

@@ -3,12 +3,12 @@ ghost use mathlib.Core.List.{IsPrefix};
 ghost use Rattle.asm_storage.specs.declared.error.ReadError.TheVariants.{ManyLocations};
 ghost use Rattle.asm_storage.specs.declared.error.RecallError.TheVariants as recall_error;
 ghost use Rattle.asm_storage.specs.Agents.{IsAgent, is_fired};
-ghost use Rattle.asm_storage.specs.Calls.{HasLookedFor, IsBehind, IsFire, IsFireOver, IsPeek, IsRead, IsRecall, IsStaleRead};
+ghost use Rattle.asm_storage.specs.Calls.{HasPolledFor, IsBehind, IsFire, IsFireOver, IsPeek, IsRead, IsRecall, IsStaleRead};
 ghost use Rattle.asm_storage.specs.Calls.{MadeOffers, Ran};
 ghost use Rattle.asm_storage.specs.Limits.{agents_limit, reads_limit};
 ghost use Rattle.asm_storage.specs.Part.{agent_of, IsFollowing, IsPartOf};
-ghost use Rattle.asm_storage.specs.Storage.{machine_of, has_seen, has_looked, last_look};
-ghost use Rattle.asm_storage.specs.Storage.{FollowsOn, IsLevel, IsSameAgent, Missed};
+ghost use Rattle.asm_storage.specs.Storage.{machine_of, has_seen, has_polled, last_poll};
+ghost use Rattle.asm_storage.specs.Storage.{FollowsOn, IsUpToDate, IsSameAgent, Missed};
 ghost use Rattle.asm_storage.specs.Taken.{HasTaken};
 
 use crate::call::Reply;
@@ -140,7 +140,6 @@ impl<'s, A: Aggregator + Sync + Drop> Agent<'s, A> {
         ensures longest { length self.new.account.seen ≡ max (length self.old.account.seen) (length mark.now.seen) }
         ensures made { IsOk result }
     {
-        let _ = alloc;
         let storage = self.storage;
         self.part.learn(storage, mark);
         Ok(())
@@ -169,9 +168,9 @@ impl<'s, A: Aggregator + Sync + Drop> Agent<'s, A> {
         ensures number { IfOk result (λ n. n ≡ length self.new.account.seen) }
         ensures stands { IfOk result (λ n. n ≡ self.new.number) }
         ensures follows { FollowsOn self.old self.new }
-        ensures looked { Missed self.old (last_look self.new) self.new }
+        ensures polled { Missed self.old (last_poll self.new) self.new }
         ensures seen { IsPrefix self.old.account.seen self.new.account.seen }
-        ensures kept { self.new ≡ has_looked self.old self.new.account.seen self.new.misses self.new.number }
+        ensures kept { self.new ≡ has_polled self.old self.new.account.seen self.new.misses self.new.number }
     {
         let storage = self.storage;
         self.part.follow(alloc, storage)
@@ -214,12 +213,12 @@ impl<'s, A: Aggregator + Sync + Drop> Agent<'s, A> {
     pub fn stands(&mut self, alloc: Global, named: &[Named]) -> Result<Option<Location>, ReadError>
         ensures same { IsSameAgent self.old self.new }
         ensures stale { IfOk result (IsStaleRead A.meaning self.new named.now) }
-        ensures looked { IfOk result (λ found. Missed self.old (last_look self.new) self.new) }
+        ensures polled { IfOk result (λ found. Missed self.old (last_poll self.new) self.new) }
         ensures seen { IsPrefix self.old.account.seen self.new.account.seen }
-        ensures kept { self.new ≡ has_looked self.old self.new.account.seen self.new.misses self.new.number }
-        ensures level { OnOk result (IsLevel self.new) }
+        ensures kept { self.new ≡ has_polled self.old self.new.account.seen self.new.misses self.new.number }
+        ensures level { OnOk result (IsUpToDate self.new) }
         ensures follows { FollowsOn self.old self.new }
-        ensures unread { IfErr result (HasLookedFor self.old self.new) }
+        ensures unread { IfErr result (HasPolledFor self.old self.new) }
         ensures many { IsErrOf result ManyLocations ↔ (reads_limit < length named.now) }
     {
         let storage = self.storage;
@@ -242,11 +241,11 @@ impl<'s, A: Aggregator + Sync + Drop> Agent<'s, A> {
     pub fn read(&mut self, alloc: Global, places: &[Location]) -> Result<Reading, ReadError>
         ensures same { IsSameAgent self.old self.new }
         ensures answered { IfOk result (IsRead A.meaning self.old self.new places.now) }
-        ensures looked { IfOk result (λ r. Missed self.old (last_look self.new) self.new) }
+        ensures polled { IfOk result (λ r. Missed self.old (last_poll self.new) self.new) }
         ensures seen { IsPrefix self.old.account.seen self.new.account.seen }
-        ensures refused { OnErr result (self.new ≡ has_looked self.old self.new.account.seen self.new.misses self.new.number) }
+        ensures refused { OnErr result (self.new ≡ has_polled self.old self.new.account.seen self.new.misses self.new.number) }
         ensures follows { FollowsOn self.old self.new }
-        ensures unread { IfErr result (HasLookedFor self.old self.new) }
+        ensures unread { IfErr result (HasPolledFor self.old self.new) }
         ensures many { IsErrOf result ManyLocations ↔ (reads_limit < length places.now) }
     {
         let storage = self.storage;
@@ -312,7 +311,7 @@ impl<'s, A: Aggregator + Sync + Drop> Agent<'s, A> {
                 .part
                 .fire(alloc, storage, &named, scans, instrs, between),
             Err(_) => {
-                self.part.look(storage);
+                self.part.poll(storage);
                 Err(FireError::Memory)
             }
         }

@@ -1,8 +1,8 @@
 ghost use Rattle.std.specs.Prelude.{◌≡◌, ◌<◌, ◌≤◌, length, max, IfOk, OnOk};
 ghost use mathlib.Core.List.{IsPrefix};
-ghost use Rattle.asm_storage.specs.Storage.{at_start, has_seen, last_look, Missed};
+ghost use Rattle.asm_storage.specs.Storage.{at_start, has_seen, last_poll, Missed};
 ghost use Rattle.asm_storage.specs.Limits.{agents_limit};
-ghost use Rattle.asm_storage.specs.Part.{agent_of, IsPartOf, LooksOn};
+ghost use Rattle.asm_storage.specs.Part.{agent_of, IsPartOf, HasPolledRow};
 ghost use Rattle.asm_storage.specs.Taken.{HasTaken};
 
 mod fire;
@@ -94,10 +94,10 @@ impl AgentPart {
     }
 
     // Polls until no move is left, or the whole row is seen.
-    pub(crate) fn look<A: Aggregator + Sync + Drop>(&mut self, storage: &Storage<A>)
+    pub(crate) fn poll<A: Aggregator + Sync + Drop>(&mut self, storage: &Storage<A>)
         requires { IsPartOf A.meaning storage.now self.old }
-        ensures looks { LooksOn A.meaning storage.now self.old self.new }
-        ensures missed { Missed (agent_of storage.now self.old) (last_look (agent_of storage.now self.new))
+        ensures polls { HasPolledRow A.meaning storage.now self.old self.new }
+        ensures missed { Missed (agent_of storage.now self.old) (last_poll (agent_of storage.now self.new))
             (agent_of storage.now self.new) }
         ensures state { self.new.state ≡ self.old.state }
     {
@@ -131,12 +131,12 @@ impl AgentPart {
         storage: &Storage<A>,
     ) -> Result<(), AllocError>
         requires { IsPartOf A.meaning storage.now self.old }
-        ensures looks { LooksOn A.meaning storage.now self.old self.new }
-        ensures missed { Missed (agent_of storage.now self.old) (last_look (agent_of storage.now self.new))
+        ensures polls { HasPolledRow A.meaning storage.now self.old self.new }
+        ensures missed { Missed (agent_of storage.now self.old) (last_poll (agent_of storage.now self.new))
             (agent_of storage.now self.new) }
         ensures level { OnOk result (self.new.state.number ≡ length self.new.progress.seen) }
     {
-        self.look(storage);
+        self.poll(storage);
         self.catch_up(alloc, storage)
     }
 
@@ -153,8 +153,8 @@ impl AgentPart {
         storage: &Storage<A>,
     ) -> Result<u32, AllocError>
         requires { IsPartOf A.meaning storage.now self.old }
-        ensures looks { LooksOn A.meaning storage.now self.old self.new }
-        ensures missed { Missed (agent_of storage.now self.old) (last_look (agent_of storage.now self.new))
+        ensures polls { HasPolledRow A.meaning storage.now self.old self.new }
+        ensures missed { Missed (agent_of storage.now self.old) (last_poll (agent_of storage.now self.new))
             (agent_of storage.now self.new) }
         ensures number { IfOk result (λ n. n ≡ self.new.state.number) }
         ensures level { IfOk result (λ n. n ≡ length self.new.progress.seen) }
@@ -173,7 +173,6 @@ impl AgentPart {
         ensures theirs { IsPrefix mark.now.seen self.new.progress.seen }
         ensures longest { length self.new.progress.seen ≡ max (length self.old.progress.seen) (length mark.now.seen) }
     {
-        let _ = storage; // The contract alone speaks of it.
         self.progress.learn(mark);
     }
 
@@ -192,7 +191,6 @@ impl AgentPart {
         ensures taken { HasTaken (agent_of storage.now self.old) (agent_of storage.now other.old)
             (agent_of storage.now self.new) (agent_of storage.now other.new) }
     {
-        let _ = storage; // The contract alone speaks of it.
         self.progress.learn_from(&other.progress);
         if self.state.number() < other.state.number() {
             mem::swap(&mut self.state, &mut other.state);

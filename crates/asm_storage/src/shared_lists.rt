@@ -26,7 +26,7 @@ fn copied_places(alloc: Global, places: &[Location]) -> Result<Items<Location>, 
 }
 
 /// Return the same locations: the earlier list, where it has them, or else a copy.
-pub(crate) fn places_again(
+pub(crate) fn share_or_copy_places(
     alloc: Global,
     places: &[Location],
     earlier: Option<&Items<Location>>,

@@ -7,7 +7,7 @@ ghost use Rattle.asm_storage.specs.declared.error.StorageError.TheVariants as st
 ghost use Rattle.asm_storage.specs.declared.error.AgentsError.TheVariants as agents_error;
 ghost use Rattle.asm_row.specs.Limits.{IsNoCapacity};
 ghost use Rattle.asm_update.specs.Fire.{Part};
-ghost use Rattle.asm_state.specs.Stands.{Stands};
+ghost use Rattle.asm_state.specs.FollowsFrom.{FollowsFrom};
 ghost use Rattle.asm_storage.specs.declared.entry.Entry.{Entry};
 ghost use Rattle.asm_storage.specs.Limits.{agents_limit};
 ghost use Rattle.asm_storage.specs.Storage.{at_start};
@@ -213,7 +213,7 @@ impl<A: Aggregator + Sync + Drop> Storage<A> {
 
     /// Return a state before the first move, which shares the opening values.
     pub(crate) fn opening(&self, alloc: Global) -> Result<State, AllocError>
-        ensures { IfOk result (λ s. (part : Part) → Stands part self.now.init s []) }
+        ensures { IfOk result (λ s. (part : Part) → FollowsFrom part self.now.init s []) }
     {
         let init = Arc::try_clone(&self.init)?;
         Ok(State::over(alloc, init))

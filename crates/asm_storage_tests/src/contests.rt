@@ -46,7 +46,7 @@ fn fire(alloc: Global, agent: &mut Agent<'_, Standard>, instrs: &Instructions) -
 }
 
 /// Fire as the rival has it; return what is left of that.
-fn meddle(
+fn before_attempt(
     alloc: Global,
     other: &mut Agent<'_, Standard>,
     others: &Instructions,
@@ -84,7 +84,7 @@ fn fire_against(
         alloc,
         reads,
         instrs,
-        &mut || left = meddle(alloc, other, others, left),
+        &mut || left = before_attempt(alloc, other, others, left),
     );
     if left.is_refused {
         return Err(FireError::Memory);

@@ -3,7 +3,7 @@ use crate::asked::{Act, At, Put, Want, move_of, receipt_of};
 use Act::{Fire, Read};
 use asm_element::Items;
 use asm_storage::{Answer, Entry, Event, History, Receipt, Reply};
-use asm_test_support::{are_told_apart, location, number};
+use asm_test_support::{are_distinct, location, number};
 use asm_update::{Cause, Clash, PlainState};
 use std::alloc::{AllocError, Global};
 use std::test::Fail;
@@ -116,12 +116,12 @@ fn histories(alloc: Global) -> Result<Vec<History>, AllocError> {
 }
 
 #[test]
-fn one_part_that_differs_tells_values_apart(rt: HostRuntime) -> Result<(), Fail> {
+fn one_part_that_differs_reports_values_apart(rt: HostRuntime) -> Result<(), Fail> {
     let alloc = rt.alloc();
-    assert!(rt; are_told_apart(&receipts(alloc)?), "receipts");
-    assert!(rt; are_told_apart(&answers(alloc)?), "answers");
-    assert!(rt; are_told_apart(&events(alloc)?), "events");
-    assert!(rt; are_told_apart(&entries(alloc)?), "entries");
-    assert!(rt; are_told_apart(&histories(alloc)?), "histories");
+    assert!(rt; are_distinct(&receipts(alloc)?), "receipts");
+    assert!(rt; are_distinct(&answers(alloc)?), "answers");
+    assert!(rt; are_distinct(&events(alloc)?), "events");
+    assert!(rt; are_distinct(&entries(alloc)?), "entries");
+    assert!(rt; are_distinct(&histories(alloc)?), "histories");
     Ok(())
 }

@@ -1,6 +1,6 @@
 //! What errors say, and which are equal.
 use asm_storage::{AgentsError, CloseError, FireError, ReadError, RecallError, StorageError};
-use asm_test_support::are_told_apart;
+use asm_test_support::are_distinct;
 use std::alloc::{AllocError, Global};
 use std::fmt::Display;
 use std::test::Fail;
@@ -41,7 +41,7 @@ fn errors_have_their_texts(rt: HostRuntime) -> Result<(), Fail> {
 }
 
 #[test]
-fn kinds_and_numbers_of_errors_are_told_apart(rt: HostRuntime) {
+fn kinds_and_numbers_of_errors_are_distinct(rt: HostRuntime) {
     let fires = [
         FireError::ManyReads,
         FireError::Memory,
@@ -54,14 +54,14 @@ fn kinds_and_numbers_of_errors_are_told_apart(rt: HostRuntime) {
         CloseError::Missing(1),
         CloseError::Missing(2),
     ];
-    assert!(rt; are_told_apart(&fires) && are_told_apart(&closings));
-    assert!(rt; are_told_apart(&[ReadError::ManyLocations, ReadError::Memory]));
+    assert!(rt; are_distinct(&fires) && are_distinct(&closings));
+    assert!(rt; are_distinct(&[ReadError::ManyLocations, ReadError::Memory]));
     let recalls = [
         RecallError::ManyLocations,
         RecallError::Behind,
         RecallError::Memory,
     ];
-    assert!(rt; are_told_apart(&recalls));
-    assert!(rt; are_told_apart(&[AgentsError::BadAgents, AgentsError::Memory]));
-    assert!(rt; are_told_apart(&[StorageError::BadCapacity, StorageError::Memory]));
+    assert!(rt; are_distinct(&recalls));
+    assert!(rt; are_distinct(&[AgentsError::BadAgents, AgentsError::Memory]));
+    assert!(rt; are_distinct(&[StorageError::BadCapacity, StorageError::Memory]));
 }

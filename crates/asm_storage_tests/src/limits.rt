@@ -160,7 +160,7 @@ fn is_stale_by(
 }
 
 /// Return whether a fire by a reading is stale after the other has put the same value.
-pub(crate) fn rests(
+pub(crate) fn depends(
     alloc: Global,
     agent: &mut Agent<'_, Standard>,
     other: &mut Agent<'_, Standard>,

@@ -5,7 +5,7 @@ ghost use Rattle.asm_storage.specs.Storage.{IsSameAgent};
 use crate::asked::{Act, Want};
 use crate::closings::{Closing, closes};
 use crate::contests::{Contest, contends};
-use crate::limits::{looks, names_many, reads_many, recalls_many, rests};
+use crate::limits::{depends, looks, names_many, reads_many, recalls_many};
 use crate::performing::{Recalled, asks, counts, learns, recalls, retries};
 use asm_aggregate::{Standard, standard};
 use asm_storage::{Agent, Storage};
@@ -89,7 +89,7 @@ fn fills(
 
 impl Two<'_> {
     /// Return whether a step that asks nothing comes out right.
-    fn tells(&self, alloc: Global, step: Step) -> bool {
+    fn reports(&self, alloc: Global, step: Step) -> bool {
         match step {
             Step::Count(seen, won, misses, receipts) => {
                 counts(&self.a, (seen, won, misses, receipts))
@@ -113,14 +113,14 @@ impl Two<'_> {
             Step::Learn(Who::B, seen) => learns(alloc, &mut self.b, &self.a, seen),
             Step::Fill(from, to) => fills(alloc, &mut self.b, from, to),
             Step::Contend(contest) => contends(alloc, &mut self.a, &mut self.b, contest),
-            Step::Rest => rests(alloc, &mut self.a, &mut self.b),
+            Step::Rest => depends(alloc, &mut self.a, &mut self.b),
             Step::Look => looks(alloc, &mut self.a),
             Step::ReadMany(n, is_good) => reads_many(alloc, &mut self.a, n, is_good),
             Step::NameMany(n, is_good) => names_many(alloc, &mut self.a, n, is_good),
             Step::Recall(names, want) => recalls(alloc, &mut self.a, names, want),
             Step::RecallMany(n, is_good) => recalls_many(alloc, &mut self.a, n, is_good),
             Step::Retry(act, want, seen) => retries(alloc, &mut self.a, act, want, seen),
-            _ => Ok(self.tells(alloc, step)),
+            _ => Ok(self.reports(alloc, step)),
         }
     }
 

@@ -1,4 +1,4 @@
 pub mod Noted
 pub mod Making
 pub mod Local
-pub mod Kept
+pub mod Unchanged

@@ -33,7 +33,7 @@ use Rattle.asm_aggregate.specs.Sets.{is_the, union, difference, elements_by}
 use Rattle.asm_aggregate.specs.Steps as steps
 use Rattle.asm_aggregate.specs.laws.BagAlgebra.{has, has-names, held, held_count, get-recounted}
 use Rattle.asm_aggregate.specs.laws.SetAlgebra.{contains-elements, contains-elements_by, contains_updated}
-use Rattle.asm_trace.specs.Change.{OfSet, OfBag, is_missing, without, differ_at, differing, recount, recounts, names, is_named, AreSameTo, told, IsLocal}
+use Rattle.asm_trace.specs.Change.{OfSet, OfBag, is_missing, without, differ_at, differing, recount, recounts, names, is_named, AreSameTo, change_by, IsLocal}
 use Rattle.asm_aggregate.specs.Standard.{standard_meaning, standard_part}
 use Rattle.asm_trace.proofs.Making.{contains-differing, has-without, same_count}
 
@@ -167,7 +167,7 @@ module _ (s t a r : ElementSet) (ps : List Action) (alike : (e : Element) → is
       ∙ sym (goes (contains s e) (contains a e) (contains r e))
       ∙ ap (λ b. contains s e && not b) (sym (contains_updated s a r e)))
 
-  sets_alike : told (values.Set t) (Ok (values.Set (after t))) ≡ told (values.Set s) (Ok (values.Set (after s)))
+  sets_alike : change_by (values.Set t) (Ok (values.Set (after t))) ≡ change_by (values.Set s) (Ok (values.Set (after s)))
   sets_alike = λ i. Some (OfSet (comes_alike i) (goes_alike i))
 
 -- what an update adds and what it removes are the elements that functions have of its actions
@@ -175,22 +175,22 @@ updated_alike : (ps : List Action) (s t : ElementSet) (f g : Action → Option E
     updated t ps ≡ union (difference t (elements_by g ps)) (elements_by f ps) →
     updated s ps ≡ union (difference s (elements_by g ps)) (elements_by f ps) → AreNamed f → AreNamed g →
     ((e : Element) → is_named ps e ≡ true → contains s e ≡ contains t e) →
-    told (values.Set t) (Ok (values.Set (updated t ps))) ≡ told (values.Set s) (Ok (values.Set (updated s ps)))
+    change_by (values.Set t) (Ok (values.Set (updated t ps))) ≡ change_by (values.Set s) (Ok (values.Set (updated s ps)))
 updated_alike ps s t f g one other adds removes alike =
-    ap (λ u. told (values.Set t) (Ok (values.Set u))) one
+    ap (λ u. change_by (values.Set t) (Ok (values.Set u))) one
     ∙ sets_alike s t (elements_by f ps) (elements_by g ps) ps alike (named_by f adds ps) (named_by g removes ps)
-    ∙ ap (λ u. told (values.Set s) (Ok (values.Set u))) (sym other)
+    ∙ ap (λ u. change_by (values.Set s) (Ok (values.Set u))) (sym other)
 
 -- the same value changes alike
-same_value : (part : Part) (v w : Value) (ps : List Action) → v ≡ w → told w (part w None ps) ≡ told v (part v None ps)
-same_value part v w ps is = ap (λ x. told x (part x None ps)) (sym is)
+same_value : (part : Part) (v w : Value) (ps : List Action) → v ≡ w → change_by w (part w None ps) ≡ change_by v (part v None ps)
+same_value part v w ps is = ap (λ x. change_by x (part x None ps)) (sym is)
 
 set_local : IsLocal set_meaning.part
 set_local (values.Set s) (values.Set t) ps alike =
     by_tests (not (list_all (is_of Set) ps)) (adds_and_removes ps) where
       by_tests : (b c : Bool) →
-          told (values.Set t) (cond b (Err Mixed) (cond c (Err Both) (Ok (values.Set (updated t ps)))))
-          ≡ told (values.Set s) (cond b (Err Mixed) (cond c (Err Both) (Ok (values.Set (updated s ps)))))
+          change_by (values.Set t) (cond b (Err Mixed) (cond c (Err Both) (Ok (values.Set (updated t ps)))))
+          ≡ change_by (values.Set s) (cond b (Err Mixed) (cond c (Err Both) (Ok (values.Set (updated s ps)))))
       by_tests true c = refl
       by_tests false true = refl
       by_tests false false =
@@ -213,7 +213,7 @@ set_local (values.Set s) (values.Set t) ps alike =
           })
           alike
 set_local (values.Bag a) (values.Bag b) ps alike = by_test (not (list_all (is_of Set) ps)) where
-  by_test : (c : Bool) → told (values.Bag b) (cond c (Err Mixed) (Err Kind)) ≡ told (values.Bag a) (cond c (Err Mixed) (Err Kind))
+  by_test : (c : Bool) → change_by (values.Bag b) (cond c (Err Mixed) (Err Kind)) ≡ change_by (values.Bag a) (cond c (Err Mixed) (Err Kind))
   by_test true = refl
   by_test false = refl
 set_local v w ps alike = same_value set_result v w ps alike
@@ -308,22 +308,22 @@ module _ (ps : List Action) (a b : ElementBag) (alike : (e : Element) → is_nam
     abbrev outcome : Bool → Bool → Bool → ElementBag → GroupResult
     outcome m s l c = cond m (Err Mixed) (cond s (Err Short) (cond l (Err Large) (Ok (values.Bag (new c)))))
 
-    by_tests : (m s l : Bool) → told (values.Bag b) (outcome m s l b) ≡ told (values.Bag a) (outcome m s l a)
+    by_tests : (m s l : Bool) → change_by (values.Bag b) (outcome m s l b) ≡ change_by (values.Bag a) (outcome m s l a)
     by_tests true s l = refl
     by_tests false true l = refl
     by_tests false false true = refl
     by_tests false false false = ap (λ rs. Some (OfBag rs)) recounts_alike
 
-    bags_local : (m : Bool) → told (values.Bag b) (outcome m (is_short b) (is_above b) b)
-        ≡ told (values.Bag a) (outcome m (is_short a) (is_above a) a)
+    bags_local : (m : Bool) → change_by (values.Bag b) (outcome m (is_short b) (is_above b) b)
+        ≡ change_by (values.Bag a) (outcome m (is_short a) (is_above a) a)
     bags_local m =
-        (λ i. told (values.Bag b) (outcome m (short_alike i) (above_alike i) b)) ∙ by_tests m (is_short a) (is_above a)
+        (λ i. change_by (values.Bag b) (outcome m (short_alike i) (above_alike i) b)) ∙ by_tests m (is_short a) (is_above a)
 
 bag_local : IsLocal bag_meaning.part
 bag_local (values.Bag a) (values.Bag b) ps alike =
     bags_local ps a b alike _ _ (λ c e. refl) (not (list_all (is_of Bag) ps))
 bag_local (values.Set s) (values.Set t) ps alike = by_test (not (list_all (is_of Bag) ps)) where
-  by_test : (c : Bool) → told (values.Set t) (cond c (Err Mixed) (Err Kind)) ≡ told (values.Set s) (cond c (Err Mixed) (Err Kind))
+  by_test : (c : Bool) → change_by (values.Set t) (cond c (Err Mixed) (Err Kind)) ≡ change_by (values.Set s) (cond c (Err Mixed) (Err Kind))
   by_test true = refl
   by_test false = refl
 bag_local v w ps alike = same_value bag_result v w ps alike
@@ -332,25 +332,25 @@ bag_local v w ps alike = same_value bag_result v w ps alike
 
 count_local : IsLocal count_meaning.part
 count_local (values.Bag a) (values.Bag b) ps alike = by_test (not (list_all (is_of Count) ps)) where
-  by_test : (c : Bool) → told (values.Bag b) (cond c (Err Mixed) (Err Kind)) ≡ told (values.Bag a) (cond c (Err Mixed) (Err Kind))
+  by_test : (c : Bool) → change_by (values.Bag b) (cond c (Err Mixed) (Err Kind)) ≡ change_by (values.Bag a) (cond c (Err Mixed) (Err Kind))
   by_test true = refl
   by_test false = refl
 count_local (values.Set s) (values.Set t) ps alike = by_test (not (list_all (is_of Count) ps)) where
-  by_test : (c : Bool) → told (values.Set t) (cond c (Err Mixed) (Err Kind)) ≡ told (values.Set s) (cond c (Err Mixed) (Err Kind))
+  by_test : (c : Bool) → change_by (values.Set t) (cond c (Err Mixed) (Err Kind)) ≡ change_by (values.Set s) (cond c (Err Mixed) (Err Kind))
   by_test true = refl
   by_test false = refl
 count_local v w ps alike = same_value count_result v w ps alike
 
 pair_local : (a b : Meaning) → IsLocal a.part → IsLocal b.part → IsLocal (pair_meaning a b).part
 pair_local a b one other v w ps alike = by_family (common_family ps) where
-  by_owners : (p q : Bool) → told w (cond p (a.part w None ps) (cond q (b.part w None ps) (Err Mixed)))
-      ≡ told v (cond p (a.part v None ps) (cond q (b.part v None ps) (Err Mixed)))
+  by_owners : (p q : Bool) → change_by w (cond p (a.part w None ps) (cond q (b.part w None ps) (Err Mixed)))
+      ≡ change_by v (cond p (a.part v None ps) (cond q (b.part v None ps) (Err Mixed)))
   by_owners true q = one v w ps alike
   by_owners false true = other v w ps alike
   by_owners false false = refl
 
-  by_family : (o : Option Family) → told w (by_owner a b o (a.part w None ps) (b.part w None ps) (Err Mixed))
-      ≡ told v (by_owner a b o (a.part v None ps) (b.part v None ps) (Err Mixed))
+  by_family : (o : Option Family) → change_by w (by_owner a b o (a.part w None ps) (b.part w None ps) (Err Mixed))
+      ≡ change_by v (by_owner a b o (a.part v None ps) (b.part v None ps) (Err Mixed))
   by_family None = refl
   by_family (Some f) = by_owners (a.owns f) (b.owns f)
 
@@ -362,9 +362,9 @@ standard_local =
     (pair_local set_meaning bag_meaning set_local bag_local) count_local
 
 -- what a group gives on a value that is the same to its partial updates tells what it changes
-pub told_alike : (part : Part) (v w : Value) (regular : Option Value) (ps given : List Action) (r : GroupResult) →
+pub reported_alike : (part : Part) (v w : Value) (regular : Option Value) (ps given : List Action) (r : GroupResult) →
     IsLocal part → regular ≡ None → given ≡ ps → AreSameTo given v w → part w regular ps ≡ r →
-    told w r ≡ told v (part v None ps)
-told_alike part v w regular ps given r local alone same alike gave =
-    ap (told w) (sym gave ∙ ap (λ o. part w o ps) alone)
+    change_by w r ≡ change_by v (part v None ps)
+reported_alike part v w regular ps given r local alone same alike gave =
+    ap (change_by w) (sym gave ∙ ap (λ o. part w o ps) alone)
     ∙ local v w ps (subst (λ xs. AreSameTo xs v w) same alike)

@@ -25,7 +25,7 @@ use Rattle.asm_update.specs.Fire.{Old}
 use Rattle.asm_update.specs.State.{Updates}
 use Rattle.asm_journal.specs.Shape.{list_of}
 use Rattle.asm_trace.specs.Change.{Change, either, differ_at, differing, recount, recounts, change_of, changes_by, is_missing, without, made, with_counts, Recount}
-use Rattle.asm_trace.specs.Text.{recount_json_of, change_json_of, changes_json_of, WithoutTells, RecountsTell}
+use Rattle.asm_trace.specs.Text.{recount_json_of, change_json_of, changes_json_of, WithoutListsDifference, RecountsListCounts}
 use Rattle.asm_element.specs.Value as value
 use Rattle.asm_element.specs.declared.value.Value.TheVariants as values
 use Rattle.asm_aggregate.specs.BagMeaning.{recounted}
@@ -280,8 +280,8 @@ all_passing P Q p (e ∷ es) h each =
       at true is later = All-cons Q e (filter p es) (each e (All-head P e es h) is) later
       at false is later = later
 
-pub without_tells : WithoutTells
-without_tells s t =
+pub without_reports : WithoutListsDifference
+without_reports s t =
     all_passing (λ e. contains s e ≡ true) (λ e. (contains s e ≡ true) × (contains t e ≡ false)) (is_missing t) (set.elements s)
     (all_members (λ e. contains s e ≡ true) s (λ q is. is)) (λ e there is. (there, missing (contains t e) is)) where
       missing : (b : Bool) → not b ≡ true → b ≡ false
@@ -294,7 +294,7 @@ all_mapped P Q f [] h each = All-nil Q
 all_mapped P Q f (x ∷ xs) h each =
     All-cons Q (f x) (map f xs) (each x (All-head P x xs h)) (all_mapped P Q f xs (All-tail P x xs h) each)
 
-pub recounts_tell : RecountsTell
+pub recounts_tell : RecountsListCounts
 recounts_tell a b =
     all_mapped (λ e. contains (differing a b) e ≡ true)
     (λ (r : Recount). (r.before ≡ count a r.element) × (r.after ≡ count b r.element) × (r.before ≢ r.after)) (recount a b) (set.elements (differing a b))

@@ -16,7 +16,7 @@ use Rattle.std.specs.List.{cons_option, slice_get}
 use Rattle.std.proofs.lemmas.List.{take_more, length-take-le}
 use Rattle.serde_json.specs.Data.{Data}
 use Rattle.asm_state.specs.View.{StateView, value_at}
-use Rattle.asm_state.specs.Stands.{Stands}
+use Rattle.asm_state.specs.FollowsFrom.{FollowsFrom}
 use Rattle.asm_state.proofs.Judged.{same_old}
 use Rattle.asm_storage.specs.Machine.{Machine, machine_state, reply_to}
 use Rattle.asm_storage.specs.History.{move_of, fired_moves}
@@ -28,8 +28,8 @@ use Rattle.asm_storage.proofs.Legal.{fired_moves-append}
 use Rattle.asm_journal.specs.Check.{machine, machine_of, moves_with}
 use Rattle.asm_journal.specs.Text.{line}
 use Rattle.asm_trace.specs.Change.{changes_of}
-use Rattle.asm_trace.specs.Note.{Note, IsNoteOf, AreNotesOf, IsJudged, IsToldRight}
-use Rattle.asm_trace.specs.Text.{note_json_of, notes_text, event_with, header_of, changes_json_of, right_json_of, IsNoted, OneTrace, LegalTrace, FirstWrongTold, TellsNone}
+use Rattle.asm_trace.specs.Note.{Note, IsNoteOf, AreNotesOf, IsJudged, IsCorrection}
+use Rattle.asm_trace.specs.Text.{note_json_of, notes_text, event_with, header_of, changes_json_of, right_json_of, IsNoteAppended, OneTrace, LegalTrace, FirstWrongIsCorrected, HasNoCorrection}
 use Rattle.std.proofs.lemmas.List.Elements.{All-nil, All-cons}
 
 -- each location has a value that a program can hold
@@ -91,23 +91,23 @@ text_more (y ∷ xs) x =
 
 -- ---- one event, on a state that stands for the moves before it
 
-pub noted_step : (part : Part) (capacity n : ℕ) (e : Event) (old new : StateView) (told : Option Answer)
-    (changes : Option Data) (d : Data) (before after : List ℕ) → IsJudged part capacity e old new told →
+pub noted_step : (part : Part) (capacity n : ℕ) (e : Event) (old new : StateView) (reported : Option Answer)
+    (changes : Option Data) (d : Data) (before after : List ℕ) → IsJudged part capacity e old new reported →
     changes ≡ option_map changes_json_of (option_map (changes_of part (value_at old)) (move_of e)) →
-    d ≡ event_with n e (option_map (right_json_of e.answer) told) changes →
-    after ≡ before ++ line d → IsNoted part capacity n e old new before after
-noted_step part capacity n e old new told changes d before after judged changed is appended = λ init q stands.
+    d ≡ event_with n e (option_map (right_json_of e.answer) reported) changes →
+    after ≡ before ++ line d → IsNoteAppended part capacity n e old new before after
+noted_step part capacity n e old new reported changes d before after judged changed is appended = λ init q stands.
     let done = judged init q stands in
     let m = machine part init capacity in
     let x : Note = record {
       number = n;
       event = e;
-      right = told;
+      right = reported;
       changes = option_map (changes_of part (val (machine_state m q))) (move_of e);
     } in
     let here = changed
     ∙ ap (λ (o : Old). option_map changes_json_of (option_map (changes_of part o) (move_of e))) (same_old part init q old stands) in
-    let written : d ≡ note_json_of x = is ∙ ap (event_with n e (option_map (right_json_of e.answer) told)) here in
+    let written : d ≡ note_json_of x = is ∙ ap (event_with n e (option_map (right_json_of e.answer) reported)) here in
     ((x, record { number = refl; event = refl; right = done.0; changes = refl }, appended ∙ ap (λ j. before ++ line j) written), done.1)
 
 -- ---- the loop of the trace
@@ -117,11 +117,11 @@ abbrev pub IsNotedTo : Part → History → StateView → List ℕ → ℕ → T
 IsNotedTo part h s text i =
     ((notes : List Note) × AreNotesOf (machine_of part h) [] 0 (take i h.events) notes
     × (text ≡ line (header_of h) ++ notes_text notes))
-    × Stands part h.init s (fired_moves (take i h.events))
+    × FollowsFrom part h.init s (fired_moves (take i h.events))
 
 pub noted_to_more : (part : Part) (h : History) (i : ℕ) (e : Event) (old new : StateView) (before after : List ℕ) →
     i < length h.events → e ≡ get_or h.events i e → IsNotedTo part h old before i →
-    IsNoted part h.capacity i e old new before after → IsNotedTo part h new after (i + 1)
+    IsNoteAppended part h.capacity i e old new before after → IsNotedTo part h new after (i + 1)
 noted_to_more part h i e old new before after within here ((notes, are, is), stands) step =
     let m = machine_of part h in
     let es = take i h.events in
@@ -141,7 +141,7 @@ noted_to_more part h i e old new before after within here ((notes, are, is), sta
         subst (λ ys. AreNotesOf m [] 0 ys (notes ++ x ∷ [])) (sym more) (notes_more m [] 0 es e notes x are one),
         text,
       ),
-      subst (Stands part h.init new) (sym (ap fired_moves more ∙ fired_moves-append es (e ∷ []))) done.1,
+      subst (FollowsFrom part h.init new) (sym (ap fired_moves more ∙ fired_moves-append es (e ∷ []))) done.1,
     )
 
 -- the state has followed at most as many moves as there were events
@@ -155,17 +155,17 @@ few_followed part h s text i so_far within few =
 
 -- ---- a history has one trace at most
 
-told_once : (a r : Answer) (x y : Option Answer) → IsToldRight a r x → IsToldRight a r y → x ≡ y
-told_once a r None None h k = refl
-told_once a r None (Some y) h k = absurd (k.1 h)
-told_once a r (Some x) None h k = absurd (h.1 k)
-told_once a r (Some x) (Some y) h k = ap Some (h.0 ∙ sym k.0)
+reported_once : (a r : Answer) (x y : Option Answer) → IsCorrection a r x → IsCorrection a r y → x ≡ y
+reported_once a r None None h k = refl
+reported_once a r None (Some y) h k = absurd (k.1 h)
+reported_once a r (Some x) None h k = absurd (h.1 k)
+reported_once a r (Some x) (Some y) h k = ap Some (h.0 ∙ sym k.0)
 
 note_once : (m : Machine) (q : List Move) (n : ℕ) (e : Event) (x y : Note) → IsNoteOf m q n e x → IsNoteOf m q n e y → x ≡ y
 note_once m q n e x y h k =
     let numbers = h.number ∙ sym k.number in
     let events = h.event ∙ sym k.event in
-    let rights = told_once e.answer (reply_to m q e.call) x.right y.right h.right k.right in
+    let rights = reported_once e.answer (reply_to m q e.call) x.right y.right h.right k.right in
     let changes = h.changes ∙ sym k.changes in
     λ i. record { number = numbers i; event = events i; right = rights i; changes = changes i }
 
@@ -190,13 +190,13 @@ abbrev AreLegal : Machine → List Move → List Event → Type 0
 AreLegal m q es = (before after : List Event) (e : Event) →
     before ++ e ∷ after ≡ es → e.answer ≡ reply_to m (q ++ fired_moves before) e.call
 
-none_told : (a r : Answer) (x : Option Answer) → a ≡ r → IsToldRight a r x → x ≡ None
-none_told a r None is h = refl
-none_told a r (Some x) is h = absurd (h.1 is)
+none_reported : (a r : Answer) (x : Option Answer) → a ≡ r → IsCorrection a r x → x ≡ None
+none_reported a r None is h = refl
+none_reported a r (Some x) is h = absurd (h.1 is)
 
-some_told : (a r : Answer) (x : Option Answer) → a ≢ r → IsToldRight a r x → x ≢ None
-some_told a r None other h = λ _. other h
-some_told a r (Some x) other h = λ none. absurd cc
+some_reported : (a r : Answer) (x : Option Answer) → a ≢ r → IsCorrection a r x → x ≢ None
+some_reported a r None other h = λ _. other h
+some_reported a r (Some x) other h = λ none. absurd cc
 
 legal_first : (m : Machine) (q : List Move) (e : Event) (es : List Event) → AreLegal m q (e ∷ es) → e.answer ≡ reply_to m q e.call
 legal_first m q e es legal = subst (λ p. e.answer ≡ reply_to m p e.call) (append-nil q) (legal [] es e refl)
@@ -207,11 +207,11 @@ legal_rest m q e es legal before after x stands =
     (legal (e ∷ before) after x (ap (λ l. e ∷ l) stands))
 
 legal_notes : (m : Machine) (q : List Move) (n : ℕ) (es : List Event) (xs : List Note) → AreLegal m q es →
-    AreNotesOf m q n es xs → All TellsNone xs
-legal_notes m q n [] [] legal h = All-nil TellsNone
+    AreNotesOf m q n es xs → All HasNoCorrection xs
+legal_notes m q n [] [] legal h = All-nil HasNoCorrection
 legal_notes m q n (e ∷ es) (x ∷ xs) legal h =
-    All-cons TellsNone x xs
-    (none_told e.answer (reply_to m q e.call) x.right (legal_first m q e es legal) h.0.right)
+    All-cons HasNoCorrection x xs
+    (none_reported e.answer (reply_to m q e.call) x.right (legal_first m q e es legal) h.0.right)
     (legal_notes m (moves_with q e) (n + 1) es xs (legal_rest m q e es legal) h.1)
 legal_notes m q n es xs legal h = absurd h
 
@@ -220,27 +220,27 @@ legal_trace part h notes are legal = legal_notes (machine_of part h) [] 0 h.even
 
 -- the note behind the first ones, which tell nothing, tells the right answer
 abbrev IsFirstToTell : List Note → ℕ → Type 0
-IsFirstToTell xs k = All TellsNone (take k xs) × ((x : Note) × (slice_get xs k ≡ Some x) × (x.right ≢ None))
+IsFirstToTell xs k = All HasNoCorrection (take k xs) × ((x : Note) × (slice_get xs k ≡ Some x) × (x.right ≢ None))
 
-first_told : (m : Machine) (q : List Move) (n : ℕ) (before after : List Event) (e : Event) (xs : List Note) →
+first_reported : (m : Machine) (q : List Move) (n : ℕ) (before after : List Event) (e : Event) (xs : List Note) →
     AreLegal m q before → e.answer ≢ reply_to m (q ++ fired_moves before) e.call →
     AreNotesOf m q n (before ++ e ∷ after) xs → IsFirstToTell xs (length before)
-first_told m q n [] after e [] legal wrong h = absurd h
-first_told m q n [] after e (x ∷ xs) legal wrong h =
+first_reported m q n [] after e [] legal wrong h = absurd h
+first_reported m q n [] after e (x ∷ xs) legal wrong h =
     let here = subst (λ p. e.answer ≢ reply_to m p e.call) (append-nil q) wrong in
-    (All-nil TellsNone, (x, refl, some_told e.answer (reply_to m q e.call) x.right here h.0.right))
-first_told m q n (b ∷ before) after e [] legal wrong h = absurd h
-first_told m q n (b ∷ before) after e (x ∷ xs) legal wrong h =
+    (All-nil HasNoCorrection, (x, refl, some_reported e.answer (reply_to m q e.call) x.right here h.0.right))
+first_reported m q n (b ∷ before) after e [] legal wrong h = absurd h
+first_reported m q n (b ∷ before) after e (x ∷ xs) legal wrong h =
     let later = subst (λ p. e.answer ≢ reply_to m p e.call) (sym (moves_joined q (move_of b) (fired_moves before))) wrong in
-    let rest = first_told m (moves_with q b) (n + 1) before after e xs (legal_rest m q b before legal) later h.1 in (
-      All-cons TellsNone x (take (length before) xs)
-          (none_told b.answer (reply_to m q b.call) x.right (legal_first m q b before legal) h.0.right) rest.0,
+    let rest = first_reported m (moves_with q b) (n + 1) before after e xs (legal_rest m q b before legal) later h.1 in (
+      All-cons HasNoCorrection x (take (length before) xs)
+          (none_reported b.answer (reply_to m q b.call) x.right (legal_first m q b before legal) h.0.right) rest.0,
       rest.1,
     )
 
-pub first_wrong_told : FirstWrongTold
-first_wrong_told part h notes k are first =
+pub first_wrong_reported : FirstWrongIsCorrected
+first_wrong_reported part h notes k are first =
     let m = machine_of part h in
     let split = subst (λ es. AreNotesOf m [] 0 es notes) (sym first.stands) are in
     subst (IsFirstToTell notes) first.counted
-    (first_told m [] 0 first.before first.after first.event notes first.legal first.wrong split)
+    (first_reported m [] 0 first.before first.after first.event notes first.legal first.wrong split)

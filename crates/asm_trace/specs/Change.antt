@@ -125,13 +125,13 @@ AreSameTo ps (values.Bag a) (values.Bag b) = (e : Element) → is_named ps e ≡
 AreSameTo ps v w = v ≡ w
 
 -- what a value changes by that gets this result; none where there is no result
-abbrev pub told : Value → GroupResult → Option Change
-told old (Ok new) = Some (change_of old new)
-told old (Err cause) = None
+abbrev pub change_by : Value → GroupResult → Option Change
+change_by old (Ok new) = Some (change_of old new)
+change_by old (Err cause) = None
 
 -- values that are the same to partial updates change alike by them
 abbrev pub IsLocal : Part → Type 0
-IsLocal part = (v w : Value) (ps : List Action) → AreSameTo ps v w → told w (part w None ps) ≡ told v (part v None ps)
+IsLocal part = (v w : Value) (ps : List Action) → AreSameTo ps v w → change_by w (part w None ps) ≡ change_by v (part v None ps)
 
 -- the change of one location, if there is one
 abbrev pub changes_at : Place → Option Change → List (Place × Change)

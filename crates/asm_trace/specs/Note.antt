@@ -5,7 +5,7 @@ use Rattle.asm_element.specs.Place.{Place}
 use Rattle.asm_update.specs.Move.{Move}
 use Rattle.asm_update.specs.State.{State, val}
 use Rattle.asm_update.specs.Fire.{Part}
-use Rattle.asm_state.specs.Stands.{Stands}
+use Rattle.asm_state.specs.FollowsFrom.{FollowsFrom}
 use Rattle.asm_state.specs.View.{StateView}
 use Rattle.asm_storage.specs.History.{move_of}
 use Rattle.asm_storage.specs.Machine.{Machine, machine_state, reply_to}
@@ -23,15 +23,15 @@ pub record Note : Type 0 where
   pub changes : Option (List (Place × Change))
 
 -- what comes beside an answer: nothing where it is the right one, and else the right one
-abbrev pub IsToldRight : Answer → Answer → Option Answer → Type 0
-IsToldRight answer right None = answer ≡ right
-IsToldRight answer right (Some told) = (told ≡ right) × (answer ≢ right)
+abbrev pub IsCorrection : Answer → Answer → Option Answer → Type 0
+IsCorrection answer right None = answer ≡ right
+IsCorrection answer right (Some reported) = (reported ≡ right) × (answer ≢ right)
 
 -- the note of this event, which has this number and comes after these moves
 pub record IsNoteOf (m : Machine) (q : List Move) (n : ℕ) (e : Event) (x : Note) : Type 0 where
   pub number : x.number ≡ n
   pub event : x.event ≡ e
-  pub right : IsToldRight e.answer (reply_to m q e.call) x.right
+  pub right : IsCorrection e.answer (reply_to m q e.call) x.right
   pub changes : x.changes ≡ option_map (changes_of m.part (val (machine_state m q))) (move_of e)
 
 -- a note for each of the events, of which the first has this number and comes after these moves; each move that an
@@ -51,5 +51,5 @@ all_changes xs = flat_map (λ x. unwrap_or x.changes []) xs
 -- once an event is judged on a state: its right answer where it has another, and the new state has followed its move
 -- too
 abbrev pub IsJudged : Part → ℕ → Event → StateView → StateView → Option Answer → Type 0
-IsJudged part capacity e old new told = (init : State) (q : List Move) → Stands part init old q →
-    IsToldRight e.answer (reply_to (machine part init capacity) q e.call) told × Stands part init new (moves_with q e)
+IsJudged part capacity e old new reported = (init : State) (q : List Move) → FollowsFrom part init old q →
+    IsCorrection e.answer (reply_to (machine part init capacity) q e.call) reported × FollowsFrom part init new (moves_with q e)

@@ -9,7 +9,7 @@ use Rattle.asm_element.specs.Value.{value_eq}
 use Rattle.asm_update.specs.Move.{Move}
 use Rattle.asm_update.specs.State.{State}
 use Rattle.asm_update.specs.Fire.{Part, state_of}
-use Rattle.asm_state.specs.Stands.{Stands}
+use Rattle.asm_state.specs.FollowsFrom.{FollowsFrom}
 use Rattle.asm_state.specs.View.{StateView}
 use Rattle.asm_storage.specs.declared.call.Answer.{Answer}
 use Rattle.asm_storage.specs.declared.call.Answer.TheVariants as answer
@@ -113,10 +113,10 @@ IsTrace part h text =
     × (text ≡ line (header_of h) ++ notes_text notes)
 
 -- once an event is written on a state: the line of its note is appended, and the new state has followed its move too
-abbrev pub IsNoted : Part → ℕ → ℕ → Event → StateView → StateView → List ℕ → List ℕ → Type 0
-IsNoted part capacity n e old new before after = (init : State) (q : List Move) → Stands part init old q →
+abbrev pub IsNoteAppended : Part → ℕ → ℕ → Event → StateView → StateView → List ℕ → List ℕ → Type 0
+IsNoteAppended part capacity n e old new before after = (init : State) (q : List Move) → FollowsFrom part init old q →
     ((x : Note) × IsNoteOf (machine part init capacity) q n e x × (after ≡ before ++ line (note_json_of x)))
-    × Stands part init new (moves_with q e)
+    × FollowsFrom part init new (moves_with q e)
 
 -- A history has at most one trace.
 abbrev pub OneTrace : Type 0
@@ -127,30 +127,30 @@ abbrev pub AreNotes : Part → History → List Note → Type 0
 AreNotes part h notes = AreNotesOf (machine_of part h) [] 0 h.events notes
 
 -- the note has no other answer
-abbrev pub TellsNone : Note → Type 0
-TellsNone x = x.right ≡ None
+abbrev pub HasNoCorrection : Note → Type 0
+HasNoCorrection x = x.right ≡ None
 
 -- The trace of a legal history reports no wrong answer.
 abbrev pub LegalTrace : Type 0
 LegalTrace = (part : Part) (h : History) (notes : List Note) → AreNotes part h notes →
-    IsLegal (machine_of part h) h.events → All TellsNone notes
+    IsLegal (machine_of part h) h.events → All HasNoCorrection notes
 
 -- Where the answer of an event is the first wrong one, its note is the first that has the right one.
-abbrev pub FirstWrongTold : Type 0
-FirstWrongTold = (part : Part) (h : History) (notes : List Note) (k : ℕ) → AreNotes part h notes →
+abbrev pub FirstWrongIsCorrected : Type 0
+FirstWrongIsCorrected = (part : Part) (h : History) (notes : List Note) (k : ℕ) → AreNotes part h notes →
     IsFirstWrong (machine_of part h) h.events k →
-    All TellsNone (take k notes) × ((x : Note) × (slice_get notes k ≡ Some x) × (x.right ≢ None))
+    All HasNoCorrection (take k notes) × ((x : Note) × (slice_get notes k ≡ Some x) × (x.right ≢ None))
 
 -- The changes of a trace, made one after the other on the opening state, leave the state that the fired moves leave.
-abbrev pub ChangesLeave : Type 0
-ChangesLeave = (a : Meaning) → AggregatorLaws a → (h : History) (notes : List Note) → IsProper h →
+abbrev pub ChangesReachState : Type 0
+ChangesReachState = (a : Meaning) → AggregatorLaws a → (h : History) (notes : List Note) → IsProper h →
     AreNotes a.part h notes → changed h.init (all_changes notes) ≡ state_of a.part h.init (fired_moves h.events)
 
 -- An added element of a set change wasn't there and is there, and a removed one was there and isn't.
-abbrev pub WithoutTells : Type 0
-WithoutTells = (s t : ElementSet) → All (λ e. (contains s e ≡ true) × (contains t e ≡ false)) (without s t)
+abbrev pub WithoutListsDifference : Type 0
+WithoutListsDifference = (s t : ElementSet) → All (λ e. (contains s e ≡ true) × (contains t e ≡ false)) (without s t)
 
 -- A bag change has the counts of both bags, which differ.
-abbrev pub RecountsTell : Type 0
-RecountsTell = (a b : ElementBag) →
+abbrev pub RecountsListCounts : Type 0
+RecountsListCounts = (a b : ElementBag) →
     All (λ r. (r.before ≡ count a r.element) × (r.after ≡ count b r.element) × (r.before ≢ r.after)) (recounts a b)

@@ -3,7 +3,7 @@ ghost use Rattle.std.specs.Prelude.{◌≡◌, true, None, IfOk, option_map};
 ghost use Rattle.serde_json.specs.View.{view};
 ghost use Rattle.asm_state.specs.View.{value_at};
 ghost use Rattle.asm_storage.specs.History.{move_of};
-ghost use Rattle.asm_trace.specs.Change.{change_of, changes_by, changes_of, changes_at, told, IsLocal};
+ghost use Rattle.asm_trace.specs.Change.{change_of, changes_by, changes_of, changes_at, change_by, IsLocal};
 ghost use Rattle.asm_trace.specs.Text.{change_json_of, changes_json_of};
 
 use crate::bags::bag_change_json;
@@ -75,7 +75,7 @@ fn group_json<A: Aggregator>(
     requires alone { group.now.regular ≡ None }
     requires local { IsLocal (A.meaning aggregator.now).part }
     ensures { IfOk result (λ json. view json ≡ changes_json_of (changes_at at.now
-        (told (value_at state.now at.now)
+        (change_by (value_at state.now at.now)
         ((A.meaning aggregator.now).part (value_at state.now at.now) None group.now.partials)))) }
 {
     let old = named_of(alloc, state.get(at), group.partials())?;

@@ -4,14 +4,14 @@ ghost use Rattle.serde_json.specs.View.{view};
 ghost use Rattle.asm_update.specs.State as plain;
 ghost use Rattle.asm_update.specs.Move.{Move};
 ghost use Rattle.asm_state.specs.View.{value_at};
-ghost use Rattle.asm_state.specs.Stands.{Stands};
+ghost use Rattle.asm_state.specs.FollowsFrom.{FollowsFrom};
 ghost use Rattle.asm_storage.specs.Limits.{events_limit};
 ghost use Rattle.asm_storage.specs.Machine.{reply_to};
 ghost use Rattle.asm_journal.specs.Check.{machine, judged_reply, moves_with};
 ghost use Rattle.asm_journal.specs.Shape.{list_of, number_json_of};
 ghost use Rattle.asm_trace.specs.Change.{IsLocal};
 ghost use Rattle.asm_trace.specs.Note.{IsJudged};
-ghost use Rattle.asm_trace.specs.Text.{differing_positions, event_with, is_other_at, right_json_of, IsNoted};
+ghost use Rattle.asm_trace.specs.Text.{differing_positions, event_with, is_other_at, right_json_of, IsNoteAppended};
 
 use crate::changes::event_changes;
 use crate::json::{array_of, differs_and_number, put_some};
@@ -71,7 +71,7 @@ fn right_answer<A: Aggregator>(
     call: &Call,
 ) -> Result<Answer, AllocError>
     ensures { IfOk result (λ a. (init : plain.State) (q : List Move) →
-        Stands (A.meaning aggregator.now).part init state.now q →
+        FollowsFrom (A.meaning aggregator.now).part init state.now q →
         a ≡ reply_to (machine (A.meaning aggregator.now).part init capacity) q call.now) }
 {
     match call {
@@ -95,8 +95,8 @@ fn follow_event<A: Aggregator>(
 ) -> Result<(), AllocError>
     requires { state.old.number < events_limit }
     ensures { OnOk result ((init : plain.State) (q : List Move) →
-        Stands (A.meaning aggregator.now).part init state.old q →
-        Stands (A.meaning aggregator.now).part init state.new (moves_with q event.now)) }
+        FollowsFrom (A.meaning aggregator.now).part init state.old q →
+        FollowsFrom (A.meaning aggregator.now).part init state.new (moves_with q event.now)) }
 {
     match event.fired_move() {
         Some(instructions) => state.follow(alloc, aggregator, instructions),
@@ -231,7 +231,7 @@ pub(crate) fn push_note<A: Aggregator>(
 ) -> Result<(), AllocError>
     requires few { state.old.number < events_limit }
     requires local { is_local ≡ true → IsLocal (A.meaning aggregator.now).part }
-    ensures { OnOk result (IsNoted (A.meaning aggregator.now).part capacity number event.now state.old state.new
+    ensures { OnOk result (IsNoteAppended (A.meaning aggregator.now).part capacity number event.now state.old state.new
         (string_bytes text.old) (string_bytes text.new)) }
 {
     let changes = event_changes(alloc, aggregator, is_local, state, event)?;

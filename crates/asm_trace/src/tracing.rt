@@ -5,7 +5,7 @@ ghost use Rattle.asm_storage.specs.History.{Fits};
 ghost use Rattle.asm_storage.specs.Limits.{events_limit};
 ghost use Rattle.asm_aggregate.specs.Standard.{standard_part};
 ghost use Rattle.asm_trace.specs.Change.{IsLocal};
-ghost use Rattle.asm_trace.specs.Text.{header_of, IsNoted, IsTrace};
+ghost use Rattle.asm_trace.specs.Text.{header_of, IsNoteAppended, IsTrace};
 
 use crate::notes::push_note;
 use asm_aggregate::standard;
@@ -118,7 +118,7 @@ pub fn push_standard_note(
     event: &Event,
 ) -> Result<(), AllocError>
     requires { state.old.number < events_limit }
-    ensures { OnOk result (IsNoted standard_part capacity number event.now state.old state.new
+    ensures { OnOk result (IsNoteAppended standard_part capacity number event.now state.old state.new
         (string_bytes text.old) (string_bytes text.new)) }
 {
     push_note(

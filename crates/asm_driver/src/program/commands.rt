@@ -12,7 +12,7 @@ use crate::program::words::Request;
 use crate::reporting::report_of_owned;
 use crate::terms::terms_text;
 use asm_journal::{Legality, check, from_text, to_text};
-use asm_play::aggregator::chosen;
+use asm_play::aggregator::script_aggregator;
 use asm_play::{Open, Played, run_script};
 use asm_script::parse_script;
 use asm_trace::standard_trace_text;
@@ -71,9 +71,9 @@ fn run_with_terms<T: Threads + Wait + Sync>(
 {
     let script = parse_script(alloc, bytes)?;
     let played = run_script(rt, alloc, &script, capacity, &Open)?;
-    let told = terms_text(alloc, played.terms.as_slice())?;
+    let reported = terms_text(alloc, played.terms.as_slice())?;
     let mut text = report_of_owned(alloc, played)?;
-    text.push_str(told.as_str())?;
+    text.push_str(reported.as_str())?;
     Ok(text)
 }
 
@@ -100,7 +100,7 @@ fn check_journal(alloc: Global, bytes: &[u8]) -> Result<Ending, Refusal>
     ensures err { IfErr result (IsNoJournal bytes.now) }
 {
     let history = from_text(alloc, bytes)?;
-    let legality = check(alloc, &chosen(), &history)?;
+    let legality = check(alloc, &script_aggregator(), &history)?;
     Ok(legality_ending(alloc, legality)?)
 }
 

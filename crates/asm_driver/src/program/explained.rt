@@ -8,7 +8,7 @@ use asm_explain::{Form, explain, explain_journal};
 use std::alloc::{AllocError, Global};
 
 /// Return why the bytes are refused as a text of this kind, or `None` if accepted.
-fn told(alloc: Global, kind: TextKind, bytes: &[u8]) -> Result<Option<String>, AllocError>
+fn reported(alloc: Global, kind: TextKind, bytes: &[u8]) -> Result<Option<String>, AllocError>
     ensures accepted { IfOk result (λ said. IfNone said (IsAccepted kind bytes.now)) }
     ensures refused { IfOk result (λ said. IfSome said (λ s. IsRefused kind bytes.now (string_bytes s))) }
 {
@@ -24,7 +24,7 @@ fn told(alloc: Global, kind: TextKind, bytes: &[u8]) -> Result<Option<String>, A
 pub(crate) fn explained(alloc: Global, kind: TextKind, bytes: &[u8]) -> Result<Ending, AllocError>
     ensures { IfOk result (λ e. IsExplained bytes.now kind e.status (string_bytes e.text)) }
 {
-    Ok(match told(alloc, kind, bytes)? {
+    Ok(match reported(alloc, kind, bytes)? {
         Some(sentence) => Ending {
             status: 1,
             text: format!(in alloc; "{sentence}\n")?,

@@ -1,14 +1,14 @@
 //! The segments of a run that is traced, line by line.
 ghost use Rattle.std.specs.Prelude.{◌≡◌, ◌<◌, ◌+◌, [], IfOk, IfErr};
 ghost use Rattle.asm_aggregate.specs.Standard.{standard_part};
-ghost use Rattle.asm_state.specs.Stands.{Stands};
+ghost use Rattle.asm_state.specs.FollowsFrom.{FollowsFrom};
 ghost use Rattle.asm_audit.specs.Step.{HasValues, IsNextTest};
 ghost use Rattle.asm_driver.specs.Parts.{audited, HasHeader, BreaksHeaderOf, IsOpenedFirst, IsOpenedNext};
 ghost use Rattle.asm_driver.specs.Parts.{IsNotOpenedNext, IsTakenAs, IsNotTaken, refusal_of_fault};
 
 use crate::program::refusal::Refusal;
 use asm_journal::{Header, JournalError, Limits, judge_event, read_event, read_header};
-use asm_play::aggregator::chosen;
+use asm_play::aggregator::script_aggregator;
 use asm_state::State;
 use asm_storage::Event;
 use asm_update::PlainState;
@@ -57,7 +57,7 @@ impl Opened {
         ensures number { IfOk result (λ o. o.number ≡ number) }
         ensures limits { IfOk result (λ o. o.limits ≡ header.limits) }
         ensures taken { IfOk result (λ o. o.taken ≡ 0) }
-        ensures stands { IfOk result (λ o. Stands standard_part header.init o.state []) }
+        ensures stands { IfOk result (λ o. FollowsFrom standard_part header.init o.state []) }
     {
         let state = State::new(alloc, header.init)?;
         Ok(Opened {
@@ -150,7 +150,7 @@ impl Opened {
         };
         if !judge_event(
             alloc,
-            &chosen(),
+            &script_aggregator(),
             &mut self.state,
             self.limits.capacity,
             &event,

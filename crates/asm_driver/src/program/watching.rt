@@ -16,7 +16,7 @@ use crate::ports::source::Source;
 use crate::program::commands::Ending;
 use crate::program::refusal::Refusal;
 use asm_audit::{AuditError, ByteAuditor, Counts, Told, Verdict};
-use asm_play::aggregator::chosen;
+use asm_play::aggregator::script_aggregator;
 use asm_update::Aggregator;
 use std::alloc::{AllocError, Global};
 use std::sync::Wait;
@@ -121,7 +121,7 @@ fn take_bytes<A: Aggregator + Drop>(
 ) -> Result<Told, AuditError>
     requires { A.meaning auditor.old.auditor.aggregator ≡ standard_meaning }
     ensures aggregator { auditor.new.auditor.aggregator ≡ auditor.old.auditor.aggregator }
-    ensures told { (text before : List ℕ)
+    ensures reported { (text before : List ℕ)
         → IsWatched every text auditor.old.auditor.progress auditor.old.line.items (before ++ string_bytes lines.old)
         → IsWatchAnswer every text bytes.now auditor.new.auditor.progress auditor.new.line.items
         (before ++ string_bytes lines.new) result }
@@ -129,9 +129,9 @@ fn take_bytes<A: Aggregator + Drop>(
     let mut rest = bytes;
     while !rest.is_empty() {
         let before = auditor.counts();
-        let (count, told) = auditor.feed_line(alloc, rest);
+        let (count, reported) = auditor.feed_line(alloc, rest);
         rest = &rest[count..];
-        match told? {
+        match reported? {
             Told::Legal => {}
             Told::Illegal { part, call } => return Ok(Told::Illegal { part, call }),
         }
@@ -166,16 +166,16 @@ fn watch_bytes<A: Aggregator + Drop, K: Sink>(
     requires output { K.failed output.old ≡ false }
     ensures aggregator { auditor.new.auditor.aggregator ≡ auditor.old.auditor.aggregator }
     ensures same_reference { K.lender output.new ≡ K.lender output.old }
-    ensures told { (text before : List ℕ)
+    ensures reported { (text before : List ℕ)
         → IsWatched every text auditor.old.auditor.progress auditor.old.line.items before
         → IsWrittenAnswer every text bytes.now auditor.new.auditor.progress auditor.new.line.items before
         (K.contents output.old) (K.contents output.new) result }
     ensures noted { K.failed output.new ≡ is_unwritten result }
 {
     let mut lines = String::new(alloc);
-    let told = take_bytes(alloc, every, auditor, bytes, &mut lines);
+    let reported = take_bytes(alloc, every, auditor, bytes, &mut lines);
     write_lines(output, lines.as_str())?;
-    Ok(told?)
+    Ok(reported?)
 }
 
 /// Feed the input to the auditor, and write the lines that are due.
@@ -195,7 +195,7 @@ fn watch_all<T: Wait, A: Aggregator + Drop, S: Source, K: Sink>(
     requires fed { IsFed standard_part [] auditor.old.auditor.progress auditor.old.line.items }
     ensures same_input { S.lender input.new ≡ S.lender input.old }
     ensures same_output { K.lender output.new ≡ K.lender output.old }
-    ensures told { IsWatchEnd every (S.remaining input.old) (S.remaining input.new) (S.failed input.new)
+    ensures reported { IsWatchEnd every (S.remaining input.old) (S.remaining input.new) (S.failed input.new)
         (K.contents output.old) (K.contents output.new) result }
     ensures noted { K.failed output.new ≡ is_unwritten result }
 {
@@ -231,11 +231,11 @@ pub(crate) fn watched<T: Wait, S: Source, K: Sink>(
     requires unwritten { K.failed output.old ≡ false }
     ensures same_input { S.lender input.new ≡ S.lender input.old }
     ensures same_output { K.lender output.new ≡ K.lender output.old }
-    ensures told { IsWatchEnd every (S.remaining input.old) (S.remaining input.new) (S.failed input.new)
+    ensures reported { IsWatchEnd every (S.remaining input.old) (S.remaining input.new) (S.failed input.new)
         (K.contents output.old) (K.contents output.new) result }
     ensures noted { K.failed output.new ≡ is_unwritten result }
 {
-    let mut auditor = ByteAuditor::new(alloc, chosen());
+    let mut auditor = ByteAuditor::new(alloc, script_aggregator());
     let verdict = watch_all(rt, alloc, every, &mut auditor, input, output);
     verdict
 }

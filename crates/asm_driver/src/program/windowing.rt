@@ -3,7 +3,7 @@ ghost use Rattle.std.specs.Prelude.{◌≡◌, ◌≤◌, ◌<◌, ◌+◌, ℕ,
 ghost use Rattle.serde_json.specs.View.{view};
 ghost use Rattle.asm_aggregate.specs.Standard.{standard_part};
 ghost use Rattle.asm_update.specs.State.{State as Plain};
-ghost use Rattle.asm_state.specs.Stands.{Stands};
+ghost use Rattle.asm_state.specs.FollowsFrom.{FollowsFrom};
 ghost use Rattle.asm_storage.specs.History.{fired_moves};
 ghost use Rattle.asm_storage.specs.declared.history.Event.{Event as Item};
 ghost use Rattle.asm_audit.proofs.SameState.{IsHeld};
@@ -56,7 +56,7 @@ fn next_event<T: Wait, S: Source>(
     ensures same_reference { S.lender input.new ≡ S.lender input.old }
     ensures next { IfOk result (λ _. IsNext opened.old opened.new) }
     ensures unread { IfOk result (λ _. S.failed input.new ≡ false) }
-    ensures told { (had : Known) (text : List ℕ) (A : Plain) (es : List Item) →
+    ensures reported { (had : Known) (text : List ℕ) (A : Plain) (es : List Item) →
         IsAt had (S.remaining input.old) text (pending lines.old) →
         IsPartRead opened.old.number text (audited opened.old) A es →
         IsEventRead had (S.remaining input.new) (S.failed input.new) text (pending lines.new) opened.new A es result }
@@ -82,7 +82,7 @@ fn pass<T: Wait, S: Source>(
     ensures number { IfOk result (λ _. opened.new.number ≡ opened.old.number) }
     ensures limits { IfOk result (λ _. opened.new.limits ≡ opened.old.limits) }
     ensures taken { IfOk result (λ _. opened.new.taken ≡ calls) }
-    ensures told { (w : Wanted) (had : Known) (text : List ℕ) (A : Plain) →
+    ensures reported { (w : Wanted) (had : Known) (text : List ℕ) (A : Plain) →
         IsUpTo w opened.old.number calls opened.old.limits.events →
         IsAt had (S.remaining input.old) text (pending lines.old) →
         IsPartRead opened.old.number text (audited opened.old) A [] →
@@ -213,7 +213,7 @@ fn header_with(
 /// The window has this many calls.
 fn header_json(alloc: Global, opened: &Opened, calls: u32) -> Result<Json, AllocError>
     ensures { IfOk result (λ json. (A : Plain) (es all : List Item) → IsHeld A → opened.now.taken ≡ length es →
-        Stands standard_part A opened.now.state (fired_moves es) →
+        FollowsFrom standard_part A opened.now.state (fired_moves es) →
         view json ≡ window_header opened.now.number (history_of opened.now.limits A all) es calls) }
 {
     let init = opened.left(alloc)?;
@@ -237,7 +237,7 @@ fn note_calls<T: Wait, S: Source>(
         × IsPartRead opened.old.number text (audited opened.old) A es }
     ensures same_reference { S.lender input.new ≡ S.lender input.old }
     ensures limits { IfOk result (λ _. opened.new.limits ≡ opened.old.limits) }
-    ensures told { (w : Wanted) (had : Known) (before : List ℕ) (A : Plain) (es : List Item) →
+    ensures reported { (w : Wanted) (had : Known) (before : List ℕ) (A : Plain) (es : List Item) →
         opened.old.number ≡ w.part → end ≡ end_in w opened.old.limits.events →
         IsAt had (S.remaining input.old) before (pending lines.old) →
         IsPartRead opened.old.number before (audited opened.old) A es →

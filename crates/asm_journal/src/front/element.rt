@@ -7,7 +7,7 @@ ghost use Rattle.asm_journal.specs.Element.{IsIntegerForm, IsElementForm, IsLoca
 ghost use Rattle.asm_journal.specs.readback.{integer_form_clean, element_form_clean, location_form_clean};
 
 use crate::front::FromFront;
-use crate::front::items::put_behind;
+use crate::front::items::push_item;
 use crate::front::scalars::{behind, integer, quoted_text};
 use asm_element::{ElemList, ElemText, Element, Location};
 use std::alloc::Global;
@@ -109,7 +109,7 @@ fn some_elements(alloc: Global, text: &[u8], levels: u32) -> Option<(Vec<Element
     let mut rest = text;
     'items: loop {
         let (item, left) = front_element(alloc, rest, levels)?;
-        put_behind(&mut found, item)?;
+        push_item(&mut found, item)?;
         let (byte, more) = left.split_first()?;
         match *byte {
             b',' => rest = more,

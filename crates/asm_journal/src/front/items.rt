@@ -9,7 +9,7 @@ use crate::front::scalars::behind;
 use std::alloc::Global;
 
 /// Put one more item behind the others, unless memory was refused.
-pub(crate) fn put_behind<T: Drop>(found: &mut Vec<T>, item: T) -> Option<()>
+pub(crate) fn push_item<T: Drop>(found: &mut Vec<T>, item: T) -> Option<()>
     ensures { OnSome result (found.new.items ≡ found.old.items ++ item ∷ []) }
 {
     found.push(item).ok()
@@ -23,7 +23,7 @@ pub(crate) fn some_items<T: FromFront>(alloc: Global, text: &[u8]) -> Option<(Ve
     let mut rest = text;
     'items: loop {
         let (item, left) = T::from_front(alloc, rest)?;
-        put_behind(&mut found, item)?;
+        push_item(&mut found, item)?;
         let (byte, more) = left.split_first()?;
         match *byte {
             b',' => rest = more,

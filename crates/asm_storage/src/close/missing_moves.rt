@@ -9,14 +9,14 @@ use asm_update::Aggregator;
 use std::alloc::{AllocError, Global};
 
 // Notes the moves that the receipts fired.
-fn tell_moves(told: &mut [bool], receipts: &[Receipt])
-    ensures { (k : ℕ) → k < length told.old → slice_index_or told.new k false ≡
-        (slice_index_or told.old k false || list_any (is_move_at k) receipts.now) }
+fn mark_fired_moves(reported: &mut [bool], receipts: &[Receipt])
+    ensures { (k : ℕ) → k < length reported.old → slice_index_or reported.new k false ≡
+        (slice_index_or reported.old k false || list_any (is_move_at k) receipts.now) }
 {
     for receipt in receipts {
         let at = receipt.stood as usize;
-        if receipt.is_fired() && at < told.len() {
-            told[at] = true;
+        if receipt.is_fired() && at < reported.len() {
+            reported[at] = true;
         }
     }
 }
@@ -33,12 +33,12 @@ pub(crate) fn first_missing<A: Aggregator + Sync + Drop>(
         ((k : ℕ) → k < moves → has_receipt (accounts agents.now) k ≡ true)
         (IsLeastMissing (accounts agents.now) moves)) }
 {
-    let mut told = vec![in alloc; false; moves as usize]?;
+    let mut reported = vec![in alloc; false; moves as usize]?;
     for agent in agents {
-        tell_moves(&mut told, agent.receipts());
+        mark_fired_moves(&mut reported, agent.receipts());
     }
-    for (k, is_told) in told.iter().enumerate() {
-        if !*is_told {
+    for (k, is_reported) in reported.iter().enumerate() {
+        if !*is_reported {
             return Ok(Some(k as u32));
         }
     }

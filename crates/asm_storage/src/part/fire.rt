@@ -6,13 +6,13 @@ ghost use Rattle.asm_storage.specs.declared.call.Call.TheVariants as call;
 ghost use Rattle.asm_storage.specs.declared.call.Reply.TheVariants as reply;
 ghost use Rattle.asm_storage.specs.Agents.{moves_seen, next_stood};
 ghost use Rattle.asm_storage.specs.History.{fired_move};
-ghost use Rattle.asm_storage.specs.Storage.{machine_of, with_fired, with_receipt, last_look, IsReplyOf, Missed};
+ghost use Rattle.asm_storage.specs.Storage.{machine_of, with_fired, with_receipt, last_poll, IsReplyOf, Missed};
 ghost use Rattle.asm_storage.specs.Limits.{reads_limit};
 ghost use Rattle.asm_storage.specs.Machine.{reply_to};
 ghost use Rattle.asm_storage.specs.Part.{IsOffering, IsSameOffering, agent_of, offers_in, misses_in};
-ghost use Rattle.asm_storage.specs.Calls.{receipt_at, HasOffered, IsFireOver, MadeOffers, Ran, StandsAfter};
+ghost use Rattle.asm_storage.specs.Calls.{receipt_at, HasOffered, IsFireOver, MadeOffers, Ran, IsVersionAfter};
 ghost use Rattle.asm_storage.specs.Calls.{is_plain, is_plain_over};
-ghost use Rattle.asm_storage.specs.Part.{HasWon, IsJudged, IsLost, IsPartOf, IsTurnOver, LooksOn};
+ghost use Rattle.asm_storage.specs.Part.{HasWon, IsJudged, HasLostAttempt, IsPartOf, IsTurnOver, HasPolledRow};
 
 use crate::call::{Answer, Call, Reply, fire_call};
 use crate::error::FireError;
@@ -39,8 +39,8 @@ impl AgentPart {
         instrs: &Instructions,
     ) -> Result<(), AllocError>
         requires { IsPartOf A.meaning storage.now self.old }
-        ensures looks { LooksOn A.meaning storage.now self.old self.new }
-        ensures missed { Missed (agent_of storage.now self.old) (last_look (agent_of storage.now self.new))
+        ensures polls { HasPolledRow A.meaning storage.now self.old self.new }
+        ensures missed { Missed (agent_of storage.now self.old) (last_poll (agent_of storage.now self.new))
             (agent_of storage.now self.new) }
         ensures level { OnOk result (is_plain_over reads.now scans.now instrs.now ≡ false →
             self.new.state.number ≡ length self.new.progress.seen) }
@@ -48,7 +48,7 @@ impl AgentPart {
             self.new.state.number ≡ self.old.state.number }
     {
         if is_plain_over(reads, scans, instrs) {
-            self.look(storage);
+            self.poll(storage);
             return Ok(());
         }
         self.follow_row(alloc, storage)
@@ -97,7 +97,6 @@ impl AgentPart {
             agent_of storage.now self.new ≡ with_receipt (agent_of storage.now self.old) (receipt_at stood call answer)) }
         ensures err { OnErr result (agent_of storage.now self.new ≡ agent_of storage.now self.old) }
     {
-        let _ = storage; // The contract alone speaks of it.
         self.receipts.push(Receipt {
             call,
             answer,
@@ -156,7 +155,7 @@ impl AgentPart {
         ensures won { IfOk result (λ o. IfNone o (
             agent_of storage.now self.new ≡ with_fired (agent_of storage.now self.old)
             (receipt_at (length self.old.progress.seen) offering.call answer) offering.entry.value.instrs)) }
-        ensures lost { IfOk result (λ o. IfSome o (λ back. IsLost storage.now self.old self.new)) }
+        ensures lost { IfOk result (λ o. IfSome o (λ back. HasLostAttempt storage.now self.old self.new)) }
         ensures back { IfOk result (λ o. IfSome o (IsSameOffering offering)) }
 
         // The closure was called once, unless memory was refused.
@@ -207,7 +206,7 @@ impl AgentPart {
 
         // The attempt won or lost, and the parts of a lost one are retained.
         ensures won { IfOk result (λ o. IfSome o (HasWon storage.now self.old self.new reads.now instrs.now)) }
-        ensures lost { IfOk result (λ o. IfNone o (IsLost storage.now self.old self.new)) }
+        ensures lost { IfOk result (λ o. IfNone o (HasLostAttempt storage.now self.old self.new)) }
         ensures pending { IfSome pending.new (IsOffering self.old.id reads.now instrs.now) }
         ensures kept { result ≡ Ok None → IsSome pending.new }
 
@@ -250,12 +249,12 @@ impl AgentPart {
         ensures part { IsPartOf A.meaning storage.now self.new }
         ensures id { self.new.id ≡ self.old.id }
         ensures seen { IsPrefix self.old.progress.seen self.new.progress.seen }
-        ensures err { OnErr result (LooksOn A.meaning storage.now self.old self.new) }
+        ensures err { OnErr result (HasPolledRow A.meaning storage.now self.old self.new) }
 
         // It was answered, or an attempt was lost, and its parts are retained.
         ensures turn { IfOk result (
             IsTurnOver A.meaning storage.now self.old self.new reads.now scans.now instrs.now) }
-        ensures stands { IfOk result (λ o. IfSome o (StandsAfter (agent_of storage.now self.old)
+        ensures stands { IfOk result (λ o. IfSome o (IsVersionAfter (agent_of storage.now self.old)
             (agent_of storage.now self.new) (is_plain_over reads.now scans.now instrs.now))) }
         ensures unmoved { is_plain_over reads.now scans.now instrs.now ≡ true →
             self.new.state.number ≡ self.old.state.number }

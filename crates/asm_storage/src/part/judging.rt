@@ -2,7 +2,7 @@ ghost use Rattle.std.specs.Prelude.{◌≡◌, List, IfOk, Some, None, true, if�
 ghost use Rattle.asm_update.specs.Fire.{Part};
 ghost use Rattle.asm_update.specs.Move.{Move};
 ghost use Rattle.asm_update.specs.State as plain;
-ghost use Rattle.asm_state.specs.Stands.{Stands};
+ghost use Rattle.asm_state.specs.FollowsFrom.{FollowsFrom};
 ghost use Rattle.asm_storage.specs.declared.call.Reply.TheVariants as reply;
 ghost use Rattle.asm_storage.specs.Part.{IsReplyAt};
 ghost use Rattle.asm_storage.specs.Calls.{is_plain};
@@ -31,7 +31,7 @@ pub(crate) fn judged<A: Aggregator>(
     reads: &[Named],
     instrs: &Instructions,
 ) -> Result<Option<Reply>, AllocError>
-    ensures { (init : plain.State) (q : List Move) → Stands (A.meaning aggregator.now).part init state.now q →
+    ensures { (init : plain.State) (q : List Move) → FollowsFrom (A.meaning aggregator.now).part init state.now q →
         IfOk result (IsReplyAt (A.meaning aggregator.now).part init q is_full reads.now instrs.now) }
 {
     match state.objection(alloc, aggregator, reads, instrs)? {

@@ -16,7 +16,7 @@ use crate::limits::READS_LIMIT;
 use crate::part::AgentPart;
 use crate::reading::Reading;
 use crate::receipt::Receipt;
-use crate::shared_lists::{places_again, same_list};
+use crate::shared_lists::{same_list, share_or_copy_places};
 use crate::storage::Storage;
 use asm_element::{Items, Location, Value};
 use asm_state::{Named, Objection};
@@ -40,7 +40,7 @@ fn copied_values<L: Lookup>(
 }
 
 // The values of the locations, in their order: the earlier list, where they are unchanged, or else copies.
-fn values_again<L: Lookup>(
+fn share_or_copy_values<L: Lookup>(
     alloc: Global,
     lookup: &L,
     places: &[Location],
@@ -77,9 +77,8 @@ impl AgentPart {
         ensures values { IfOk result (λ values. values ≡ map (val (machine_state (machine_of A.meaning storage.now)
             (take self.now.state.number (moves_seen self.now.progress.seen)))) places.now) }
     {
-        let _ = storage; // The contract alone speaks of it.
         let earlier = self.last_read().map(|(_places, values)| values);
-        values_again(alloc, &self.state, places, earlier)
+        share_or_copy_values(alloc, &self.state, places, earlier)
     }
 
     /// Return the locations with their values after the moves that the state followed.
@@ -97,7 +96,7 @@ impl AgentPart {
     {
         let values = self.values_held(alloc, storage, places)?;
         let earlier = self.last_read().map(|(places, _values)| places);
-        let places = places_again(alloc, places, earlier)?;
+        let places = share_or_copy_places(alloc, places, earlier)?;
         let number = self.state.number();
         Ok(Reading {
             number,

@@ -2,7 +2,7 @@ ghost use Rattle.std.specs.Prelude.{◌≡◌, ◌≢◌, [], List, length, IfOk
 ghost use Rattle.asm_update.specs.Fire.{Part};
 ghost use Rattle.asm_update.specs.Move.{Move};
 ghost use Rattle.asm_update.specs.State as plain;
-ghost use Rattle.asm_state.specs.Stands.{Stands};
+ghost use Rattle.asm_state.specs.FollowsFrom.{FollowsFrom};
 ghost use Rattle.asm_storage.specs.Agents.{moves_seen};
 ghost use Rattle.asm_storage.specs.Part.{IsPartOf};
 ghost use Rattle.asm_storage.specs.Calls.{is_plain_over};
@@ -36,7 +36,7 @@ fn first_overtaken(
     scans: &[Scanned],
 ) -> Result<Option<Named>, AllocError>
     ensures { (part : Part) (init : plain.State) (q : List Move) →
-        (scans.now ≢ [] → Stands part init state.now q) → IfOk result (IsFound part init q scans.now) }
+        (scans.now ≢ [] → FollowsFrom part init state.now q) → IfOk result (IsFound part init q scans.now) }
 {
     for scan in scans {
         let found = state.least_written_in(alloc, scan.name.as_str(), scan.number)?;
@@ -70,7 +70,6 @@ impl AgentPart {
         ensures { IfOk result (IsNamedOver (machine_of A.meaning storage.now) (moves_seen self.now.progress.seen)
             reads.now scans.now) }
     {
-        let _ = storage; // The contract alone speaks of it.
         let found = first_overtaken(alloc, &self.state, scans)?;
         named_with(alloc, reads, found)
     }

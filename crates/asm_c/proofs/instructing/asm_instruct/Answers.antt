@@ -25,7 +25,7 @@ returns-clause-done c =
       | in-Move w ↦ λ done.
           let was : content_of c.args.instrs.now ≡ Some (content.Move w.in-Move.gathered) = search rules in
           let is : content_of c.put_shell.new.slot ≡ Some (content.Move w.instruct_in-code.new.gathered) = search rules in
-          let told : w.instruct_in-code.result ≡ ASM_DONE =
+          let reported : w.instruct_in-code.result ≡ ASM_DONE =
           sym (to_z-of_z {w = w32} (record { sfits = w.instruct_in-code.type_inv })) ∙ sym w.code-is ∙ done in
           subst (λ (x : Option Content). HoldsLocation (content_of c.args.at.now) (λ l. HoldsMove (content_of c.put_shell.new.slot)
           (IsInstructed l c.args.verb c.args.kind c.args.number c.args.bytes.now c.args.amount (move_of x)))) (sym was)
@@ -34,6 +34,6 @@ returns-clause-done c =
           (by_words (content_of c.args.at.now) c.args.verb (to_z w32 (of_z w32 c.args.verb)) c.args.kind
           (to_z w32 (of_z w32 c.args.kind)) c.args.number (to_z w64 (of_z w64 c.args.number)) c.args.bytes.now c.args.amount
           w.in-Move.gathered w.instruct_in-code.new.gathered (to_z-of_z {w = w32} c.ranges.verb) (to_z-of_z {w = w32} c.ranges.kind)
-          (to_z-of_z {w = w64} c.ranges.number) (w.instruct_in-code.ensures.done told)))
+          (to_z-of_z {w = w64} c.ranges.number) (w.instruct_in-code.ensures.done reported)))
       | in_default-deref_mut w ↦ λ done. search rules
     ]

@@ -3,7 +3,7 @@ use Rattle.asm_slots.specs.Codes.{IsOneOf, ASM_MEMORY, ASM_CAPACITY}
 use Rattle.asm_slots.specs.NextStore.{IsAtEnd}
 use Rattle.asm_slots.specs.Slots.{content_of}
 use Rattle.asm_slots.specs.declared.content.Content.TheVariants as content
-use Rattle.asm_slots.proofs.GoingOn.{coded}
+use Rattle.asm_slots.proofs.ExtendingInPlace.{coded}
 use Rattle.asm_slots.proofs.Held.{holds}
 use Rattle.asm_c.proofs.next_store.asm_go_on.Goals as goal
 

@@ -3,7 +3,7 @@ use Rattle.asm_slots.specs.Codes.{IsOneOf, ASM_CAPACITY, ASM_MEMORY, ASM_NO_JOUR
 use Rattle.asm_slots.specs.NextStore.{LacksJournal}
 use Rattle.asm_slots.specs.Slots.{content_of}
 use Rattle.asm_slots.specs.declared.content.Content.TheVariants as content
-use Rattle.asm_slots.proofs.GoingOn.{holds_store}
+use Rattle.asm_slots.proofs.ExtendingInPlace.{holds_store}
 use Rattle.asm_c.proofs.next_store.asm_next.Goals as goal
 
 -- one of these codes as an i32

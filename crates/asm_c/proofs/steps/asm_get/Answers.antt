@@ -4,7 +4,7 @@ use Rattle.asm_slots.specs.Slots.{HoldBoth, content_of}
 use Rattle.asm_slots.specs.StepCalls.{IsGotText}
 use Rattle.asm_slots.specs.WrittenText.{TellsText}
 use Rattle.asm_slots.specs.declared.content.Content.TheVariants as content
-use Rattle.asm_slots.proofs.Held.{both_text_told}
+use Rattle.asm_slots.proofs.Held.{both_text_reported}
 use Rattle.asm_c.proofs.steps.asm_get.Goals as goal
 
 pub returns-clause-gets : goal.returns-clause-gets
@@ -17,7 +17,7 @@ returns-clause-gets c =
           subst (TellsText (λ t. HoldBoth (content_of c.args.agent.now) (content_of c.args.step.now)
           (λ a s. IsGotText c.args.locations.now a s t)) c.args.out.now c.get_in.new.out c.get_in.new.written)
           (sym (to_z-of_z {w = w32} (record { sfits = c.get_in.type_inv })))
-          (both_text_told _ _ c.in-Some-in_both-agent.field-0.now c.in-Step-in_both.field-0 _ c.get_in.new.out c.get_in.new.written
+          (both_text_reported _ _ c.in-Some-in_both-agent.field-0.now c.in-Step-in_both.field-0 _ c.get_in.new.out c.get_in.new.written
           c.get_in.result agent step (IsGotText c.args.locations.now) c.get_in.ensures.text);
       got = search rules;
       moved = search rules;

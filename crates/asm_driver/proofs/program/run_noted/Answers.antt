@@ -1,13 +1,13 @@
 use Rattle.std.proofs.Common.{ap, map, string_bytes, subst, refl}
 use Rattle.asm_driver.specs.Words.{AsksFor}
-use Rattle.asm_driver.proofs.Ending.{told_of_words, asked_answered, run_is, run_of, run_watched}
+use Rattle.asm_driver.proofs.Ending.{reported_of_words, asked_answered, run_is, run_of, run_watched}
 use Rattle.asm_driver.proofs.program.run_noted.Goals as goal
 
 pub returns-in-Err-clause-runs : goal.returns-in-Err-clause-runs
 returns-in-Err-clause-runs g c =
     (run_of _ _ _ _ _ (ap (map string_bytes) c.as_slice.ensures.value)
     (run_is _ _ _ _ c.answer_to.result
-    (told_of_words _ _ c.in-Err.error c.answer_to.result c.in-Err.ensures.refused c.answer_to.ensures
+    (reported_of_words _ _ c.in-Err.error c.answer_to.result c.in-Err.ensures.refused c.answer_to.ensures
     (record { same = refl {a = g.S.Source.remaining c.args.input.now}; whole = c.requires.input }))
     c.write_answer.ensures.ok c.write_answer.ensures.err)).runs
 
@@ -15,7 +15,7 @@ pub returns-in-Err-clause-faults : goal.returns-in-Err-clause-faults
 returns-in-Err-clause-faults g c =
     (run_of _ _ _ _ _ (ap (map string_bytes) c.as_slice.ensures.value)
     (run_is _ _ _ _ c.answer_to.result
-    (told_of_words _ _ c.in-Err.error c.answer_to.result c.in-Err.ensures.refused c.answer_to.ensures
+    (reported_of_words _ _ c.in-Err.error c.answer_to.result c.in-Err.ensures.refused c.answer_to.ensures
     (record { same = refl {a = g.S.Source.remaining c.args.input.now}; whole = c.requires.input }))
     c.write_answer.ensures.ok c.write_answer.ensures.err)).faults
 
@@ -23,7 +23,7 @@ pub returns-in-Err-clause-taken : goal.returns-in-Err-clause-taken
 returns-in-Err-clause-taken g c =
     (run_of _ _ _ _ _ (ap (map string_bytes) c.as_slice.ensures.value)
     (run_is _ _ _ _ c.answer_to.result
-    (told_of_words _ _ c.in-Err.error c.answer_to.result c.in-Err.ensures.refused c.answer_to.ensures
+    (reported_of_words _ _ c.in-Err.error c.answer_to.result c.in-Err.ensures.refused c.answer_to.ensures
     (record { same = refl {a = g.S.Source.remaining c.args.input.now}; whole = c.requires.input }))
     c.write_answer.ensures.ok c.write_answer.ensures.err)).taken
 

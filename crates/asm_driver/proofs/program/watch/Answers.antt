@@ -4,14 +4,14 @@ use Rattle.asm_driver.proofs.program.watch.Goals as goal
 
 pub returns-in-Ok-clause-watches : goal.returns-in-Ok-clause-watches
 returns-in-Ok-clause-watches g c =
-    watched_verdict c.args.every _ _ _ _ _ _ _ _ _ c.in-Ok.verdict c.in-Ok.ensures.told c.write_verdict.ensures.tells
+    watched_verdict c.args.every _ _ _ _ _ _ _ _ _ c.in-Ok.verdict c.in-Ok.ensures.reported c.write_verdict.ensures.reports
 
 pub returns-in-Refused-clause-watches : goal.returns-in-Refused-clause-watches
 returns-in-Refused-clause-watches g c =
     watched_refusal c.args.every _ _ _ _ _ _ _ _ _ c.in-Refused.refusal
-    (rw c.in-Refused.is at c.in-Err.ensures.told) c.refuse.ensures.refuses
+    (rw c.in-Refused.is at c.in-Err.ensures.reported) c.refuse.ensures.refuses
 
 pub returns-in-Unwritten-clause-watches : goal.returns-in-Unwritten-clause-watches
 returns-in-Unwritten-clause-watches g c =
-    watched_cut c.args.every _ _ _ _ _ _ _ _ (rw c.in-Unwritten.is at c.in-Err.ensures.told)
+    watched_cut c.args.every _ _ _ _ _ _ _ _ (rw c.in-Unwritten.is at c.in-Err.ensures.reported)
     (rw c.in-Unwritten.is at c.in-Err.ensures.noted) refl

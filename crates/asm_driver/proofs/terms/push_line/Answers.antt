@@ -6,10 +6,10 @@ use Rattle.asm_driver.proofs.terms.push_line.Goals as goal
 pub returns : goal.returns
 returns c =
     let text = string_bytes c.args.text.now in
-    let told = c.args.told.now in
+    let reported = c.args.reported.now in
     let place : List ℕ =
-    step_name c.args.agent told.step ++ codes " block " ++ decimal told.term.block ++ codes " instruction "
-    ++ decimal told.term.instruction ++ codes ": " in
+    step_name c.args.agent reported.step ++ codes " block " ++ decimal reported.term.block ++ codes " instruction "
+    ++ decimal reported.term.instruction ++ codes ": " in
     let why = string_bytes c.in_ok-why.why in
     let formatted : c.as_str.result.now ≡ place = c.as_str.ensures.value ∙ c.in_ok-place.ensures.ok
     ∙ sym (simp append_assoc) in

@@ -1,6 +1,6 @@
 use Rattle.std.proofs.Common.{length, ap, subst, ◌∙◌, []}
 use Rattle.std.proofs.lemmas.List.{take_all}
-use Rattle.asm_state.specs.Stands.{Stands}
+use Rattle.asm_state.specs.FollowsFrom.{FollowsFrom}
 use Rattle.asm_storage.specs.History.{fired_moves, IsLegal}
 use Rattle.asm_journal.specs.Check.{machine_of, IsFirstWrong}
 use Rattle.asm_storage.proofs.Legal.{legal-from}
@@ -10,7 +10,7 @@ use Rattle.asm_journal.proofs.checking.check.Goals as goal
 pub loop-index-init : goal.loop-index-init
 loop-index-init g c =
     let part = (g.A.Aggregator.meaning c.args.aggregator.now).part in
-    (subst (λ A. Stands part A c.in_ok-state.state []) c.in_ok-copy.ensures (c.in_ok-state.ensures part), tt)
+    (subst (λ A. FollowsFrom part A c.in_ok-state.state []) c.in_ok-copy.ensures (c.in_ok-state.ensures part), tt)
 
 pub returns-then-not-branch : goal.returns-then-not-branch
 returns-then-not-branch g c =

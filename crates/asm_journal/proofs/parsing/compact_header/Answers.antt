@@ -8,4 +8,4 @@ returns c =
     c.in_ok-rest.rest.now c.in_ok-agents.agents c.in_ok-capacity.capacity c.in_ok-events.events c.in_ok-init.init
     c.in_ok-first.ensures c.in_ok-agents.ensures c.in_ok-second.ensures c.in_ok-capacity.ensures c.in_ok-third.ensures
     c.in_ok-events.ensures c.in_ok-fourth.ensures c.in_ok-init.ensures c.in_ok-rest.ensures
-    (c.are_taken.ensures.0 c.if-not-are_taken.false)
+    (c.are_supported.ensures.0 c.if-not-are_supported.false)

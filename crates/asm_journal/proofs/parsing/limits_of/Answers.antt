@@ -32,15 +32,15 @@ returns-in_err-version-clause-none c =
 
 pub returns-clause-some : goal.returns-clause-some
 returns-clause-some c =
-    let taken = c.are_taken.ensures.0 c.if-not-are_taken.false in
+    let taken = c.are_supported.ensures.0 c.if-not-are_supported.false in
     let events : c.in_ok-events.events ≤ events_limit = omega (arith, c.in_ok-events.ensures.0) in
     (c.in_ok-agents.ensures.1, c.in_ok-capacity.ensures.1, c.in_ok-events.ensures.1, c.in_ok-version.ensures.1, taken.0, (taken.1, taken.2, taken.3, events))
 
-pub returns-then-not-are_taken-clause-none : goal.returns-then-not-are_taken-clause-none
-returns-then-not-are_taken-clause-none c = λ v a k n h.
+pub returns-then-not-are_supported-clause-none : goal.returns-then-not-are_supported-clause-none
+returns-then-not-are_supported-clause-none c = λ v a k n h.
     let agents = same_number _ _ (sym h.0 ∙ c.in_ok-agents.ensures.1) in
     let capacity = same_number _ _ (sym h.1 ∙ c.in_ok-capacity.ensures.1) in
     let version = same_number _ _ (sym h.3 ∙ c.in_ok-version.ensures.1) in
     let taken : IsVersion c.in_ok-version.version × (c.in_ok-agents.agents ≤ agents_limit) × (1 ≤ c.in_ok-capacity.capacity) × (c.in_ok-capacity.capacity ≤ capacity_limit) =
     (subst IsVersion version h.4, subst (λ m. m ≤ agents_limit) agents h.5.0, subst (λ m. 1 ≤ m) capacity h.5.1, subst (λ m. m ≤ capacity_limit) capacity h.5.2) in
-    true_and_false c.are_taken.result (c.are_taken.ensures.1 taken) c.if-not-are_taken.true
+    true_and_false c.are_supported.result (c.are_supported.ensures.1 taken) c.if-not-are_supported.true

@@ -2,7 +2,7 @@ use Rattle.std.proofs.Common.{◌≡◌, ◌+◌, ◌++◌, ◌∷◌, [], Some,
 use Rattle.std.specs.Prelude.{take}
 use Rattle.std.specs.Option.{option_copied}
 use Rattle.asm_update.specs.Fire.{state_of}
-use Rattle.asm_state.specs.Stands.{after_move}
+use Rattle.asm_state.specs.FollowsFrom.{after_move}
 use Rattle.asm_state.proofs.Writers.{state_of-push}
 use Rattle.asm_storage.specs.History.{fired_moves}
 use Rattle.asm_storage.specs.declared.history.Event.{Event}

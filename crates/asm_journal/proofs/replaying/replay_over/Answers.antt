@@ -3,7 +3,7 @@ use Rattle.std.specs.Prelude.{take}
 use Rattle.std.specs.Option.{option_copied}
 use Rattle.std.proofs.lemmas.List.{take_more}
 use Rattle.asm_update.specs.Fire.{state_of}
-use Rattle.asm_state.specs.Stands.{after_move}
+use Rattle.asm_state.specs.FollowsFrom.{after_move}
 use Rattle.asm_state.proofs.Writers.{state_of-push}
 use Rattle.asm_storage.specs.History.{fired_moves}
 use Rattle.asm_storage.proofs.Moves.{fired_moves-push_fired, fired_moves-push_quiet}

@@ -1,6 +1,6 @@
 use Rattle.std.proofs.Common.{sym, ◌∙◌, arith}
 use Rattle.std.proofs.lemmas.List.{take_more}
-use Rattle.asm_journal.proofs.Clean.{item_tells, none_more, item_is_shallower}
+use Rattle.asm_journal.proofs.Clean.{item_reports, none_more, item_is_shallower}
 use Rattle.asm_journal.proofs.version.+has_list.Goals as goal
 
 pub items_have_list-has_list-requires : goal.items_have_list-has_list-requires
@@ -9,7 +9,7 @@ items_have_list-has_list-requires t c =
 
 pub items_have_list-returns-then-has_list : goal.items_have_list-returns-then-has_list
 items_have_list-returns-then-has_list t c =
-    sym (item_tells c.args.items.now c.loop-item.item-index c.item-item.result c.loop-item-test.true c.item-item.is (sym c.has_list.ensures ∙ c.if-has_list.true))
+    sym (item_reports c.args.items.now c.loop-item.item-index c.item-item.result c.loop-item-test.true c.item-item.is (sym c.has_list.ensures ∙ c.if-has_list.true))
 
 pub items_have_list-loop-item-preserved : goal.items_have_list-loop-item-preserved
 items_have_list-loop-item-preserved t c =

@@ -2,7 +2,7 @@ use Rattle.std.proofs.Common.{◌∙◌, ap, sym, subst, All}
 use Rattle.asm_storage.specs.Agents.{ids}
 use Rattle.asm_update.specs.Aggregator.{Meaning}
 use Rattle.asm_storage.specs.Storage.{accounts, IsOf}
-use Rattle.asm_play.proofs.ClosedPlay.{closes, ids_are, not_closed, of_storage, range_rises, told_later}
+use Rattle.asm_play.proofs.ClosedPlay.{closes, ids_are, not_closed, of_storage, range_rises, reported_later}
 use Rattle.asm_play.proofs.ProperMoves.{history_proper}
 use Rattle.asm_play.proofs.play.closed.Goals as goal
 
@@ -26,7 +26,7 @@ returns-in-Ok-clause-played c =
     (history_proper c.in-Ok.history c.proper.ensures)
 
 pub returns-clause-later : goal.returns-clause-later
-returns-clause-later c = told_later _ _ c.from.ensures
+returns-clause-later c = reported_later _ _ c.from.ensures
 
 pub returns-clause-missing : goal.returns-clause-missing
 returns-clause-missing c =

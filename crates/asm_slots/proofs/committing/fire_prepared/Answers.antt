@@ -6,9 +6,9 @@ use Rattle.asm_slots.proofs.committing.fire_prepared.Goals as goal
 
 pub returns-clause-fired : goal.returns-clause-fired
 returns-clause-fired c =
-    let told = c.told_fire in
+    let reported = c.reported_fire in
     let fired = c.fire_over in
-    let numbers = told.result.1 in
+    let numbers = reported.result.1 in
     let s = c.args.step.now in
     let scans = c.deref.result.now in
     let inside : StepView = record {
@@ -20,15 +20,15 @@ returns-clause-fired c =
     let scanned : ScansAll s scans =
     subst (λ (x : StepView). ScansAll x scans) c.step.view_is
     (scans_all inside scans c.step.inside.scanned.items c.deref.ensures.value refl c.step.invariant.2) in
-    step_fired s told.result.0 numbers.fired numbers.from numbers.to c.args.agent.now fired.new.self c.args.reads.now scans
-    c.args.instrs.now fired.result c.requires.names scanned c.requires.one c.requires.stands told.ensures.told
+    step_fired s reported.result.0 numbers.fired numbers.from numbers.to c.args.agent.now fired.new.self c.args.reads.now scans
+    c.args.instrs.now fired.result c.requires.names scanned c.requires.one c.requires.stands reported.ensures.reported
     fired.ensures.many fired.ensures.answered fired.ensures.refused fired.ensures.busy fired.ensures.offers
 
 pub returns-clause-many : goal.returns-clause-many
 returns-clause-many c =
-    let told = c.told_fire in
+    let reported = c.reported_fire in
     let fired = c.fire_over in
-    let numbers = told.result.1 in
+    let numbers = reported.result.1 in
     let s = c.args.step.now in
     let scans = c.deref.result.now in
     let inside : StepView = record {
@@ -40,5 +40,5 @@ returns-clause-many c =
     let scanned : ScansAll s scans =
     subst (λ (x : StepView). ScansAll x scans) c.step.view_is
     (scans_all inside scans c.step.inside.scanned.items c.deref.ensures.value refl c.step.invariant.2) in
-    many_named s fired.result told.result.0 numbers.fired numbers.from numbers.to c.args.reads.now scans scanned
-    told.ensures.told fired.ensures.many
+    many_named s fired.result reported.result.0 numbers.fired numbers.from numbers.to c.args.reads.now scans scanned
+    reported.ensures.reported fired.ensures.many

@@ -18,7 +18,7 @@ returns-in-Ok-fire_over-clause-answered c = λ _.
     let over = c.in-Ok.both.1.items in
     let reads = c.in-Ok-share.reads in
     let reply = c.in-Ok-fire_over.reply in
-    let told = c.in-Ok-fire_over.ensures in
+    let reported = c.in-Ok-fire_over.ensures in
     let code = c.code_of_reply-code in
     let seen = length agent.account.seen in
     let same : to_z w32 (of_z w32 code.result.0) ≡ code.result.0 = to_z-of_z {w = w32} (record { sfits = search rules }) in
@@ -29,6 +29,6 @@ returns-in-Ok-fire_over-clause-answered c = λ _.
     (ap (λ (rs : List Named). is_any_over rs over seen) (c.in-Ok-share.ensures ∙ sym c.as_slice.ensures)
     ∙ ap (λ (os : List Scanned). is_any_over c.as_slice.result.now os seen) (sym c.deref.ensures.value)
     ∙ sym c.is_behind_over.ensures ∙ c.if-is_behind_over.false)
-    (subst (λ (os : List Scanned). IsRepliedOver agent after reads os fire.instrs reply) c.deref-2.ensures.value told.answered)
-    (λ lt. cc (told.many.1 (subst (λ (os : List Scanned). reads_limit < length reads + length os) (sym c.deref-2.ensures.value) lt)))
-    told.offers
+    (subst (λ (os : List Scanned). IsRepliedOver agent after reads os fire.instrs reply) c.deref-2.ensures.value reported.answered)
+    (λ lt. cc (reported.many.1 (subst (λ (os : List Scanned). reads_limit < length reads + length os) (sym c.deref-2.ensures.value) lt)))
+    reported.offers

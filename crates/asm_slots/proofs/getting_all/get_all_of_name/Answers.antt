@@ -1,7 +1,7 @@
 use Rattle.std.proofs.Common.{arith, refl, subst}
 use Rattle.asm_slots.specs.StepView.{StepView, names_of}
 use Rattle.asm_slots.specs.StepCalls.{HasGotAll, IsFoundText}
-use Rattle.asm_slots.proofs.CopiedTexts.{retold}
+use Rattle.asm_slots.proofs.CopiedTexts.{repeated}
 use Rattle.asm_slots.proofs.Scans.{few_scans, scanned_too}
 use Rattle.asm_slots.proofs.getting_all.get_all_of_name.Goals as goal
 
@@ -27,11 +27,11 @@ returns-then-code-eq-DONE-clause-got c _ =
 pub returns-then-code-eq-DONE-clause-text : goal.returns-then-code-eq-DONE-clause-text
 returns-then-code-eq-DONE-clause-text c =
     let copied = c.copied-code in
-    retold (IsFoundText c.args.name.now c.args.agent.now c.args.step.now) _ _ _ copied.new.out copied.new.written copied.result
+    repeated (IsFoundText c.args.name.now c.args.agent.now c.args.step.now) _ _ _ copied.new.out copied.new.written copied.result
     c.as_bytes.ensures.value c.in-Ok.ensures.text copied.ensures.codes copied.ensures.text
 
 pub returns-else-code-eq-DONE-clause-text : goal.returns-else-code-eq-DONE-clause-text
 returns-else-code-eq-DONE-clause-text c =
     let copied = c.copied-code in
-    retold (IsFoundText c.args.name.now c.args.agent.now c.args.step.now) _ _ _ copied.new.out copied.new.written copied.result
+    repeated (IsFoundText c.args.name.now c.args.agent.now c.args.step.now) _ _ _ copied.new.out copied.new.written copied.result
     c.as_bytes.ensures.value c.in-Ok.ensures.text copied.ensures.codes copied.ensures.text

@@ -1,6 +1,6 @@
 use Rattle.std.proofs.Common.{Some, sym, ◌∙◌}
 use Rattle.std.proofs.lemmas.Result.{IfOk-weaker}
-use Rattle.asm_slots.proofs.GoingOn.{goes_on_from}
+use Rattle.asm_slots.proofs.ExtendingInPlace.{goes_on_from}
 use Rattle.asm_slots.proofs.next_store.gone_on.Goals as goal
 
 pub returns-in-Ok-new-clause-ok : goal.returns-in-Ok-new-clause-ok

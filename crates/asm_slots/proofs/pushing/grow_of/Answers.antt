@@ -5,7 +5,7 @@ use Rattle.asm_slots.specs.Slots.{HoldBoth, HoldsStep, content_of}
 use Rattle.asm_slots.specs.StepCalls.{IsNotGrown}
 use Rattle.asm_slots.specs.WrittenText.{TellsOneOf}
 use Rattle.asm_slots.specs.declared.content.Content.TheVariants as content
-use Rattle.asm_slots.proofs.Held.{both_told}
+use Rattle.asm_slots.proofs.Held.{both_reported}
 use Rattle.asm_slots.proofs.pushing.grow_of.Goals as goal
 
 pub returns-clause-grows : goal.returns-clause-grows
@@ -22,7 +22,7 @@ returns-clause-grows c =
           subst (TellsOneOf refusals (λ k t. HoldBoth (content_of c.args.agent.now) (content_of c.args.step.now)
           (λ a s. HoldsStep (content_of c.put_both-2.new.step) (λ q. IsNotGrown c.args.way c.args.instrs.now a s q k t))) c.args.out.now c.grow_in-code.new.out c.grow_in-code.new.written)
           (sym (to_z-of_z {w = w32} (record { sfits = c.grow_in-code.type_inv })))
-          (both_told refusals _ _ _ c.in-Some-agent_in.held.now c.in-Step.taken c.grow_in-code.new.step _ c.grow_in-code.new.out
+          (both_reported refusals _ _ _ c.in-Some-agent_in.held.now c.in-Step.taken c.grow_in-code.new.step _ c.grow_in-code.new.out
           c.grow_in-code.new.written c.grow_in-code.result agent step after (IsNotGrown c.args.way c.args.instrs.now) c.grow_in-code.ensures.text);
       not_json = search rules;
       shape = search rules;

@@ -5,7 +5,7 @@ use Rattle.asm_slots.specs.StepPush.{refusals}
 use Rattle.asm_slots.specs.StepView.{StepView, names_of}
 use Rattle.asm_slots.specs.Tracked.{judged}
 use Rattle.asm_slots.specs.WrittenText.{TellsOneOf}
-use Rattle.asm_slots.proofs.CopiedTexts.{told_by}
+use Rattle.asm_slots.proofs.CopiedTexts.{reported_by}
 use Rattle.asm_slots.proofs.Growing.{got_with, not_small}
 use Rattle.asm_slots.proofs.pushing.refuse.Goals as goal
 
@@ -16,10 +16,10 @@ returns-in-Ok-clause-text c =
     let tracked = TellsTracked c.args.instrs.now c.args.step.now new c.args.error in
     subst (TellsOneOf refusals tracked c.args.out.now c.written_as.new.out c.written_as.new.written)
     (sym (to_z-of_z {w = w32} (record { sfits = c.written_as.type_inv })))
-    (told_by refusals tracked c.in-Ok.refused.told.code (string_bytes c.in-Ok.refused.told.text) c.args.out.now
+    (reported_by refusals tracked c.in-Ok.refused.reported.code (string_bytes c.in-Ok.refused.reported.text) c.args.out.now
     c.written_as.new.out c.written_as.new.written c.written_as.result c.in-Ok.ensures.codes not_small
     (inl (
-      c.in-Ok.ensures.told,
+      c.in-Ok.ensures.reported,
       got_with (judged c.args.instrs.now c.args.error) inside c.args.step.now c.in-Ok.refused.got.items
           c.step.view_is c.in-Ok.ensures.got c.in-Ok.ensures.few,
     )) c.written_as.ensures.codes c.written_as.ensures.text)

@@ -5,7 +5,7 @@ use Rattle.asm_slots.specs.Slots.{HoldBoth, HoldsMove, HoldsStep, content_of}
 use Rattle.asm_slots.specs.StepCalls.{IsRefused}
 use Rattle.asm_slots.specs.WrittenText.{TellsOneOf}
 use Rattle.asm_slots.specs.declared.content.Content.TheVariants as content
-use Rattle.asm_slots.proofs.Held.{move_told}
+use Rattle.asm_slots.proofs.Held.{move_reported}
 use Rattle.asm_slots.proofs.pushing_moves.grow_from.Goals as goal
 
 pub returns-clause-grows : goal.returns-clause-grows
@@ -23,7 +23,7 @@ returns-clause-grows c =
           (content_of c.args.step.now) (λ a s. HoldsStep (content_of c.put_both-2.new.step) (λ q. IsRefused c.args.way M a s q k t))))
           c.args.out.now c.grow_by-code.new.out
           c.grow_by-code.new.written) (sym (to_z-of_z {w = w32} (record { sfits = c.grow_by-code.type_inv })))
-          (move_told refusals _ _ _ c.in-Some-agent_in.held.now c.in-Step.taken c.grow_by-code.new.step _ c.grow_by-code.new.out
+          (move_reported refusals _ _ _ c.in-Some-agent_in.held.now c.in-Step.taken c.grow_by-code.new.step _ c.grow_by-code.new.out
           c.grow_by-code.new.written c.grow_by-code.result agent step after (IsRefused c.args.way) c.args.held.now c.in-Some.instrs.now c.in-Some.ensures.some
           c.grow_by-code.ensures.text);
       empty = search rules;

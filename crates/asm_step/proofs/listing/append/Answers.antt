@@ -2,7 +2,7 @@ use Rattle.std.proofs.Common.{◌≡◌, ◌++◌, ◌+◌, ◌∷◌, [], lengt
 use Rattle.std.proofs.lemmas.List.{take_more}
 use Rattle.asm_aggregate.specs.Compose.{placed}
 use Rattle.asm_update.specs.Move.{Move}
-use Rattle.asm_step.proofs.Laid.{placed_length, placed_more}
+use Rattle.asm_step.proofs.Stacked.{placed_length, placed_more}
 use Rattle.asm_step.proofs.listing.append.Goals as goal
 
 pub push_within-requires : goal.push_within-requires

@@ -3,7 +3,7 @@ use Rattle.asm_aggregate.specs.Bundle.{by_place}
 use Rattle.asm_aggregate.specs.Compose.{placed}
 use Rattle.asm_element.specs.Place.{Place}
 use Rattle.asm_step.specs.Outcomes.{Outcome}
-use Rattle.asm_step.proofs.Laid.{listed_from, placed_many}
+use Rattle.asm_step.proofs.Stacked.{listed_from, placed_many}
 use Rattle.asm_step.proofs.listing.listing.Goals as goal
 
 pub loop-at-init : goal.loop-at-init

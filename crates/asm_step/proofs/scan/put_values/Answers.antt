@@ -2,7 +2,7 @@ use Rattle.std.proofs.Common.{◌≡◌, [], ◌∷◌, List, refl, sym}
 use Rattle.std.proofs.lemmas.Result.{on_ok_weaker}
 use Rattle.asm_element.specs.Place.{Place}
 use Rattle.asm_step.specs.Outcomes.{Outcome, put_outcome}
-use Rattle.asm_step.proofs.Rested.{put_entries}
+use Rattle.asm_step.proofs.Depending.{put_entries}
 use Rattle.asm_step.proofs.Insertions.{all_in, none_in, one_in, values_in}
 use Rattle.std.specs.FinMap as finite
 use Rattle.asm_step.proofs.scan.put_values.Goals as goal

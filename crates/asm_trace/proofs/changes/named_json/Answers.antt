@@ -4,7 +4,7 @@ use Rattle.asm_update.specs.Group.{Parts}
 use Rattle.asm_state.specs.Change.{IsOneChange}
 use Rattle.asm_state.specs.View.{value_at}
 use Rattle.asm_trace.specs.Text.{changes_json_of}
-use Rattle.asm_trace.proofs.Kept.{changed_alone}
+use Rattle.asm_trace.proofs.Unchanged.{changed_alone}
 use Rattle.asm_trace.proofs.changes.named_json.Goals as goal
 
 pub group_json-requires-clause-alone : goal.group_json-requires-clause-alone

@@ -1,5 +1,5 @@
 use Rattle.std.proofs.Common.{sym, ◌∙◌}
-use Rattle.asm_trace.proofs.Kept.{kept, left_out}
+use Rattle.asm_trace.proofs.Unchanged.{kept, left_out}
 use Rattle.asm_trace.proofs.named.keep.Goals as goal
 
 pub returns-in_ok-insert : goal.returns-in_ok-insert

@@ -1,4 +1,4 @@
-use Rattle.asm_trace.proofs.Kept.{counts_none, counts_more, counts_all}
+use Rattle.asm_trace.proofs.Unchanged.{counts_none, counts_more, counts_all}
 use Rattle.asm_trace.proofs.named.named_of_bag.Goals as goal
 
 pub loop-action-init : goal.loop-action-init

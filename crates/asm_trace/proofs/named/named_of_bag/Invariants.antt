@@ -1,5 +1,5 @@
 use Rattle.std.proofs.Common.{take}
-use Rattle.asm_trace.proofs.Kept.{HasCounts}
+use Rattle.asm_trace.proofs.Unchanged.{HasCounts}
 use Rattle.asm_trace.proofs.named.named_of_bag.Given as goal
 
 -- the part has what the actions so far name

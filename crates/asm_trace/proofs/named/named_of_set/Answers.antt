@@ -1,4 +1,4 @@
-use Rattle.asm_trace.proofs.Kept.{named_none, named_more, named_all}
+use Rattle.asm_trace.proofs.Unchanged.{named_none, named_more, named_all}
 use Rattle.asm_trace.proofs.named.named_of_set.Goals as goal
 
 pub loop-action-init : goal.loop-action-init

@@ -1,4 +1,4 @@
-use Rattle.asm_trace.proofs.Kept.{brought, stayed}
+use Rattle.asm_trace.proofs.Unchanged.{brought, stayed}
 use Rattle.asm_trace.proofs.named.raise.Goals as goal
 
 pub returns-in_ok-put : goal.returns-in_ok-put

@@ -1,5 +1,5 @@
 use Rattle.std.proofs.Common.{sym, subst}
-use Rattle.asm_state.specs.Stands.{Stands}
+use Rattle.asm_state.specs.FollowsFrom.{FollowsFrom}
 use Rattle.asm_journal.specs.Check.{IsStep}
 use Rattle.asm_trace.proofs.notes.other_answer.Goals as goal
 
@@ -7,5 +7,5 @@ pub returns : goal.returns
 returns g c = λ init q stands.
     let part = (g.A.Aggregator.meaning c.args.aggregator.now).part in
     let wrong = subst (IsStep part c.args.capacity c.args.event.now c.args.state.now c.judge_event.new.state) c.if-branch.false c.in_ok-judge_event.ensures.step in
-    let here = subst (λ s. Stands part init s q) (sym wrong.0) stands in
+    let here = subst (λ s. FollowsFrom part init s q) (sym wrong.0) stands in
     ((c.in_ok-right.ensures init q here, wrong.1 init q stands), c.in_ok-follow_event.ensures init q here)

@@ -1,13 +1,13 @@
 use Rattle.std.proofs.Common.{◌≡◌, ◌<◌, ◌++◌, [], ℕ, List, length, get_or, take, string_bytes, sym, ap, subst, ◌∙◌, append-nil}
 use Rattle.std.proofs.lemmas.List.{take_all}
 use Rattle.serde_json.specs.Data.{Data}
-use Rattle.asm_state.specs.Stands.{Stands}
+use Rattle.asm_state.specs.FollowsFrom.{FollowsFrom}
 use Rattle.asm_storage.specs.declared.history.Event.{Event}
 use Rattle.asm_journal.specs.Check.{machine_of}
 use Rattle.asm_journal.specs.Text.{line}
 use Rattle.asm_trace.specs.Note.{AreNotesOf}
 use Rattle.asm_trace.specs.Text.{header_of}
-use Rattle.asm_trace.proofs.Kept.{header_no_float}
+use Rattle.asm_trace.proofs.Unchanged.{header_no_float}
 use Rattle.asm_trace.proofs.Noted.{noted_to_more, few_followed}
 use Rattle.asm_trace.proofs.tracing.traced.Goals as goal
 
@@ -23,7 +23,7 @@ loop-index-init g c =
     ∙ ap (λ (d : Data). string_bytes c.new-text.result ++ line d) c.in_ok-header_json.ensures
     ∙ ap (λ (b : List ℕ). b ++ front) c.new-text.ensures.bytes
     ∙ sym (append-nil front) in
-    (([], tt, text), subst (λ A. Stands part A c.in_ok-state.state []) c.in_ok-copy.ensures (c.in_ok-state.ensures part))
+    (([], tt, text), subst (λ A. FollowsFrom part A c.in_ok-state.state []) c.in_ok-copy.ensures (c.in_ok-state.ensures part))
 
 pub push_note-requires-clause-few : goal.push_note-requires-clause-few
 push_note-requires-clause-few g c =

@@ -45,17 +45,17 @@ returns-then-not-is_legal-2-clause-taken g c =
     let body = take end bytes in
     let rest = drop (end + 1) bytes in
     let ends = rw c.in-Some.is at c.line_feed_in.ensures.some in
-    let e = c.end_line-told in
+    let e = c.end_line-reported in
     let new = e.new.self in
     let is = kept_body body old.line.items mid.line.items k.result.0 k.result.1
     (sym c.is_legal.ensures ∙ c.if-not-is_legal.false) k.ensures.kept in
     let same = ap (λ a. a.progress) k.ensures.auditor in
-    let told = subst (λ p. IsLineAnswer part (mid.line.items ++ 10 ∷ []) p new.auditor.progress e.result) same
+    let reported = subst (λ p. IsLineAnswer part (mid.line.items ++ 10 ∷ []) p new.auditor.progress e.result) same
     (subst (λ q. IsLineAnswer q (mid.line.items ++ 10 ∷ []) mid.auditor.progress new.auditor.progress e.result)
-    (ap (λ x. (g.A.Aggregator.meaning x).part) (ap (λ a. a.aggregator) k.ensures.auditor)) e.ensures.told) in
+    (ap (λ x. (g.A.Aggregator.meaning x).part) (ap (λ a. a.aggregator) k.ensures.auditor)) e.ensures.reported) in
     ended_not part old.auditor.progress new.auditor.progress old.line.items mid.line.items new.line.items body rest bytes ends is
     mid.within end e.result (omega (arith, ap length ends.0, length-append body (10 ∷ rest), length-take end bytes))
-    (sym c.is_legal-2.ensures ∙ c.if-not-is_legal-2.true) told
+    (sym c.is_legal-2.ensures ∙ c.if-not-is_legal-2.true) reported
     (subst (λ p. IsKept p new.auditor.progress e.result) same e.ensures.kept) e.ensures.line
 
 pub returns-clause-taken : goal.returns-clause-taken
@@ -69,14 +69,14 @@ returns-clause-taken g c =
     let body = take end bytes in
     let rest = drop (end + 1) bytes in
     let ends = rw c.in-Some.is at c.line_feed_in.ensures.some in
-    let e = c.end_line-told in
+    let e = c.end_line-reported in
     let new = e.new.self in
     let is = kept_body body old.line.items mid.line.items k.result.0 k.result.1
     (sym c.is_legal.ensures ∙ c.if-not-is_legal.false) k.ensures.kept in
     let same = ap (λ a. a.progress) k.ensures.auditor in
-    let told = subst (λ p. IsLineAnswer part (mid.line.items ++ 10 ∷ []) p new.auditor.progress e.result) same
+    let reported = subst (λ p. IsLineAnswer part (mid.line.items ++ 10 ∷ []) p new.auditor.progress e.result) same
     (subst (λ q. IsLineAnswer q (mid.line.items ++ 10 ∷ []) mid.auditor.progress new.auditor.progress e.result)
-    (ap (λ x. (g.A.Aggregator.meaning x).part) (ap (λ a. a.aggregator) k.ensures.auditor)) e.ensures.told) in
+    (ap (λ x. (g.A.Aggregator.meaning x).part) (ap (λ a. a.aggregator) k.ensures.auditor)) e.ensures.reported) in
     ended_on part old.auditor.progress new.auditor.progress old.line.items mid.line.items new.line.items body rest bytes ends is
     mid.within (end + 1) e.result (omega (arith, ap length ends.0, length-append body (10 ∷ rest), length-take end bytes))
-    (sym c.is_legal-2.ensures ∙ c.if-not-is_legal-2.false) told e.ensures.line
+    (sym c.is_legal-2.ensures ∙ c.if-not-is_legal-2.false) reported e.ensures.line

@@ -1,11 +1,11 @@
 use Rattle.std.proofs.Common.{◌++◌, true, length, sym, ap, subst, ◌∙◌, refl, Ok}
 use Rattle.asm_audit.specs.declared.progress.Told.TheVariants.{Legal}
 use Rattle.asm_audit.specs.Fed.{HasTakenLine}
-use Rattle.asm_audit.proofs.Fed.{told_first, all_more, taken_more, stopped, taken_all, none_left}
+use Rattle.asm_audit.proofs.Fed.{reported_first, all_more, taken_more, stopped, taken_all, none_left}
 use Rattle.asm_audit.proofs.byte_auditor.ByteAuditor.feed_some.Goals as goal
 
-pub returns-then-not-is_legal-clause-told : goal.returns-then-not-is_legal-clause-told
-returns-then-not-is_legal-clause-told g c =
+pub returns-then-not-is_legal-clause-reported : goal.returns-then-not-is_legal-clause-reported
+returns-then-not-is_legal-clause-reported g c =
     let part = (g.A.Aggregator.meaning c.args.self.now.auditor.aggregator).part in
     let old = c.args.self.now in
     let bytes = c.args.bytes.now in
@@ -16,7 +16,7 @@ returns-then-not-is_legal-clause-told g c =
     let rest = l.rest.now in
     let here = subst (λ q. HasTakenLine q rest l.self.auditor.progress l.self.line.items new.auditor.progress new.line.items f.result.0 f.result.1)
     (ap (λ a. (g.A.Aggregator.meaning a).part) i.same) f.ensures.taken in
-    told_first part bytes old.auditor.progress new.auditor.progress old.line.items new.line.items _ f.result.1
+    reported_first part bytes old.auditor.progress new.auditor.progress old.line.items new.line.items _ f.result.1
     (stopped part i.done rest bytes old.auditor.progress l.self.auditor.progress new.auditor.progress old.line.items
     l.self.line.items new.line.items f.result.0 f.result.1 i.all i.taken here _
     (sym c.is_legal.ensures ∙ c.if-not-is_legal.true) refl)
@@ -58,14 +58,14 @@ loop-rest-preserved g c =
           l.self.line.items new.line.items f.result.0 f.result.1 i.all i.taken here;
     }
 
-pub returns-clause-told : goal.returns-clause-told
-returns-clause-told g c =
+pub returns-clause-reported : goal.returns-clause-reported
+returns-clause-reported g c =
     let part = (g.A.Aggregator.meaning c.args.self.now.auditor.aggregator).part in
     let old = c.args.self.now in
     let bytes = c.args.bytes.now in
     let l = c.loop-rest in
     let i = l.invariant in
-    told_first part bytes old.auditor.progress l.self.auditor.progress old.line.items l.self.line.items (length bytes) (Ok Legal)
+    reported_first part bytes old.auditor.progress l.self.auditor.progress old.line.items l.self.line.items (length bytes) (Ok Legal)
     (taken_all part i.done l.rest.now bytes old.auditor.progress l.self.auditor.progress old.line.items l.self.line.items
     (length bytes) i.all (none_left l.rest.now (length l.rest.now) true refl c.loop-rest-test.ensures refl) refl i.taken)
 

@@ -1,24 +1,24 @@
 use Rattle.std.proofs.Common.{Err, subst}
 use Rattle.asm_audit.specs.Text.{HasLineFeed}
 use Rattle.asm_audit.specs.Audited.{IsLineAnswer}
-use Rattle.asm_audit.proofs.Fed.{none_left, some_left, end_told, no_end, open_fault}
+use Rattle.asm_audit.proofs.Fed.{none_left, some_left, end_reported, no_end, open_fault}
 use Rattle.asm_audit.proofs.byte_auditor.ByteAuditor.finish.Goals as goal
 
-pub returns-clause-told : goal.returns-clause-told
-returns-clause-told g c =
+pub returns-clause-reported : goal.returns-clause-reported
+returns-clause-reported g c =
     let part = (g.A.Aggregator.meaning c.args.self.now.auditor.aggregator).part in
     let old = c.args.self.now in
     let e = c.in-Err.error in
-    let told = subst (λ line. IsLineAnswer part line old.auditor.progress c.line.new.self.progress (Err e)) c.as_slice.ensures.value c.in-Err.ensures.told in
+    let reported = subst (λ line. IsLineAnswer part line old.auditor.progress c.line.new.self.progress (Err e)) c.as_slice.ensures.value c.in-Err.ensures.reported in
     λ text fed. open_fault part text old.auditor.progress c.line.new.self.progress old.line.items e
-    (some_left old.line.items old.line.len c.is_empty.result old.line.ok.0 c.is_empty.ensures c.if-is_empty.false) told fed
+    (some_left old.line.items old.line.len c.is_empty.result old.line.ok.0 c.is_empty.ensures c.if-is_empty.false) reported fed
 
-pub returns-then-is_empty-clause-told : goal.returns-then-is_empty-clause-told
-returns-then-is_empty-clause-told g c =
+pub returns-then-is_empty-clause-reported : goal.returns-then-is_empty-clause-reported
+returns-then-is_empty-clause-reported g c =
     let old = c.args.self.now in
-    end_told (g.A.Aggregator.meaning old.auditor.aggregator).part old.auditor.progress old.line.items c.finish.result
+    end_reported (g.A.Aggregator.meaning old.auditor.aggregator).part old.auditor.progress old.line.items c.finish.result
     (none_left old.line.items old.line.len c.is_empty.result old.line.ok.0 c.is_empty.ensures c.if-is_empty.true)
-    c.finish.ensures.told
+    c.finish.ensures.reported
 
 pub unreachable-requires : goal.unreachable-requires
 unreachable-requires g c =

@@ -17,7 +17,7 @@ returns-clause-ok c =
       h,
       l,
       c.in_ok-history.ensures.ok,
-      subst (λ (a : Meaning). IsLegality (machine_of a.part h) h.events l) c.chosen.ensures c.in_ok-legality.ensures,
+      subst (λ (a : Meaning). IsLegality (machine_of a.part h) h.events l) c.script_aggregator.ensures c.in_ok-legality.ensures,
       c.in_ok-legality_ending.ensures.status,
       c.in_ok-legality_ending.ensures.text,
     )

@@ -8,11 +8,11 @@ use Rattle.asm_driver.proofs.Refusing.{unplayed}
 use Rattle.asm_driver.proofs.program.commands.run.Goals as goal
 
 -- a play without a text
-untold : (bytes : List ℕ) (capacity : ℕ) (asked : Bool) (p : Played) (r : Refusal) → IsPlayed bytes capacity p →
+unreported : (bytes : List ℕ) (capacity : ℕ) (asked : Bool) (p : Played) (r : Refusal) → IsPlayed bytes capacity p →
     IsNoText asked p r → IsNoRun bytes capacity asked r
-untold bytes capacity asked p refusal.Unfit is h = (p, is, h)
-untold bytes capacity asked p refusal.Memory is h = tt
-untold bytes capacity asked p r is h = absurd h
+unreported bytes capacity asked p refusal.Unfit is h = (p, is, h)
+unreported bytes capacity asked p refusal.Memory is h = tt
+unreported bytes capacity asked p r is h = absurd h
 
 pub returns-in_err-played-clause-err : goal.returns-in_err-played-clause-err
 returns-in_err-played-clause-err g c =
@@ -34,4 +34,4 @@ returns-clause-err g c =
     let is : IsPlayed c.args.bytes.now c.args.capacity p =
     (c.in_ok-script.script, c.in_ok-script.ensures.ok, c.in_ok-played.ensures.played) in
     IfErr-weaker c.played_text.result _ _
-    (λ r h. untold c.args.bytes.now c.args.capacity c.args.journal p r is h) c.played_text.ensures.err
+    (λ r h. unreported c.args.bytes.now c.args.capacity c.args.journal p r is h) c.played_text.ensures.err

@@ -13,7 +13,7 @@ returns-in_err-played-clause-err g c =
 pub returns-clause-ok : goal.returns-clause-ok
 returns-clause-ok g c = (
   c.in_ok-played.played,
-  string_bytes c.in_ok-told.told,
+  string_bytes c.in_ok-reported.reported,
   (c.in_ok-script.script, c.in_ok-script.ensures.ok, c.in_ok-played.ensures.played),
   c.in_ok-push_str.ensures.bytes ∙ ap₂ (λ a b. a ++ b) c.in_ok-text.ensures c.as_str.ensures.value,
 )

@@ -15,8 +15,8 @@ use Rattle.asm_driver.proofs.TextPieces.{moved}
 use Rattle.asm_driver.proofs.Watching.{stopped_wrong, stopped_fault, stopped_memory, stopped_more, line_taken}
 use Rattle.asm_driver.proofs.program.watching.take_bytes.Goals as goal
 
-pub returns-in_err-told-clause-told : goal.returns-in_err-told-clause-told
-returns-in_err-told-clause-told g c = λ text before watched.
+pub returns-in_err-reported-clause-reported : goal.returns-in_err-reported-clause-reported
+returns-in_err-reported-clause-reported g c = λ text before watched.
     let r = err_from_is_err_and c.from_residual.result c.from_residual.ensures.1 in
     let l = c.loop-rest in
     let i = l.invariant in
@@ -26,17 +26,17 @@ returns-in_err-told-clause-told g c = λ text before watched.
     let mean = ap (λ a. g.A.Aggregator.meaning a) i.same_aggregator ∙ c.requires in
     let p = l.auditor.auditor.progress in
     let line = l.auditor.line.items in
-    let told = subst (λ (m : Meaning). HasTakenLine m.part rest p line new.auditor.progress new.line.items f.result.0 f.result.1) mean
+    let reported = subst (λ (m : Meaning). HasTakenLine m.part rest p line new.auditor.progress new.line.items f.result.0 f.result.1) mean
     f.ensures.taken in
-    let e = c.in_err-told.field-0.0 in
+    let e = c.in_err-reported.field-0.0 in
     let fault = subst (λ x. HasTakenLine standard_part rest p line new.auditor.progress new.line.items f.result.0 x)
-    c.in_err-told.was told in
+    c.in_err-reported.was reported in
     rw (r.1, r.2) (stopped_more c.args.every text i.done rest c.args.bytes.now (before ++ string_bytes l.lines)
     (Err (refusal_of_audit e)) i.all (stopped_fault c.args.every (text ++ i.done) (before ++ string_bytes l.lines) rest p
     new.auditor.progress line new.line.items f.result.0 (i.watched text before watched) e fault))
 
-pub returns-in-Illegal-clause-told : goal.returns-in-Illegal-clause-told
-returns-in-Illegal-clause-told g c = λ text before watched.
+pub returns-in-Illegal-clause-reported : goal.returns-in-Illegal-clause-reported
+returns-in-Illegal-clause-reported g c = λ text before watched.
     let l = c.loop-rest in
     let i = l.invariant in
     let f = c.feed_line-count in
@@ -45,18 +45,18 @@ returns-in-Illegal-clause-told g c = λ text before watched.
     let mean = ap (λ a. g.A.Aggregator.meaning a) i.same_aggregator ∙ c.requires in
     let p = l.auditor.auditor.progress in
     let line = l.auditor.line.items in
-    let told = subst (λ (m : Meaning). HasTakenLine m.part rest p line new.auditor.progress new.line.items f.result.0 f.result.1) mean
+    let reported = subst (λ (m : Meaning). HasTakenLine m.part rest p line new.auditor.progress new.line.items f.result.0 f.result.1) mean
     f.ensures.taken in
     let j = c.in-Illegal.part in
     let k = c.in-Illegal.call in
     let wrong = subst (λ x. HasTakenLine standard_part rest p line new.auditor.progress new.line.items f.result.0 x)
-    (c.in_ok-told.was ∙ ap Ok c.in-Illegal.is) told in
+    (c.in_ok-reported.was ∙ ap Ok c.in-Illegal.is) reported in
     stopped_more c.args.every text i.done rest c.args.bytes.now (before ++ string_bytes l.lines) (Ok (verdict.Illegal j k)) i.all
     (stopped_wrong c.args.every (text ++ i.done) (before ++ string_bytes l.lines) rest p new.auditor.progress line new.line.items
     f.result.0 (i.watched text before watched) j k wrong)
 
-pub returns-in_err-add_due-clause-told : goal.returns-in_err-add_due-clause-told
-returns-in_err-add_due-clause-told g c = λ text before watched.
+pub returns-in_err-add_due-clause-reported : goal.returns-in_err-add_due-clause-reported
+returns-in_err-add_due-clause-reported g c = λ text before watched.
     let r = err_from_is_err_and c.from_residual-in_err-add_due.result c.from_residual-in_err-add_due.ensures.1 in
     let l = c.loop-rest in
     let i = l.invariant in
@@ -66,7 +66,7 @@ returns-in_err-add_due-clause-told g c = λ text before watched.
     let mean = ap (λ a. g.A.Aggregator.meaning a) i.same_aggregator ∙ c.requires in
     let p = l.auditor.auditor.progress in
     let line = l.auditor.line.items in
-    let told = subst (λ (m : Meaning). HasTakenLine m.part rest p line new.auditor.progress new.line.items f.result.0 f.result.1) mean
+    let reported = subst (λ (m : Meaning). HasTakenLine m.part rest p line new.auditor.progress new.line.items f.result.0 f.result.1) mean
     f.ensures.taken in
     let kept = subst (λ (t : List ℕ). IsWatched c.args.every (text ++ i.done) p line (before ++ t)) (sym c.in_err-add_due.ensures.err)
     (i.watched text before watched) in
@@ -84,10 +84,10 @@ loop-rest-preserved g c =
     let mean = ap (λ a. g.A.Aggregator.meaning a) i.same_aggregator ∙ c.requires in
     let p = l.auditor.auditor.progress in
     let line = l.auditor.line.items in
-    let told = subst (λ (m : Meaning). HasTakenLine m.part rest p line new.auditor.progress new.line.items f.result.0 f.result.1) mean
+    let reported = subst (λ (m : Meaning). HasTakenLine m.part rest p line new.auditor.progress new.line.items f.result.0 f.result.1) mean
     f.ensures.taken in
     let legal = subst (λ x. HasTakenLine standard_part rest p line new.auditor.progress new.line.items f.result.0 x)
-    (c.in_ok-told.was ∙ ap Ok c.in-Legal.is) told in
+    (c.in_ok-reported.was ∙ ap Ok c.in-Legal.is) reported in
     let here = subst (λ (m : Meaning). AreFedSoFar m.part p line c.counts-before.result) mean c.counts-before.ensures in
     let there = subst (λ (m : Meaning). AreFedSoFar m.part new.auditor.progress new.line.items c.counts.result)
     (ap (λ a. g.A.Aggregator.meaning a) f.ensures.aggregator ∙ mean) c.counts.ensures in
@@ -105,8 +105,8 @@ loop-rest-preserved g c =
           here there c.in_ok-add_due.ensures.ok);
     }
 
-pub returns-clause-told : goal.returns-clause-told
-returns-clause-told g c = λ text before watched.
+pub returns-clause-reported : goal.returns-clause-reported
+returns-clause-reported g c = λ text before watched.
     let l = c.loop-rest in
     let i = l.invariant in
     let none = none_left l.rest.now (length l.rest.now) true refl c.loop-rest-test.ensures refl in

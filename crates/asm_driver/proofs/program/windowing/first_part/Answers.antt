@@ -5,9 +5,9 @@ use Rattle.std.proofs.lemmas.Result.{err_from_is_err_and, IfErr-weaker}
 use Rattle.asm_driver.specs.Lines.{IsLineAt, pending}
 use Rattle.asm_driver.specs.Parts.{IsAt, IsRefusedRun}
 use Rattle.asm_driver.proofs.PartLines.{first_long}
-use Rattle.asm_driver.proofs.LinesTaken.{taken_on, unread_told}
+use Rattle.asm_driver.proofs.LinesTaken.{taken_on, unread_reported}
 use Rattle.asm_driver.proofs.Windows.{refused_window, inside_parts, no_parts}
-use Rattle.asm_driver.proofs.PartsRead.{first_opened_as, first_told}
+use Rattle.asm_driver.proofs.PartsRead.{first_opened_as, first_reported}
 use Rattle.asm_driver.proofs.program.windowing.first_part.Goals as goal
 
 pub returns-in_err-read-clause-err : goal.returns-in_err-read-clause-err
@@ -18,7 +18,7 @@ returns-in_err-read-clause-err g c =
     let failed = g.S.Source.failed c.read.new.input in
     let at = subst (λ (l : List ℕ). Consumes had had l) (sym c.requires.begins) (Consumes-nil had) in
     rw (r.1, r.2) (λ w. refused_window w had left failed [] _ (inside_parts w [] 0 no_parts (omega arith))
-    (unread_told had had left failed [] (pending c.args.lines.now) (pending c.read.new.self) c.read.new.self.line.items
+    (unread_reported had had left failed [] (pending c.args.lines.now) (pending c.read.new.self) c.read.new.self.line.items
     IsRefusedRun c.in_err-read.field-0.0 at c.in_err-read.ensures.read (λ all. tt) (λ all. tt) first_long))
 
 pub returns-clause-ok : goal.returns-clause-ok
@@ -42,7 +42,7 @@ returns-clause-err g c =
     let is = c.in_ok-read.ensures.read in
     let same = sym c.line.ensures in
     let at = subst (λ (l : List ℕ). Consumes had had l) (sym c.requires.begins) (Consumes-nil had) in
-    IfErr-weaker c.first.result _ _ (λ r breaks w. first_told w had left (g.S.Source.failed c.read.new.input) c.line.result.now
+    IfErr-weaker c.first.result _ _ (λ r breaks w. first_reported w had left (g.S.Source.failed c.read.new.input) c.line.result.now
     behind r
     (subst (λ (l : List ℕ). IsAt had left l behind) same
     (taken_on had had left [] (pending c.args.lines.now) behind c.read.new.self.line.items at is.0))

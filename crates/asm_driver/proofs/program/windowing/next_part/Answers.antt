@@ -4,9 +4,9 @@ use Rattle.asm_audit.proofs.Fed.{none_left, some_left}
 use Rattle.asm_driver.specs.Lines.{pending}
 use Rattle.asm_driver.specs.Parts.{audited, IsRefusedRun, IsOpenedNext, IsNotOpenedNext}
 use Rattle.asm_driver.proofs.PartLines.{part_long, parts_read}
-use Rattle.asm_driver.proofs.LinesTaken.{taken_on, unread_told}
+use Rattle.asm_driver.proofs.LinesTaken.{taken_on, unread_reported}
 use Rattle.asm_driver.proofs.Windows.{refused_window, inside_parts}
-use Rattle.asm_driver.proofs.PartsRead.{next_opened_as, next_told, none_told}
+use Rattle.asm_driver.proofs.PartsRead.{next_opened_as, next_reported, none_reported}
 use Rattle.asm_driver.proofs.program.windowing.next_part.Goals as goal
 
 pub returns-in_err-read-clause-err : goal.returns-in_err-read-clause-err
@@ -21,7 +21,7 @@ returns-in_err-read-clause-err g c =
     refused_window w had left failed text _
     (inside_parts w text _ (parts_read old.number text (audited old) A es read read.few c.requires.whole c.requires.few)
     (omega (arith, before)))
-    (unread_told had (g.S.Source.remaining c.args.input.now) left failed text (pending c.args.lines.now) behind line IsRefusedRun
+    (unread_reported had (g.S.Source.remaining c.args.input.now) left failed text (pending c.args.lines.now) behind line IsRefusedRun
     c.in_err-read.field-0.0 at c.in_err-read.ensures.read (λ all. tt) (λ all. tt)
     (part_long old.number text (audited old) A es read read.few)))
 
@@ -33,7 +33,7 @@ returns-then-is_empty-clause-err g c = λ w had text A es before at read.
     let line = c.read.new.self.line.items in
     let old = c.args.before.now in
     let is = c.in_ok-read.ensures.read in
-    none_told had left failed text line behind old A es
+    none_reported had left failed text line behind old A es
     (taken_on had (g.S.Source.remaining c.args.input.now) left text (pending c.args.lines.now) behind line at is.0) is.1 is.2
     read c.requires.whole c.requires.few w before
     (sym c.line.ensures ∙ none_left c.line.result.now (length c.line.result.now) c.is_empty.result refl c.is_empty.ensures c.if-is_empty.true)
@@ -61,7 +61,7 @@ returns-clause-err g c =
     let old = c.args.before.now in
     let is = c.in_ok-read.ensures.read in
     IfErr-weaker c.next.result _ _ (λ r none w had text A es before at read.
-    next_told had left failed text line behind old A es
+    next_reported had left failed text line behind old A es
     (taken_on had (g.S.Source.remaining c.args.input.now) left text (pending c.args.lines.now) behind line at is.0) is.1 is.2
     read c.requires.whole c.requires.few w before r
     (λ e. some_left c.line.result.now (length c.line.result.now) c.is_empty.result refl c.is_empty.ensures c.if-is_empty.false (c.line.ensures ∙ e))

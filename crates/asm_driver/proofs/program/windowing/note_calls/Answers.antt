@@ -1,7 +1,7 @@
 use Rattle.std.proofs.Common.{◌≤◌, ◌+◌, ◌++◌, ◌∷◌, [], None, List, string_bytes, refl, ap, sym, subst, ◌∙◌, inr, append_assoc, append-nil, arith}
 use Rattle.std.proofs.lemmas.Result.{err_from_is_err_and}
 use Rattle.asm_aggregate.specs.Standard.{standard_part}
-use Rattle.asm_state.specs.Stands.{Stands}
+use Rattle.asm_state.specs.FollowsFrom.{FollowsFrom}
 use Rattle.asm_storage.specs.History.{fired_moves}
 use Rattle.asm_storage.specs.declared.history.Event.{Event}
 use Rattle.asm_journal.specs.declared.parsing.Limits.{Limits}
@@ -12,8 +12,8 @@ use Rattle.asm_driver.proofs.Windows.{AreNotedTo, noted_none, noted_more, few_fo
 use Rattle.asm_driver.proofs.PartsRead.{event_refused_window}
 use Rattle.asm_driver.proofs.program.windowing.note_calls.Goals as goal
 
-pub returns-in_err-noted-clause-told : goal.returns-in_err-noted-clause-told
-returns-in_err-noted-clause-told g c = λ w had before A es number end at read.
+pub returns-in_err-noted-clause-reported : goal.returns-in_err-noted-clause-reported
+returns-in_err-noted-clause-reported g c = λ w had before A es number end at read.
     let r = err_from_is_err_and c.from_residual.result c.from_residual.ensures.1 in
     rw (r.1, r.2) (memory_window w had (g.S.Source.remaining c.args.input.now) (g.S.Source.failed c.args.input.now)
     (before ++ pending c.args.lines.now) at c.requires.unread)
@@ -33,12 +33,12 @@ loop-call-init g c = record {
     subst (λ (xs : List Event). IsPartRead c.args.opened.now.number before (audited c.args.opened.now) A xs)
         (sym (append-nil es)) read,
     noted_none c.args.opened.now.limits.capacity A es c.in_ok-noted.noted (string_bytes c.args.text.now)
-        (subst (λ s. Stands standard_part A s (fired_moves es)) (sym c.in_ok-noted.ensures) read.stands),
+        (subst (λ s. FollowsFrom standard_part A s (fired_moves es)) (sym c.in_ok-noted.ensures) read.stands),
   );
 }
 
-pub returns-in_err-event-clause-told : goal.returns-in_err-event-clause-told
-returns-in_err-event-clause-told g c = λ w had before A es number end at read.
+pub returns-in_err-event-clause-reported : goal.returns-in_err-event-clause-reported
+returns-in_err-event-clause-reported g c = λ w had before A es number end at read.
     let r = err_from_is_err_and c.from_residual-in_err-event.result c.from_residual-in_err-event.ensures.1 in
     let i = c.loop-call.invariant in
     let o = c.loop-call.opened in
@@ -50,7 +50,7 @@ returns-in_err-event-clause-told g c = λ w had before A es number end at read.
     (g.S.Source.failed c.next_event.new.input) o.number c.args.end now.0 (pending c.next_event.new.lines) o
     c.next_event.new.opened A (es ++ now.1) c.in_err-event.field-0.0 now.3 (inr (i.number ∙ number, most))
     (omega (arith, taken, c.loop-call-test.true))
-    (c.in_err-event.ensures.told had now.0 A (es ++ now.1) now.2 now.3))
+    (c.in_err-event.ensures.reported had now.0 A (es ++ now.1) now.2 now.3))
 
 pub push_standard_note-requires : goal.push_standard_note-requires
 push_standard_note-requires g c =
@@ -62,14 +62,14 @@ push_standard_note-requires g c =
     few_followed c.loop-call.opened.number c.args.end c.args.end now.0 (audited c.loop-call.opened) k.1 (k.2 ++ now.1)
     c.loop-call.noted now.3 now.4.stands (omega (arith, taken, long, c.loop-call-test.true)) (omega (arith, c.ranges.end.fits))
 
-pub returns-in_err-push_standard_note-clause-told : goal.returns-in_err-push_standard_note-clause-told
-returns-in_err-push_standard_note-clause-told g c = λ w had before A es number end at read.
+pub returns-in_err-push_standard_note-clause-reported : goal.returns-in_err-push_standard_note-clause-reported
+returns-in_err-push_standard_note-clause-reported g c = λ w had before A es number end at read.
     let r = err_from_is_err_and c.from_residual-in_err-push_standard_note.result c.from_residual-in_err-push_standard_note.ensures.1 in
     let i = c.loop-call.invariant in
     let now = i.read had before A es at read in
-    let told = c.in_ok-event.ensures.told had now.0 A (es ++ now.1) now.2 now.3 in
+    let reported = c.in_ok-event.ensures.reported had now.0 A (es ++ now.1) now.2 now.3 in
     rw (r.1, r.2) (memory_window w had (g.S.Source.remaining c.next_event.new.input) (g.S.Source.failed c.next_event.new.input)
-    (told.1.0 ++ pending c.next_event.new.lines) told.1.1 told.0)
+    (reported.1.0 ++ pending c.next_event.new.lines) reported.1.1 reported.0)
 
 pub loop-call-preserved : goal.loop-call-preserved
 loop-call-preserved g c =
@@ -86,13 +86,13 @@ loop-call-preserved g c =
       read = λ had before A es at read.
           let now = i.read had before A es at read in
           let e = c.in_ok-event.event in
-          let told = c.in_ok-event.ensures.told had now.0 A (es ++ now.1) now.2 now.3 in
+          let reported = c.in_ok-event.ensures.reported had now.0 A (es ++ now.1) now.2 now.3 in
           let taken = i.taken in (
-            told.1.0,
+            reported.1.0,
             now.1 ++ e ∷ [],
-            told.1.1,
-            subst (λ (xs : List Event). IsPartRead c.next_event.new.opened.number told.1.0 (audited c.next_event.new.opened) A xs)
-                (append_assoc es now.1 (e ∷ [])) told.1.2,
+            reported.1.1,
+            subst (λ (xs : List Event). IsPartRead c.next_event.new.opened.number reported.1.0 (audited c.next_event.new.opened) A xs)
+                (append_assoc es now.1 (e ∷ [])) reported.1.2,
             subst (λ (l : Limits). AreNotedTo l.capacity A es (now.1 ++ e ∷ []) c.push_standard_note.new.state (string_bytes c.args.text.now) (string_bytes c.push_standard_note.new.text))
                 (sym (n.1 ∙ i.limits))
                 (noted_more c.args.opened.now.limits.capacity A es now.1 e c.from.result c.loop-call.noted
@@ -103,8 +103,8 @@ loop-call-preserved g c =
           );
     }
 
-pub returns-clause-told : goal.returns-clause-told
-returns-clause-told g c = λ w had before A es number end at read.
+pub returns-clause-reported : goal.returns-clause-reported
+returns-clause-reported g c = λ w had before A es number end at read.
     let i = c.loop-call.invariant in
     let now = i.read had before A es at read in
     let taken = i.taken in

@@ -9,7 +9,7 @@ returns-in_err-pass-clause-err g c =
     let i = c.loop.invariant in
     let o = i.opened.2 in
     let number = i.number in
-    rw (r.1, r.2) (λ w same. c.in_err-pass.ensures.told w (g.S.Source.remaining c.args.input.now) (o.0 ++ o.1) o.2
+    rw (r.1, r.2) (λ w same. c.in_err-pass.ensures.reported w (g.S.Source.remaining c.args.input.now) (o.0 ++ o.1) o.2
     (inl (omega (arith, number, c.loop-test.true, same))) o.3 o.6)
 
 pub returns-in_err-opened-2-clause-err : goal.returns-in_err-opened-2-clause-err
@@ -21,7 +21,7 @@ returns-in_err-opened-2-clause-err g c =
     let number = i.number in
     let same_number = c.in_ok-pass.ensures.number in
     rw (r.1, r.2) (λ w same.
-    let passed = c.in_ok-pass.ensures.told w had (o.0 ++ o.1) o.2 (inl (omega (arith, number, c.loop-test.true, same))) o.3 o.6 in
+    let passed = c.in_ok-pass.ensures.reported w had (o.0 ++ o.1) o.2 (inl (omega (arith, number, c.loop-test.true, same))) o.3 o.6 in
     c.in_err-opened-2.ensures.err w had passed.1.0 o.2 passed.1.1
     (omega (arith, number, same_number, c.loop-test.true, same)) passed.1.2 passed.1.3)
 
@@ -31,7 +31,7 @@ loop-preserved g c =
     let o = i.opened.2 in
     let had = g.S.Source.remaining c.args.input.now in
     let w : Window = record { part = c.loop.opened.number + 1; from = 0; to = None } in
-    let passed = c.in_ok-pass.ensures.told w had (o.0 ++ o.1) o.2 (inl (omega arith)) o.3 o.6 in
+    let passed = c.in_ok-pass.ensures.reported w had (o.0 ++ o.1) o.2 (inl (omega arith)) o.3 o.6 in
     record {
       same_reference = c.next_part.ensures.same_reference ∙ c.pass.ensures.same_reference ∙ i.same_reference;
       number = c.in_ok-opened-2.ensures.number ∙ ap (λ n. n + 1) (c.in_ok-pass.ensures.number ∙ i.number);

@@ -6,8 +6,8 @@ use Rattle.asm_driver.specs.Window.{IsUpTo}
 use Rattle.asm_driver.proofs.PartsRead.{event_refused_window}
 use Rattle.asm_driver.proofs.program.windowing.pass.Goals as goal
 
-pub returns-in_err-next_event-clause-told : goal.returns-in_err-next_event-clause-told
-returns-in_err-next_event-clause-told g c = λ w had text A up_to at read.
+pub returns-in_err-next_event-clause-reported : goal.returns-in_err-next_event-clause-reported
+returns-in_err-next_event-clause-reported g c = λ w had text A up_to at read.
     let r = err_from_is_err_and c.from_residual.result c.from_residual.ensures.1 in
     let i = c.loop.invariant in
     let o = c.loop.opened in
@@ -18,7 +18,7 @@ returns-in_err-next_event-clause-told g c = λ w had text A up_to at read.
     rw (r.1, r.2) (event_refused_window w had (g.S.Source.remaining c.next_event.new.input)
     (g.S.Source.failed c.next_event.new.input) o.number c.args.calls now.0 (pending c.next_event.new.lines) o
     c.next_event.new.opened A now.1 c.in_err-next_event.field-0.0 now.3 here (omega (arith, taken, c.loop-test.true))
-    (c.in_err-next_event.ensures.told had now.0 A now.1 now.2 now.3))
+    (c.in_err-next_event.ensures.reported had now.0 A now.1 now.2 now.3))
 
 pub loop-preserved : goal.loop-preserved
 loop-preserved g c =
@@ -33,12 +33,12 @@ loop-preserved g c =
       within = omega (arith, c.loop-test.true);
       read = λ had text A at read.
           let now = i.read had text A at read in
-          let told = c.in_ok-next_event.ensures.told had now.0 A now.1 now.2 now.3 in
-          (told.1.0, now.1 ++ c.in_ok-next_event.field-0 ∷ [], told.1.1, told.1.2);
+          let reported = c.in_ok-next_event.ensures.reported had now.0 A now.1 now.2 now.3 in
+          (reported.1.0, now.1 ++ c.in_ok-next_event.field-0 ∷ [], reported.1.1, reported.1.2);
     }
 
-pub returns-clause-told : goal.returns-clause-told
-returns-clause-told g c = λ w had text A up_to at read.
+pub returns-clause-reported : goal.returns-clause-reported
+returns-clause-reported g c = λ w had text A up_to at read.
     let i = c.loop.invariant in
     let now = i.read had text A at read in
     let taken = i.taken in

@@ -30,7 +30,7 @@ returns-in_err-pass-clause-err g c =
     let o = c.in_ok-opened.ensures.ok.2 in
     let some = rw c.in-Some.is at c.end_of.ensures.some in
     let up_to = inr (c.in_ok-opened.ensures.number, some.1.0) in
-    rw (r.1, r.2) (c.in_err-pass.ensures.told w had (o.0 ++ o.1) o.2 up_to o.3 o.6)
+    rw (r.1, r.2) (c.in_err-pass.ensures.reported w had (o.0 ++ o.1) o.2 up_to o.3 o.6)
 
 pub returns-in_err-header-clause-err : goal.returns-in_err-header-clause-err
 returns-in_err-header-clause-err g c =
@@ -40,7 +40,7 @@ returns-in_err-header-clause-err g c =
     let o = c.in_ok-opened.ensures.ok.2 in
     let some = rw c.in-Some.is at c.end_of.ensures.some in
     let up_to = inr (c.in_ok-opened.ensures.number, some.1.0) in
-    let passed = c.in_ok-pass.ensures.told w had (o.0 ++ o.1) o.2 up_to o.3 o.6 in
+    let passed = c.in_ok-pass.ensures.reported w had (o.0 ++ o.1) o.2 up_to o.3 o.6 in
     let read = passed.1.3 in
     rw (r.1, r.2) (memory_window w had (g.S.Source.remaining c.pass.new.input) (g.S.Source.failed c.pass.new.input)
     (passed.1.0 ++ pending c.pass.new.lines) passed.1.2 passed.0)
@@ -52,7 +52,7 @@ push_line-requires g c =
     let o = c.in_ok-opened.ensures.ok.2 in
     let some = rw c.in-Some.is at c.end_of.ensures.some in
     let up_to = inr (c.in_ok-opened.ensures.number, some.1.0) in
-    let passed = c.in_ok-pass.ensures.told w had (o.0 ++ o.1) o.2 up_to o.3 o.6 in
+    let passed = c.in_ok-pass.ensures.reported w had (o.0 ++ o.1) o.2 up_to o.3 o.6 in
     let read = passed.1.3 in
     let held = part_held c.pass.new.opened.number passed.1.0 (audited c.pass.new.opened) o.2 passed.1.1 read in
     ap has_float (c.in_ok-header.ensures o.2 passed.1.1 [] held read.taken read.stands)
@@ -67,7 +67,7 @@ returns-in_err-push_line-clause-err g c =
     let o = c.in_ok-opened.ensures.ok.2 in
     let some = rw c.in-Some.is at c.end_of.ensures.some in
     let up_to = inr (c.in_ok-opened.ensures.number, some.1.0) in
-    let passed = c.in_ok-pass.ensures.told w had (o.0 ++ o.1) o.2 up_to o.3 o.6 in
+    let passed = c.in_ok-pass.ensures.reported w had (o.0 ++ o.1) o.2 up_to o.3 o.6 in
     let read = passed.1.3 in
     rw (r.1, r.2) (memory_window w had (g.S.Source.remaining c.pass.new.input) (g.S.Source.failed c.pass.new.input)
     (passed.1.0 ++ pending c.pass.new.lines) passed.1.2 passed.0)
@@ -79,7 +79,7 @@ note_calls-requires-clause-known g c =
     let o = c.in_ok-opened.ensures.ok.2 in
     let some = rw c.in-Some.is at c.end_of.ensures.some in
     let up_to = inr (c.in_ok-opened.ensures.number, some.1.0) in
-    let passed = c.in_ok-pass.ensures.told w had (o.0 ++ o.1) o.2 up_to o.3 o.6 in
+    let passed = c.in_ok-pass.ensures.reported w had (o.0 ++ o.1) o.2 up_to o.3 o.6 in
     let read = passed.1.3 in
     (passed.1.0, o.2, passed.1.1, read)
 
@@ -91,10 +91,10 @@ returns-in_err-note_calls-clause-err g c =
     let o = c.in_ok-opened.ensures.ok.2 in
     let some = rw c.in-Some.is at c.end_of.ensures.some in
     let up_to = inr (c.in_ok-opened.ensures.number, some.1.0) in
-    let passed = c.in_ok-pass.ensures.told w had (o.0 ++ o.1) o.2 up_to o.3 o.6 in
+    let passed = c.in_ok-pass.ensures.reported w had (o.0 ++ o.1) o.2 up_to o.3 o.6 in
     let read = passed.1.3 in
     let end = subst (λ (l : Limits). c.in-Some.end ≡ end_in w l.events) (sym c.in_ok-pass.ensures.limits) some.0 in
-    rw (r.1, r.2) (c.in_err-note_calls.ensures.told w had passed.1.0 o.2 passed.1.1
+    rw (r.1, r.2) (c.in_err-note_calls.ensures.reported w had passed.1.0 o.2 passed.1.1
     (c.in_ok-pass.ensures.number ∙ c.in_ok-opened.ensures.number) end passed.1.2 read)
 
 pub returns-clause-ok : goal.returns-clause-ok
@@ -104,14 +104,14 @@ returns-clause-ok g c =
     let o = c.in_ok-opened.ensures.ok.2 in
     let some = rw c.in-Some.is at c.end_of.ensures.some in
     let up_to = inr (c.in_ok-opened.ensures.number, some.1.0) in
-    let passed = c.in_ok-pass.ensures.told w had (o.0 ++ o.1) o.2 up_to o.3 o.6 in
+    let passed = c.in_ok-pass.ensures.reported w had (o.0 ++ o.1) o.2 up_to o.3 o.6 in
     let read = passed.1.3 in
     let held = part_held c.pass.new.opened.number passed.1.0 (audited c.pass.new.opened) o.2 passed.1.1 read in
     let number = c.in_ok-pass.ensures.number ∙ c.in_ok-opened.ensures.number in
     let es = passed.1.1 in
     let end = subst (λ (l : Limits). c.in-Some.end ≡ end_in w l.events) (sym c.in_ok-pass.ensures.limits) some.0 in
-    let told = c.in_ok-note_calls.ensures.told w had passed.1.0 o.2 es number end passed.1.2 read in
-    let t = told.1 in
+    let reported = c.in_ok-note_calls.ensures.reported w had passed.1.0 o.2 es number end passed.1.2 read in
+    let t = reported.1 in
     let shown = t.1 in
     let last = c.note_calls.new.opened.limits in
     let limits = c.in_ok-note_calls.ensures.limits in
@@ -131,4 +131,4 @@ returns-clause-ok g c =
     ∙ ap (λ b. b ++ line D) c.new-text.ensures.bytes) in
     window_shown w had (g.S.Source.remaining c.note_calls.new.input) (g.S.Source.failed c.note_calls.new.input) t.0
     (pending c.note_calls.new.lines) (audited c.note_calls.new.opened) o.2 es shown t.2 (string_bytes c.note_calls.new.text) t.3
-    told.0 t.4 lies first (long ∙ closed) t.6 text
+    reported.0 t.4 lies first (long ∙ closed) t.6 text

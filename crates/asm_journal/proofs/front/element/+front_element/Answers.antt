@@ -35,13 +35,13 @@ first_elements-returns t c =
 pub some_elements-items-preserved : goal.some_elements-items-preserved
 some_elements-items-preserved t c =
     let more = c.in_ok-byte.more.now in
-    one_more IsElementForm c.args.text.now c.items.found.items c.put_behind.new.found.items c.in_ok-item.item c.items.rest.now
+    one_more IsElementForm c.args.text.now c.items.found.items c.push_item.new.found.items c.in_ok-item.item c.items.rest.now
     c.in_ok-item.left.now more c.items.invariant c.in_ok-item.ensures
-    (c.in_ok-byte.ensures.cases.0 ∙ ap (λ b. b ∷ more) c.in-44.is) c.in_ok-put_behind.ensures
+    (c.in_ok-byte.ensures.cases.0 ∙ ap (λ b. b ∷ more) c.in-44.is) c.in_ok-push_item.ensures
 
 pub some_elements-returns-in-93 : goal.some_elements-returns-in-93
 some_elements-returns-in-93 t c =
     let more = c.in_ok-byte.more.now in
-    last_one IsElementForm c.args.text.now c.items.found.items c.put_behind.new.found.items c.in_ok-item.item c.items.rest.now
+    last_one IsElementForm c.args.text.now c.items.found.items c.push_item.new.found.items c.in_ok-item.item c.items.rest.now
     c.in_ok-item.left.now more c.items.invariant c.in_ok-item.ensures
-    (c.in_ok-byte.ensures.cases.0 ∙ ap (λ b. b ∷ more) c.in-93.is) c.in_ok-put_behind.ensures
+    (c.in_ok-byte.ensures.cases.0 ∙ ap (λ b. b ∷ more) c.in-93.is) c.in_ok-push_item.ensures

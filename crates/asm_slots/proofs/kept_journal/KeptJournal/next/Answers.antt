@@ -1,6 +1,6 @@
 use Rattle.std.proofs.Common.{string_bytes}
 use Rattle.std_alloc.specs.Arc.{arc_value}
-use Rattle.asm_slots.proofs.GoingOn.{has_opened}
+use Rattle.asm_slots.proofs.ExtendingInPlace.{has_opened}
 use Rattle.asm_slots.proofs.kept_journal.KeptJournal.next.Goals as goal
 
 pub returns-clause-opened : goal.returns-clause-opened

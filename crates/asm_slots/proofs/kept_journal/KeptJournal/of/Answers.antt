@@ -1,6 +1,6 @@
 use Rattle.std.proofs.Common.{◌∙◌}
 use Rattle.asm_aggregate.specs.Standard.{standard_meaning}
-use Rattle.asm_slots.proofs.GoingOn.{leaves}
+use Rattle.asm_slots.proofs.ExtendingInPlace.{leaves}
 use Rattle.asm_slots.proofs.kept_journal.KeptJournal.of.Goals as goal
 
 pub invariant_of-result : goal.invariant_of-result

@@ -12,15 +12,15 @@ use Rattle.asm_slots.proofs.owned_agent.OwnedAgent.stale_of.Goals as goal
 pub returns-clause-stale : goal.returns-clause-stale
 unfolding standard_meaning
 returns-clause-stale c =
-    let told = c.stands-stale in
+    let reported = c.stands-stale in
     let part = c.into_part-part.result in
     let storage = (arc_value c.self.inside.shared).storage in
     let here : c.of-agent.result.storage ≡ storage =
     ap (λ (a : AgentAt Standard). a.storage) c.of-agent.ensures ∙ ap (λ (s : Shared). s.storage) c.deref.ensures in
-    let new_is : told.new.self ≡ agent_of storage part =
-    c.into_part-part.ensures.agent ∙ ap (λ (s : StorageView Standard). agent_of s part) (told.ensures.same.storage ∙ here) in
-    subst (λ (a : AgentAt Standard). IfOk told.result (IsStaleRead {A = Standard} meaning a c.args.reads.now)) new_is
-    told.ensures.stale
+    let new_is : reported.new.self ≡ agent_of storage part =
+    c.into_part-part.ensures.agent ∙ ap (λ (s : StorageView Standard). agent_of s part) (reported.ensures.same.storage ∙ here) in
+    subst (λ (a : AgentAt Standard). IfOk reported.result (IsStaleRead {A = Standard} meaning a c.args.reads.now)) new_is
+    reported.ensures.stale
 
 pub of-agent-requires-after_bounds : goal.of-agent-requires-after_bounds
 unfolding standard_meaning

@@ -6,7 +6,7 @@ use Rattle.asm_storage.specs.Agents.{ids}
 use Rattle.asm_storage.specs.Storage.{AgentAt, StorageView, IsOf, accounts}
 use Rattle.asm_slots.specs.Standard.{Standard, meaning}
 use Rattle.asm_slots.specs.declared.shared.Shared.{Shared}
-use Rattle.asm_slots.proofs.PartsAndAgents.{ids_of, rises_again, told_of_store}
+use Rattle.asm_slots.proofs.PartsAndAgents.{ids_of, rises_again, reported_of_store}
 use Rattle.asm_slots.specs.ClosedStore.{IsJournalOf}
 use Rattle.asm_slots.specs.Store.{StoreView}
 use Rattle.asm_slots.specs.CloseFaults.{IsUnclosed}
@@ -47,13 +47,13 @@ invariant_of-store-in-Err c =
 
 pub returns-in-Err-clause-err : goal.returns-in-Err-clause-err
 returns-in-Err-clause-err c =
-    let told = told_of_store (λ s all. IsUnclosed s all c.in-Err.error) _ c.deref.result.now c.deref-2.result.now c.self.inside.parts.items
+    let reported = reported_of_store (λ s all. IsUnclosed s all c.in-Err.error) _ c.deref.result.now c.deref-2.result.now c.self.inside.parts.items
     c.as_slice.result.now c.deref.ensures c.deref-2.ensures (c.as_slice.ensures.value ∙ c.agents_of-agents.ensures) c.in-Err.ensures.err in
-    subst (λ (v : StoreView). IsUnclosed v.storage v.agents c.in-Err.error) c.self.view_is told
+    subst (λ (v : StoreView). IsUnclosed v.storage v.agents c.in-Err.error) c.self.view_is reported
 
 pub returns-in-Ok-clause-closed : goal.returns-in-Ok-clause-closed
 returns-in-Ok-clause-closed c =
-    let told = told_of_store (λ s all. IsJournalOf s all c.in-Ok.kept) _ c.deref.result.now c.deref-2.result.now
+    let reported = reported_of_store (λ s all. IsJournalOf s all c.in-Ok.kept) _ c.deref.result.now c.deref-2.result.now
     c.self.inside.parts.items c.as_slice.result.now c.deref.ensures c.deref-2.ensures
     (c.as_slice.ensures.value ∙ c.agents_of-agents.ensures) c.in-Ok.ensures.ok in
-    (search rules, subst (λ (v : StoreView). IsJournalOf v.storage v.agents c.in-Ok.kept) c.self.view_is told)
+    (search rules, subst (λ (v : StoreView). IsJournalOf v.storage v.agents c.in-Ok.kept) c.self.view_is reported)

@@ -1,7 +1,7 @@
 use Rattle.std.proofs.Common.{◌≡◌, Some, ap, sym, ◌∙◌}
 use Rattle.std.proofs.lemmas.Result.{IfOk-weaker}
 use Rattle.asm_slots.specs.Store.{StoreView}
-use Rattle.asm_slots.proofs.GoingOn.{goes_on}
+use Rattle.asm_slots.proofs.ExtendingInPlace.{goes_on}
 use Rattle.asm_slots.proofs.store.Store.next.Goals as goal
 
 keeps : (c : goal.After-boxed_store) → c.args.self.now.journal ≡ Some c.in-Some.journal

@@ -1,6 +1,6 @@
 use Rattle.std.proofs.Common.{sym, ap, ◌∙◌, subst}
 use Rattle.asm_state.specs.View.{writer_of}
-use Rattle.asm_state.specs.Stands.{IsLastWriter}
+use Rattle.asm_state.specs.FollowsFrom.{IsLastWriter}
 use Rattle.asm_state.proofs.Overwritten.{last_writer}
 use Rattle.asm_state.proofs.state.State.written_at.Goals as goal
 

@@ -1,5 +1,5 @@
 use Rattle.std.proofs.lemmas.Result.{on_ok_weaker}
-use Rattle.asm_step.proofs.Rested.{put_above}
+use Rattle.asm_step.proofs.Depending.{put_above}
 use Rattle.asm_step.proofs.own.Own.gather.Goals as goal
 
 pub returns-in-Some : goal.returns-in-Some

@@ -1,5 +1,5 @@
 use Rattle.std.proofs.Common.{sym, ◌∙◌}
-use Rattle.asm_step.proofs.Rested.{put_elsewhere, put_there}
+use Rattle.asm_step.proofs.Depending.{put_elsewhere, put_there}
 use Rattle.asm_step.proofs.own.Own.get.Goals as goal
 
 pub returns-in-Some : goal.returns-in-Some

@@ -4,7 +4,7 @@ use Rattle.asm_update.specs.Move.{Move}
 use Rattle.asm_aggregate.proofs.Exits.{handed_on}
 use Rattle.asm_step.specs.InTurn.{DoesAll}
 use Rattle.asm_step.specs.Popped.{IsComposedOf, IsOneOf, KeepsTurns}
-use Rattle.asm_step.proofs.Layered.{is_at, keeps_err, more_composed, none_told}
+use Rattle.asm_step.proofs.Layered.{is_at, keeps_err, more_composed, none_reported}
 use Rattle.asm_step.proofs.Agreeing.{does_next}
 use Rattle.asm_aggregate.specs.declared.composition.ComposeError.TheVariants as compose_error
 use Rattle.asm_step.proofs.popped.Popped.as_move.Goals as goal
@@ -15,7 +15,7 @@ returns-in_err-one-clause-one g c =
     let p = err_from_is_err_and c.from_residual.result c.from_residual.ensures.1 in
     handed_on (λ r. IsOneOf a c.args.self.now r) c.from_residual.result p.0 compose_error.Memory p.1 p.2
     (subst (λ (Ms : List Move). IsOneOf a Ms (Err compose_error.Memory)) c.self.view_is
-    (none_told a c.self.inside.first c.self.inside.more.items))
+    (none_reported a c.self.inside.first c.self.inside.more.items))
 
 pub returns-in_err-one-2-clause-one : goal.returns-in_err-one-2-clause-one
 returns-in_err-one-2-clause-one g c =

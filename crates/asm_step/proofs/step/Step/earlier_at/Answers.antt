@@ -5,7 +5,7 @@ use Rattle.asm_element.specs.Place.{Place}
 use Rattle.asm_element.specs.declared.value.Value.{Value}
 use Rattle.asm_step.specs.Layers.{outcomes_of}
 use Rattle.asm_step.specs.Outcomes.{actions_in}
-use Rattle.asm_step.proofs.Laid.{kept_at, kept_within, placed_many}
+use Rattle.asm_step.proofs.Stacked.{kept_at, kept_within, placed_many}
 use Rattle.asm_step.proofs.step.Step.earlier_at.Goals as goal
 
 pub loop-at-init : goal.loop-at-init
@@ -23,7 +23,7 @@ append_earlier-requires c =
     let all = ap length (sym step) ∙ length-append c.loop-at.list _ in
     let first = placed_many k (actions_in os k) rest in
     let within = kept_within os c.args.frame.now in
-    omega (arith, all, first, within, c.count-few.ensures.listed, c.count-few.ensures.few)
+    omega (arith, all, first, within, c.within_limit.ensures.listed, c.within_limit.ensures.few)
 
 pub loop-at-preserved : goal.loop-at-preserved
 loop-at-preserved c =

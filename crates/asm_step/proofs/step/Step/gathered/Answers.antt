@@ -2,8 +2,8 @@ use Rattle.std.proofs.Common.{◌≡◌, ◌∷◌, [], ◌++◌, ◌+◌, List,
 use Rattle.std.proofs.lemmas.List.{take_all, take_more}
 use Rattle.std.specs.FinMap as finite
 use Rattle.asm_step.specs.Layers.{Layer, outcomes_of}
-use Rattle.asm_step.specs.Outcomes.{laid}
-use Rattle.asm_step.proofs.Laid.{laid_is}
+use Rattle.asm_step.specs.Outcomes.{stacked}
+use Rattle.asm_step.proofs.Stacked.{laid_is}
 use Rattle.asm_step.proofs.Prefixes.{all_laid, all_laid-push, outcomes_all}
 use Rattle.asm_step.proofs.step.Step.gathered.Goals as goal
 
@@ -18,7 +18,7 @@ loop-layer-preserved c =
     let more : take (i + 1) items ≡ take i items ++ y ∷ [] =
     take_more items i y c.loop-layer-test.true ∙ ap (λ x. take i items ++ x ∷ []) (sym c.layer-item.is) in
     laid_is c.loop-layer.all y.own c.gather.new.all c.in_ok-gather.ensures
-    ∙ ap (λ m. laid m y.own) c.loop-layer.invariant
+    ∙ ap (λ m. stacked m y.own) c.loop-layer.invariant
     ∙ sym (ap (all_laid finite.empty) more ∙ all_laid-push finite.empty (take i items) y)
 
 pub returns : goal.returns

@@ -5,7 +5,7 @@ use Rattle.asm_overlay.specs.Frames.{OverView, seen_through}
 use Rattle.asm_aggregate.proofs.Exits.{handed_on}
 use Rattle.asm_step.specs.Layers.{Layer, IsSound, outcomes_of}
 use Rattle.asm_step.specs.Next.{IsComposed, IsFrame, IsLayerFrom, IsNext, on_top}
-use Rattle.asm_step.proofs.Laid.{kept_within}
+use Rattle.asm_step.proofs.Stacked.{kept_within}
 use Rattle.asm_step.proofs.Nexts.{next_answer, not_continued}
 use Rattle.asm_step.proofs.step.Step.later_layer.Goals as goal
 
@@ -38,7 +38,7 @@ returns-in_err-composed g c =
       (U, set),
       not_continued (g.met.A.Aggregator.laws c.args.aggregator.now) old s M c.in_ok-earlier.earlier S c.in_ok-shared.apart U sound set
           c.in_ok-earlier.ensures c.in_ok-shared.ensures.shared c.in_ok-shared.ensures.apart c.proper.ensures c.proper-2.ensures
-          c.len-few.ensures.few c.in_err-composed.field-0.0 composed,
+          c.within_limit.ensures c.in_err-composed.field-0.0 composed,
     ))
 
 pub returns : goal.returns
@@ -58,7 +58,7 @@ returns g c =
     let composed = subst (λ o. IsComposed a o S (Ok C)) c.if_later.ensures c.in_ok-composed.ensures in
     next_answer (g.met.A.Aggregator.laws c.args.aggregator.now) old s M E S O U sound set
     c.in_ok-earlier.ensures c.in_ok-shared.ensures.shared c.in_ok-shared.ensures.apart c.proper.ensures c.proper-2.ensures
-    c.len-few.ensures.few C composed c.count.result
+    c.within_limit.ensures C composed c.count.result
     (c.count.ensures.count ∙ c.count.ensures.listed) c.layer_of.result
     (subst (λ k. IsLayerFrom s U (c.count.result - k) (C ++ O) M c.layer_of.result) c.len.ensures.len c.layer_of.ensures)
 

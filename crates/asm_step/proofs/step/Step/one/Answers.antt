@@ -11,7 +11,7 @@ returns-in-Some c =
 pub listing-requires : goal.listing-requires
 listing-requires c =
     let same = ap (λ (os : Outcomes). length (listed os)) c.in_ok-gathered-in-None.ensures in
-    omega (arith, same, c.count-few.ensures.listed, c.count-few.ensures.few)
+    omega (arith, same, c.within_limit.ensures.listed, c.within_limit.ensures.few)
 
 pub returns-in_ok-gathered-in-None : goal.returns-in_ok-gathered-in-None
 returns-in_ok-gathered-in-None c =

@@ -11,7 +11,7 @@ returns-in-Some c =
       value = c.args.value;
       actions = [];
       builds = (c.builds.ensures ∙ builds true) i;
-      rests = (c.builds-in-Some.ensures ∙ builds false) i;
+      depends = (c.builds-in-Some.ensures ∙ builds false) i;
     })
 
 pub returns-in-None : goal.returns-in-None
@@ -21,5 +21,5 @@ returns-in-None c =
       value = c.args.value;
       actions = [];
       builds = option_map_or (λ (x : Outcome). x.builds) (c.in-None.ensures i) true;
-      rests = option_map_or (λ (x : Outcome). x.builds) (c.in-None.ensures i) false;
+      depends = option_map_or (λ (x : Outcome). x.builds) (c.in-None.ensures i) false;
     })

@@ -1,6 +1,6 @@
 use Rattle.std.proofs.Common.{◌≡◌, rules, All, List, [], ◌∷◌, ◌++◌, length, length-append, refl, sym, ap, ◌∙◌, subst, arith, Ok, Some}
 use Rattle.asm_overlay.specs.Frames.{under}
-use Rattle.asm_step.specs.Layers.{Layer, IsSound, IsStepOf, frames_of, laid_on, layers_on, outcomes_of}
+use Rattle.asm_step.specs.Layers.{Layer, IsSound, IsStepOf, frames_of, stacked_on, layers_on, outcomes_of}
 use Rattle.asm_step.proofs.Layered.{layers_last, layers_split, no_last, last_fires}
 use Rattle.asm_step.proofs.Prefixes.{all_before, on_layers}
 use Rattle.std.specs.FinMap as finite
@@ -10,7 +10,7 @@ pub returns-clause-less : goal.returns-clause-less
 returns-clause-less c =
     let left = c.pop.new.self.items in
     let now = layers_on finite.empty left in (
-      laid_on (outcomes_of now) c.in-Some.layer,
+      stacked_on (outcomes_of now) c.in-Some.layer,
       sym c.self.view_is ∙ on_layers left c.self.inside.layers.items c.in-Some.layer now c.in-Some.ensures.items refl,
       refl,
     )
@@ -19,7 +19,7 @@ pub returns-clause-step : goal.returns-clause-step
 returns-clause-step c part old groups group step =
     let left = c.pop.new.self.items in
     let now = layers_on finite.empty left in
-    let y = laid_on (outcomes_of now) c.in-Some.layer in
+    let y = stacked_on (outcomes_of now) c.in-Some.layer in
     let is = sym c.self.view_is ∙ on_layers left c.self.inside.layers.items c.in-Some.layer now c.in-Some.ensures.items refl in
     let split = subst (λ (t : List Layer). IsStepOf part old t (groups ++ group ∷ [])) is step in
     (ap Some (layers_last part old [] groups now group y split), layers_split part old [] groups now group y split)
@@ -28,7 +28,7 @@ pub returns-clause-fires : goal.returns-clause-fires
 returns-clause-fires c part old groups group B step has =
     let left = c.pop.new.self.items in
     let now = layers_on finite.empty left in
-    let y = laid_on (outcomes_of now) c.in-Some.layer in
+    let y = stacked_on (outcomes_of now) c.in-Some.layer in
     let is = sym c.self.view_is ∙ on_layers left c.self.inside.layers.items c.in-Some.layer now c.in-Some.ensures.items refl in
     last_fires part old now groups group y B (subst (λ (t : List Layer). IsStepOf part old t (groups ++ group ∷ [])) is step) has
     ∙ ap (λ (t : List Layer). Ok (under B (frames_of t))) (sym is)
@@ -50,6 +50,6 @@ invariant_of-self-2 c =
     let is = on_layers left c.self.inside.layers.items c.in-Some.layer now c.in-Some.ensures.items refl in
     let less = ap length c.in-Some.ensures.items ∙ length-append left (c.in-Some.layer ∷ []) in (
       omega (arith, less, c.self.invariant.0),
-      all_before IsSound now (laid_on (outcomes_of now) c.in-Some.layer)
+      all_before IsSound now (stacked_on (outcomes_of now) c.in-Some.layer)
           (subst (λ (t : List Layer). All IsSound t) is c.self.invariant.1),
     )

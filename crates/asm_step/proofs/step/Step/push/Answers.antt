@@ -3,7 +3,7 @@ use Rattle.std.proofs.lemmas.Result.{err_from_is_err_and}
 use Rattle.std.specs.Option.{option_map}
 use Rattle.asm_aggregate.proofs.Exits.{handed_on}
 use Rattle.asm_step.specs.Answer.{IsPushAnswerOn}
-use Rattle.asm_step.specs.Layers.{Layer, IsSound, laid_on, layers_on, one_move, one_move_of, outcomes_of, IsStepOf}
+use Rattle.asm_step.specs.Layers.{Layer, IsSound, stacked_on, layers_on, one_move, one_move_of, outcomes_of, IsStepOf}
 use Rattle.asm_step.proofs.Answered.{answered_ok, answered_on_err, answered_on_ok, step_push, shown_on_top}
 use Rattle.asm_step.proofs.Layered.{top_of-push}
 use Rattle.asm_step.proofs.Prefixes.{all_push, length-layers, on_layers}
@@ -23,7 +23,7 @@ returns-in_err-layer-clause-answer_on g c groups B step proper has =
 pub invariant_of-self-2 : goal.invariant_of-self-2
 invariant_of-self-2 g c =
     let s = c.args.self.now in
-    let y = laid_on (outcomes_of s) c.in_ok-layer.layer in
+    let y = stacked_on (outcomes_of s) c.in_ok-layer.layer in
     let is = on_layers c.self.inside.layers.items c.push.new.self.items c.in_ok-layer.layer s c.in_ok-push.ensures.items c.self.view_is in
     let sound = subst (λ (t : List Layer). All IsSound t) c.self.view_is c.self.invariant.1 in
     let more = ap length c.in_ok-push.ensures.items ∙ length-append c.self.inside.layers.items (c.in_ok-layer.layer ∷ []) in
@@ -38,14 +38,14 @@ returns-clause-step g c groups step =
     let old = g.L.Lookup.value_at c.args.below.now in
     let s = c.args.self.now in
     let M = c.args.instructions.now in
-    let y = laid_on (outcomes_of s) c.in_ok-layer.layer in
+    let y = stacked_on (outcomes_of s) c.in_ok-layer.layer in
     let is = on_layers c.self.inside.layers.items c.push.new.self.items c.in_ok-layer.layer s c.in_ok-push.ensures.items c.self.view_is in
     subst (λ (t : List Layer). IsStepOf a.part old t (groups ++ (M ∷ []) ∷ [])) (sym is)
     (step_push a old s groups M y step c.in_ok-layer.ensures)
 
 pub returns-clause-more : goal.returns-clause-more
 returns-clause-more g c = (
-  laid_on (outcomes_of c.args.self.now) c.in_ok-layer.layer,
+  stacked_on (outcomes_of c.args.self.now) c.in_ok-layer.layer,
   on_layers c.self.inside.layers.items c.push.new.self.items c.in_ok-layer.layer c.args.self.now c.in_ok-push.ensures.items c.self.view_is,
 )
 
@@ -54,7 +54,7 @@ returns-clause-answer g c =
     let a = g.A.Aggregator.meaning c.args.aggregator.now in
     let old = g.L.Lookup.value_at c.args.below.now in
     let s = c.args.self.now in
-    let y = laid_on (outcomes_of s) c.in_ok-layer.layer in
+    let y = stacked_on (outcomes_of s) c.in_ok-layer.layer in
     let is = on_layers c.self.inside.layers.items c.push.new.self.items c.in_ok-layer.layer s c.in_ok-push.ensures.items c.self.view_is in
     answered_ok a old s (layers_on finite.empty c.push.new.self.items) c.args.instructions.now y c.in_ok-layer.ensures
     (ap one_move is ∙ ap (option_map one_move_of) (top_of-push s y))
@@ -65,7 +65,7 @@ returns-clause-answer_on g c groups B step proper has =
     let old = g.L.Lookup.value_at c.args.below.now in
     let s = c.args.self.now in
     let M = c.args.instructions.now in
-    let y = laid_on (outcomes_of s) c.in_ok-layer.layer in
+    let y = stacked_on (outcomes_of s) c.in_ok-layer.layer in
     let next = c.in_ok-layer.ensures in
     let is = on_layers c.self.inside.layers.items c.push.new.self.items c.in_ok-layer.layer s c.in_ok-push.ensures.items c.self.view_is in
     subst (λ (t : List Layer). IsPushAnswerOn a.part B s t M (Ok tt)) (sym is)

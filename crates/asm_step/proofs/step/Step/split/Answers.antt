@@ -16,8 +16,8 @@ take_one-requires c =
     let within : i < length M = omega (arith, all, c.loop-instruction-test.true) in
     let had = c.loop-instruction.invariant in
     record {
-      shared = one_fits true os M c.loop-instruction.shared i had.shared within c.len-few.ensures.few;
-      apart = one_fits false os M c.loop-instruction.apart i had.apart within c.len-few.ensures.few;
+      shared = one_fits true os M c.loop-instruction.shared i had.shared within c.within_limit.ensures;
+      apart = one_fits false os M c.loop-instruction.apart i had.apart within c.within_limit.ensures;
     }
 
 pub loop-instruction-preserved : goal.loop-instruction-preserved

@@ -5,9 +5,9 @@ use Rattle.asm_storage.proofs.close.missing_moves.first_missing.Given as goal
 
 abbrev pub invariant-loop-agent : goal.invariant-loop-agent
 invariant-loop-agent g l = record {
-  same_len : length l.told.items ≡ l.fn.moves;
-  told_is : (k : ℕ) → k < l.fn.moves → slice_index_or l.told.items k false ≡ has_receipt (accounts (take l.agent-index l.agents)) k;
+  same_len : length l.reported.items ≡ l.fn.moves;
+  reported_is : (k : ℕ) → k < l.fn.moves → slice_index_or l.reported.items k false ≡ has_receipt (accounts (take l.agent-index l.agents)) k;
 }
 
 abbrev pub invariant-loop-k : goal.invariant-loop-k
-invariant-loop-k g l = (j : ℕ) → j < l.k → slice_index_or l.is_told-items j false ≡ true
+invariant-loop-k g l = (j : ℕ) → j < l.k → slice_index_or l.is_reported-items j false ≡ true

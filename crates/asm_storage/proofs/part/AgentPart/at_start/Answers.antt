@@ -1,11 +1,11 @@
 use Rattle.std.proofs.Common.{◌≡◌, [], ap, arith, sym, ◌∙◌, subst}
 use Rattle.asm_row.specs.Seat.{SeatView}
-use Rattle.asm_state.specs.Stands.{Stands}
+use Rattle.asm_state.specs.FollowsFrom.{FollowsFrom}
 use Rattle.asm_storage.specs.declared.entry.Entry.{Entry}
 use Rattle.asm_storage.specs.Part.{IsFollowing}
 use Rattle.asm_storage.specs.Storage.{machine_of}
-use Rattle.asm_storage.proofs.PartKept.{fresh_agent, fresh_following}
-use Rattle.asm_storage.proofs.AgentKept.{same_agent}
+use Rattle.asm_storage.proofs.PartInvariant.{fresh_agent, fresh_following}
+use Rattle.asm_storage.proofs.AgentInvariant.{same_agent}
 use Rattle.asm_storage.proofs.part.AgentPart.at_start.Goals as goal
 
 pub returns-clause-agent : goal.returns-clause-agent
@@ -27,7 +27,7 @@ returns-clause-part g c =
     let fresh = c.progress-progress.ensures in
     let state = c.in_ok-state.state in
     let seen = ap (λ (p : SeatView Entry). p.seen) fresh in
-    let stands : Stands m.part m.init state [] = c.in_ok-state.ensures m.part in
+    let stands : FollowsFrom m.part m.init state [] = c.in_ok-state.ensures m.part in
     record {
       row = ap (λ (p : SeatView Entry). p.row) fresh ∙ c.row.ensures;
       few = c.requires;

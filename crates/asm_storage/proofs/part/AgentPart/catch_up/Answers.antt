@@ -1,10 +1,10 @@
 use Rattle.std.proofs.Common.{◌≡◌, List, [], ◌∷◌, ◌++◌, Some, slice_get, arith, ap, subst}
 use Rattle.asm_update.specs.Move.{Move}
 use Rattle.asm_update.specs.State.{State}
-use Rattle.asm_state.specs.Stands.{Stands}
+use Rattle.asm_state.specs.FollowsFrom.{FollowsFrom}
 use Rattle.asm_storage.specs.declared.part.AgentPart.{AgentPart}
 use Rattle.asm_storage.specs.Storage.{machine_of}
-use Rattle.asm_storage.proofs.PartKept.{following_next}
+use Rattle.asm_storage.proofs.PartInvariant.{following_next}
 use Rattle.asm_storage.proofs.part.AgentPart.catch_up.Goals as goal
 
 pub loop-alloc-preserved : goal.loop-alloc-preserved
@@ -15,8 +15,8 @@ loop-alloc-preserved g c =
     let part = c.loop-alloc.invariant.part in
     let here : slice_get p.progress.seen p.state.number ≡ Some entry =
     subst (λ k. slice_get p.progress.seen k ≡ Some entry) c.number-in-loop-alloc.ensures c.at-entry.ensures in
-    let next = subst (λ agg. (init : State) (q : List Move) → Stands (meaning agg).part init p.state q →
-    Stands (meaning agg).part init c.follow.new.self (q ++ entry.instrs ∷ []))
+    let next = subst (λ agg. (init : State) (q : List Move) → FollowsFrom (meaning agg).part init p.state q →
+    FollowsFrom (meaning agg).part init c.follow.new.self (q ++ entry.instrs ∷ []))
     c.aggregator.ensures c.in_ok-follow.ensures.ok in
     record {
       part = record {

@@ -2,12 +2,12 @@ use Rattle.std.proofs.Common.{◌+◌, Err, Ok, IfSome, Option, None, Some, arit
 use Rattle.std.proofs.lemmas.Result.{err_from_is_err_and}
 use Rattle.asm_storage.specs.declared.call.Reply.{Reply}
 use Rattle.asm_storage.specs.declared.error.FireError.TheVariants as fire_error
-use Rattle.asm_storage.specs.Calls.{HasOffered, IsFireOver, MadeOffers, Ran, StandsAfter, is_plain_over}
+use Rattle.asm_storage.specs.Calls.{HasOffered, IsFireOver, MadeOffers, Ran, IsVersionAfter, is_plain_over}
 use Rattle.asm_storage.specs.Part.{agent_of, IsTurnOver, offers_in, misses_in}
 use Rattle.asm_storage.specs.Scans.{with_found}
 use Rattle.asm_row.proofs.Prefixes.{IsPrefix-trans}
-use Rattle.asm_storage.proofs.FireTurns.{looked_follows, stands_later, answered_after, offered_then, offers_answered, offers_refused, looked_id, ran_then, same_offering}
-use Rattle.asm_storage.proofs.PartKept.{looks_then}
+use Rattle.asm_storage.proofs.FireTurns.{polled_follows, stands_later, answered_after, offered_then, offers_answered, offers_refused, polled_id, ran_then, same_offering}
+use Rattle.asm_storage.proofs.PartInvariant.{polls_then}
 use Rattle.asm_storage.proofs.Scanning.{is_over}
 use Rattle.asm_storage.proofs.part.AgentPart.fire.Goals as goal
 
@@ -20,10 +20,10 @@ returns-in_err-reply-clause-offers g c =
     let new = agent_of s c.turn.new.self in
     let lost = c.loop-lost.lost in
     let before = c.loop-lost.invariant in
-    let told = err_from_is_err_and c.from_residual.result c.from_residual.ensures.1 in
+    let reported = err_from_is_err_and c.from_residual.result c.from_residual.ensures.1 in
     let made = offers_refused old mid new lost before.counted c.loop-lost-test.true c.in_err-reply.ensures.counted in (
       lost + 0,
-      subst (λ r. MadeOffers old new r (lost + 0)) (sym (told.1 ∙ ap Err told.2)) made,
+      subst (λ r. MadeOffers old new r (lost + 0)) (sym (reported.1 ∙ ap Err reported.2)) made,
       ran_then _ c.args.between.now c.loop-lost.between c.turn.new.between lost 0 before.calls c.in_err-reply.ensures.calls,
     )
 
@@ -60,11 +60,11 @@ loop-lost-preserved g c =
     c.in_ok-reply.ensures.turn in
     let counted = subst (λ (o : Option Reply). HasOffered (agent_of s mid) (agent_of s new) (offers_in (Ok o))
     (misses_in (agent_of s new) (Ok o))) c.in-None.is c.in_ok-reply.ensures.counted in
-    let same = looked_id meaning s old mid before.looks in
+    let same = polled_id meaning s old mid before.polls in
     record {
       callable = c.turn.ensures.callable;
       pending = same_offering mid.id old.id c.args.reads.now c.args.instrs.now c.turn.new.pending same c.turn.ensures.pending;
-      looks = looks_then meaning s old mid new before.looks is;
+      polls = polls_then meaning s old mid new before.polls is;
       unmoved = λ plain. c.turn.ensures.unmoved plain ∙ before.unmoved plain;
       counted = offered_then (agent_of s old) (agent_of s mid) (agent_of s new) lost before.counted 1 1 counted;
       calls = ran_then _ c.args.between.now c.loop-lost.between c.turn.new.between lost 1 before.calls
@@ -77,7 +77,7 @@ turn-requires-clause-pending g c κs within =
     let old = c.args.self.now in
     let mid = c.loop-lost.self in
     let before = c.loop-lost.invariant in
-    let same = looked_id g.A.Aggregator.meaning c.args.storage.now old mid before.looks in
+    let same = polled_id g.A.Aggregator.meaning c.args.storage.now old mid before.polls in
     same_offering old.id mid.id c.args.reads.now c.args.instrs.now c.loop-lost.pending (sym same) before.pending
 
 pub returns-in_err-reply-clause-fire : goal.returns-in_err-reply-clause-fire
@@ -86,16 +86,16 @@ returns-in_err-reply-clause-fire g c =
     let s = c.args.storage.now in
     let old = c.args.self.now in
     let new = c.turn.new.self in
-    let is = looks_then meaning s old c.loop-lost.self new c.loop-lost.invariant.looks c.in_err-reply.ensures.err in
-    let told = err_from_is_err_and c.from_residual.result c.from_residual.ensures.1 in
-    let refused = told.1 ∙ ap Err told.2 in
+    let is = polls_then meaning s old c.loop-lost.self new c.loop-lost.invariant.polls c.in_err-reply.ensures.err in
+    let reported = err_from_is_err_and c.from_residual.result c.from_residual.ensures.1 in
+    let refused = reported.1 ∙ ap Err reported.2 in
     let offers = returns-in_err-reply-clause-offers g c in
     subst (λ r. IsFireOver meaning (agent_of s old) (agent_of s new) c.args.reads.now c.args.scans.now c.args.instrs.now r) (sym refused)
     (is_over meaning (agent_of s old) (agent_of s new) c.args.reads.now c.args.scans.now c.args.instrs.now _ None offers.0
-    (record { storage = refl; id = looked_id meaning s old new is }) is.seen tt tt is.agent tt
+    (record { storage = refl; id = polled_id meaning s old new is }) is.seen tt tt is.agent tt
     (λ e. absurd cc, λ lt. absurd (omega (arith, lt, c.requires.few)))
     (subst (λ r. MadeOffers (agent_of s old) (agent_of s new) r offers.0) refused offers.1)
-    (looked_follows meaning s old new is) tt)
+    (polled_follows meaning s old new is) tt)
 
 pub returns-in-Some-clause-fire : goal.returns-in-Some-clause-fire
 returns-in-Some-clause-fire g c =
@@ -104,21 +104,21 @@ returns-in-Some-clause-fire g c =
     let old = c.args.self.now in
     let mid = c.loop-lost.self in
     let new = c.turn.new.self in
-    let looks = c.loop-lost.invariant.looks in
+    let polls = c.loop-lost.invariant.polls in
     let offers = returns-in-Some-clause-offers g c in
-    let (found, answered, rests) = subst (λ (o : Option Reply).
+    let (found, answered, depends) = subst (λ (o : Option Reply).
     IsTurnOver meaning s mid new c.args.reads.now c.args.scans.now c.args.instrs.now o) c.in-Some.is
     c.in_ok-reply.ensures.turn in
     is_over meaning (agent_of s old) (agent_of s new) c.args.reads.now c.args.scans.now c.args.instrs.now (Ok c.in-Some.reply) found offers.0
-    (record { storage = refl; id = c.turn.ensures.id ∙ looked_id meaning s old mid looks })
-    (IsPrefix-trans old.progress.seen mid.progress.seen new.progress.seen looks.seen c.turn.ensures.seen)
+    (record { storage = refl; id = c.turn.ensures.id ∙ polled_id meaning s old mid polls })
+    (IsPrefix-trans old.progress.seen mid.progress.seen new.progress.seen polls.seen c.turn.ensures.seen)
     (answered_after meaning (agent_of s old) (agent_of s mid) (with_found c.args.reads.now found) c.args.instrs.now (agent_of s new)
-    c.in-Some.reply looks.agent looks.seen answered) rests
+    c.in-Some.reply polls.agent polls.seen answered) depends
     tt tt (λ e. absurd cc, λ lt. absurd (omega (arith, lt, c.requires.few))) offers.1
-    (record { onward = omega (arith, looks.onward, c.turn.ensures.onward); within = c.turn.ensures.part.following.within })
+    (record { onward = omega (arith, polls.onward, c.turn.ensures.onward); within = c.turn.ensures.part.following.within })
     (stands_later (agent_of s old) (agent_of s mid) (agent_of s new)
     (is_plain_over c.args.reads.now c.args.scans.now c.args.instrs.now) c.in-Some.reply c.loop-lost.invariant.unmoved
-    (subst (λ (o : Option Reply). IfSome o (StandsAfter (agent_of s mid) (agent_of s new)
+    (subst (λ (o : Option Reply). IfSome o (IsVersionAfter (agent_of s mid) (agent_of s new)
     (is_plain_over c.args.reads.now c.args.scans.now c.args.instrs.now))) c.in-Some.is c.in_ok-reply.ensures.stands))
 
 -- all offers were lost
@@ -129,11 +129,11 @@ returns-clause-fire g c =
     let old = c.args.self.now in
     let new = c.loop-lost.self in
     let before = c.loop-lost.invariant in
-    let looks = before.looks in
+    let polls = before.polls in
     is_over meaning (agent_of s old) (agent_of s new) c.args.reads.now c.args.scans.now c.args.instrs.now
     (Err (fire_error.Busy c.seen_len-from.result c.seen_len.result)) None c.loop-lost.lost
-    (record { storage = refl; id = looked_id meaning s old new looks }) looks.seen tt tt looks.agent
+    (record { storage = refl; id = polled_id meaning s old new polls }) polls.seen tt tt polls.agent
     (c.seen_len-from.ensures.value, c.seen_len.ensures.value)
     (λ e. absurd cc, λ lt. absurd (omega (arith, lt, c.requires.few)))
     (omega (arith, c.loop-lost-test.false, c.loop-lost.auto.lost-end), before.counted)
-    (looked_follows meaning s old new looks) tt
+    (polled_follows meaning s old new polls) tt

@@ -1,7 +1,7 @@
 use Rattle.std.proofs.Common.{◌≡◌, ◌<◌, ◌-◌, IsTrue, ◌↔◌, List, Some, length, slice_get, sym, subst}
 use Rattle.asm_storage.specs.declared.receipt.Receipt.{Receipt}
 use Rattle.asm_storage.specs.Agents.{next_after}
-use Rattle.asm_storage.proofs.AgentKept.{next_of_last}
+use Rattle.asm_storage.proofs.AgentInvariant.{next_of_last}
 use Rattle.asm_storage.proofs.part.AgentPart.is_behind.Goals as goal
 
 pub returns-in-Some : goal.returns-in-Some

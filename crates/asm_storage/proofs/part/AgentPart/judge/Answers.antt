@@ -2,11 +2,11 @@ use Rattle.std.proofs.Common.{◌≡◌, ◌<◌, ◌∙◌, List, IfOk, subst, 
 use Rattle.std.specs.Prelude.{MatchBool}
 use Rattle.asm_update.specs.Move.{Move}
 use Rattle.asm_update.specs.State.{State}
-use Rattle.asm_state.specs.Stands.{Stands}
+use Rattle.asm_state.specs.FollowsFrom.{FollowsFrom}
 use Rattle.asm_storage.specs.Agents.{moves_seen}
 use Rattle.asm_storage.specs.Part.{IsReplyAt}
 use Rattle.asm_storage.specs.Storage.{machine_of}
-use Rattle.asm_storage.proofs.PartKept.{stands_for_all}
+use Rattle.asm_storage.proofs.PartInvariant.{stands_for_all}
 use Rattle.asm_storage.proofs.FireTurns.{judged_result}
 use Rattle.asm_storage.proofs.part.AgentPart.judge.Goals as goal
 
@@ -20,10 +20,10 @@ returns g c =
     let stands = stands_for_all m seen p.state c.requires.part.following (c.requires.level (sym c.is_plain.ensures ∙ c.if-is_plain.false)) in
     let room = subst (λ row. MatchBool full (length seen ≡ length row) (length seen < length row))
     c.requires.part.row c.is_full-is_full.ensures in
-    let told = subst (λ agg. (init : State) (q : List Move) → Stands (meaning agg).part init p.state q →
+    let reported = subst (λ agg. (init : State) (q : List Move) → FollowsFrom (meaning agg).part init p.state q →
     IfOk c.judged.result (IsReplyAt (meaning agg).part init q full c.args.reads.now c.args.instrs.now))
     c.aggregator-aggregator.ensures c.judged.ensures in
-    judged_result m seen c.args.reads.now c.args.instrs.now full c.judged.result room (told m.init (moves_seen seen) stands)
+    judged_result m seen c.args.reads.now c.args.instrs.now full c.judged.result room (reported m.init (moves_seen seen) stands)
 
 pub returns-then-is_plain : goal.returns-then-is_plain
 returns-then-is_plain g c =

@@ -3,7 +3,7 @@ use Rattle.asm_storage.specs.declared.receipt.Receipt.{Receipt}
 use Rattle.asm_storage.specs.Agents.{AgentView, IsAgent}
 use Rattle.asm_storage.specs.Part.{account_of}
 use Rattle.asm_storage.specs.Storage.{machine_of}
-use Rattle.asm_storage.proofs.AgentKept.{quiet_kept}
+use Rattle.asm_storage.proofs.AgentInvariant.{quiet_kept}
 use Rattle.asm_storage.proofs.part.AgentPart.keep.Goals as goal
 
 pub returns-clause-part : goal.returns-clause-part

@@ -1,4 +1,4 @@
-use Rattle.asm_storage.proofs.PartKept.{learnt_part}
+use Rattle.asm_storage.proofs.PartInvariant.{learnt_part}
 use Rattle.asm_storage.proofs.part.AgentPart.learn.Goals as goal
 
 pub returns-clause-part : goal.returns-clause-part

@@ -1,6 +1,6 @@
 use Rattle.asm_storage.specs.Agents.{moves_seen}
 use Rattle.asm_storage.specs.Storage.{machine_of}
-use Rattle.asm_storage.proofs.PartKept.{stands_for_all}
+use Rattle.asm_storage.proofs.PartInvariant.{stands_for_all}
 use Rattle.asm_storage.proofs.Scanning.{named_as}
 use Rattle.asm_storage.proofs.part.AgentPart.named_over.Goals as goal
 

@@ -5,8 +5,8 @@ use Rattle.asm_storage.specs.declared.receipt.Receipt.{Receipt}
 use Rattle.asm_storage.specs.Agents.{AgentView, IsAgent}
 use Rattle.asm_storage.specs.Part.{account_of}
 use Rattle.asm_storage.specs.Storage.{machine_of}
-use Rattle.asm_storage.proofs.PartKept.{following_more, seen_part}
-use Rattle.asm_storage.proofs.AgentKept.{fired_kept, same_agent}
+use Rattle.asm_storage.proofs.PartInvariant.{following_more, seen_part}
+use Rattle.asm_storage.proofs.AgentInvariant.{fired_kept, same_agent}
 use Rattle.asm_storage.proofs.part.AgentPart.offer.Goals as goal
 
 pub returns-in-Ok-clause-part : goal.returns-in-Ok-clause-part

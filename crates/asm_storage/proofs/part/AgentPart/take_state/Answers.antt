@@ -1,6 +1,6 @@
 use Rattle.std.proofs.Common.{◌≤◌, arith, length}
 use Rattle.asm_storage.specs.Storage.{machine_of}
-use Rattle.asm_storage.proofs.PartKept.{following_more, following_other, learnt_part, with_state}
+use Rattle.asm_storage.proofs.PartInvariant.{following_more, following_other, learnt_part, with_state}
 use Rattle.asm_storage.proofs.part.AgentPart.take_state.Goals as goal
 
 pub returns-then-number-clause-part : goal.returns-then-number-clause-part

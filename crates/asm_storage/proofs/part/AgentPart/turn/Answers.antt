@@ -7,7 +7,7 @@ use Rattle.asm_storage.specs.Machine.{reply_to}
 use Rattle.asm_storage.specs.Part.{agent_of, IsJudged}
 use Rattle.asm_storage.specs.Calls.{is_plain, is_plain_over}
 use Rattle.asm_storage.specs.Storage.{AgentAt, machine_of}
-use Rattle.asm_storage.proofs.FireTurns.{answered_quiet, attempt_counted, attempt_ran, attempt_seen, attempted, looked_id, same_offering}
+use Rattle.asm_storage.proofs.FireTurns.{answered_quiet, attempt_counted, attempt_ran, attempt_seen, attempted, polled_id, same_offering}
 use Rattle.asm_storage.proofs.Scanning.{unfound_over, names_reads, plain_named, scans_level, turn_offered, turn_quiet}
 use Rattle.asm_storage.proofs.part.AgentPart.turn.Goals as goal
 
@@ -34,13 +34,13 @@ returns-in-Some-clause-turn g c =
     let named = c.in_ok-named.named in
     let mid = c.make_ready.new.self in
     let new = c.keep_reply.new.self in
-    let looks = c.make_ready.ensures.looks in
+    let polls = c.make_ready.ensures.polls in
     let judged = subst (λ (o : Option Reply). IsJudged (machine_of meaning s) mid.progress.seen named M o)
     c.in-Some.is (subst (λ (rs : List Named). IsJudged (machine_of meaning s) mid.progress.seen rs M c.in_ok-reply.field-0)
     c.as_slice-2.ensures c.in_ok-reply.ensures) in
     let kept = c.in_ok-keep_reply-in-Some.ensures.ok in
     let is = answered_quiet meaning (agent_of s c.args.self.now) (agent_of s mid) named M (agent_of s new) c.in-Some.reply
-    looks.agent looks.seen judged.0 judged.1 kept in
+    polls.agent polls.seen judged.0 judged.1 kept in
     turn_quiet meaning s c.args.self.now mid new c.args.reads.now c.args.scans.now M named c.in-Some.reply
     c.in_ok-named.ensures judged.0 judged.1 (ap (λ (a : AgentAt _). a.account.seen) kept) is
 
@@ -71,17 +71,17 @@ returns-clause-turn g c =
     let new = c.attempt.new.self in
     let judged = subst (λ (o : Option Reply). IsJudged m seen named M o)
     c.in-None.is (subst (λ (rs : List Named). IsJudged m seen rs M c.in_ok-reply.field-0) c.as_slice-2.ensures c.in_ok-reply.ensures) in
-    let told = judged.0 ∙ ap (λ (ns : List Named). reply_to m (moves_seen seen) (call.Fire ns M))
+    let reported = judged.0 ∙ ap (λ (ns : List Named). reply_to m (moves_seen seen) (call.Fire ns M))
     (names_reads m seen reads scans named M c.in_ok-named.ensures _ judged.0) in
     turn_offered meaning s c.args.self.now mid new reads scans M c.attempt.result
     (unfound_over m seen reads scans named M c.in_ok-named.ensures _ judged.0) c.attempt.ensures.won
-    (attempted meaning s c.args.self.now mid new reads M c.make_ready.ensures.looks
-    c.attempt.result c.attempt.ensures.part told c.attempt.ensures.won c.attempt.ensures.lost)
+    (attempted meaning s c.args.self.now mid new reads M c.make_ready.ensures.polls
+    c.attempt.result c.attempt.ensures.part reported c.attempt.ensures.won c.attempt.ensures.lost)
 
 pub returns-clause-seen : goal.returns-clause-seen
 returns-clause-seen g c =
     attempt_seen g.A.Aggregator.meaning c.args.storage.now c.args.self.now c.make_ready.new.self c.attempt.new.self
-    c.args.reads.now c.args.instrs.now c.make_ready.ensures.looks c.attempt.result c.attempt.ensures.won
+    c.args.reads.now c.args.instrs.now c.make_ready.ensures.polls c.attempt.result c.attempt.ensures.won
     c.attempt.ensures.lost c.attempt.ensures.err
 
 pub returns-clause-counted : goal.returns-clause-counted
@@ -93,7 +93,7 @@ returns-clause-counted g c =
     c.in-None.is (subst (λ (rs : List Named). IsJudged (machine_of g.A.Aggregator.meaning s) mid.progress.seen rs c.args.instrs.now c.in_ok-reply.field-0)
     c.as_slice-2.ensures c.in_ok-reply.ensures) in
     attempt_counted g.A.Aggregator.meaning s c.args.self.now mid c.attempt.new.self c.args.reads.now c.args.instrs.now
-    c.make_ready.ensures.looks c.attempt.result judged.1 c.make_ready.ensures.missed c.attempt.ensures.won
+    c.make_ready.ensures.polls c.attempt.result judged.1 c.make_ready.ensures.missed c.attempt.ensures.won
     c.attempt.ensures.lost c.attempt.ensures.err
 
 pub returns-clause-calls : goal.returns-clause-calls
@@ -107,12 +107,12 @@ pub attempt-requires-clause-pending : goal.attempt-requires-clause-pending
 attempt-requires-clause-pending g c κs within =
     let old = c.args.self.now in
     let mid = c.make_ready.new.self in
-    let same = looked_id g.A.Aggregator.meaning c.args.storage.now old mid c.make_ready.ensures.looks in
+    let same = polled_id g.A.Aggregator.meaning c.args.storage.now old mid c.make_ready.ensures.polls in
     same_offering old.id mid.id c.args.reads.now c.args.instrs.now c.args.pending.now (sym same) c.requires.pending
 
 pub returns-clause-pending : goal.returns-clause-pending
 returns-clause-pending g c =
     let old = c.args.self.now in
     let mid = c.make_ready.new.self in
-    let same = looked_id g.A.Aggregator.meaning c.args.storage.now old mid c.make_ready.ensures.looks in
+    let same = polled_id g.A.Aggregator.meaning c.args.storage.now old mid c.make_ready.ensures.polls in
     same_offering mid.id old.id c.args.reads.now c.args.instrs.now c.attempt.new.pending same c.attempt.ensures.pending

@@ -17,4 +17,4 @@ returns-clause-values g c =
     let stands = c.requires.following.stands in
     let same : value_at p.state ≡ val (machine_state m (take p.state.number (moves_seen p.progress.seen))) =
     λ i l. stands.values l i in
-    subst (λ (old : Place → _). IfOk c.values_again.result (λ values. values ≡ map old c.args.places.now)) same c.values_again.ensures
+    subst (λ (old : Place → _). IfOk c.share_or_copy_values.result (λ values. values ≡ map old c.args.places.now)) same c.share_or_copy_values.ensures

@@ -13,7 +13,7 @@ returns-clause-ok c =
     let step = subst (λ b. IsStep standard_meaning.part old.limits.capacity event old.state c.judge_event.new.state b)
     c.if-not-branch.false
     (subst (λ (a : Meaning). IsStep a.part old.limits.capacity event old.state c.judge_event.new.state c.in_ok-judge_event.field-0)
-    c.chosen.ensures c.in_ok-judge_event.ensures.step) in (
+    c.script_aggregator.ensures c.in_ok-judge_event.ensures.step) in (
       record {
         event = event;
         value = e.0;

@@ -1,8 +1,0 @@
-use Rattle.asm_trace.proofs.Making.{without_tells, recounts_tell}
-use Rattle.asm_trace.proofs.laws.changes_tell.Goals as goal
-
-pub returns-clause-sets : goal.returns-clause-sets
-returns-clause-sets c = without_tells
-
-pub returns-clause-bags : goal.returns-clause-bags
-returns-clause-bags c = recounts_tell
