@@ -30,7 +30,6 @@ impl<T> KnownPrefix<T> {
     pub(crate) fn nothing(row: &Row<T>) -> KnownPrefix<T>
         ensures { (result.row ≡ row.now) × (result.seen ≡ []) }
     {
-        let _ = row;
         KnownPrefix {
             marker: PhantomData,
         }

@@ -144,12 +144,11 @@ impl<T> Progress<T> {
     /// Return a mark of what was seen, which another seat or progress can learn.
     ///
     /// The other one must be of the same row. The answer is always `Ok`: a mark takes no memory of its own.
-    pub fn mark(&self, alloc: Global) -> Result<Mark<T>, AllocError>
+    pub fn mark(&self, _alloc: Global) -> Result<Mark<T>, AllocError>
         ensures made { IsOk result }
         ensures holds { IfOk result (λ mark.
             mark ≡ record { row = self.now.row; seen = self.now.seen }) }
     {
-        let _ = alloc;
         Ok(Mark {
             len: self.seen_len,
             prefix: self.prefix.copy(),

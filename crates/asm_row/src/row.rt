@@ -94,12 +94,11 @@ impl<T> Row<T> {
     ///
     /// The answer is always `Ok`: a seat has no copy of what it has seen, so neither this call nor `next`, `offer` and
     /// `learn` asks for memory.
-    pub fn seat(&self, alloc: Global) -> Result<Seat<'_, T>, AllocError>
+    pub fn seat(&self, _alloc: Global) -> Result<Seat<'_, T>, AllocError>
         ensures made { IsOk result }
         ensures fresh { IfOk result (λ seat.
             seat ≡ record { row = self.now; seen = []; won = 0; misses = 0 }) }
     {
-        let _ = alloc;
         Ok(Seat::at_start(self))
     }
 

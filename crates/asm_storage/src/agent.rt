@@ -132,7 +132,7 @@ impl<'s, A: Aggregator + Sync + Drop> Agent<'s, A> {
     /// Afterwards it has seen what the mark holds or what it had seen before, whichever is longer; the other is its
     /// beginning. Its receipts, wins and misses are unchanged. It always returns `Ok`: the agent's state follows what
     /// was learnt at the start of the next call.
-    pub fn learn(&mut self, alloc: Global, mark: &Mark) -> Result<(), AllocError>
+    pub fn learn(&mut self, _alloc: Global, mark: &Mark) -> Result<(), AllocError>
         requires { mark.now.row ≡ self.old.storage.row }
         ensures kept { self.new ≡ has_seen self.old self.new.account.seen }
         ensures mine { IsPrefix self.old.account.seen self.new.account.seen }
