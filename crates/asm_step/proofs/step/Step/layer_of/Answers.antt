@@ -42,4 +42,4 @@ returns-then-count-gt-INSTRUCTIONS_LIMIT c =
 
 pub overflow_add-count : goal.overflow_add-count
 overflow_add-count c =
-    omega (arith, c.requires, c.in_ok-added.ensures.few, c.len-few.ensures.few, c.in_ok-more.ensures.few, c.len-few_apart.ensures.few)
+    omega (arith, c.requires, c.in_ok-added.ensures.few, c.within_limit.ensures, c.in_ok-more.ensures.few, c.within_limit-2.ensures)
