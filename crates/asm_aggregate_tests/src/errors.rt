@@ -1,6 +1,6 @@
 //! The errors of a composition: their texts, and where two are equal.
 use asm_aggregate::ComposeError;
-use asm_test_support::{are_told_apart, location};
+use asm_test_support::{are_distinct, location};
 use asm_update::{Cause, Clash};
 use std::alloc::Global;
 use std::test::Fail;
@@ -43,7 +43,7 @@ fn have_texts(alloc: Global, errors: &[ComposeError]) -> Result<bool, Fail> {
 #[test]
 fn errors_have_their_texts_and_differ(rt: HostRuntime) -> Result<(), Fail> {
     let errors = errors(rt.alloc())?;
-    assert!(rt; are_told_apart(errors.as_slice()));
+    assert!(rt; are_distinct(errors.as_slice()));
     assert!(rt; have_texts(rt.alloc(), errors.as_slice())?);
     Ok(())
 }

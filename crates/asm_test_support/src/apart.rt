@@ -1,7 +1,7 @@
 //! Equality over a list.
 
 /// Return whether each is equal to itself alone.
-pub fn are_told_apart<T: PartialEq>(items: &[T]) -> bool {
+pub fn are_distinct<T: PartialEq>(items: &[T]) -> bool {
     for (i, left) in items.iter().enumerate() {
         for (j, right) in items.iter().enumerate() {
             if (left == right) != (i == j) {

@@ -5,6 +5,6 @@ mod apart;
 mod plain_data;
 mod resultless;
 
-pub use apart::are_told_apart;
+pub use apart::are_distinct;
 pub use plain_data::{Zero, location, location_at, number, value};
 pub use resultless::Resultless;

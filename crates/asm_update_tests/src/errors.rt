@@ -1,5 +1,5 @@
 //! The texts of errors, which name the location and the cause of a clash.
-use asm_test_support::{are_told_apart, location};
+use asm_test_support::{are_distinct, location};
 use asm_update::{
     AggError, Amount, Cause, Clash, Family, InstructionsError, JoinError, ResultError,
 };
@@ -60,15 +60,15 @@ static JOIN_ERRORS: [JoinError; 4] = [
 
 #[test]
 fn plain_data_are_equal_by_kind_and_content(rt: HostRuntime) {
-    assert!(rt; are_told_apart(&[Amount::new(1), Amount::new(2), Amount::new(0)]));
-    assert!(rt; are_told_apart(&[Family::Set, Family::Bag, Family::Count]));
-    assert!(rt; are_told_apart(&EACH_CAUSE));
-    assert!(rt; are_told_apart(&RESULT_ERRORS) && are_told_apart(&JOIN_ERRORS));
+    assert!(rt; are_distinct(&[Amount::new(1), Amount::new(2), Amount::new(0)]));
+    assert!(rt; are_distinct(&[Family::Set, Family::Bag, Family::Count]));
+    assert!(rt; are_distinct(&EACH_CAUSE));
+    assert!(rt; are_distinct(&RESULT_ERRORS) && are_distinct(&JOIN_ERRORS));
     let refusals = [
         InstructionsError::ManyInstructions,
         InstructionsError::Memory,
     ];
-    assert!(rt; are_told_apart(&refusals));
+    assert!(rt; are_distinct(&refusals));
 }
 
 /// Return a clash at a location without arguments.
@@ -105,8 +105,8 @@ fn errors_of_moves(alloc: Global) -> Result<Vec<AggError>, Fail> {
 #[test]
 fn errors_of_moves_are_equal_by_their_clash(rt: HostRuntime) -> Result<(), Fail> {
     let errors = errors_of_moves(rt.alloc())?;
-    assert!(rt; errors.len() == 5 && are_told_apart(&errors));
-    assert!(rt; are_told_apart(&clashes(rt.alloc())?));
+    assert!(rt; errors.len() == 5 && are_distinct(&errors));
+    assert!(rt; are_distinct(&clashes(rt.alloc())?));
     Ok(())
 }
 

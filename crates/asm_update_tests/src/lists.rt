@@ -1,7 +1,7 @@
 //! Elements that are lists.
 use crate::elements::{ascend, number_elements, text};
 use asm_element::{ElemList, Element, ListError};
-use asm_test_support::are_told_apart;
+use asm_test_support::are_distinct;
 use std::alloc::{AllocError, Global};
 use std::test::Fail;
 
@@ -110,7 +110,7 @@ fn copies_of_lists_are_equal(rt: HostRuntime) -> Result<(), Fail> {
 
 #[test]
 fn errors_are_equal_by_their_reason(rt: HostRuntime) {
-    assert!(rt; are_told_apart(&[ListError::ManyItems, ListError::TooDeep]));
+    assert!(rt; are_distinct(&[ListError::ManyItems, ListError::TooDeep]));
 }
 
 fn has_text(alloc: Global, error: ListError, text: &str) -> Result<bool, AllocError> {

@@ -1,7 +1,7 @@
 //! Locations: their names, arguments and order, and why there is none.
 use crate::elements::{ascend, number_elements};
 use asm_element::{Location, LocationError};
-use asm_test_support::{are_told_apart, location_at};
+use asm_test_support::{are_distinct, location_at};
 use std::alloc::{AllocError, Global};
 use std::test::Fail;
 
@@ -66,7 +66,7 @@ fn a_location_takes_at_most_eight_arguments(rt: HostRuntime) -> Result<(), Fail>
 
 #[test]
 fn errors_are_equal_by_their_reason(rt: HostRuntime) {
-    assert!(rt; are_told_apart(&[LocationError::BadName, LocationError::ManyArgs]));
+    assert!(rt; are_distinct(&[LocationError::BadName, LocationError::ManyArgs]));
 }
 
 fn has_text(alloc: Global, error: LocationError, text: &str) -> Result<bool, AllocError> {
