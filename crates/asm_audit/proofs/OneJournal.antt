@@ -18,10 +18,10 @@ use Rattle.asm_journal.proofs.Events.{event_once}
 use Rattle.asm_journal.proofs.OneHistory.{line_once, header_once}
 use Rattle.asm_audit.specs.Text.{IsBegun}
 use Rattle.asm_audit.specs.Chain.{HasLegal}
-use Rattle.asm_audit.specs.Fault.{counted, BreaksNext}
+use Rattle.asm_audit.specs.Fault.{counted, BreaksNext, HasWrong, IsFirstIllegal}
 use Rattle.asm_journal.specs.declared.error.JournalError.{JournalError}
 use Rattle.asm_journal.specs.Fault.{BreaksHeader, IsRefused}
-use Rattle.asm_audit.specs.Audited.{AreCounts, HasWrong, IsWhole, IsFirstIllegal}
+use Rattle.asm_audit.specs.Audited.{AreCounts, IsWhole}
 use Rattle.asm_audit.specs.Laws.{OneLegal, OneIllegal, FirstFault}
 
 -- ---- numbers

@@ -1,5 +1,5 @@
 -- What was read has one number of each kind, and leaves one state.
-use Rattle.std.proofs.Common.{◌≡◌, ◌≢◌, ◌<◌, ◌≤◌, ◌⊎◌, ℕ, List, [], ◌∷◌, ◌++◌, length, Option, Some, None, Result, Ok, Err, refl, sym, ap, subst, ◌∙◌, inl, inr, append-nil, arith}
+use Rattle.std.proofs.Common.{◌≡◌, ◌<◌, ◌≤◌, ◌⊎◌, ℕ, List, [], ◌∷◌, ◌++◌, length, Some, None, Result, Ok, Err, refl, sym, ap, subst, ◌∙◌, inl, inr, append-nil, arith}
 use Rattle.std.proofs.lemmas.Bool.{cases_lt}
 use Rattle.asm_update.specs.Fire.{Part, state_of}
 use Rattle.asm_update.specs.State.{State}
@@ -12,15 +12,13 @@ use Rattle.asm_journal.proofs.OneHistory.{line_once, header_once}
 use Rattle.asm_audit.specs.declared.error.AuditError.{AuditError}
 use Rattle.asm_audit.specs.declared.error.AuditError.TheVariants.{Journal}
 use Rattle.asm_audit.specs.declared.progress.Counts.{Counts}
-use Rattle.asm_audit.specs.declared.reading.Verdict.{Verdict}
-use Rattle.asm_audit.specs.declared.reading.Verdict.TheVariants.{Legal}
 use Rattle.asm_audit.specs.Text.{IsBegun, HasJournals}
 use Rattle.asm_audit.specs.Chain.{AreLegalFrom}
 use Rattle.asm_audit.specs.Fault.{counted}
 use Rattle.asm_audit.specs.Audited.{calls_of, moves_of}
 use Rattle.asm_audit.specs.Laws.{OneCount, OneState}
 use Rattle.asm_audit.specs.Run.{all_events}
-use Rattle.asm_audit.specs.SoFar.{IsOnward, IsSoFar, HasCounts, HasLeft, HasState}
+use Rattle.asm_audit.specs.SoFar.{IsOnward, IsSoFar, HasLeft}
 use Rattle.asm_audit.proofs.Endings.{history}
 use Rattle.asm_audit.proofs.OneJournal.{events_begin}
 use Rattle.asm_audit.proofs.OneVerdict.{Stop, IsStopped, begun_some, no_line, same_place}
@@ -60,7 +58,7 @@ same_begun text v w count total g h b c =
 -- ---- the end of the complete parts
 
 record EndsAt (part : Part) (text : List ℕ) (whole : List History) (rest : List ℕ) : Type 0 where
-  reported : Result Verdict AuditError
+  reported : Result Counts AuditError
   stopped : IsStopped part text reported
   all : stopped.hs ≡ whole
   left : stopped.rest ≡ rest
@@ -72,7 +70,7 @@ module _ (part : Part) (text : List ℕ) (first : State) where
     counts_of hs =
         record { calls = counted (calls_of hs); moves = counted (moves_of hs); parts = counted (length hs) }
 
-    stops : (hs : List History) (r : Result Verdict AuditError) → HasJournals hs text f.rest → AreLegalFrom part first hs →
+    stops : (hs : List History) (r : Result Counts AuditError) → HasJournals hs text f.rest → AreLegalFrom part first hs →
         Stop part first hs f.rest r → EndsAt part text hs f.rest
     stops hs r journals legal stop = record {
       reported = r;
@@ -93,7 +91,7 @@ module _ (part : Part) (text : List ℕ) (first : State) where
         stops [] (Err (Journal (counted 0) journal_error.Cut)) journals legal
         (refl, (λ e. cc), inl (inl end.0, λ none. refl))
     by_onward (h ∷ hs) journals legal (inl end) =
-        stops (h ∷ hs) (Ok (Legal (counts_of (h ∷ hs)))) journals legal (end.0, (λ e. cc), (refl, refl, refl))
+        stops (h ∷ hs) (Ok (counts_of (h ∷ hs))) journals legal (end.0, (λ e. cc), (refl, refl, refl))
     by_onward hs journals legal (inr (v, count, h, going, less, is)) =
         stops hs (Err (Journal (counted (length hs)) journal_error.Cut)) journals legal
         (refl, (λ e. cc), inr (v, count, h, [], going, less, inl refl))

@@ -11,24 +11,22 @@ use Rattle.asm_journal.specs.Check.{machine_of}
 use Rattle.asm_journal.specs.Fault.{BreaksHeader, BreaksEvent}
 use Rattle.asm_journal.proofs.Refused.{header_stands, one_header_fault}
 use Rattle.asm_audit.specs.declared.error.AuditError.{AuditError}
-use Rattle.asm_audit.specs.declared.error.AuditError.TheVariants.{Journal, Apart, LongLine, Memory}
+use Rattle.asm_audit.specs.declared.error.AuditError.TheVariants.{Journal, Apart, Illegal, LongLine, Memory}
 use Rattle.asm_audit.specs.declared.progress.Counts.{Counts}
-use Rattle.asm_audit.specs.declared.reading.Verdict.{Verdict}
-use Rattle.asm_audit.specs.declared.reading.Verdict.TheVariants.{Legal, Illegal}
 use Rattle.asm_audit.specs.Text.{IsBegun, HasJournal, HasJournals}
 use Rattle.asm_audit.specs.Chain.{state_left, last_left, AreLegalFrom, HasLegal, IsGoing}
-use Rattle.asm_audit.specs.Fault.{counted, BreaksNext, OpensApart}
-use Rattle.asm_audit.specs.Audited.{AreCounts, HasWrong, IsVerdict}
+use Rattle.asm_audit.specs.Fault.{counted, BreaksNext, OpensMismatched, HasWrong}
+use Rattle.asm_audit.specs.Audited.{AreCounts, IsVerdict}
 use Rattle.asm_audit.specs.Laws.{IsOfText, OneVerdict}
 use Rattle.asm_audit.proofs.Endings.{Begins, same_opening, same_end, same_journal}
 
 -- ---- what stops an audit after complete journals
 
-abbrev pub Stop : Part → State → List History → List ℕ → Result Verdict AuditError → Type 0
-Stop part A hs text (Ok (Legal w)) = (text ≡ []) × (hs ≢ []) × AreCounts hs w
-Stop part A hs text (Ok (Illegal j c)) = (j ≡ counted (length hs)) × HasWrong part c A hs text
+abbrev pub Stop : Part → State → List History → List ℕ → Result Counts AuditError → Type 0
+Stop part A hs text (Ok w) = (text ≡ []) × (hs ≢ []) × AreCounts hs w
+Stop part A hs text (Err (Illegal j c)) = (j ≡ counted (length hs)) × HasWrong part c A hs text
 Stop part A hs text (Err (Journal j f)) = (j ≡ counted (length hs)) × (f ≢ journal_error.Memory) × BreaksNext part A hs text f
-Stop part A hs text (Err (Apart j)) = (j ≡ counted (length hs)) × OpensApart part A hs text
+Stop part A hs text (Err (Apart j)) = (j ≡ counted (length hs)) × OpensMismatched part A hs text
 Stop part A hs text (Err LongLine) = ⊥
 Stop part A hs text (Err Memory) = ⊥
 
@@ -68,10 +66,10 @@ module _ (part : Part) (A : State) (hs : List History) (text : List ℕ) where
   broken_begins e other g =
       record { v = g.0; count = g.1; rest = g.3; begun = g.4.begun; ends = (g.5, g.4.legal, other, g.6) }
 
-  no_further : (r : Result Verdict AuditError) → Stop part A hs text r → (k : History) (after : List ℕ) →
+  no_further : (r : Result Counts AuditError) → Stop part A hs text r → (k : History) (after : List ℕ) →
       IsFurther part A hs text k after → ⊥
-  no_further (Ok (Legal w)) s k after f = begun_some _ _ k text after f.0.1 s.0
-  no_further (Ok (Illegal j c)) s k after f =
+  no_further (Ok w) s k after f = begun_some _ _ k text after f.0.1 s.0
+  no_further (Err (Illegal j c)) s k after f =
       let same = same_end part text s.1.2 k (Some (Ok c)) None (wrong_begins part c A hs text s.1) (further_begins part A hs text k after f) in
       cc
   no_further (Err (Journal j e)) s k after f = by_fault s.2 where
@@ -93,20 +91,20 @@ same_last part A B [] some = absurd (some refl)
 same_last part A B (h ∷ hs) some = refl
 
 module _ (part : Part) (hs : List History) (text : List ℕ) (A B : State) where
-  legal_or_illegal : (w : Counts) (j c : ℕ) → Stop part A hs text (Ok (Legal w)) → Stop part B hs text (Ok (Illegal j c)) → ⊥
+  legal_or_illegal : (w : Counts) (j c : ℕ) → Stop part A hs text (Ok w) → Stop part B hs text (Err (Illegal j c)) → ⊥
   legal_or_illegal w j c s t = begun_some _ _ t.1.2 text t.1.3 t.1.4 s.0
 
-  legal_or_fault : (w : Counts) (j : ℕ) (e : JournalError) → Stop part A hs text (Ok (Legal w)) →
+  legal_or_fault : (w : Counts) (j : ℕ) (e : JournalError) → Stop part A hs text (Ok w) →
       Stop part B hs text (Err (Journal j e)) → ⊥
   legal_or_fault w j e s t = by_fault t.2 where
     by_fault : BreaksNext part B hs text e → ⊥
     by_fault (inl h) = s.1 (h.1 s.0)
     by_fault (inr g) = begun_some _ _ g.2 text g.3 g.4.begun s.0
 
-  legal_or_apart : (w : Counts) (j : ℕ) → Stop part A hs text (Ok (Legal w)) → Stop part B hs text (Err (Apart j)) → ⊥
+  legal_or_apart : (w : Counts) (j : ℕ) → Stop part A hs text (Ok w) → Stop part B hs text (Err (Apart j)) → ⊥
   legal_or_apart w j s t = begun_some _ _ t.1.1.2 text t.1.1.3 t.1.1.4 s.0
 
-  illegal_or_fault : (j c k : ℕ) (e : JournalError) → Stop part A hs text (Ok (Illegal j c)) →
+  illegal_or_fault : (j c k : ℕ) (e : JournalError) → Stop part A hs text (Err (Illegal j c)) →
       Stop part B hs text (Err (Journal k e)) → ⊥
   illegal_or_fault j c k e s t = by_fault t.2 where
     by_fault : BreaksNext part B hs text e → ⊥
@@ -115,7 +113,7 @@ module _ (part : Part) (hs : List History) (text : List ℕ) (A B : State) where
         let same = same_end part text s.1.2 g.2 (Some (Ok c)) (Some (Err e)) (wrong_begins part c A hs text s.1) (broken_begins part B hs text e t.1 g) in
         cc
 
-  illegal_or_apart : (j c k : ℕ) → Stop part A hs text (Ok (Illegal j c)) → Stop part B hs text (Err (Apart k)) → ⊥
+  illegal_or_apart : (j c k : ℕ) → Stop part A hs text (Err (Illegal j c)) → Stop part B hs text (Err (Apart k)) → ⊥
   illegal_or_apart j c k s t =
       t.1.1.6 (same_opening text _ _ _ _ t.1.1.2 s.1.2 t.1.1.3 s.1.3 t.1.1.4 s.1.4 ∙ s.1.6 ∙ same_last part A B hs t.1.0)
 
@@ -136,7 +134,7 @@ module _ (part : Part) (hs : List History) (text : List ℕ) (A B : State) where
       let same = same_end part text g.2 k.2 (Some (Err e)) (Some (Err f)) (broken_begins part A hs text e p g) (broken_begins part B hs text f q k) in
       cc
 
-  same_call : (j c k d : ℕ) → Stop part A hs text (Ok (Illegal j c)) → Stop part B hs text (Ok (Illegal k d)) → c ≡ d
+  same_call : (j c k d : ℕ) → Stop part A hs text (Err (Illegal j c)) → Stop part B hs text (Err (Illegal k d)) → c ≡ d
   same_call j c k d s t =
       let same = same_end part text s.1.2 t.1.2 (Some (Ok c)) (Some (Ok d)) (wrong_begins part c A hs text s.1) (wrong_begins part d B hs text t.1) in
       cc
@@ -149,28 +147,28 @@ same_counts hs w x p q =
     ap (λ c. whole c w.moves w.parts) (p.0 ∙ sym q.0) ∙ ap (λ m. whole x.calls m w.parts) (p.1 ∙ sym q.1)
     ∙ ap (λ j. whole x.calls x.moves j) (p.2 ∙ sym q.2)
 
-stops_here : (part : Part) (hs : List History) (text : List ℕ) (A B : State) (r s : Result Verdict AuditError) →
+stops_here : (part : Part) (hs : List History) (text : List ℕ) (A B : State) (r s : Result Counts AuditError) →
     Stop part A hs text r → Stop part B hs text s → r ≡ s
-stops_here part hs text A B (Ok (Legal w)) (Ok (Legal x)) p q = ap (λ (v : Counts). Ok (Legal v)) (same_counts hs w x p.2 q.2)
-stops_here part hs text A B (Ok (Legal w)) (Ok (Illegal j c)) p q = absurd (legal_or_illegal part hs text A B w j c p q)
-stops_here part hs text A B (Ok (Legal w)) (Err (Journal j e)) p q = absurd (legal_or_fault part hs text A B w j e p q)
-stops_here part hs text A B (Ok (Legal w)) (Err (Apart j)) p q = absurd (legal_or_apart part hs text A B w j p q)
-stops_here part hs text A B (Ok (Illegal j c)) (Ok (Legal w)) p q = absurd (legal_or_illegal part hs text B A w j c q p)
-stops_here part hs text A B (Ok (Illegal j c)) (Ok (Illegal k d)) p q =
+stops_here part hs text A B (Ok w) (Ok x) p q = ap (λ (v : Counts). Ok v) (same_counts hs w x p.2 q.2)
+stops_here part hs text A B (Ok w) (Err (Illegal j c)) p q = absurd (legal_or_illegal part hs text A B w j c p q)
+stops_here part hs text A B (Ok w) (Err (Journal j e)) p q = absurd (legal_or_fault part hs text A B w j e p q)
+stops_here part hs text A B (Ok w) (Err (Apart j)) p q = absurd (legal_or_apart part hs text A B w j p q)
+stops_here part hs text A B (Err (Illegal j c)) (Ok w) p q = absurd (legal_or_illegal part hs text B A w j c q p)
+stops_here part hs text A B (Err (Illegal j c)) (Err (Illegal k d)) p q =
     let call = same_call part hs text A B j c k d p q in
     let journal : j ≡ k = p.0 ∙ sym q.0 in
     cc
-stops_here part hs text A B (Ok (Illegal j c)) (Err (Journal k e)) p q = absurd (illegal_or_fault part hs text A B j c k e p q)
-stops_here part hs text A B (Ok (Illegal j c)) (Err (Apart k)) p q = absurd (illegal_or_apart part hs text A B j c k p q)
-stops_here part hs text A B (Err (Journal j e)) (Ok (Legal w)) p q = absurd (legal_or_fault part hs text B A w j e q p)
-stops_here part hs text A B (Err (Journal j e)) (Ok (Illegal k c)) p q = absurd (illegal_or_fault part hs text B A k c j e q p)
+stops_here part hs text A B (Err (Illegal j c)) (Err (Journal k e)) p q = absurd (illegal_or_fault part hs text A B j c k e p q)
+stops_here part hs text A B (Err (Illegal j c)) (Err (Apart k)) p q = absurd (illegal_or_apart part hs text A B j c k p q)
+stops_here part hs text A B (Err (Journal j e)) (Ok w) p q = absurd (legal_or_fault part hs text B A w j e q p)
+stops_here part hs text A B (Err (Journal j e)) (Err (Illegal k c)) p q = absurd (illegal_or_fault part hs text B A k c j e q p)
 stops_here part hs text A B (Err (Journal j e)) (Err (Journal k f)) p q =
     let fault = same_fault part hs text A B e f p.1 q.1 p.2 q.2 in
     let journal : j ≡ k = p.0 ∙ sym q.0 in
     cc
 stops_here part hs text A B (Err (Journal j e)) (Err (Apart k)) p q = absurd (fault_or_apart part hs text A B j k e p q)
-stops_here part hs text A B (Err (Apart j)) (Ok (Legal w)) p q = absurd (legal_or_apart part hs text B A w j q p)
-stops_here part hs text A B (Err (Apart j)) (Ok (Illegal k c)) p q = absurd (illegal_or_apart part hs text B A k c j q p)
+stops_here part hs text A B (Err (Apart j)) (Ok w) p q = absurd (legal_or_apart part hs text B A w j q p)
+stops_here part hs text A B (Err (Apart j)) (Err (Illegal k c)) p q = absurd (illegal_or_apart part hs text B A k c j q p)
 stops_here part hs text A B (Err (Apart j)) (Err (Journal k e)) p q = absurd (fault_or_apart part hs text B A k j e q p)
 stops_here part hs text A B (Err (Apart j)) (Err (Apart k)) p q = let journal : j ≡ k = p.0 ∙ sym q.0 in cc
 stops_here part hs text A B (Err LongLine) s p q = absurd p
@@ -180,17 +178,17 @@ stops_here part hs text A B r (Err Memory) p q = absurd q
 
 -- ---- the complete text
 
-pub record IsStopped (part : Part) (text : List ℕ) (r : Result Verdict AuditError) : Type 0 where
+pub record IsStopped (part : Part) (text : List ℕ) (r : Result Counts AuditError) : Type 0 where
   pub first : State
   pub hs : List History
   pub rest : List ℕ
   pub has : HasLegal part first hs text rest
   pub stop : Stop part first hs rest r
 
-stopped : (part : Part) (text : List ℕ) (r : Result Verdict AuditError) → IsOfText r → IsVerdict part text r → IsStopped part text r
-stopped part text (Ok (Legal w)) of h =
+stopped : (part : Part) (text : List ℕ) (r : Result Counts AuditError) → IsOfText r → IsVerdict part text r → IsStopped part text r
+stopped part text (Ok w) of h =
     record { first = h.0.first; hs = h.0.all; rest = []; has = h.0.has; stop = (refl, h.0.some, h.0.counts) }
-stopped part text (Ok (Illegal j c)) of h =
+stopped part text (Err (Illegal j c)) of h =
     record { first = h.first; hs = h.before; rest = h.rest; has = h.has; stop = (h.numbered, h.next) }
 stopped part text (Err (Journal j e)) of h =
     record { first = h.1.first; hs = h.1.before; rest = h.1.rest; has = h.1.has; stop = (h.1.numbered, h.0, h.1.next) }
@@ -214,7 +212,7 @@ chain_at part A [] k ks chain = (chain.0, chain.1)
 chain_at part A (h ∷ hs) k ks chain = chain_at part (state_left part h) hs k ks chain.2
 
 -- an audit doesn't stop before the journals of another one
-no_shorter : (part : Part) (text : List ℕ) (r : Result Verdict AuditError) (x : IsStopped part text r) (B : State)
+no_shorter : (part : Part) (text : List ℕ) (r : Result Counts AuditError) (x : IsStopped part text r) (B : State)
     (ks : List History) (end : List ℕ) → HasLegal part B ks text end → length x.hs < length ks → ⊥
 no_shorter part text r x B ks end has less =
     by_more more.0 more.1 more.2
@@ -230,7 +228,7 @@ no_shorter part text r x B ks end has less =
         (js.1, (λ some. at.0 ∙ same_last part B x.first x.hs some), at.1)
 
 -- two audits of one text stop at one place
-pub same_place : (part : Part) (text : List ℕ) (r s : Result Verdict AuditError) (x : IsStopped part text r)
+pub same_place : (part : Part) (text : List ℕ) (r s : Result Counts AuditError) (x : IsStopped part text r)
     (y : IsStopped part text s) → (y.hs ≡ x.hs) × (x.rest ≡ y.rest)
 same_place part text r s x y = by_order (cases_lt (length x.hs) (length y.hs)) (cases_lt (length y.hs) (length x.hs)) where
   no_post : (xs ys zs : List History) → zs ≡ xs ++ ys → length zs ≤ length xs → ys ≡ []

@@ -1,26 +1,25 @@
 -- What was counted so far, and the state then.
-use Rattle.std.proofs.Common.{◌≡◌, ◌≤◌, ◌<◌, ◌⊎◌, ℕ, List, [], ◌∷◌, ◌++◌, length, Option, Some, None, refl, sym, subst, ◌∙◌, inl, inr, append-nil}
+use Rattle.std.proofs.Common.{◌≡◌, ◌≤◌, ◌<◌, ◌⊎◌, ℕ, List, [], ◌∷◌, Option, Some, None, refl, sym, subst, ◌∙◌, inl, inr}
 use Rattle.std.proofs.lemmas.Bool.{cases_lt}
 use Rattle.asm_update.specs.Fire.{Part}
 use Rattle.asm_update.specs.State.{State}
 use Rattle.asm_storage.specs.declared.history.History.{History}
-use Rattle.asm_audit.specs.declared.opened.Opened.{Opened}
+use Rattle.asm_audit.specs.declared.part_auditor.PartAuditor.{PartAuditor}
 use Rattle.asm_audit.specs.declared.progress.Counts.{Counts}
 use Rattle.asm_audit.specs.declared.progress.Progress.{Progress}
 use Rattle.asm_audit.specs.Text.{HasJournals}
 use Rattle.asm_audit.specs.Audited.{IsAudited}
 use Rattle.asm_audit.specs.Fed.{IsFed}
-use Rattle.asm_audit.specs.Step.{whole_with, is_between, HasValues}
+use Rattle.asm_audit.specs.Step.{whole_with, HasValues}
 use Rattle.asm_audit.specs.SoFar.{IsSoFar, HasCounts, HasState, AreSoFar, IsStateSoFar, HasEnded, AreFedSoFar, IsFedStateSoFar}
 use Rattle.asm_audit.proofs.Chains.{some_push}
 use Rattle.asm_audit.proofs.Chains.{chain_leaves}
 use Rattle.asm_audit.proofs.Steps.{IsBetween, read_whole, read_of, with_read, read_calls, read_moves, read_legal, read_last, left_is}
-use Rattle.asm_audit.proofs.Telling.{opened_is}
 
 -- ---- the numbers
 
 -- between two parts they are those of complete ones
-pub counts_between : (part : Part) (text : List ℕ) (w : Counts) (o : Option Opened) → IsBetween part text w o →
+pub counts_between : (part : Part) (text : List ℕ) (w : Counts) (o : Option PartAuditor) → IsBetween part text w o →
     HasCounts part text w
 counts_between part text w o b = record {
   first = b.first;
@@ -32,8 +31,8 @@ counts_between part text w o b = record {
   parts = b.counts.2;
 }
 
-module _ (part : Part) (text : List ℕ) (w : Counts) (o : Opened)
-    (audited : IsAudited part text (record { before = w; opened = Some o })) where
+module _ (part : Part) (text : List ℕ) (w : Counts) (o : PartAuditor)
+    (audited : IsAudited part text (record { before = w; current = Some o })) where
   -- a part has begun that lacks an event
   pub begun_so_far : o.taken < o.limits.events → IsSoFar part text audited.first audited.before (with_read part text w o audited)
   begun_so_far less = record {
@@ -85,7 +84,7 @@ module _ (part : Part) (text : List ℕ) (w : Counts) (o : Opened)
   }
 
 -- nothing was read
-pub none_read : (part : Part) (text : List ℕ) (w : Counts) → IsAudited part text (record { before = w; opened = None }) →
+pub none_read : (part : Part) (text : List ℕ) (w : Counts) → IsAudited part text (record { before = w; current = None }) →
     text ≡ []
 none_read part text w audited = nothing audited.before audited.next.0 audited.has.journals where
   nothing : (hs : List History) → hs ≡ [] → HasJournals hs text audited.rest → text ≡ []

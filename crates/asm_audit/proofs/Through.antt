@@ -1,13 +1,11 @@
 -- An input, as it is read chunk by chunk.
-use Rattle.std.proofs.Common.{◌≡◌, ℕ, List, [], ◌++◌, take, Option, Some, None, IfSome, Ok, Err, refl, sym, ap, subst, ◌∙◌, append-nil, append_assoc}
+use Rattle.std.proofs.Common.{◌≡◌, ℕ, List, [], ◌++◌, take, Option, Some, None, IfSome, Err, refl, sym, ap, subst, ◌∙◌, append-nil, append_assoc}
 use Rattle.std.specs.Io.KnownBytes.{Consumes, IsAtEnd}
 use Rattle.asm_update.specs.Fire.{Part}
 use Rattle.asm_audit.specs.declared.error.AuditError.{AuditError}
 use Rattle.asm_audit.specs.declared.progress.Progress.{Progress}
-use Rattle.asm_audit.specs.declared.progress.Told.TheVariants.{Illegal}
-use Rattle.asm_audit.specs.Audited.{IsFirstIllegal}
 use Rattle.asm_audit.specs.Fault.{IsFaulty}
-use Rattle.asm_audit.specs.Fed.{IsFed, HasTaken, IsFedAnswer}
+use Rattle.asm_audit.specs.Fed.{IsFed, Feeds, IsFedAnswer}
 
 -- of the text some bytes were fed, and these are left
 pub record IsReadTo (part : Part) (text : List ℕ) (p : Progress) (line : List ℕ) (left : Option (List ℕ)) : Type 0 where
@@ -43,10 +41,10 @@ read_chunk part text p line bytes old new read taken =
       fed = read.fed;
     }
 
--- what the calls report of the complete text
-pub reported_more : (part : Part) (text : List ℕ) (p q : Progress) (line next bytes : List ℕ) (left : Option (List ℕ)) →
-    IsChunk part text p line bytes left → HasTaken part bytes p line q next → IsReadTo part text q next left
-reported_more part text p q line next bytes left chunk taken = record {
+-- the chunk was fed, or this is reported of the complete text
+pub chunk_fed : (part : Part) (text : List ℕ) (p q : Progress) (line next bytes : List ℕ) (left : Option (List ℕ)) →
+    IsChunk part text p line bytes left → Feeds part bytes p line q next → IsReadTo part text q next left
+chunk_fed part text p q line next bytes left chunk taken = record {
   done = chunk.done ++ bytes;
   rest = chunk.rest;
   known = chunk.known;
@@ -54,10 +52,10 @@ reported_more part text p q line next bytes left chunk taken = record {
   fed = taken chunk.done chunk.fed;
 }
 
-pub reported_fault : (part : Part) (text : List ℕ) (p q : Progress) (line next bytes : List ℕ) (left : Option (List ℕ))
+pub chunk_fault : (part : Part) (text : List ℕ) (p q : Progress) (line next bytes : List ℕ) (left : Option (List ℕ))
     (e : AuditError) → IsChunk part text p line bytes left → IsFedAnswer part bytes p line q next (Err e) →
     IsFaulty part text e
-reported_fault part text p q line next bytes left e chunk answer =
+chunk_fault part text p q line next bytes left e chunk answer =
     subst (λ (t : List ℕ). IsFaulty part t e) chunk.all (answer chunk.done chunk.rest chunk.fed)
 
 -- no byte was left

@@ -1,13 +1,14 @@
 -- The first fault of a run.
-use Rattle.std.specs.Prelude.{◌≡◌, ◌≢◌, ◌<◌, ◌+◌, ◌⊎◌, ℕ, List, [], length, min}
+use Rattle.std.specs.Prelude.{◌≡◌, ◌≢◌, ◌<◌, ◌≤◌, ◌+◌, ◌⊎◌, ℕ, List, [], length, min}
 use Rattle.asm_update.specs.Fire.{Part}
 use Rattle.asm_update.specs.State.{State}
 use Rattle.asm_storage.specs.declared.history.History.{History}
+use Rattle.asm_journal.specs.Check.{machine_of, IsFirstWrong}
 use Rattle.asm_journal.specs.declared.error.JournalError.{JournalError}
 use Rattle.asm_journal.specs.declared.error.JournalError.TheVariants as journal_error
 use Rattle.asm_journal.specs.Fault.{BreaksHeader, BreaksEvent}
 use Rattle.asm_audit.specs.declared.error.AuditError.{AuditError}
-use Rattle.asm_audit.specs.declared.error.AuditError.TheVariants.{Journal, Apart, LongLine, Memory}
+use Rattle.asm_audit.specs.declared.error.AuditError.TheVariants.{Journal, Apart, Illegal, LongLine, Memory}
 use Rattle.asm_audit.specs.Text.{IsBegun, BeginsWithLong}
 use Rattle.asm_audit.specs.Chain.{last_left, HasLegal, IsGoing}
 
@@ -16,12 +17,12 @@ abbrev pub counted : ℕ → ℕ
 counted n = min n 18446744073709551615
 
 -- the error for a fault of the journal of the part with this number
-abbrev pub reported_fault : ℕ → JournalError → AuditError
-reported_fault j (journal_error.NotJson k) = Journal j (journal_error.NotJson k)
-reported_fault j (journal_error.Shape k) = Journal j (journal_error.Shape k)
-reported_fault j journal_error.Version = Journal j journal_error.Version
-reported_fault j journal_error.Cut = Journal j journal_error.Cut
-reported_fault j journal_error.Memory = Memory
+abbrev pub part_fault : ℕ → JournalError → AuditError
+part_fault j (journal_error.NotJson k) = Journal j (journal_error.NotJson k)
+part_fault j (journal_error.Shape k) = Journal j (journal_error.Shape k)
+part_fault j journal_error.Version = Journal j journal_error.Version
+part_fault j journal_error.Cut = Journal j journal_error.Cut
+part_fault j journal_error.Memory = Memory
 
 -- after complete parts the text has a line at fault: that of a header, which may be missing before the first part
 -- alone, or that of an event, after a header and legal events
@@ -32,10 +33,17 @@ BreaksNext part first before text fault =
     × (length h.events < count) × BreaksEvent v h.agents (length h.events + 2) rest fault)
 
 -- after complete parts, at least one, a header opens with another state than the last one leaves
-abbrev pub OpensApart : Part → State → List History → List ℕ → Type 0
-OpensApart part first before text =
+abbrev pub OpensMismatched : Part → State → List History → List ℕ → Type 0
+OpensMismatched part first before text =
     (before ≢ []) × ((v count : ℕ) × (h : History) × (rest : List ℕ) × IsBegun v count h text rest
     × (h.events ≡ []) × (h.init ≢ last_left part first before))
+
+-- after complete parts the text has one that continues them, and the event with this number is the first of it whose
+-- answer isn't the one that a sequential storage gives
+abbrev pub HasWrong : Part → ℕ → State → List History → List ℕ → Type 0
+HasWrong part c first before text =
+    (v count : ℕ) × (h : History) × (rest : List ℕ) × IsBegun v count h text rest × (length h.events ≤ count)
+    × (h.init ≡ last_left part first before) × IsFirstWrong (machine_of part h) h.events c
 
 -- after complete parts the text has a line that is too long, as that of a header or after a header and legal events
 abbrev pub HasLong : Part → State → List History → List ℕ → Type 0
@@ -54,10 +62,15 @@ pub record IsBehind (part : Part) (text : List ℕ) (number : ℕ) (Next : State
     pub numbered : number ≡ counted (length before)
     pub next : Next first before rest
 
+-- the call with number c, in the part with number j, is the first of the text whose answer is wrong
+abbrev pub IsFirstIllegal : Part → List ℕ → ℕ → ℕ → Type 0
+IsFirstIllegal part text j c = IsBehind part text j (HasWrong part c)
+
 -- the text has this fault after complete legal parts; refused memory says nothing of the text
 abbrev pub IsFaulty : Part → List ℕ → AuditError → Type 0
 IsFaulty part text (Journal j fault) =
     (fault ≢ journal_error.Memory) × IsBehind part text j (λ A before rest. BreaksNext part A before rest fault)
-IsFaulty part text (Apart j) = IsBehind part text j (OpensApart part)
+IsFaulty part text (Apart j) = IsBehind part text j (OpensMismatched part)
+IsFaulty part text (Illegal j c) = IsFirstIllegal part text j c
 IsFaulty part text LongLine = (j : ℕ) × IsBehind part text j (HasLong part)
 IsFaulty part text Memory = Unit {0}

@@ -9,14 +9,14 @@ use Rattle.asm_journal.specs.Fault.{IsRefused}
 use Rattle.asm_journal.specs.Reading.{ReadsAs}
 use Rattle.asm_audit.specs.declared.error.AuditError.{AuditError}
 use Rattle.asm_audit.specs.declared.error.AuditError.TheVariants.{Journal, Apart, LongLine, Memory}
-use Rattle.asm_audit.specs.declared.reading.Verdict.{Verdict}
-use Rattle.asm_audit.specs.Fault.{IsFaulty}
+use Rattle.asm_audit.specs.declared.error.AuditError.TheVariants as audit_error
+use Rattle.asm_audit.specs.Fault.{IsFirstIllegal, IsFaulty}
 use Rattle.asm_update.specs.State.{State}
 use Rattle.asm_audit.specs.Chain.{HasLegal}
 use Rattle.asm_audit.specs.Run.{IsOneRun}
 use Rattle.asm_audit.specs.SoFar.{HasCounts, HasState}
 use Rattle.asm_audit.specs.declared.progress.Counts.{Counts}
-use Rattle.asm_audit.specs.Audited.{IsWhole, IsFirstIllegal, IsVerdict}
+use Rattle.asm_audit.specs.Audited.{IsWhole, IsVerdict}
 
 -- A text is one legal part with these numbers exactly if it reads as a history that the check finds legal, with the
 -- same numbers.
@@ -36,16 +36,17 @@ abbrev pub FirstFault : Type 0
 FirstFault = (part : Part) (text : List ℕ) (fault : JournalError) → IsFaulty part text (Journal 0 fault) → IsRefused text fault
 
 -- the report is on the calls or on the form of the text: no memory was refused, and no line was too long
-abbrev pub IsOfText : Result Verdict AuditError → Type 0
-IsOfText (Ok v) = Unit {0}
+abbrev pub IsOfText : Result Counts AuditError → Type 0
+IsOfText (Ok w) = Unit {0}
 IsOfText (Err (Journal j fault)) = Unit {0}
 IsOfText (Err (Apart j)) = Unit {0}
+IsOfText (Err (audit_error.Illegal j c)) = Unit {0}
 IsOfText (Err LongLine) = ⊥
 IsOfText (Err Memory) = ⊥
 
 -- One thing alone is reported of a text.
 abbrev pub OneVerdict : Type 0
-OneVerdict = (part : Part) (text : List ℕ) (r s : Result Verdict AuditError) → IsOfText r → IsOfText s →
+OneVerdict = (part : Part) (text : List ℕ) (r s : Result Counts AuditError) → IsOfText r → IsOfText s →
     IsVerdict part text r → IsVerdict part text s → r ≡ s
 
 -- The moves of complete legal parts that continue one another are one run from the state with which the first opens.

@@ -1,7 +1,7 @@
 pub mod Limits
 pub mod Text
 pub mod Chain
-pub mod Opened
+pub mod PartAuditor
 pub mod Fault
 pub mod Audited
 pub mod Step

@@ -1,17 +1,14 @@
 -- What the steps of an audit do.
-use Rattle.std.specs.Prelude.{◌≡◌, ◌≤◌, ◌+◌, ◌↔◌, Bool, IsTrue, Option, Some, None, true, false, Result, Ok, Err}
+use Rattle.std.specs.Prelude.{◌≡◌, ◌≤◌, ◌+◌, ◌↔◌, Bool, IsTrue, Option, Some, None}
 use Rattle.asm_element.specs.Place.{Place}
 use Rattle.asm_update.specs.State.{State, IsProper, val}
 use Rattle.asm_state.specs.View.{StateView, value_at}
-use Rattle.asm_audit.specs.declared.opened.Opened.{Opened}
+use Rattle.asm_audit.specs.declared.part_auditor.PartAuditor.{PartAuditor}
 use Rattle.asm_audit.specs.declared.progress.Counts.{Counts}
 use Rattle.asm_audit.specs.Fault.{counted}
-use Rattle.asm_audit.specs.declared.error.AuditError.{AuditError}
-use Rattle.asm_audit.specs.declared.progress.Told.{Told}
-use Rattle.asm_audit.specs.declared.progress.Told.TheVariants.{Legal, Illegal}
 
 -- the numbers with those of the part that is being read
-abbrev pub whole_with : Counts → Opened → Counts
+abbrev pub whole_with : Counts → PartAuditor → Counts
 whole_with w o =
     record {
       calls = counted (w.calls + o.taken);
@@ -19,12 +16,12 @@ whole_with w o =
       parts = counted (w.parts + 1);
     }
 
-abbrev pub all_with : Counts → Option Opened → Counts
+abbrev pub all_with : Counts → Option PartAuditor → Counts
 all_with w None = w
 all_with w (Some o) = whole_with w o
 
 -- no part is being read, or all its events were taken
-abbrev pub is_between : Option Opened → Type 0
+abbrev pub is_between : Option PartAuditor → Type 0
 is_between None = Unit {0}
 is_between (Some o) = o.limits.events ≤ o.taken
 
@@ -38,18 +35,6 @@ IsNextTest s init b =
     (left : State) × HasValues s left × (IsTrue b ↔ (left ≡ init))
 
 -- the test reports it of the part that was read; if there is none, the test is met
-abbrev pub IsOnTest : Option Opened → State → Bool → Type 0
+abbrev pub IsOnTest : Option PartAuditor → State → Bool → Type 0
 IsOnTest None init b = IsTrue b
 IsOnTest (Some o) init b = IsNextTest o.state init b
-
--- unless all is reported as legal, nothing changes
-abbrev pub IsKept : {T : Type 0} → T → T → Result Told AuditError → Type 0
-IsKept old new (Ok Legal) = Unit {0}
-IsKept old new (Ok (Illegal j c)) = new ≡ old
-IsKept old new (Err e) = new ≡ old
-
--- unless the answer is true, nothing changes
-abbrev pub StaysUnlessTrue : {T E : Type 0} → T → T → Result Bool E → Type 0
-StaysUnlessTrue old new (Ok true) = Unit {0}
-StaysUnlessTrue old new (Ok false) = new ≡ old
-StaysUnlessTrue old new (Err e) = new ≡ old

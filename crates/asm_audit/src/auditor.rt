@@ -1,12 +1,11 @@
 //! The audit of a run, line by line.
-ghost use Rattle.std.specs.Prelude.{◌≡◌, [], OnOk, IfOk};
-ghost use Rattle.asm_audit.specs.Text.{IsLineBefore, HasLineFeed};
-ghost use Rattle.asm_audit.specs.Audited.{IsAudited, IsLineAnswer, IsEnd, IsCutEnd};
-ghost use Rattle.asm_audit.specs.Step.{IsKept};
+ghost use Rattle.std.specs.Prelude.{◌≡◌, [], OnErr, IfOk};
+ghost use Rattle.asm_audit.specs.Text.{IsLineBefore};
+ghost use Rattle.asm_audit.specs.Audited.{IsAudited, IsLineAnswer, JudgesEnded, IsEnd, IsCutEnd};
 ghost use Rattle.asm_audit.specs.SoFar.{AreSoFar, IsStateSoFar};
 
 use crate::error::AuditError;
-use crate::progress::{Counts, Progress, Told};
+use crate::progress::{Counts, Progress};
 use asm_update::{Aggregator, PlainState};
 use std::alloc::{AllocError, Global};
 
@@ -33,9 +32,8 @@ impl<A: Aggregator + Drop> Auditor<A> {
     }
 
     /// Take the next line, with the line feed that ends it.
-    /// What is reported holds whatever lines come after this one. `Legal` means that each answer so far is right.
-    /// `Illegal` means that this line's event is the first whose answer isn't the one that a sequential storage gives.
-    /// After any answer except `Legal` the auditor is unchanged, so that with more memory the line may be taken again.
+    /// Each answer so far is then right. What is reported holds whatever lines come after this one. On error, nothing
+    /// changes, so that with more memory the line may be taken again.
     ///
     /// A line costs what reading and judging it cost, independent of how many came before; the header of a further part
     /// costs a copy of the state too.
@@ -44,13 +42,14 @@ impl<A: Aggregator + Drop> Auditor<A> {
     /// - `AuditError::Journal`: the line is at fault, as `from_text` reports it of its journal. The last line of a text
     ///   may come without a line feed; it is then cut or, if it isn't JSON, reported so.
     /// - `Apart`: a part begins, but opens with another state than the part before it leaves.
+    /// - `Illegal`: the line's event is the first whose answer isn't the one that a sequential storage gives.
     /// - `Memory` only if memory is refused.
-    pub fn line(&mut self, alloc: Global, line: &[u8]) -> Result<Told, AuditError>
+    pub fn line(&mut self, alloc: Global, line: &[u8]) -> Result<(), AuditError>
         requires { IsLineBefore line.now [] }
         ensures aggregator { self.new.aggregator ≡ self.old.aggregator }
-        ensures reported { IsLineAnswer (A.meaning self.old.aggregator).part line.now self.old.progress self.new.progress result }
-        ensures kept { IsKept self.old.progress self.new.progress result }
-        ensures ended { OnOk result (HasLineFeed line.now) }
+        ensures answer { IsLineAnswer (A.meaning self.old.aggregator).part line.now self.old.progress self.new.progress result }
+        ensures unchanged { OnErr result (self.new.progress ≡ self.old.progress) }
+        ensures ended { JudgesEnded line.now result }
     {
         self.progress.line(alloc, &self.aggregator, line)
     }
@@ -61,7 +60,7 @@ impl<A: Aggregator + Drop> Auditor<A> {
     /// # Errors
     /// - `AuditError::Journal` with `Cut`, and no other: the last part lacks an event, or no line came at all.
     pub fn finish(&self) -> Result<Counts, AuditError>
-        ensures reported { IsEnd (A.meaning self.now.aggregator).part self.now.progress result }
+        ensures answer { IsEnd (A.meaning self.now.aggregator).part self.now.progress result }
         ensures cut { IsCutEnd result }
     {
         self.progress.finish()

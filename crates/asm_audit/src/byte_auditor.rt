@@ -1,12 +1,11 @@
 //! The audit of a run, as its bytes come.
 ghost use Rattle.std.specs.Prelude.{◌≡◌, ◌≢◌, ◌≤◌, ◌+◌, length, take, drop, IfOk, IfSome, IfNone};
 ghost use Rattle.asm_journal.specs.Reading.{HasNoLineFeed, EndsLine};
-ghost use Rattle.asm_audit.specs.Fed.{legal};
 ghost use Rattle.asm_audit.specs.Limits.{line_limit};
 
 use crate::auditor::Auditor;
 use crate::error::AuditError;
-use crate::progress::{Counts, Told};
+use crate::progress::Counts;
 use asm_update::{Aggregator, PlainState};
 use std::alloc::{AllocError, Global};
 
@@ -21,13 +20,6 @@ fn line_feed_in(bytes: &[u8]) -> Option<usize>
     bytes.iter().position(|b| *b == b'\n')
 }
 
-// Return whether each answer so far is right.
-fn is_legal(reported: Result<Told, AuditError>) -> bool
-    ensures { result ≡ legal reported }
-{
-    matches!(reported, Ok(Told::Legal))
-}
-
 /// An auditor of a run whose bytes come in pieces.
 /// They may begin and end anywhere. Beside an `Auditor` it holds the bytes of the line that hasn't ended, of which there
 /// are at most 1,073,741,824.
@@ -40,11 +32,9 @@ pub struct ByteAuditor<A: Aggregator + Drop> {
 }
 
 impl<A: Aggregator + Drop> ByteAuditor<A> {
-    ghost use Rattle.std.specs.Prelude.{◌++◌, ◌∷◌, []};
-    ghost use Rattle.asm_audit.specs.Audited.{IsLineAnswer};
-    ghost use Rattle.asm_audit.specs.Step.{IsKept};
-    ghost use Rattle.asm_audit.specs.Fed.{IsFed, IsFedAnswer, IsExtended, HasTakenSome, HasTakenLine, HasTakenFirst, IsFedEnd};
-    ghost use Rattle.asm_audit.specs.Fed.{LeavesLine};
+    ghost use Rattle.std.specs.Prelude.{◌++◌, ◌∷◌, [], IfErr, OnOk, OnErr};
+    ghost use Rattle.asm_audit.specs.Audited.{IsLineAnswer, IsFormFault};
+    ghost use Rattle.asm_audit.specs.Fed.{IsFed, IsFedAnswer, IsExtended, FeedsPrefix, FeedsLine, FeedsFirst, IsFedEnd};
     ghost use Rattle.asm_audit.specs.SoFar.{AreFedSoFar, IsFedStateSoFar};
 
     /// Return an auditor that has read nothing.
@@ -59,23 +49,20 @@ impl<A: Aggregator + Drop> ByteAuditor<A> {
     }
 
     // Take the line feed that ends the line.
-    fn end_line(&mut self, alloc: Global) -> Result<Told, AuditError>
+    fn end_line(&mut self, alloc: Global) -> Result<(), AuditError>
         ensures aggregator { self.new.auditor.aggregator ≡ self.old.auditor.aggregator }
-        ensures reported { IsLineAnswer (A.meaning self.old.auditor.aggregator).part (self.old.line.items ++ 10 ∷ [])
+        ensures answer { IsLineAnswer (A.meaning self.old.auditor.aggregator).part (self.old.line.items ++ 10 ∷ [])
             self.old.auditor.progress self.new.auditor.progress result }
-        ensures kept { IsKept self.old.auditor.progress self.new.auditor.progress result }
-        ensures line { LeavesLine self.old.line.items self.new.line.items result }
+        ensures ended { OnOk result (self.new.line.items ≡ []) }
+        ensures unchanged { OnErr result (self.new.auditor.progress ≡ self.old.auditor.progress) }
+        ensures line { OnErr result (self.new.line.items ≡ self.old.line.items) }
     {
         let length = self.line.len();
         self.line.push(b'\n')?;
         match self.auditor.line(alloc, self.line.as_slice()) {
-            Ok(Told::Legal) => {
+            Ok(()) => {
                 self.line.clear();
-                Ok(Told::Legal)
-            }
-            Ok(Told::Illegal { part, call }) => {
-                self.line.truncate(length);
-                Ok(Told::Illegal { part, call })
+                Ok(())
             }
             Err(error) => {
                 self.line.truncate(length);
@@ -86,7 +73,7 @@ impl<A: Aggregator + Drop> ByteAuditor<A> {
 
     // Add bytes to the line, and return how many were added: fewer if it would be too long, and none if memory is
     // refused.
-    fn keep(&mut self, body: &[u8]) -> (usize, Result<Told, AuditError>)
+    fn keep(&mut self, body: &[u8]) -> (usize, Result<(), AuditError>)
         requires { HasNoLineFeed body.now }
         ensures auditor { self.new.auditor ≡ self.old.auditor }
         ensures kept { IsExtended body.now self.old.line.items self.new.line.items result.0 result.1 }
@@ -98,15 +85,15 @@ impl<A: Aggregator + Drop> ByteAuditor<A> {
         if count < body.len() {
             return (count, Err(AuditError::LongLine));
         }
-        (count, Ok(Told::Legal))
+        (count, Ok(()))
     }
 
     /// Take the next bytes up to the first line feed, or all if there is none.
     /// It returns how many of them were taken, and reports as `feed_some` does.
-    pub fn feed_line(&mut self, alloc: Global, bytes: &[u8]) -> (usize, Result<Told, AuditError>)
+    pub fn feed_line(&mut self, alloc: Global, bytes: &[u8]) -> (usize, Result<(), AuditError>)
         requires { bytes.now ≢ [] }
         ensures aggregator { self.new.auditor.aggregator ≡ self.old.auditor.aggregator }
-        ensures taken { HasTakenLine (A.meaning self.old.auditor.aggregator).part bytes.now
+        ensures taken { FeedsLine (A.meaning self.old.auditor.aggregator).part bytes.now
             self.old.auditor.progress self.old.line.items self.new.auditor.progress self.new.line.items
             result.0 result.1 }
     {
@@ -114,54 +101,52 @@ impl<A: Aggregator + Drop> ByteAuditor<A> {
             return self.keep(bytes);
         };
         let (count, kept) = self.keep(&bytes[..end]);
-        if !is_legal(kept) {
+        if kept.is_err() {
             return (count, kept);
         }
-        let reported = self.end_line(alloc);
-        if !is_legal(reported) {
-            return (end, reported);
+        match self.end_line(alloc) {
+            Ok(()) => (end + 1, Ok(())),
+            Err(error) => (end, Err(error)),
         }
-        (end + 1, reported)
     }
 
     /// Take the next bytes, and return how many of them were taken.
     /// The report is that of `Auditor::line`, made at the line feed of a line; it holds whatever bytes come after
-    /// these. With `Legal` all bytes were taken. After any other answer those before the byte at which it came were
-    /// taken, and no others.
+    /// these. On error, the bytes before the one at which it came were taken, and no others.
     ///
     /// # Errors
-    /// - `AuditError::Journal` and `Apart`: as from `Auditor::line`.
+    /// - `AuditError::Journal`, `Apart` and `Illegal`: as from `Auditor::line`.
     /// - `LongLine`: at the byte that makes a line longer than 1,073,741,824 bytes.
     /// - `Memory` only if memory is refused; the rest may be passed again.
-    pub fn feed_some(&mut self, alloc: Global, bytes: &[u8]) -> (usize, Result<Told, AuditError>)
+    pub fn feed_some(&mut self, alloc: Global, bytes: &[u8]) -> (usize, Result<(), AuditError>)
         ensures aggregator { self.new.auditor.aggregator ≡ self.old.auditor.aggregator }
-        ensures reported { IsFedAnswer (A.meaning self.old.auditor.aggregator).part bytes.now
+        ensures answer { IsFedAnswer (A.meaning self.old.auditor.aggregator).part bytes.now
             self.old.auditor.progress self.old.line.items self.new.auditor.progress self.new.line.items result.1 }
-        ensures taken { HasTakenFirst (A.meaning self.old.auditor.aggregator).part bytes.now
+        ensures taken { FeedsFirst (A.meaning self.old.auditor.aggregator).part bytes.now
             self.old.auditor.progress self.old.line.items self.new.auditor.progress self.new.line.items
             result.0 result.1 }
     {
         let mut rest = bytes;
         while !rest.is_empty() {
-            let (count, reported) = self.feed_line(alloc, rest);
+            let (count, fed) = self.feed_line(alloc, rest);
             rest = &rest[count..];
-            if !is_legal(reported) {
-                return (bytes.len() - rest.len(), reported);
+            if fed.is_err() {
+                return (bytes.len() - rest.len(), fed);
             }
         }
-        (bytes.len(), Ok(Told::Legal))
+        (bytes.len(), Ok(()))
     }
 
     /// Take the next bytes, and report as `feed_some` does.
-    pub fn feed(&mut self, alloc: Global, bytes: &[u8]) -> Result<Told, AuditError>
+    pub fn feed(&mut self, alloc: Global, bytes: &[u8]) -> Result<(), AuditError>
         ensures aggregator { self.new.auditor.aggregator ≡ self.old.auditor.aggregator }
-        ensures reported { IsFedAnswer (A.meaning self.old.auditor.aggregator).part bytes.now
+        ensures answer { IsFedAnswer (A.meaning self.old.auditor.aggregator).part bytes.now
             self.old.auditor.progress self.old.line.items self.new.auditor.progress self.new.line.items result }
-        ensures taken { HasTakenSome (A.meaning self.old.auditor.aggregator).part bytes.now
+        ensures taken { FeedsPrefix (A.meaning self.old.auditor.aggregator).part bytes.now
             self.old.auditor.progress self.old.line.items self.new.auditor.progress self.new.line.items }
     {
-        let (_, reported) = self.feed_some(alloc, bytes);
-        reported
+        let (_, fed) = self.feed_some(alloc, bytes);
+        fed
     }
 
     /// Return how many calls, moves and parts the run has, if no further byte comes.
@@ -172,8 +157,9 @@ impl<A: Aggregator + Drop> ByteAuditor<A> {
     /// - `Journal` with `Cut` or `NotJson`: the last line has no line feed.
     /// - `Memory` only if memory is refused, for such a line.
     pub fn finish(&mut self, alloc: Global) -> Result<Counts, AuditError>
-        ensures reported { IsFedEnd (A.meaning self.old.auditor.aggregator).part self.old.auditor.progress
+        ensures answer { IsFedEnd (A.meaning self.old.auditor.aggregator).part self.old.auditor.progress
             self.old.line.items result }
+        ensures form { IfErr result IsFormFault }
         ensures auditor { self.new.auditor ≡ self.old.auditor }
         ensures line { self.new.line.items ≡ self.old.line.items }
     {
@@ -182,7 +168,7 @@ impl<A: Aggregator + Drop> ByteAuditor<A> {
         }
         match self.auditor.line(alloc, self.line.as_slice()) {
             Err(error) => Err(error),
-            Ok(_) => unreachable!(),
+            Ok(()) => unreachable!(),
         }
     }
 

@@ -1,6 +1,6 @@
-//! Why an audit ends without a verdict on the calls.
+//! Why an audit ends.
 ghost use Rattle.std.specs.Prelude.{◌≡◌};
-ghost use Rattle.asm_audit.specs.Fault.{reported_fault};
+ghost use Rattle.asm_audit.specs.Fault.{part_fault};
 ghost use Rattle.asm_audit.specs.declared.error.AuditError.TheVariants as audit_error;
 ghost use Rattle.asm_audit.specs.declared.error.AuditInputError.TheVariants as input_error;
 
@@ -8,7 +8,7 @@ use asm_journal::JournalError;
 use std::alloc::{AllocError, AllocFailed};
 use thiserror::Error;
 
-/// Why an audit ends before it has judged each call.
+/// Why an audit ends before the end of the run.
 /// The parts of a run count from 0.
 #[derive(Clone, Copy, Debug, Drop, PartialEq, Eq, Error)]
 pub enum AuditError {
@@ -19,6 +19,10 @@ pub enum AuditError {
     /// This part opens with another state than the part before it leaves.
     #[error("part {part} opens with another state")]
     Apart { part: u64 },
+    /// The first wrong answer is that to this call of this part, counted from 0.
+    /// A wrong answer is one that a sequential storage doesn't give.
+    #[error("part {part}: call {call} has a wrong answer")]
+    Illegal { part: u64, call: u64 },
     /// A line has more than 1,073,741,824 bytes.
     #[error("a line is too long")]
     LongLine,
@@ -63,8 +67,8 @@ impl From<AuditError> for AuditInputError {
 }
 
 /// Return the error for a fault of the journal of the part with this number.
-pub(crate) fn reported_fault(number: u64, fault: JournalError) -> AuditError
-    ensures { result ≡ reported_fault number fault }
+pub(crate) fn part_fault(number: u64, fault: JournalError) -> AuditError
+    ensures { result ≡ part_fault number fault }
 {
     match fault {
         JournalError::Memory => AuditError::Memory,

@@ -5,12 +5,13 @@ mod auditor;
 mod byte_auditor;
 mod error;
 pub mod laws;
-mod opened;
+mod part_auditor;
 mod progress;
 mod reading;
 
 pub use auditor::Auditor;
 pub use byte_auditor::{ByteAuditor, LINE_LIMIT};
 pub use error::{AuditError, AuditInputError};
-pub use progress::{Counts, Told};
-pub use reading::{Verdict, audit};
+pub use part_auditor::{PartAuditor, read_part_header};
+pub use progress::Counts;
+pub use reading::audit;

@@ -1,6 +1,6 @@
 //! Audits of inputs that fail.
 use asm_aggregate::standard;
-use asm_audit::{AuditError, AuditInputError, Verdict, audit};
+use asm_audit::{AuditError, AuditInputError, Counts, audit};
 use asm_journal::JournalError;
 use std::alloc::Global;
 use std::io;
@@ -27,8 +27,8 @@ impl Read for BrokenOff<'_> {
     }
 }
 
-/// Return the verdict on an input that gives this text and then fails.
-fn reported_of_broken_off(alloc: Global, text: &str) -> Result<Verdict, AuditInputError> {
+/// Return how the audit of an input ends that gives this text and then fails.
+fn reported_of_broken_off(alloc: Global, text: &str) -> Result<Counts, AuditInputError> {
     audit(
         alloc,
         standard(),
@@ -38,14 +38,14 @@ fn reported_of_broken_off(alloc: Global, text: &str) -> Result<Verdict, AuditInp
     )
 }
 
-/// Texts, some wrong or at fault, with the verdict if the read after them fails.
-static BROKEN_OFF: [(&str, Result<Verdict, AuditInputError>); 5] = [
+/// Texts, some wrong or at fault, with how an audit ends if the read after them fails.
+static BROKEN_OFF: [(&str, Result<Counts, AuditInputError>); 5] = [
     ("", Err(AuditInputError::Input)),
     (
         r#"{"agents":1,"capacity":2,"events":3,"init":[[["x"],7]],"version":2}
 {"agent":0,"call":{"read":[["x"]]},"reply":{"number":0,"values":[6]}}
 "#,
-        Ok(Verdict::Illegal { part: 0, call: 0 }),
+        Err(AuditInputError::Audit(AuditError::Illegal { part: 0, call: 0 })),
     ),
     (
         r#"{"agents":1,"capacity":2,"events":3,"init":[],"version":2}

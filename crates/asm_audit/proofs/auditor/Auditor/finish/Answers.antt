@@ -1,4 +1,4 @@
 use Rattle.asm_audit.proofs.auditor.Auditor.finish.Goals as goal
 
-pub returns-clause-reported : goal.returns-clause-reported
-returns-clause-reported g c = c.finish.ensures.reported (g.A.Aggregator.meaning c.args.self.now.aggregator).part
+pub returns-clause-answer : goal.returns-clause-answer
+returns-clause-answer g c = c.finish.ensures.answer (g.A.Aggregator.meaning c.args.self.now.aggregator).part

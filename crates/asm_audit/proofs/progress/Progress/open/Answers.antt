@@ -1,41 +1,51 @@
 use Rattle.std.proofs.Common.{◌++◌, Some, refl, sym, ap, subst, ◌∙◌}
+use Rattle.std.proofs.lemmas.Result.{err_from_is_err_and}
 use Rattle.asm_audit.specs.declared.progress.Counts.{Counts}
-use Rattle.asm_audit.specs.Fault.{reported_fault, OpensApart, IsBehind, IsFaulty}
+use Rattle.asm_audit.specs.Fault.{part_fault, OpensMismatched, IsBehind, IsFaulty}
 use Rattle.asm_audit.specs.Audited.{IsAudited}
-use Rattle.asm_audit.proofs.Steps.{header_broken, header_right, header_apart}
-use Rattle.asm_audit.proofs.Telling.{opened_is}
+use Rattle.asm_audit.proofs.Steps.{header_broken, header_right, header_mismatched}
+use Rattle.asm_audit.proofs.Telling.{current_is, fault_judged}
 use Rattle.asm_audit.proofs.progress.Progress.open.Goals as goal
 
-pub returns-in-Err-clause-reported : goal.returns-in-Err-clause-reported
-returns-in-Err-clause-reported c = λ part text rest audited is.
+pub returns-in_err-header-clause-answer : goal.returns-in_err-header-clause-answer
+returns-in_err-header-clause-answer c =
+    let r = err_from_is_err_and c.from_residual.result c.from_residual.ensures.1 in
+    rw (r.1, r.2) (λ part text rest audited is.
     let p = c.args.self.now in
     let line = c.args.line.now in
-    let fault = c.in-Err.fault in
-    let reported = c.reported_fault.ensures ∙ ap (λ (w : Counts). reported_fault w.parts fault) c.all-before.ensures in
-    subst (IsFaulty part (text ++ (line ++ rest))) (sym reported)
-    (header_broken part text p.before p.opened c.requires.between (opened_is part text p p.opened refl audited) line
-    rest fault is c.in-Err.ensures.err)
+    let h = c.in_err-header.ensures.err in
+    let fault = h.1 ∙ ap (λ (w : Counts). part_fault w.parts h.0) c.all-before.ensures in
+    subst (IsFaulty part (text ++ (line ++ rest))) (sym fault)
+    (header_broken part text p.before p.current c.requires.between (current_is part text p p.current refl audited) line
+    rest h.0 is h.2))
 
-pub returns-then-not-branch-clause-reported : goal.returns-then-not-branch-clause-reported
-returns-then-not-branch-clause-reported c = λ part text rest audited is.
+pub returns-in_err-header-clause-ended : goal.returns-in_err-header-clause-ended
+returns-in_err-header-clause-ended c =
+    let r = err_from_is_err_and c.from_residual.result c.from_residual.ensures.1 in
+    let h = c.in_err-header.ensures.err in
+    rw (r.1, r.2) (fault_judged c.args.line.now c.all-before.result.parts h.0 c.in_err-header.field-0.0 h.1)
+
+pub returns-then-not-branch-clause-answer : goal.returns-then-not-branch-clause-answer
+returns-then-not-branch-clause-answer c = λ part text rest audited is.
     let p = c.args.self.now in
     let line = c.args.line.now in
-    let h = c.in-Ok.ensures.ok in
-    subst (λ (w : Counts). IsBehind part (text ++ (line ++ rest)) w.parts (OpensApart part)) (sym c.all-before.ensures)
-    (header_apart part text p.before p.opened c.requires.between (opened_is part text p p.opened refl audited) line
-    c.in-Ok.header h.0 c.in-Ok.field-0-1.now h.1 h.2 c.in_ok-goes_on.field-0 c.in_ok-goes_on.ensures rest is
+    let h = c.in_ok-header.ensures.ok in
+    subst (λ (w : Counts). IsBehind part (text ++ (line ++ rest)) w.parts (OpensMismatched part)) (sym c.all-before.ensures)
+    (header_mismatched part text p.before p.current c.requires.between (current_is part text p p.current refl audited) line
+    c.in_ok-header.header h.0 h.1 h.2 h.3 c.in_ok-is_continued_by.field-0 c.in_ok-is_continued_by.ensures rest is
     c.if-not-branch.true)
 
-pub returns-clause-reported : goal.returns-clause-reported
-returns-clause-reported c = λ part text audited.
+pub returns-clause-answer : goal.returns-clause-answer
+returns-clause-answer c = λ part text audited.
     let p = c.args.self.now in
     let line = c.args.line.now in
-    let h = c.in-Ok.ensures.ok in
-    let o = c.in_ok-opened in
-    subst (λ (w : Counts). IsAudited part (text ++ line) (record { before = w; opened = Some o.opened })) (sym c.all-before.ensures)
-    (header_right part text p.before p.opened c.requires.between (opened_is part text p p.opened refl audited) line
-    c.in-Ok.header h.0 c.in-Ok.field-0-1.now h.1 h.2 c.in_ok-goes_on.field-0 c.in_ok-goes_on.ensures o.opened
-    c.requires.line c.if-not-branch.false o.ensures.limits o.ensures.taken (o.ensures.stands part))
+    let h = c.in_ok-header.ensures.ok in
+    let o = c.in_ok-part in
+    subst (λ (w : Counts). IsAudited part (text ++ line) (record { before = w; current = Some o.part })) (sym c.all-before.ensures)
+    (header_right part text p.before p.current c.requires.between (current_is part text p p.current refl audited) line
+    c.in_ok-header.header h.0 h.1 h.2 h.3 c.in_ok-is_continued_by.field-0 c.in_ok-is_continued_by.ensures o.part
+    c.requires.line c.if-not-branch.false (o.ensures.number ∙ ap (λ (w : Counts). w.parts) c.all-before.ensures)
+    o.ensures.limits o.ensures.taken (o.ensures.stands part))
 
 pub returns-clause-ended : goal.returns-clause-ended
-returns-clause-ended c = let h = c.in-Ok.ensures.ok in (h.1.0, c.in-Ok.field-0-1.now, h.1.1)
+returns-clause-ended c = let h = c.in_ok-header.ensures.ok in (h.2.0, h.1, h.2.1)

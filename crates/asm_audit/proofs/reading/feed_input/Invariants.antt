@@ -1,6 +1,6 @@
 use Rattle.std.proofs.Common.{◌≡◌, IfSome}
 use Rattle.asm_audit.proofs.Through.{IsReadTo}
-use Rattle.asm_audit.proofs.reading.take_all.Given as goal
+use Rattle.asm_audit.proofs.reading.feed_input.Given as goal
 
 -- what was read was fed
 abbrev pub invariant-chunks : goal.invariant-chunks
