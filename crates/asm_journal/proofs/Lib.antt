@@ -1,5 +1,6 @@
 pub mod Words
 pub mod Parsed
+pub mod Carried
 pub mod Arrays
 pub mod Elements
 pub mod Values

@@ -8,5 +8,6 @@ pub mod Check
 pub mod Text
 pub mod Reading
 pub mod Fault
+pub mod Form
 pub mod Next
 pub mod readback

@@ -2,6 +2,7 @@
 ghost use Rattle.std.specs.Prelude.{◌≡◌, IfOk};
 ghost use Rattle.serde_json.specs.Data.{Data};
 ghost use Rattle.serde_json.specs.View.{view};
+ghost use Rattle.asm_journal.specs.Form.{IsRead};
 ghost use Rattle.asm_journal.specs.Shape.{IsNumberForm, IsParsed};
 
 use serde_json::Value as Json;
@@ -11,6 +12,7 @@ mod answer;
 mod array;
 mod call;
 mod element;
+mod fault;
 mod instruction;
 mod object;
 mod set;
@@ -21,6 +23,7 @@ pub use answer::word_of_cause;
 pub use array::{Listed, read_one, two_items};
 pub(crate) use call::instructions_of;
 pub use element::{location_json, read_location};
+pub use fault::{FormCause, FormError, FormFault, OfPart, Part, faultless};
 pub use instruction::{instruction_json, instruction_parts, read_instruction};
 pub(crate) use object::five_members;
 pub use object::{one_member, two_members};
@@ -35,15 +38,16 @@ pub trait FromJson: Drop {
     // the JSON that is read as this value
     ghost is_form: { Self → Data → Type 0 };
 
-    /// Return the value with this form, or `None` where no value has it.
+    /// Return the value with this form.
     ///
     /// # Errors
     ///
-    /// - `AllocError` only if memory is refused.
-    fn from_json(alloc: Global, json: &Json) -> Result<Option<Self>, AllocError>
+    /// - `Form` if no value has it: where the JSON has another form, and why.
+    /// - `Memory` only if memory is refused.
+    fn from_json(alloc: Global, json: &Json) -> Result<Self, FormError>
     where
         Self: Sized,
-        ensures { IfOk result (λ o. IsParsed is_form (view json.now) o) };
+        ensures { IsRead is_form (view json.now) result };
 }
 
 /// A value that is written as JSON.

@@ -1,9 +1,11 @@
 //! JSON arrays: items that are read in their order, and items that are written.
-ghost use Rattle.std.specs.Prelude.{◌≡◌, ◌≢◌, ◌++◌, [], ◌∷◌, IfOk, IfSome, IfNone, OnOk, map, option_map};
+ghost use Rattle.std.specs.Prelude.{◌≡◌, ◌≢◌, ◌++◌, [], ◌∷◌, IfOk, IfSome, IfNone, OnOk, map};
 ghost use Rattle.serde_json.specs.Data.{Data};
 ghost use Rattle.serde_json.specs.View.{view, items_of, items_view};
-ghost use Rattle.asm_journal.specs.Shape.{IsParsed, AreForms, IsListForm, IsOnly, list_of};
+ghost use Rattle.asm_journal.specs.Form.{IsRead};
+ghost use Rattle.asm_journal.specs.Shape.{AreForms, IsListForm, IsOnly, list_of};
 
+use crate::form::fault::{FormCause, FormError, OfPart};
 use crate::form::{FromJson, ToJson};
 use serde_json::Value as Json;
 use std::alloc::{AllocError, Global};
@@ -41,52 +43,45 @@ impl<T> Listed<T> {
     }
 }
 
-/// Read each of the items, in their order.
+/// Read each of the items, in their order. The first of them has this index in its array.
 pub(crate) fn read_items<T: FromJson>(
     alloc: Global,
     items: &[Json],
-) -> Result<Option<Vec<T>>, AllocError>
-    ensures { IfOk result (λ o. IsParsed (AreForms T.is_form) (items_view items.now)
-        (option_map (λ v. v.items) o)) }
+    first: usize,
+) -> Result<Listed<T>, FormError>
+    ensures { IsRead (AreForms T.is_form) (items_view items.now) result }
 {
     let mut found = Vec::with_capacity(alloc, items.len())?;
-    for item in items {
-        match T::from_json(alloc, item)? {
-            Some(x) => found.push(x)?,
-            None => return Ok(None),
-        }
+    for (index, item) in items.iter().enumerate() {
+        found.push(T::from_json(alloc, item).within(first.saturating_add(index))?)?;
     }
-    Ok(Some(found))
+    Ok(Listed::new(found))
 }
 
 impl<T: FromJson> FromJson for Listed<T> {
     ghost is_form = { IsListForm T.is_form };
 
-    fn from_json(alloc: Global, json: &Json) -> Result<Option<Listed<T>>, AllocError> {
-        let Some(items) = json.as_array() else {
-            return Ok(None);
-        };
-        match read_items(alloc, items)? {
-            Some(found) => Ok(Some(Listed::new(found))),
-            None => Ok(None),
+    fn from_json(alloc: Global, json: &Json) -> Result<Listed<T>, FormError> {
+        match json.as_array() {
+            Some(items) => read_items(alloc, items, 0),
+            None => Err(FormError::of(alloc, FormCause::NoArray)),
         }
     }
 }
 
-/// Read the item of a list of one.
-///
-/// `None` where there are fewer or more items, or the item has another form.
+/// Read the operand of an action that has one, behind the word and the location.
 ///
 /// # Errors
 ///
-/// - `AllocError` only if memory is refused.
-pub fn read_one<T: FromJson>(alloc: Global, items: &[Json]) -> Result<Option<T>, AllocError>
-    ensures { IfOk result (IsParsed (IsOnly T.is_form) (items_view items.now)) }
+/// - `Form` if there are fewer or more operands, or the operand has another form.
+/// - `Memory` only if memory is refused.
+pub fn read_one<T: FromJson>(alloc: Global, items: &[Json]) -> Result<T, FormError>
+    ensures { IsRead (IsOnly T.is_form) (items_view items.now) result }
 {
     let mut items = items.iter();
     match (items.next(), items.next()) {
-        (Some(item), None) => T::from_json(alloc, item),
-        _ => Ok(None),
+        (Some(item), None) => T::from_json(alloc, item).within(2),
+        _ => Err(FormError::of(alloc, FormCause::Operand)),
     }
 }
 

@@ -2,10 +2,12 @@
 ghost use Rattle.std.specs.Prelude.{◌≡◌, ◌≢◌, IfOk, IfSome, IfNone, codes};
 ghost use Rattle.serde_json.specs.Data.{Items, array};
 ghost use Rattle.serde_json.specs.View.{view, items_view};
+ghost use Rattle.asm_journal.specs.Form.{IsRead};
 ghost use Rattle.asm_journal.specs.Shape.{IsParsed, one_of};
 ghost use Rattle.asm_journal.specs.Element.{integer_json_of, element_json_of, location_json_of, IsIntegerForm, IsElementForm, IsLocationForm};
 
 use crate::form::array::{array_of, push_items, read_items};
+use crate::form::fault::{FormCause, FormError, OfPart, faultless};
 use crate::form::object::{object_of, one_member};
 use crate::form::{FromJson, ToJson};
 use asm_element::{ElemList, ElemText, Element, Location};
@@ -23,8 +25,11 @@ impl ToJson for i64 {
 impl FromJson for i64 {
     ghost is_form = { IsIntegerForm };
 
-    fn from_json(_alloc: Global, json: &Json) -> Result<Option<i64>, AllocError> {
-        Ok(json.as_i64())
+    fn from_json(alloc: Global, json: &Json) -> Result<i64, FormError> {
+        match json.as_i64() {
+            Some(number) => Ok(number),
+            None => Err(FormError::of(alloc, FormCause::Whole)),
+        }
     }
 }
 
@@ -70,43 +75,40 @@ fn list_items(json: &Json) -> Option<&Vec<Json>>
 ///
 /// It recurses as deep as the value nests, at most 127 levels in what was read from a text.
 #[cycle(read_element)]
-fn read_element(alloc: Global, json: &Json) -> Result<Option<Element>, AllocError>
-    ensures { IfOk result (IsParsed IsElementForm (view json.now)) }
+fn read_element(alloc: Global, json: &Json) -> Result<Element, FormError>
+    ensures { IsRead IsElementForm (view json.now) result }
 {
     if let Some(items) = list_items(json) {
-        return read_list(alloc, items);
+        return read_list(alloc, items).at("list");
     }
     match json {
-        Json::Null => Ok(Some(Element::Undef)),
-        Json::Bool(truth) => Ok(Some(Element::Bool(*truth))),
-        Json::Number(_) => Ok(i64::from_json(alloc, json)?.map(Element::Num)),
-        Json::String(text) => Ok(Some(Element::Text(ElemText::new(text.clone()?)))),
-        Json::Array(_) | Json::Object(_) => Ok(None),
+        Json::Null => Ok(Element::Undef),
+        Json::Bool(truth) => Ok(Element::Bool(*truth)),
+        Json::Number(_) => Ok(Element::Num(i64::from_json(alloc, json)?)),
+        Json::String(text) => Ok(Element::Text(ElemText::new(text.clone()?))),
+        Json::Array(_) | Json::Object(_) => Err(FormError::of(alloc, FormCause::Element)),
     }
 }
 
 /// Read a list from the JSON of its items.
 #[cycle(read_element)]
-fn read_list(alloc: Global, items: &[Json]) -> Result<Option<Element>, AllocError>
-    ensures { IfOk result (IsParsed IsElementForm (one_of (codes "list") (array (items_view items.now)))) }
+fn read_list(alloc: Global, items: &[Json]) -> Result<Element, FormError>
+    ensures { IsRead IsElementForm (one_of (codes "list") (array (items_view items.now))) result }
 {
     let mut found = Vec::with_capacity(alloc, items.len())?;
-    for item in items {
-        match read_element(alloc, item)? {
-            Some(x) => found.push(x)?,
-            None => return Ok(None),
-        }
+    for (index, item) in items.iter().enumerate() {
+        found.push(read_element(alloc, item).within(index)?)?;
     }
     match ElemList::new(found) {
-        Ok(list) => Ok(Some(Element::List(list))),
-        Err(_) => Ok(None),
+        Ok(list) => Ok(Element::List(list)),
+        Err(_) => Err(FormError::of(alloc, FormCause::List)),
     }
 }
 
 impl FromJson for Element {
     ghost is_form = { IsElementForm };
 
-    fn from_json(alloc: Global, json: &Json) -> Result<Option<Element>, AllocError> {
+    fn from_json(alloc: Global, json: &Json) -> Result<Element, FormError> {
         read_element(alloc, json)
     }
 }
@@ -125,20 +127,21 @@ impl ToJson for Location {
 impl FromJson for Location {
     ghost is_form = { IsLocationForm };
 
-    fn from_json(alloc: Global, json: &Json) -> Result<Option<Location>, AllocError> {
+    fn from_json(alloc: Global, json: &Json) -> Result<Location, FormError> {
         let Some(items) = json.as_array() else {
-            return Ok(None);
+            return Err(FormError::of(alloc, FormCause::Location));
         };
         let Some((first, rest)) = items.split_first() else {
-            return Ok(None);
+            return Err(FormError::of(alloc, FormCause::Location));
         };
         let Some(name) = first.as_str() else {
-            return Ok(None);
+            return Err(FormError::of(alloc, FormCause::Location));
         };
-        let Some(args) = read_items(alloc, rest)? else {
-            return Ok(None);
-        };
-        Ok(Location::new(String::from_str(alloc, name)?, args).ok())
+        let args = read_items(alloc, rest, 1)?;
+        match Location::new(String::from_str(alloc, name)?, args.into_vec()) {
+            Ok(location) => Ok(location),
+            Err(_) => Err(FormError::of(alloc, FormCause::Location)),
+        }
     }
 }
 
@@ -164,5 +167,5 @@ pub fn location_json(alloc: Global, location: &Location) -> Result<Json, AllocEr
 pub fn read_location(alloc: Global, json: &Json) -> Result<Option<Location>, AllocError>
     ensures { IfOk result (IsParsed IsLocationForm (view json.now)) }
 {
-    Location::from_json(alloc, json)
+    faultless(Location::from_json(alloc, json))
 }

@@ -2,11 +2,13 @@
 ghost use Rattle.std.specs.Prelude.{◌≡◌, ◌≢◌, ◌∷◌, [], List, ℕ, map, IfOk, IfSome, IfNone};
 ghost use Rattle.serde_json.specs.Data.{Data, Items, string, number, unsigned};
 ghost use Rattle.serde_json.specs.View.{view, items_view};
+ghost use Rattle.asm_journal.specs.Form.{IsRead};
 ghost use Rattle.asm_journal.specs.Shape.{IsParsed};
 ghost use Rattle.asm_journal.specs.Element.{location_json_of};
 ghost use Rattle.asm_journal.specs.Instruction.{IsActionForm, instruction_of, instruction_json_of, IsInstructionForm};
 
 use crate::form::array::{array_of, read_one};
+use crate::form::fault::{FormCause, FormError, OfPart, faultless};
 use crate::form::set::{Counted, read_counted};
 use crate::form::{FromJson, ToJson};
 use asm_element::{Element, Location, Value};
@@ -85,40 +87,36 @@ pub fn instruction_parts(json: &Json) -> Option<(&str, &Json, &[Json])>
 }
 
 /// Read the action that the word names from its operands.
-fn read_action(alloc: Global, word: &str, operands: &[Json]) -> Result<Option<Action>, AllocError>
-    ensures { IfOk result (IsParsed (IsActionForm word.now) (items_view operands.now)) }
+fn read_action(alloc: Global, word: &str, operands: &[Json]) -> Result<Action, FormError>
+    ensures { IsRead (IsActionForm word.now) (items_view operands.now) result }
 {
     match word {
-        "put" => Ok(read_one::<Value>(alloc, operands)?.map(Action::Regular)),
-        "add" => Ok(read_one::<Element>(alloc, operands)?.map(Action::SetAdd)),
-        "remove" => Ok(read_one::<Element>(alloc, operands)?.map(Action::SetRemove)),
-        "bagadd" => match read_counted(alloc, operands)? {
-            Some(Counted(element, amount)) => Ok(Some(Action::BagAdd(element, amount))),
-            None => Ok(None),
-        },
-        "bagremove" => match read_counted(alloc, operands)? {
-            Some(Counted(element, amount)) => Ok(Some(Action::BagRemove(element, amount))),
-            None => Ok(None),
-        },
-        "inc" => Ok(read_one::<i64>(alloc, operands)?.map(Action::Increment)),
-        _ => Ok(None),
+        "put" => Ok(Action::Regular(read_one(alloc, operands)?)),
+        "add" => Ok(Action::SetAdd(read_one(alloc, operands)?)),
+        "remove" => Ok(Action::SetRemove(read_one(alloc, operands)?)),
+        "bagadd" => {
+            let Counted(element, amount) = read_counted(alloc, operands, 2)?;
+            Ok(Action::BagAdd(element, amount))
+        }
+        "bagremove" => {
+            let Counted(element, amount) = read_counted(alloc, operands, 2)?;
+            Ok(Action::BagRemove(element, amount))
+        }
+        "inc" => Ok(Action::Increment(read_one(alloc, operands)?)),
+        _ => Err(FormError::of(alloc, FormCause::Word)),
     }
 }
 
 impl FromJson for Instruction {
     ghost is_form = { IsInstructionForm };
 
-    fn from_json(alloc: Global, json: &Json) -> Result<Option<Instruction>, AllocError> {
+    fn from_json(alloc: Global, json: &Json) -> Result<Instruction, FormError> {
         let Some((word, at, operands)) = instruction_parts(json) else {
-            return Ok(None);
+            return Err(FormError::of(alloc, FormCause::Instruction));
         };
-        let Some(at) = Location::from_json(alloc, at)? else {
-            return Ok(None);
-        };
-        match read_action(alloc, word, operands)? {
-            Some(action) => Ok(Some(Instruction { at, action })),
-            None => Ok(None),
-        }
+        let at = Location::from_json(alloc, at).within(1)?;
+        let action = read_action(alloc, word, operands)?;
+        Ok(Instruction { at, action })
     }
 }
 
@@ -146,5 +144,5 @@ pub fn instruction_json(alloc: Global, instruction: &Instruction) -> Result<Json
 pub fn read_instruction(alloc: Global, json: &Json) -> Result<Option<Instruction>, AllocError>
     ensures { IfOk result (IsParsed IsInstructionForm (view json.now)) }
 {
-    Instruction::from_json(alloc, json)
+    faultless(Instruction::from_json(alloc, json))
 }

@@ -1,11 +1,13 @@
 //! The JSON of sets and bags: written in ascending order, and read in any.
-ghost use Rattle.std.specs.Prelude.{◌≡◌, IfOk, map, option_map};
+ghost use Rattle.std.specs.Prelude.{◌≡◌, IfOk, map};
 ghost use Rattle.serde_json.specs.View.{view, items_view};
+ghost use Rattle.asm_journal.specs.Form.{IsRead};
 ghost use Rattle.asm_journal.specs.Shape.{IsParsed};
 ghost use Rattle.asm_journal.specs.Set.{count_json_of, set_json_of, bag_json_of, IsSetOf, IsSetForm};
 ghost use Rattle.asm_journal.specs.Set.{IsAmountForm, IsCounted, IsCountForm, IsBagOf, IsBagForm};
 
 use crate::form::array::{Listed, array_of, pair_of, two_items};
+use crate::form::fault::{FormCause, FormError, OfPart};
 use crate::form::object::object_of;
 use crate::form::{FromJson, ToJson, read_number};
 use asm_element::{ElemBag, ElemSet, Element};
@@ -44,10 +46,11 @@ pub(crate) fn set_of(
 impl FromJson for ElemSet {
     ghost is_form = { IsSetForm };
 
-    fn from_json(alloc: Global, json: &Json) -> Result<Option<ElemSet>, AllocError> {
-        match Listed::<Element>::from_json(alloc, json)? {
-            Some(elements) => set_of(alloc, elements.into_vec()),
-            None => Ok(None),
+    fn from_json(alloc: Global, json: &Json) -> Result<ElemSet, FormError> {
+        let elements = Listed::<Element>::from_json(alloc, json)?;
+        match set_of(alloc, elements.into_vec())? {
+            Some(set) => Ok(set),
+            None => Err(FormError::of(alloc, FormCause::SetTwice)),
         }
     }
 }
@@ -82,30 +85,31 @@ pub fn read_amount(json: &Json) -> Option<Amount>
 #[derive(Drop)]
 pub(crate) struct Counted(pub(crate) Element, pub(crate) Amount);
 
-/// Read an element and its count, or its amount, from a list of two items.
-pub(crate) fn read_counted(alloc: Global, items: &[Json]) -> Result<Option<Counted>, AllocError>
-    ensures { IfOk result (λ o. IsParsed IsCounted (items_view items.now)
-        (option_map (λ c. (c.0, c.1)) o)) }
+/// Read an element and its count, or its amount, from a list of two items. The first has this index in its array.
+pub(crate) fn read_counted(
+    alloc: Global,
+    items: &[Json],
+    first: usize,
+) -> Result<Counted, FormError>
+    ensures { IsRead (λ c. IsCounted (c.0, c.1)) (items_view items.now) result }
 {
     let Some((element, amount)) = two_items(items) else {
-        return Ok(None);
+        return Err(FormError::of(alloc, FormCause::Counted));
     };
-    let Some(element) = Element::from_json(alloc, element)? else {
-        return Ok(None);
-    };
+    let element = Element::from_json(alloc, element).within(first)?;
     match read_amount(amount) {
-        Some(amount) => Ok(Some(Counted(element, amount))),
-        None => Ok(None),
+        Some(amount) => Ok(Counted(element, amount)),
+        None => Err(FormError::of(alloc, FormCause::Amount)),
     }
 }
 
 impl FromJson for Counted {
     ghost is_form = { λ c. IsCountForm (c.0, c.1) };
 
-    fn from_json(alloc: Global, json: &Json) -> Result<Option<Counted>, AllocError> {
+    fn from_json(alloc: Global, json: &Json) -> Result<Counted, FormError> {
         match json.as_array() {
-            Some(items) => read_counted(alloc, items),
-            None => Ok(None),
+            Some(items) => read_counted(alloc, items, 0),
+            None => Err(FormError::of(alloc, FormCause::Counted)),
         }
     }
 }
@@ -127,10 +131,11 @@ pub(crate) fn bag_of(alloc: Global, mut counts: Vec<Counted>) -> Result<Option<E
 impl FromJson for ElemBag {
     ghost is_form = { IsBagForm };
 
-    fn from_json(alloc: Global, json: &Json) -> Result<Option<ElemBag>, AllocError> {
-        match Listed::<Counted>::from_json(alloc, json)? {
-            Some(counts) => bag_of(alloc, counts.into_vec()),
-            None => Ok(None),
+    fn from_json(alloc: Global, json: &Json) -> Result<ElemBag, FormError> {
+        let counts = Listed::<Counted>::from_json(alloc, json)?;
+        match bag_of(alloc, counts.into_vec())? {
+            Some(bag) => Ok(bag),
+            None => Err(FormError::of(alloc, FormCause::BagTwice)),
         }
     }
 }

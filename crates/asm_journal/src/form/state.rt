@@ -9,6 +9,7 @@ ghost use Rattle.asm_journal.specs.Value.{pair_json_of, IsPairForm, IsStateOf, I
 ghost use Rattle.asm_journal.specs.Text.{state_json_of};
 
 use crate::form::array::{Listed, array_of, pair_items, pair_of};
+use crate::form::fault::{FormCause, FormError, OfPart};
 use crate::form::{FromJson, ToJson};
 use asm_element::{Location, Value};
 use asm_update::{PlainState, UpdateSet};
@@ -23,17 +24,13 @@ pub(crate) struct StatePair(pub(crate) Location, pub(crate) Value);
 impl FromJson for StatePair {
     ghost is_form = { λ p. IsPairForm (p.0, p.1) };
 
-    fn from_json(alloc: Global, json: &Json) -> Result<Option<StatePair>, AllocError> {
+    fn from_json(alloc: Global, json: &Json) -> Result<StatePair, FormError> {
         let Some((at, value)) = pair_items(json) else {
-            return Ok(None);
+            return Err(FormError::of(alloc, FormCause::Pair));
         };
-        let Some(at) = Location::from_json(alloc, at)? else {
-            return Ok(None);
-        };
-        let Some(value) = Value::from_json(alloc, value)? else {
-            return Ok(None);
-        };
-        Ok(Some(StatePair(at, value)))
+        let at = Location::from_json(alloc, at).within(0)?;
+        let value = Value::from_json(alloc, value).within(1)?;
+        Ok(StatePair(at, value))
     }
 }
 
@@ -82,10 +79,11 @@ pub(crate) fn state_from(
 impl FromJson for PlainState {
     ghost is_form = { IsStateForm };
 
-    fn from_json(alloc: Global, json: &Json) -> Result<Option<PlainState>, AllocError> {
-        match Listed::<StatePair>::from_json(alloc, json)? {
-            Some(pairs) => state_from(alloc, pairs.into_vec()),
-            None => Ok(None),
+    fn from_json(alloc: Global, json: &Json) -> Result<PlainState, FormError> {
+        let pairs = Listed::<StatePair>::from_json(alloc, json)?;
+        match state_from(alloc, pairs.into_vec())? {
+            Some(state) => Ok(state),
+            None => Err(FormError::of(alloc, FormCause::StateTwice)),
         }
     }
 }

@@ -4,6 +4,7 @@ ghost use Rattle.serde_json.specs.View.{view};
 ghost use Rattle.asm_journal.specs.Shape.{IsParsed};
 ghost use Rattle.asm_journal.specs.Value.{value_json_of, IsValueForm};
 
+use crate::form::fault::{FormError, OfPart, faultless};
 use crate::form::object::one_member;
 use crate::form::{FromJson, ToJson};
 use asm_element::{ElemBag, ElemSet, Element, Value};
@@ -25,14 +26,14 @@ impl ToJson for Value {
 impl FromJson for Value {
     ghost is_form = { IsValueForm };
 
-    fn from_json(alloc: Global, json: &Json) -> Result<Option<Value>, AllocError> {
+    fn from_json(alloc: Global, json: &Json) -> Result<Value, FormError> {
         if let Some(items) = one_member(json, "set") {
-            return Ok(ElemSet::from_json(alloc, items)?.map(Value::Set));
+            return Ok(Value::Set(ElemSet::from_json(alloc, items).at("set")?));
         }
         if let Some(items) = one_member(json, "bag") {
-            return Ok(ElemBag::from_json(alloc, items)?.map(Value::Bag));
+            return Ok(Value::Bag(ElemBag::from_json(alloc, items).at("bag")?));
         }
-        Ok(Element::from_json(alloc, json)?.map(Value::Plain))
+        Ok(Value::Plain(Element::from_json(alloc, json)?))
     }
 }
 
@@ -60,5 +61,5 @@ pub fn value_json(alloc: Global, value: &Value) -> Result<Json, AllocError>
 pub fn read_value(alloc: Global, json: &Json) -> Result<Option<Value>, AllocError>
     ensures { IfOk result (IsParsed IsValueForm (view json.now)) }
 {
-    Value::from_json(alloc, json)
+    faultless(Value::from_json(alloc, json))
 }

@@ -1,20 +1,22 @@
 use Rattle.std.proofs.lemmas.List.{take_more}
-use Rattle.serde_json.specs.View.{view}
+use Rattle.serde_json.specs.View.{view, items_view}
+use Rattle.asm_journal.specs.Shape.{AreForms}
 use Rattle.asm_journal.proofs.Arrays.{AreForms-push, no_forms}
-use Rattle.asm_journal.proofs.Parsed.{IsParsed-some, IsParsed-none}
+use Rattle.asm_journal.proofs.Carried.{carried_ok, carried_err, refused}
 use Rattle.asm_journal.proofs.form.array.read_items.Goals as goal
 
-pub returns-in-None : goal.returns-in-None
-returns-in-None g c =
+pub returns-in_err-within : goal.returns-in_err-within
+returns-in_err-within g c =
     let F = g.T.FromJson.is_form in
-    let v = c.item-item.result in
-    let none = IsParsed-none F (view v) _ c.in-None.is c.in_ok-x.ensures in
-    no_forms F c.args.items.now c.loop-item.item-index v c.loop-item-test.true (λ x. rw (← c.item-item.is) (none x))
+    let v = c.index-items-index.result in
+    refused (AreForms F) (items_view c.args.items.now) _ c.in_err-within.field-0.0 c.from_residual-in_err-within.ensures.1
+    (λ fault xs. no_forms F c.args.items.now c.loop-index.index v c.loop-index-test.true
+    (λ x. rw (← c.index-items-index.is) (carried_err F (view v) _ _ c.from_json.ensures c.in_err-within.ensures fault x)) xs)
 
-pub loop-item-preserved : goal.loop-item-preserved
-loop-item-preserved g c =
+pub loop-index-preserved : goal.loop-index-preserved
+loop-index-preserved g c =
     let F = g.T.FromJson.is_form in
-    let v = c.item-item.result in
-    let some = IsParsed-some F (view v) _ c.in-Some.x c.in-Some.is c.in_ok-x.ensures in
-    let pushed = AreForms-push F c.loop-item.found.items c.in-Some.x _ v c.loop-item.invariant some in
-    rw (c.in_ok-push-in-Some.ensures.items, take_more c.args.items.now c.loop-item.item-index v c.loop-item-test.true, ← c.item-item.is) pushed
+    let v = c.index-items-index.result in
+    let x = c.in_ok-within.field-0 in
+    let pushed = AreForms-push F c.loop-index.found.items x _ v c.loop-index.invariant (carried_ok F (view v) _ x c.from_json.ensures c.in_ok-within.ensures) in
+    rw (c.in_ok-push.ensures.items, take_more c.args.items.now c.loop-index.index v c.loop-index-test.true, ← c.index-items-index.is) pushed

@@ -14,5 +14,5 @@ abbrev pub decreases-read_list : goal.decreases-read_list
 decreases-read_list l = suc (items_depth (items_view l.items.now))
 
 -- the elements so far
-abbrev pub invariant-read_list-loop-item : goal.invariant-read_list-loop-item
-invariant-read_list-loop-item l = AreForms IsElementForm l.found.items (items_view (take l.item-index l.items))
+abbrev pub invariant-read_list-loop-index : goal.invariant-read_list-loop-index
+invariant-read_list-loop-index l = AreForms IsElementForm l.found.items (items_view (take l.index l.items))
