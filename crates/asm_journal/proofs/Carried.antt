@@ -1,5 +1,5 @@
 -- What reading a part says of it, behind a step of the fault's path.
-use Rattle.std.proofs.Common.{◌≡◌, Option, Some, None, Result, Ok, Err, sym, subst}
+use Rattle.std.proofs.Common.{◌≡◌, Result, Ok, Err, sym, subst}
 use Rattle.std.specs.Prelude.{IsErrAnd}
 use Rattle.asm_journal.specs.declared.form.fault.FormError.{FormError}
 use Rattle.asm_journal.specs.Form.{IsFault, IsRead, IsCarried}

@@ -1,6 +1,5 @@
 -- What reading JSON answers: a value, or why there is none.
-use Rattle.std.specs.Prelude.{◌≡◌, Option, Some, None, Result, Ok, Err}
-use Rattle.std.specs.declared.alloc.AllocError.{AllocError}
+use Rattle.std.specs.Prelude.{◌≡◌, Result, Ok, Err}
 use Rattle.asm_journal.specs.declared.form.fault.FormError.{FormError}
 use Rattle.asm_journal.specs.declared.form.fault.FormError.TheVariants.{Form, Memory}
 
@@ -19,9 +18,3 @@ abbrev pub IsCarried : {X : Type 0} → Result X FormError → Result X FormErro
 IsCarried (Ok x) r = r ≡ Ok x
 IsCarried (Err e) (Ok x) = ⊥
 IsCarried (Err e) (Err f) = IsFault f → IsFault e
-
--- the value, or None for a fault
-abbrev pub IsSettled : {X : Type 0} → Result X FormError → Result (Option X) AllocError → Type 0
-IsSettled (Ok x) r = r ≡ Ok (Some x)
-IsSettled (Err (Form fault)) r = r ≡ Ok None
-IsSettled (Err Memory) r = r ≡ Err (record {})

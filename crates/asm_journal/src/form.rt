@@ -23,7 +23,7 @@ pub use answer::word_of_cause;
 pub use array::{Listed, read_one, two_items};
 pub(crate) use call::instructions_of;
 pub use element::{location_json, read_location};
-pub use fault::{FormCause, FormError, FormFault, OfPart, Part, faultless};
+pub use fault::{FormCause, FormError, FormFault, OfPart, Part};
 pub use instruction::{instruction_json, instruction_parts, read_instruction};
 pub(crate) use object::five_members;
 pub use object::{one_member, two_members};
@@ -48,6 +48,21 @@ pub trait FromJson: Drop {
     where
         Self: Sized,
         ensures { IsRead is_form (view json.now) result };
+}
+
+/// Read a value of this type; `None` means that no value has this JSON.
+///
+/// # Errors
+///
+/// - `AllocError` only if memory is refused.
+pub fn read_form<T: FromJson>(alloc: Global, json: &Json) -> Result<Option<T>, AllocError>
+    ensures { IfOk result (IsParsed T.is_form (view json.now)) }
+{
+    match T::from_json(alloc, json) {
+        Ok(read) => Ok(Some(read)),
+        Err(FormError::Form(_)) => Ok(None),
+        Err(FormError::Memory) => Err(AllocError),
+    }
 }
 
 /// A value that is written as JSON.

@@ -14,7 +14,7 @@ ghost use Rattle.asm_journal.specs.Reading.{AreNumbers, HasLine, IsHeader, HasEv
 ghost use Rattle.asm_journal.specs.Fault.{HasOtherVersion, BreaksHeader, BreaksEvent, IsRefused, GivesHistory};
 
 use crate::error::JournalError;
-use crate::form::{FromJson, five_members, read_number};
+use crate::form::{five_members, read_form, read_number};
 use crate::front::FromFront;
 use crate::front::scalars::{behind, number};
 use crate::line::json_line;
@@ -111,7 +111,7 @@ fn header_from(alloc: Global, json: &Json) -> Result<Option<Header>, AllocError>
     if !is_of_version(json, limits.version) {
         return Ok(None);
     }
-    match PlainState::from_json(alloc, init)? {
+    match read_form::<PlainState>(alloc, init)? {
         Some(init) => Ok(Some(Header { limits, init })),
         None => Ok(None),
     }
@@ -225,7 +225,7 @@ fn event_by_tree(
     if !is_of_version(&json, limits.version) {
         return Err(JournalError::Shape(number));
     }
-    match Event::from_json(alloc, &json)? {
+    match read_form::<Event>(alloc, &json)? {
         Some(event) if event.fits(limits.agents) => Ok((event, rest)),
         _ => Err(JournalError::Shape(number)),
     }

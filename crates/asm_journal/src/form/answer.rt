@@ -1,12 +1,14 @@
 //! The JSON of answers: the number and values of a read, and the replies to a fire.
 ghost use Rattle.std.specs.Prelude.{◌≡◌, IfOk, codes, map};
 ghost use Rattle.serde_json.specs.View.{view};
+ghost use Rattle.asm_journal.specs.Form.{IsRead};
 ghost use Rattle.asm_journal.specs.Shape.{IsParsed, list_of, two_of, number_json_of};
 ghost use Rattle.asm_journal.specs.Value.{value_json_of};
 ghost use Rattle.asm_journal.specs.Event.{word_of_cause, clash_json_of, reply_json_of, answer_json_of};
 ghost use Rattle.asm_journal.specs.Event.{IsCauseForm, IsClashForm, IsReplyForm, IsAnswerForm};
 
 use crate::form::array::{Listed, list_json, pair_items, pair_of};
+use crate::form::fault::{FormCause, FormError, OfPart};
 use crate::form::object::{object_of, one_member, two_members};
 use crate::form::{FromJson, ToJson, read_number};
 use asm_element::{Items, Location, Value};
@@ -58,17 +60,15 @@ impl ToJson for Clash {
 impl FromJson for Clash {
     ghost is_form = { IsClashForm };
 
-    fn from_json(alloc: Global, json: &Json) -> Result<Option<Clash>, AllocError> {
+    fn from_json(alloc: Global, json: &Json) -> Result<Clash, FormError> {
         let Some((at, cause)) = pair_items(json) else {
-            return Ok(None);
+            return Err(FormError::of(alloc, FormCause::Clash));
         };
         let Some(cause) = read_cause(cause) else {
-            return Ok(None);
+            return Err(FormError::of(alloc, FormCause::Clash));
         };
-        match Location::from_json(alloc, at)? {
-            Some(at) => Ok(Some(Clash { at, cause })),
-            None => Ok(None),
-        }
+        let at = Location::from_json(alloc, at).within(0)?;
+        Ok(Clash { at, cause })
     }
 }
 
@@ -88,24 +88,29 @@ impl ToJson for Reply {
 impl FromJson for Reply {
     ghost is_form = { IsReplyForm };
 
-    fn from_json(alloc: Global, json: &Json) -> Result<Option<Reply>, AllocError> {
+    fn from_json(alloc: Global, json: &Json) -> Result<Reply, FormError> {
         if let Some(word) = json.as_str() {
-            return Ok(if word == "full" {
-                Some(Reply::Full)
+            return if word == "full" {
+                Ok(Reply::Full)
             } else {
-                None
-            });
+                Err(FormError::of(alloc, FormCause::Reply))
+            };
         }
         if let Some(number) = one_member(json, "fired") {
-            return Ok(read_number(number).map(Reply::Fired));
+            return match read_number(number) {
+                Some(number) => Ok(Reply::Fired(number)),
+                None => Err(FormError::of(alloc, FormCause::Number)),
+            };
         }
         if let Some(at) = one_member(json, "stale") {
-            return Ok(Location::from_json(alloc, at)?.map(Reply::Stale));
+            let at = Location::from_json(alloc, at).at("stale")?;
+            return Ok(Reply::Stale(at));
         }
-        match one_member(json, "clash") {
-            Some(clash) => Ok(Clash::from_json(alloc, clash)?.map(Reply::Clash)),
-            None => Ok(None),
-        }
+        let Some(clash) = one_member(json, "clash") else {
+            return Err(FormError::of(alloc, FormCause::Reply));
+        };
+        let clash = Clash::from_json(alloc, clash).at("clash")?;
+        Ok(Reply::Clash(clash))
     }
 }
 
@@ -132,29 +137,27 @@ impl ToJson for Answer {
 }
 
 /// Read the answer to a read from the JSON of its number and of its values.
-fn read_values(alloc: Global, number: &Json, values: &Json) -> Result<Option<Answer>, AllocError>
-    ensures { IfOk result (IsParsed IsAnswerForm
-        (two_of (codes "number") (view number.now) (codes "values") (view values.now))) }
+fn read_values(alloc: Global, number: &Json, values: &Json) -> Result<Answer, FormError>
+    ensures { IsRead IsAnswerForm
+        (two_of (codes "number") (view number.now) (codes "values") (view values.now)) result }
 {
     let Some(number) = read_number(number) else {
-        return Ok(None);
+        return Err(FormError::of(alloc, FormCause::Number));
     };
-    match Listed::<Value>::from_json(alloc, values)? {
-        Some(values) => Ok(Some(Answer::Read {
-            number,
-            values: Items::new(values.into_vec()),
-        })),
-        None => Ok(None),
-    }
+    let values = Listed::<Value>::from_json(alloc, values).at("values")?;
+    Ok(Answer::Read {
+        number,
+        values: Items::new(values.into_vec()),
+    })
 }
 
 impl FromJson for Answer {
     ghost is_form = { IsAnswerForm };
 
-    fn from_json(alloc: Global, json: &Json) -> Result<Option<Answer>, AllocError> {
+    fn from_json(alloc: Global, json: &Json) -> Result<Answer, FormError> {
         match two_members(json, "number", "values") {
             Some((number, values)) => read_values(alloc, number, values),
-            None => Ok(Reply::from_json(alloc, json)?.map(Answer::Fire)),
+            None => Ok(Answer::Fire(Reply::from_json(alloc, json)?)),
         }
     }
 }

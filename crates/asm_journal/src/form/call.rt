@@ -1,11 +1,13 @@
 //! The JSON of calls: reads, and fires with their declared reads; and of events: an agent, its call, and the answer.
 ghost use Rattle.std.specs.Prelude.{◌≡◌, IfOk, codes, map};
 ghost use Rattle.serde_json.specs.View.{view};
+ghost use Rattle.asm_journal.specs.Form.{IsRead};
 ghost use Rattle.asm_journal.specs.Shape.{IsParsed, list_of, one_of, two_of};
 ghost use Rattle.asm_journal.specs.Event.{named_json_of, move_json_of, call_json_of, event_json_of};
 ghost use Rattle.asm_journal.specs.Event.{IsNamedForm, IsMoveForm, IsMoveOf, IsCallForm, IsEventForm};
 
 use crate::form::array::{Listed, list_json, pair_items, pair_of};
+use crate::form::fault::{FormCause, FormError, OfPart};
 use crate::form::object::{object_of, one_member, three_members, two_members};
 use crate::form::{FromJson, ToJson, read_number};
 use asm_element::{Items, Location};
@@ -26,17 +28,15 @@ impl ToJson for Named {
 impl FromJson for Named {
     ghost is_form = { IsNamedForm };
 
-    fn from_json(alloc: Global, json: &Json) -> Result<Option<Named>, AllocError> {
+    fn from_json(alloc: Global, json: &Json) -> Result<Named, FormError> {
         let Some((at, number)) = pair_items(json) else {
-            return Ok(None);
+            return Err(FormError::of(alloc, FormCause::Read));
         };
         let Some(number) = read_number(number) else {
-            return Ok(None);
+            return Err(FormError::of(alloc, FormCause::Number));
         };
-        match Location::from_json(alloc, at)? {
-            Some(at) => Ok(Some(Named { at, number })),
-            None => Ok(None),
-        }
+        let at = Location::from_json(alloc, at).within(0)?;
+        Ok(Named { at, number })
     }
 }
 
@@ -65,10 +65,11 @@ pub(crate) fn instructions_of(
 impl FromJson for Instructions {
     ghost is_form = { IsMoveForm };
 
-    fn from_json(alloc: Global, json: &Json) -> Result<Option<Instructions>, AllocError> {
-        match Listed::<Instruction>::from_json(alloc, json)? {
-            Some(list) => instructions_of(alloc, list.into_vec()),
-            None => Ok(None),
+    fn from_json(alloc: Global, json: &Json) -> Result<Instructions, FormError> {
+        let list = Listed::<Instruction>::from_json(alloc, json)?;
+        match instructions_of(alloc, list.into_vec())? {
+            Some(instrs) => Ok(instrs),
+            None => Err(FormError::of(alloc, FormCause::Many)),
         }
     }
 }
@@ -100,42 +101,36 @@ impl ToJson for Call {
 }
 
 /// Read a fire from the JSON of its instructions and of its declared reads.
-fn read_fire(alloc: Global, instrs: &Json, reads: &Json) -> Result<Option<Call>, AllocError>
-    ensures { IfOk result (IsParsed IsCallForm
-        (two_of (codes "fire") (view instrs.now) (codes "reads") (view reads.now))) }
+fn read_fire(alloc: Global, instrs: &Json, reads: &Json) -> Result<Call, FormError>
+    ensures { IsRead IsCallForm
+        (two_of (codes "fire") (view instrs.now) (codes "reads") (view reads.now)) result }
 {
-    let Some(instrs) = Instructions::from_json(alloc, instrs)? else {
-        return Ok(None);
-    };
-    match Listed::<Named>::from_json(alloc, reads)? {
-        Some(reads) => Ok(Some(Call::Fire {
-            reads: Items::new(reads.into_vec()),
-            instrs,
-        })),
-        None => Ok(None),
-    }
+    let instrs = Instructions::from_json(alloc, instrs).at("fire")?;
+    let reads = Listed::<Named>::from_json(alloc, reads).at("reads")?;
+    Ok(Call::Fire {
+        reads: Items::new(reads.into_vec()),
+        instrs,
+    })
 }
 
 /// Read a read from the JSON of its locations.
-fn read_read(alloc: Global, locations: &Json) -> Result<Option<Call>, AllocError>
-    ensures { IfOk result (IsParsed IsCallForm (one_of (codes "read") (view locations.now))) }
+fn read_read(alloc: Global, locations: &Json) -> Result<Call, FormError>
+    ensures { IsRead IsCallForm (one_of (codes "read") (view locations.now)) result }
 {
-    match Listed::<Location>::from_json(alloc, locations)? {
-        Some(locations) => Ok(Some(Call::Read(Items::new(locations.into_vec())))),
-        None => Ok(None),
-    }
+    let locations = Listed::<Location>::from_json(alloc, locations).at("read")?;
+    Ok(Call::Read(Items::new(locations.into_vec())))
 }
 
 impl FromJson for Call {
     ghost is_form = { IsCallForm };
 
-    fn from_json(alloc: Global, json: &Json) -> Result<Option<Call>, AllocError> {
+    fn from_json(alloc: Global, json: &Json) -> Result<Call, FormError> {
         if let Some(locations) = one_member(json, "read") {
             return read_read(alloc, locations);
         }
         match two_members(json, "fire", "reads") {
             Some((instrs, reads)) => read_fire(alloc, instrs, reads),
-            None => Ok(None),
+            None => Err(FormError::of(alloc, FormCause::Call)),
         }
     }
 }
@@ -155,23 +150,19 @@ impl ToJson for Event {
 impl FromJson for Event {
     ghost is_form = { IsEventForm };
 
-    fn from_json(alloc: Global, json: &Json) -> Result<Option<Event>, AllocError> {
+    fn from_json(alloc: Global, json: &Json) -> Result<Event, FormError> {
         let Some((agent, call, reply)) = three_members(json, "agent", "call", "reply") else {
-            return Ok(None);
+            return Err(FormError::of(alloc, FormCause::Event));
         };
         let Some(agent) = read_number(agent) else {
-            return Ok(None);
+            return Err(FormError::of(alloc, FormCause::Number));
         };
-        let Some(call) = Call::from_json(alloc, call)? else {
-            return Ok(None);
-        };
-        match Answer::from_json(alloc, reply)? {
-            Some(answer) => Ok(Some(Event {
-                agent,
-                call,
-                answer,
-            })),
-            None => Ok(None),
-        }
+        let call = Call::from_json(alloc, call).at("call")?;
+        let answer = Answer::from_json(alloc, reply).at("reply")?;
+        Ok(Event {
+            agent,
+            call,
+            answer,
+        })
     }
 }

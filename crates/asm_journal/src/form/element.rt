@@ -7,9 +7,9 @@ ghost use Rattle.asm_journal.specs.Shape.{IsParsed, one_of};
 ghost use Rattle.asm_journal.specs.Element.{integer_json_of, element_json_of, location_json_of, IsIntegerForm, IsElementForm, IsLocationForm};
 
 use crate::form::array::{array_of, push_items, read_items};
-use crate::form::fault::{FormCause, FormError, OfPart, faultless};
+use crate::form::fault::{FormCause, FormError, OfPart};
 use crate::form::object::{object_of, one_member};
-use crate::form::{FromJson, ToJson};
+use crate::form::{FromJson, ToJson, read_form};
 use asm_element::{ElemList, ElemText, Element, Location};
 use serde_json::Value as Json;
 use std::alloc::{AllocError, Global};
@@ -167,5 +167,5 @@ pub fn location_json(alloc: Global, location: &Location) -> Result<Json, AllocEr
 pub fn read_location(alloc: Global, json: &Json) -> Result<Option<Location>, AllocError>
     ensures { IfOk result (IsParsed IsLocationForm (view json.now)) }
 {
-    faultless(Location::from_json(alloc, json))
+    read_form(alloc, json)
 }

@@ -1,6 +1,6 @@
 //! Where JSON has another form than its reader wants, and why.
 ghost use Rattle.std.specs.Prelude.{◌≡◌};
-ghost use Rattle.asm_journal.specs.Form.{IsFault, IsCarried, IsSettled};
+ghost use Rattle.asm_journal.specs.Form.{IsFault, IsCarried};
 ghost use Rattle.asm_journal.specs.declared.form.fault.FormError.TheVariants as form_error;
 
 use std::alloc::{AllocError, AllocFailed, Global};
@@ -60,6 +60,27 @@ pub enum FormCause {
     /// A location is in the state twice.
     #[error("a location is in a state twice")]
     StateTwice,
+    /// A declared read is wanted.
+    #[error("a read is an array of a location and a number")]
+    Read,
+    /// A number in the range of u32 is wanted.
+    #[error("a number is whole, from 0 to 4,294,967,295")]
+    Number,
+    /// A move has too many instructions.
+    #[error("a move has at most 4,096 instructions")]
+    Many,
+    /// A call is wanted.
+    #[error("a call is an object with the member read, or with fire and reads")]
+    Call,
+    /// An event is wanted.
+    #[error("an event is an object with the members agent, call and reply")]
+    Event,
+    /// A clash is wanted.
+    #[error("a clash is an array of a location and a cause")]
+    Clash,
+    /// A reply is wanted.
+    #[error("the reply is none of a call")]
+    Reply,
 }
 
 /// Where JSON has another form than its reader wants, and why.
@@ -144,16 +165,5 @@ impl<T: Drop> OfPart for Result<T, FormError> {
             Ok(read) => Ok(read),
             Err(error) => Err(error.in_part(Part::Key(key))),
         }
-    }
-}
-
-/// Return what was read without its fault: `None` where no value has the form.
-pub fn faultless<T: Drop>(read: Result<T, FormError>) -> Result<Option<T>, AllocError>
-    ensures { IsSettled read result }
-{
-    match read {
-        Ok(read) => Ok(Some(read)),
-        Err(FormError::Form(_)) => Ok(None),
-        Err(FormError::Memory) => Err(AllocError),
     }
 }

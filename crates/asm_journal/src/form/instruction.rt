@@ -8,9 +8,9 @@ ghost use Rattle.asm_journal.specs.Element.{location_json_of};
 ghost use Rattle.asm_journal.specs.Instruction.{IsActionForm, instruction_of, instruction_json_of, IsInstructionForm};
 
 use crate::form::array::{array_of, read_one};
-use crate::form::fault::{FormCause, FormError, OfPart, faultless};
+use crate::form::fault::{FormCause, FormError, OfPart};
 use crate::form::set::{Counted, read_counted};
-use crate::form::{FromJson, ToJson};
+use crate::form::{FromJson, ToJson, read_form};
 use asm_element::{Element, Location, Value};
 use asm_update::{Action, Amount, Instruction};
 use serde_json::Value as Json;
@@ -144,5 +144,5 @@ pub fn instruction_json(alloc: Global, instruction: &Instruction) -> Result<Json
 pub fn read_instruction(alloc: Global, json: &Json) -> Result<Option<Instruction>, AllocError>
     ensures { IfOk result (IsParsed IsInstructionForm (view json.now)) }
 {
-    faultless(Instruction::from_json(alloc, json))
+    read_form(alloc, json)
 }

@@ -4,9 +4,9 @@ ghost use Rattle.serde_json.specs.View.{view};
 ghost use Rattle.asm_journal.specs.Shape.{IsParsed};
 ghost use Rattle.asm_journal.specs.Value.{value_json_of, IsValueForm};
 
-use crate::form::fault::{FormError, OfPart, faultless};
+use crate::form::fault::{FormError, OfPart};
 use crate::form::object::one_member;
-use crate::form::{FromJson, ToJson};
+use crate::form::{FromJson, ToJson, read_form};
 use asm_element::{ElemBag, ElemSet, Element, Value};
 use serde_json::Value as Json;
 use std::alloc::{AllocError, Global};
@@ -28,10 +28,12 @@ impl FromJson for Value {
 
     fn from_json(alloc: Global, json: &Json) -> Result<Value, FormError> {
         if let Some(items) = one_member(json, "set") {
-            return Ok(Value::Set(ElemSet::from_json(alloc, items).at("set")?));
+            let set = ElemSet::from_json(alloc, items).at("set")?;
+            return Ok(Value::Set(set));
         }
         if let Some(items) = one_member(json, "bag") {
-            return Ok(Value::Bag(ElemBag::from_json(alloc, items).at("bag")?));
+            let bag = ElemBag::from_json(alloc, items).at("bag")?;
+            return Ok(Value::Bag(bag));
         }
         Ok(Value::Plain(Element::from_json(alloc, json)?))
     }
@@ -61,5 +63,5 @@ pub fn value_json(alloc: Global, value: &Value) -> Result<Json, AllocError>
 pub fn read_value(alloc: Global, json: &Json) -> Result<Option<Value>, AllocError>
     ensures { IfOk result (IsParsed IsValueForm (view json.now)) }
 {
-    faultless(Value::from_json(alloc, json))
+    read_form(alloc, json)
 }
