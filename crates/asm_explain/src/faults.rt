@@ -2,7 +2,9 @@
 //! themselves decide what is accepted; what is looked at here only finds the part that they refuse.
 use crate::sentence::{Fault, Why};
 use asm_element::{ARGS_LIMIT, Element, ITEMS_LIMIT, Location, Value};
-use asm_journal::{FromJson, instruction_parts, one_member, read_amount, two_items, two_members};
+use asm_journal::{
+    FromJson, instruction_parts, one_member, read_amount, read_form, two_items, two_members,
+};
 use asm_state::Named;
 use asm_storage::Answer;
 use asm_update::{INSTRUCTIONS_LIMIT, Instruction};
@@ -25,7 +27,7 @@ const MOVE: &str = "a move is an object with the members fire and reads";
 const EVENT: &str = "an event is an object with the members agent, call and reply";
 
 pub(crate) fn is_of<T: FromJson>(alloc: Global, json: &Json) -> Result<bool, AllocError> {
-    Ok(T::from_json(alloc, json)?.is_some())
+    Ok(read_form::<T>(alloc, json)?.is_some())
 }
 
 // The first of the items that isn't read as one of this type, with its index.

@@ -8,7 +8,7 @@ ghost use Rattle.asm_explain.specs.Lines.{ReportsFault, NamesLine, ReportsRefusa
 use crate::faults::{fault_of_event, is_of};
 use crate::script::wrong_init;
 use crate::sentence::{as_one_line, not_json};
-use asm_journal::{FromJson, JournalError, from_text};
+use asm_journal::{JournalError, from_text, read_form};
 use asm_row::CAPACITY_LIMIT;
 use asm_storage::{AGENTS_LIMIT, Event};
 use asm_update::PlainState;
@@ -104,7 +104,7 @@ fn wrong_header(alloc: Global, header: &Json) -> Result<String, AllocError> {
 
 // Why JSON is no event of a journal of so many agents.
 fn wrong_event(alloc: Global, agents: u32, json: &Json) -> Result<String, AllocError> {
-    let Some(event) = Event::from_json(alloc, json)? else {
+    let Some(event) = read_form::<Event>(alloc, json)? else {
         return fault_of_event(alloc, json)?.sentence(alloc);
     };
     if event.agent >= agents {

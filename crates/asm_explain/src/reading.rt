@@ -6,7 +6,7 @@ ghost use Rattle.asm_journal.specs.Reading.{IsJson};
 ghost use Rattle.asm_explain.specs.Bytes.{IsFireForm, IsMisread, IsUnread, ReadAs, ReadAsFire};
 
 use asm_element::Items;
-use asm_journal::{FromFront, FromJson, read_compact};
+use asm_journal::{FromFront, FromJson, read_compact, read_form};
 use asm_state::Named;
 use asm_storage::Call;
 use asm_update::Instructions;
@@ -51,7 +51,7 @@ pub fn read_as<T: FromJson>(alloc: Global, bytes: &[u8]) -> Result<T, TextError>
         Ok(json) => json,
         Err(error) => return Err(error),
     };
-    match T::from_json(alloc, &json) {
+    match read_form::<T>(alloc, &json) {
         Ok(Some(read)) => Ok(read),
         Ok(None) => Err(TextError::Shape),
         Err(AllocError) => Err(TextError::Memory),

@@ -3,7 +3,7 @@ use crate::faults::{is_of, why_no_pair};
 use crate::sentence::grouped;
 use crate::term::wrong_instruction;
 use asm_element::{Element, Location, Value};
-use asm_journal::{FromJson, two_members};
+use asm_journal::{read_form, two_members};
 use asm_overlay::FRAMES_LIMIT;
 use asm_script::{ScriptCause, ScriptError, parse_script};
 use asm_storage::AGENTS_LIMIT;
@@ -138,7 +138,7 @@ fn first_twice(alloc: Global, pairs: &[Json]) -> Result<Option<usize>, AllocErro
         let Some(at) = at else {
             continue;
         };
-        let Some(at) = Location::from_json(alloc, at)? else {
+        let Some(at) = read_form::<Location>(alloc, at)? else {
             continue;
         };
         if seen.get(&at).is_some() {

@@ -12,7 +12,7 @@ use crate::block::{Block, TermInstruction};
 use crate::script::{BLOCKS_LIMIT, Script, ScriptCause, ScriptError};
 use crate::step::Step;
 use asm_element::Items;
-use asm_journal::{FromJson, Listed, two_members};
+use asm_journal::{Listed, read_form, two_members};
 use asm_storage::{AGENTS_LIMIT, READS_LIMIT};
 use asm_update::PlainState;
 use serde_json::Value as Json;
@@ -47,10 +47,10 @@ fn unchecked_of(alloc: Global, json: &Json) -> Result<Option<UncheckedScript>, A
     let Some((agents, init)) = two_members(json, "agents", "init") else {
         return Ok(None);
     };
-    let Some(agents) = Listed::from_json(alloc, agents)? else {
+    let Some(agents) = read_form(alloc, agents)? else {
         return Ok(None);
     };
-    match PlainState::from_json(alloc, init)? {
+    match read_form(alloc, init)? {
         Some(init) => Ok(Some(UncheckedScript { init, agents })),
         None => Ok(None),
     }

@@ -7,7 +7,7 @@ ghost use Rattle.asm_explain.specs.Bytes.{IsMisread};
 ghost use Rattle.asm_slots.specs.FireOver.{AreScans, IsScanForm, ReadAsScans};
 
 use asm_explain::{TextError, read_as};
-use asm_journal::{FromJson, two_items};
+use asm_journal::{FormCause, FormError, FromJson, two_items};
 use asm_state::Scanned;
 use serde_json::Value as Json;
 use std::alloc::{AllocError, Global};
@@ -81,13 +81,13 @@ fn read_each(alloc: Global, items: &[Json]) -> Result<Option<Vec<Scanned>>, Allo
 impl FromJson for ReadScans {
     ghost is_form = { AreScans };
 
-    fn from_json(alloc: Global, json: &Json) -> Result<Option<ReadScans>, AllocError> {
+    fn from_json(alloc: Global, json: &Json) -> Result<ReadScans, FormError> {
         let Some(items) = json.as_array() else {
-            return Ok(None);
+            return Err(FormError::of(alloc, FormCause::NoArray));
         };
         match read_each(alloc, items)? {
-            Some(scans) => Ok(Some(ReadScans { scans })),
-            None => Ok(None),
+            Some(scans) => Ok(ReadScans { scans }),
+            None => Err(FormError::of(alloc, FormCause::Scan)),
         }
     }
 }

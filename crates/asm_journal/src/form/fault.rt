@@ -78,6 +78,9 @@ pub enum FormCause {
     /// A clash is wanted.
     #[error("a clash is an array of a location and a cause")]
     Clash,
+    /// Scans are wanted.
+    #[error("a scan is an array of a name and a number")]
+    Scan,
     /// A reply is wanted.
     #[error("the reply is none of a call")]
     Reply,
