@@ -2,22 +2,22 @@
 #include "core.h"
 
 /* Raises the error of the code of a call that was passed a text of a form. */
-static PyObject *text_refused(Agent *self, int32_t code, int form, Text *text)
+static PyObject *refuse_text(Agent *self, int32_t code, int form, Text *text)
 {
     if (code == ASM_EMPTY)
-        return agent_refused(self, code);
-    return refuse(self->held.core, code, "read", "(iiy#)", (int)code, form, text->at, (Py_ssize_t)text->len);
+        return refuse_agent(self, code);
+    return refuse(self->holder.core, code, "read", "(iiy#)", (int)code, form, text->at, (Py_ssize_t)text->len);
 }
 
-static int32_t reads(Agent *self, Text *text, Room *room)
+static int32_t read_and_answer(Agent *self, Text *text, Room *room)
 {
     int32_t code = asm_read(SLOT(self), BYTES(text));
     if (code == ASM_DONE)
-        TOLD(code, room, asm_answer(SLOT(self), ROOM(room)));
+        WITH_ROOM(code, room, asm_answer(SLOT(self), ROOM(room)));
     return code;
 }
 
-static PyObject *numbered(Core *core, Room *room)
+static PyObject *numbered_values(Core *core, Room *room)
 {
     uint32_t number;
     PyObject *values = read_values(core, room, &number);
@@ -28,20 +28,20 @@ PyObject *agent_read(Agent *self, PyObject *places)
 {
     Text text;
     Room room;
-    PyObject *told = NULL;
+    PyObject *result = NULL;
     int32_t code;
-    if (write_named(self->held.core, &text, places, "places"))
+    if (write_named(self->holder.core, &text, places, "places"))
         return NULL;
     room_begin(&room);
-    if (!UNREADY(&self->held)) {
-        agent_turn(self);
-        CALL(code, &self->held, IS_LONG(&text) || agent_is_far(self), reads(self, &text, &room));
-        agent_saw(self);
-        told = code == ASM_DONE ? numbered(self->held.core, &room) : text_refused(self, code, ASM_FORM_LOCATIONS, &text);
+    if (!UNREADY(&self->holder)) {
+        take_newest_state(self);
+        CALL(code, &self->holder, IS_LONG(&text) || agent_is_far(self), read_and_answer(self, &text, &room));
+        update_seen(self);
+        result = code == ASM_DONE ? numbered_values(self->holder.core, &room) : refuse_text(self, code, ASM_FORM_LOCATIONS, &text);
     }
     room_end(&room);
     text_end(&text);
-    return told;
+    return result;
 }
 
 typedef struct {
@@ -49,13 +49,13 @@ typedef struct {
     Py_ssize_t len, scans_len;
 } Offer;
 
-static int32_t fires(Agent *self, const Offer *its, Room *room, asm_numbers *numbers)
+static int32_t fire_and_answer(Agent *self, const Offer *its, Room *room, asm_numbers *numbers)
 {
-    int32_t answered, code = asm_try_fire_over(SLOT(self), its->call, (size_t)its->len, its->scans, (size_t)its->scans_len, numbers);
+    int32_t answer_code, code = asm_try_fire_over(SLOT(self), its->call, (size_t)its->len, its->scans, (size_t)its->scans_len, numbers);
     if (code != ASM_STALE && code != ASM_CLASH)
         return code;
-    TOLD(answered, room, asm_answer(SLOT(self), ROOM(room)));
-    return answered == ASM_DONE ? code : answered;
+    WITH_ROOM(answer_code, room, asm_answer(SLOT(self), ROOM(room)));
+    return answer_code == ASM_DONE ? code : answer_code;
 }
 
 static PyObject *fire(Agent *self, const Offer *its)
@@ -63,22 +63,22 @@ static PyObject *fire(Agent *self, const Offer *its)
     Room room;
     asm_numbers numbers = {0};
     int32_t code;
-    if (UNREADY(&self->held))
+    if (UNREADY(&self->holder))
         return NULL;
     room_begin(&room);
     int is_long = its->len > LONG_TEXT || its->scans_len > LONG_TEXT || agent_is_far(self);
-    CALL(code, &self->held, is_long, fires(self, its, &room, &numbers));
+    CALL(code, &self->holder, is_long, fire_and_answer(self, its, &room, &numbers));
     self->seen = asm_seen(SLOT(self));
     if (numbers.fired > self->storage->last)
         self->storage->last = numbers.fired;
-    PyObject *told = code == ASM_DONE ? PyLong_FromUnsignedLong(numbers.fired) : NULL;
+    PyObject *result = code == ASM_DONE ? PyLong_FromUnsignedLong(numbers.fired) : NULL;
     if (code == ASM_EMPTY)
-        agent_refused(self, code);
+        refuse_agent(self, code);
     else if (code != ASM_DONE)
-        refuse(self->held.core, code, "fired", "(iOy#IIy#y#)", (int)code, (PyObject *)self, room.at, (Py_ssize_t)room.written,
+        refuse(self->holder.core, code, "fire", "(iOy#IIy#y#)", (int)code, (PyObject *)self, room.at, (Py_ssize_t)room.written,
             (unsigned)numbers.from, (unsigned)numbers.to, its->call, its->len, its->scans, its->scans_len);
     room_end(&room);
-    return told;
+    return result;
 }
 
 /* Writes the items of an iterable, after a word of JSON. */
@@ -94,8 +94,8 @@ PyObject *agent_fire(Agent *self, PyObject *words, PyObject *named)
 {
     static const char first[] = "{\"fire\":", second[] = ",\"reads\":";
     static char *names[] = {"instructions", "reads", "scans", NULL};
-    Core *core = self->held.core;
-    PyObject *move, *reads = NULL, *over = NULL, *told = NULL;
+    Core *core = self->holder.core;
+    PyObject *move, *reads = NULL, *over = NULL, *result = NULL;
     Text call, scans;
     if (!PyArg_ParseTupleAndKeywords(words, named, "O|OO", names, &move, &reads, &over))
         return NULL;
@@ -106,11 +106,11 @@ PyObject *agent_fire(Agent *self, PyObject *words, PyObject *named)
                  write_list(core, &scans, "", 0, over, "scans");
     if (!failed) {
         Offer its = {(uint8_t *)call.at, (uint8_t *)scans.at, (Py_ssize_t)call.len, (Py_ssize_t)scans.len};
-        told = fire(self, &its);
+        result = fire(self, &its);
     }
     text_end(&call);
     text_end(&scans);
-    return told;
+    return result;
 }
 
 /* The same with both texts. */
@@ -124,60 +124,60 @@ PyObject *agent_answer(Agent *self, PyObject *Py_UNUSED(none))
 {
     Room room;
     int32_t code;
-    if (UNREADY(&self->held))
+    if (UNREADY(&self->holder))
         return NULL;
     room_begin(&room);
-    TOLD(code, &room, asm_answer(SLOT(self), ROOM(&room)));
-    PyObject *told = code == ASM_DONE ? read_own_text(self->held.core, room.at, room.written, 0) : agent_refused(self, code);
+    WITH_ROOM(code, &room, asm_answer(SLOT(self), ROOM(&room)));
+    PyObject *result = code == ASM_DONE ? read_own_text(self->holder.core, room.at, room.written, 0) : refuse_agent(self, code);
     room_end(&room);
-    return told;
+    return result;
 }
 
 PyObject *agent_learn(Agent *self, PyObject *other)
 {
-    Core *core = self->held.core;
+    Core *core = self->holder.core;
     if (!PyObject_TypeCheck(other, core->agent))
         return refuse(core, ASM_EMPTY, "no_agent", "(sO)", "an agent learns from an agent", other);
     Agent *from = (Agent *)other;
     if (from->storage != self->storage)
         return refuse(core, ASM_OTHER, "expect", "(i)", ASM_OTHER);
     do
-        if (UNREADY(&self->held) || UNREADY(&from->held))
+        if (UNREADY(&self->holder) || UNREADY(&from->holder))
             return NULL;
-    while (ODD(self->held.is_busy | from->held.is_busy));
+    while (ODD(self->holder.is_busy | from->holder.is_busy));
     int32_t code = asm_learn(SLOT(self), SLOT(from));
-    return code == ASM_DONE ? Py_NewRef(Py_None) : agent_refused(IS_FULL(self) ? from : self, code);
+    return code == ASM_DONE ? Py_NewRef(Py_None) : refuse_agent(IS_FULL(self) ? from : self, code);
 }
 
 PyObject *agent_follow(Agent *self, PyObject *Py_UNUSED(none))
 {
     uint32_t number;
     int32_t code;
-    if (UNREADY(&self->held))
+    if (UNREADY(&self->holder))
         return NULL;
-    agent_turn(self);
-    CALL(code, &self->held, agent_is_far(self), asm_follow(SLOT(self), &number));
-    agent_saw(self);
-    return code == ASM_DONE ? PyLong_FromUnsignedLong(number) : agent_refused(self, code);
+    take_newest_state(self);
+    CALL(code, &self->holder, agent_is_far(self), asm_follow(SLOT(self), &number));
+    update_seen(self);
+    return code == ASM_DONE ? PyLong_FromUnsignedLong(number) : refuse_agent(self, code);
 }
 
 static PyObject *peek_at(Agent *self, Location *at)
 {
-    Core *core = self->held.core;
+    Core *core = self->holder.core;
     Room room;
     asm_value value;
     uint32_t number;
     int32_t code;
-    if (UNREADY(&self->held) || UNREADY(&at->held))
+    if (UNREADY(&self->holder) || UNREADY(&at->holder))
         return NULL;
     room_begin(&room);
-    if ((code = agent_catches_up(self)) == ASM_DONE)
-        TOLD(code, &room, asm_peek_at(SLOT(self), SLOT(at), &number, &value, ROOM(&room)));
+    if ((code = catch_up(self)) == ASM_DONE)
+        WITH_ROOM(code, &room, asm_peek_at(SLOT(self), SLOT(at), &number, &value, ROOM(&room)));
     PyObject *one = code == ASM_DONE ? value_of(core, &value, &room) : NULL;
     if (code != ASM_DONE && (IS_FULL(self) || code != ASM_EMPTY))
-        location_refused(at, code);
+        refuse_location(at, code);
     else if (code != ASM_DONE)
-        agent_refused(self, code);
+        refuse_agent(self, code);
     room_end(&room);
     return one ? Py_BuildValue("IN", (unsigned)number, one) : NULL;
 }
@@ -186,27 +186,27 @@ static PyObject *peek(Agent *self, PyObject *places, int is_length)
 {
     Text text;
     Room room;
-    PyObject *told = NULL;
+    PyObject *result = NULL;
     int32_t code;
-    if (write_named(self->held.core, &text, places, "places"))
+    if (write_named(self->holder.core, &text, places, "places"))
         return NULL;
     room_begin(&room);
-    if (!UNREADY(&self->held)) {
-        RUN(&self->held, IS_LONG(&text) || self->is_behind,
-            if ((code = agent_catches_up(self)) == ASM_DONE) TOLD(code, &room, asm_peek(SLOT(self), BYTES(&text), ROOM(&room))));
+    if (!UNREADY(&self->holder)) {
+        RUN(&self->holder, IS_LONG(&text) || self->is_behind,
+            if ((code = catch_up(self)) == ASM_DONE) WITH_ROOM(code, &room, asm_peek(SLOT(self), BYTES(&text), ROOM(&room))));
         if (code != ASM_DONE)
-            text_refused(self, code, ASM_FORM_LOCATIONS, &text);
+            refuse_text(self, code, ASM_FORM_LOCATIONS, &text);
         else
-            told = is_length ? PyLong_FromSize_t(text.len + room.written) : numbered(self->held.core, &room);
+            result = is_length ? PyLong_FromSize_t(text.len + room.written) : numbered_values(self->holder.core, &room);
     }
     room_end(&room);
     text_end(&text);
-    return told;
+    return result;
 }
 
 PyObject *agent_peek(Agent *self, PyObject *places)
 {
-    return is_location(self->held.core, places) ? peek_at(self, (Location *)places) : peek(self, places, 0);
+    return is_location(self->holder.core, places) ? peek_at(self, (Location *)places) : peek(self, places, 0);
 }
 
 /* Counts the bytes of the texts of the places and of their values in `peek`. */
@@ -220,17 +220,17 @@ static PyObject *state(Agent *self, int is_text)
     Room room;
     uint32_t number = 0;
     int32_t code;
-    if (UNREADY(&self->held))
+    if (UNREADY(&self->holder))
         return NULL;
     room_begin(&room);
-    RUN(&self->held, 1,
-        if ((code = agent_catches_up(self)) == ASM_DONE) TOLD(code, &room, asm_state(SLOT(self), &number, ROOM(&room))));
+    RUN(&self->holder, 1,
+        if ((code = catch_up(self)) == ASM_DONE) WITH_ROOM(code, &room, asm_state(SLOT(self), &number, ROOM(&room))));
     PyObject *its = NULL;
     if (code != ASM_DONE)
-        agent_refused(self, code);
+        refuse_agent(self, code);
     else
         its = is_text ? PyBytes_FromStringAndSize((char *)room.at, (Py_ssize_t)room.written)
-                      : read_own_text(self->held.core, room.at, room.written, 0);
+                      : read_own_text(self->holder.core, room.at, room.written, 0);
     room_end(&room);
     return its ? Py_BuildValue("IN", (unsigned)number, its) : NULL;
 }
@@ -251,14 +251,14 @@ PyObject *agent_scan(Agent *self, PyObject *name)
     uint32_t number = 0;
     int32_t code;
     Py_ssize_t len;
-    const uint8_t *text = name_of(self->held.core, name, 0, &len);
-    if (!text || UNREADY(&self->held))
+    const uint8_t *text = name_of(self->holder.core, name, 0, &len);
+    if (!text || UNREADY(&self->holder))
         return NULL;
     room_begin(&room);
-    RUN(&self->held, 1,
-        if ((code = agent_catches_up(self)) == ASM_DONE)
-            TOLD(code, &room, asm_scan(SLOT(self), text, (size_t)len, &number, ROOM(&room))));
-    PyObject *its = code == ASM_DONE ? read_own_text(self->held.core, room.at, room.written, 0) : agent_refused(self, code);
+    RUN(&self->holder, 1,
+        if ((code = catch_up(self)) == ASM_DONE)
+            WITH_ROOM(code, &room, asm_scan(SLOT(self), text, (size_t)len, &number, ROOM(&room))));
+    PyObject *its = code == ASM_DONE ? read_own_text(self->holder.core, room.at, room.written, 0) : refuse_agent(self, code);
     room_end(&room);
     return its ? Py_BuildValue("IN", (unsigned)number, its) : NULL;
 }
@@ -267,27 +267,27 @@ PyObject *agent_stands(Agent *self, PyObject *named)
 {
     Text text;
     Room room;
-    PyObject *told = NULL;
+    PyObject *result = NULL;
     int32_t code;
     text_begin(&text);
     room_begin(&room);
-    if (!write_list(self->held.core, &text, "", 0, named, "reads") && !UNREADY(&self->held)) {
+    if (!write_list(self->holder.core, &text, "", 0, named, "reads") && !UNREADY(&self->holder)) {
         int is_long = IS_LONG(&text) || agent_is_far(self);
-        RUN(&self->held, is_long, TOLD(code, &room, asm_stands(SLOT(self), BYTES(&text), ROOM(&room))));
-        agent_saw(self);
+        RUN(&self->holder, is_long, WITH_ROOM(code, &room, asm_stands(SLOT(self), BYTES(&text), ROOM(&room))));
+        update_seen(self);
         if (code == ASM_DONE)
-            told = Py_NewRef(Py_None);
+            result = Py_NewRef(Py_None);
         else if (code == ASM_EMPTY)
-            agent_refused(self, code);
+            refuse_agent(self, code);
         else if (code == ASM_STALE)
-            told = read_own_text(
-                self->held.core, room.at + sizeof "{\"stale\":" - 1, room.written - sizeof "{\"stale\":}" + 1, 1);
+            result = read_own_text(
+                self->holder.core, room.at + sizeof "{\"stale\":" - 1, room.written - sizeof "{\"stale\":}" + 1, 1);
         else
-            refuse(self->held.core, code, "stands", "(iOy#)", (int)code, (PyObject *)self, text.at, (Py_ssize_t)text.len);
+            refuse(self->holder.core, code, "stands", "(iOy#)", (int)code, (PyObject *)self, text.at, (Py_ssize_t)text.len);
     }
     room_end(&room);
     text_end(&text);
-    return told;
+    return result;
 }
 
 PyObject *agent_go_on(Agent *self, PyObject *words, PyObject *named)
@@ -295,17 +295,17 @@ PyObject *agent_go_on(Agent *self, PyObject *words, PyObject *named)
     uint32_t capacity;
     int32_t code;
     Storage *next = storage_next_of(self->storage, words, named, &capacity);
-    if (!next || UNREADY(&self->held)) {
+    if (!next || UNREADY(&self->holder)) {
         Py_XDECREF((PyObject *)next);
         return NULL;
     }
-    RUN(&self->held, 1, if ((code = agent_catches_up(self)) == ASM_DONE) code = asm_go_on(SLOT(self), capacity, SLOT(next)));
+    RUN(&self->holder, 1, if ((code = catch_up(self)) == ASM_DONE) code = asm_go_on(SLOT(self), capacity, SLOT(next)));
     if (code == ASM_DONE)
         return (PyObject *)next;
     if (code == ASM_NOT_FULL)
-        refuse(self->held.core, code, "not_full", "(I)", (unsigned)asm_seen(SLOT(self)));
+        refuse(self->holder.core, code, "not_full", "(I)", (unsigned)asm_seen(SLOT(self)));
     else
-        agent_refused(self, code);
+        refuse_agent(self, code);
     Py_DECREF((PyObject *)next);
     return NULL;
 }

@@ -21,8 +21,8 @@
 
 #define ODD(it) __builtin_expect(!!(it), 0)
 /* The slot as a handle of any kind, which all have the layout of a slot. */
-#define SLOT(it) ((void *)&(it)->held.slot)
-#define IS_FULL(it) ((it)->held.slot.full)
+#define SLOT(it) ((void *)&(it)->holder.slot)
+#define IS_FULL(it) ((it)->holder.slot.full)
 #define METHOD(call) ((PyCFunction)(void (*)(void))(call))
 /* An agent that is this many moves behind, and a text of this many bytes, release the interpreter's lock. */
 enum { FAR = 1024, LONG_TEXT = 16384 };
@@ -46,7 +46,7 @@ typedef struct {
     unsigned born; /* the number of forks when it was made */
     int is_busy, waiters;
     PyThread_type_lock lock; /* held while the slot is busy; made when it first is */
-} Held;
+} Holder;
 
 typedef struct Agent Agent;
 typedef struct Step Step;
@@ -59,7 +59,7 @@ typedef struct {
 enum { TURNS = 16 };
 
 typedef struct {
-    Held held;
+    Holder holder;
     uint32_t last;      /* the greatest number of a move that is known to be fired */
     int64_t closed;     /* how many moves the last journal has, -1 without one */
     int is_abandoned;   /* an agent was freed that wasn't returned */
@@ -70,11 +70,11 @@ typedef struct {
 } Storage;
 
 struct Agent {
-    Held held;
+    Holder holder;
     Storage *storage;
-    uint32_t own, seen, kept_seen, kept_won; /* the kept numbers are those of an agent that was returned */
+    uint32_t own, seen, returned_seen, returned_won; /* the last two: of an agent whose slot is empty */
     uint64_t base;                           /* how many moves of a run came before its storage */
-    char is_taken;                           /* another thread has returned it */
+    char is_withdrawn;                           /* another thread has returned it */
     char is_behind;                          /* another agent has taken its state */
     unsigned steps;                          /* how many of its steps are open */
     unsigned long thread;                    /* of its last call that polled */
@@ -83,7 +83,7 @@ struct Agent {
 };
 
 struct Step {
-    Held held;
+    Holder holder;
     Agent *agent;
     uint32_t number, fired;
     unsigned long thread; /* that began it */
@@ -93,12 +93,12 @@ struct Step {
 };
 
 typedef struct {
-    Held held;
+    Holder holder;
     PyObject *text;
 } Location;
 
 typedef struct {
-    Held held;
+    Holder holder;
     Py_ssize_t count;
     uint64_t size;
     char is_freed, is_popped;
@@ -108,36 +108,36 @@ typedef struct {
 extern unsigned forks;
 void watch_forks(void);
 PyObject *refuse(Core *core, int32_t code, const char *how, const char *format, ...);
-int unready(Held *held);
-PyThreadState *let_go(Held *held);
-void come_back(Held *held, PyThreadState *was);
+int unready(Holder *holder);
+PyThreadState *begin_long_call(Holder *holder);
+void end_long_call(Holder *holder, PyThreadState *was);
 Core *core_of(PyTypeObject *type);
-void *held_new(PyTypeObject *type, Core *core);
-void held_gone(void *it);
-PyObject *held_same(PyObject *self, PyObject *none);
-PyObject *held_copy(PyObject *self, PyObject *none);
-PyObject *held_free(Held *self, PyObject *none);
-PyObject *held_exit(Held *self, PyObject *const *words, Py_ssize_t count);
+void *holder_new(PyTypeObject *type, Core *core);
+void holder_dealloc(void *it);
+PyObject *holder_self(PyObject *self, PyObject *none);
+PyObject *holder_reduce(PyObject *self, PyObject *none);
+PyObject *holder_free(Holder *self, PyObject *none);
+PyObject *holder_exit(Holder *self, PyObject *const *words, Py_ssize_t count);
 int number_of(Core *core, PyObject *value, const char *what, uint32_t least, uint32_t most, uint32_t *number);
-extern PyGetSetDef held_gets[];
-extern PyMemberDef held_members[];
+extern PyGetSetDef holder_getters[];
+extern PyMemberDef holder_members[];
 
-#define HELD_METHODS                                             \
-    {"__enter__", held_same, METH_NOARGS, NULL},                 \
-    {"__reduce__", held_copy, METH_NOARGS, NULL}
+#define HOLDER_METHODS                                             \
+    {"__enter__", holder_self, METH_NOARGS, NULL},                 \
+    {"__reduce__", holder_reduce, METH_NOARGS, NULL}
 
 /* Checks whether a call on a slot may be made now. Returns non-zero with an exception. */
-#define UNREADY(held_) (ODD((held_)->is_busy | ((held_)->born != forks)) && unready(held_))
+#define UNREADY(holder_) (ODD((holder_)->is_busy | ((holder_)->born != forks)) && unready(holder_))
 
 /* Makes calls on a slot, without the interpreter's lock if they are long. */
-#define RUN(held_, is_long, calls)                                    \
+#define RUN(holder_, is_long, calls)                                    \
     do {                                                              \
-        PyThreadState *was_ = ODD(is_long) ? let_go(held_) : NULL;    \
+        PyThreadState *was_ = ODD(is_long) ? begin_long_call(holder_) : NULL;    \
         calls;                                                        \
         if (was_)                                                     \
-            come_back(held_, was_);                                   \
+            end_long_call(holder_, was_);                                   \
     } while (0)
-#define CALL(code, held_, is_long, call) RUN(held_, is_long, (code) = (call))
+#define CALL(code, holder_, is_long, call) RUN(holder_, is_long, (code) = (call))
 
 /* Room for what the library writes. */
 typedef struct {
@@ -149,7 +149,7 @@ void room_end(Room *room);
 int room_grow(Room *room, int32_t *code);
 #define ROOM(its) (its)->at, (its)->room, &(its)->written
 /* Makes a call that writes, and repeats it if the room is too small; RUN takes it. */
-#define TOLD(code, its, call)                        \
+#define WITH_ROOM(code, its, call)                        \
     do                                               \
         (code) = (call);                             \
     while (ODD((code) == ASM_SMALL) && room_grow(its, &(code)))
@@ -178,14 +178,14 @@ PyObject *value_of(Core *core, const asm_value *value, const Room *room);
 /* move.c: a location, prepared or not; and a change of it, which an instruction makes. */
 typedef struct {
     struct asm_location own;
-    Location *held; /* where it was prepared before */
+    Location *prepared; /* null if it is only in this call */
     Text text;
 } Place;
-#define AT(its) ((its)->held ? (struct asm_location *)SLOT((its)->held) : &(its)->own)
-#define PLACE_UNREADY(its) ((its)->held && UNREADY(&(its)->held->held))
+#define AT(its) ((its)->prepared ? (struct asm_location *)SLOT((its)->prepared) : &(its)->own)
+#define PLACE_UNREADY(its) ((its)->prepared && UNREADY(&(its)->prepared->holder))
 int place_begin(Core *core, Place *its, PyObject *place);
-int32_t place_made(Place *its);
-PyObject *place_refused(Core *core, Place *its, int32_t code);
+int32_t prepare_place(Place *its);
+PyObject *refuse_place(Core *core, Place *its, int32_t code);
 void place_end(Place *its);
 
 typedef struct {
@@ -201,7 +201,7 @@ typedef struct {
 int change_begin(Core *core, Change *its, PyObject *const *words, Py_ssize_t count, int verb);
 int32_t change_put(Change *its, struct asm_move *move);
 uint64_t change_size(Change *its);
-PyObject *change_refused(Core *core, Change *its);
+PyObject *refuse_change(Core *core, Change *its);
 void change_end(Change *its);
 
 /* The methods of a type that make such changes. */
@@ -229,18 +229,18 @@ void change_end(Change *its);
 
 /* storage.c, and move.c */
 Storage *storage_next_of(const Storage *behind, PyObject *words, PyObject *named, uint32_t *capacity);
-PyObject *storage_refused(Storage *self, int32_t code);
-PyObject *location_refused(Location *self, int32_t code);
+PyObject *refuse_storage(Storage *self, int32_t code);
+PyObject *refuse_location(Location *self, int32_t code);
 
 /* agent.c, agent_texts.c and play.c */
-PyObject *agent_made(Storage *storage, PyObject *number, int is_taken);
+PyObject *new_agent(Storage *storage, PyObject *number, int is_take);
 int32_t agent_give(Agent *self);
 int agent_is_far(const Agent *self);
 PyObject *agent_play(Agent *self, PyObject *words, PyObject *named);
-void agent_turn(Agent *self);
-void agent_saw(Agent *self);
-int32_t agent_catches_up(Agent *self);
-PyObject *agent_refused(Agent *self, int32_t code);
+void take_newest_state(Agent *self);
+void update_seen(Agent *self);
+int32_t catch_up(Agent *self);
+PyObject *refuse_agent(Agent *self, int32_t code);
 PyObject *agent_read(Agent *self, PyObject *places);
 PyObject *agent_fire(Agent *self, PyObject *words, PyObject *named);
 PyObject *agent_fire_texts(Agent *self, PyObject *words);
@@ -256,7 +256,7 @@ PyObject *agent_stands(Agent *self, PyObject *reads);
 PyObject *agent_go_on(Agent *self, PyObject *words, PyObject *named);
 
 /* step.c, and step_values.c */
-PyObject *step_refused(Step *self, int32_t code);
+PyObject *refuse_step(Step *self, int32_t code);
 PyObject *step_get(Step *self, PyObject *it);
 PyObject *step_at(Step *self, PyObject *it);
 PyObject *step_see(Step *self, PyObject *it);
@@ -265,15 +265,15 @@ PyObject *step_push(Step *self, PyObject *it);
 PyObject *step_extend(Step *self, PyObject *it);
 PyObject *step_pop(Step *self, PyObject *it);
 PyObject *step_pop_move(Step *self, PyObject *it);
-#define CHANGE_DECLARED(name) PyObject *step_##name(Step *self, PyObject *const *words, Py_ssize_t count)
-CHANGE_DECLARED(put);
-CHANGE_DECLARED(add);
-CHANGE_DECLARED(remove);
-CHANGE_DECLARED(bag_add);
-CHANGE_DECLARED(bag_remove);
-CHANGE_DECLARED(inc);
-Step *step_begun(Agent *agent, PyTypeObject *type);
-int64_t step_fires(Step *self, int is_try);
+#define DECLARE_CHANGE(name) PyObject *step_##name(Step *self, PyObject *const *words, Py_ssize_t count)
+DECLARE_CHANGE(put);
+DECLARE_CHANGE(add);
+DECLARE_CHANGE(remove);
+DECLARE_CHANGE(bag_add);
+DECLARE_CHANGE(bag_remove);
+DECLARE_CHANGE(inc);
+Step *begin_step(Agent *agent, PyTypeObject *type);
+int64_t fire_step(Step *self, int is_try);
 void step_drop(Step *self);
 
 extern PyType_Spec storage_spec, agent_spec, step_spec, location_spec, move_spec, audit_spec;

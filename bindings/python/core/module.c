@@ -2,92 +2,92 @@
 #include "core.h"
 
 typedef struct {
-    Held held;
-    PyObject *rest; /* fed bytes that are left after refused memory */
+    Holder holder;
+    PyObject *unread; /* fed bytes that are left after refused memory */
 } Audit;
 
 static PyObject *audit_new(PyTypeObject *type, PyObject *Py_UNUSED(words), PyObject *Py_UNUSED(named))
 {
-    return held_new(type, core_of(type));
+    return holder_new(type, core_of(type));
 }
 
-static PyObject *numbers_of(int32_t code, const asm_audit_numbers *told)
+static PyObject *numbers_of(int32_t code, const asm_audit_numbers *numbers)
 {
-    return Py_BuildValue("iKKK", (int)code, (unsigned long long)told->parts, (unsigned long long)told->calls, (unsigned long long)told->moves);
+    return Py_BuildValue("iKKK", (int)code, (unsigned long long)numbers->parts, (unsigned long long)numbers->calls, (unsigned long long)numbers->moves);
 }
 
 /* Reads bytes after those that are left; writes the code and the numbers. */
 static PyObject *audit_feed(Audit *self, PyObject *chunk)
 {
-    asm_audit_numbers told;
+    asm_audit_numbers numbers;
     int32_t code;
-    size_t taken;
+    size_t consumed;
     if (!PyBytes_Check(chunk)) {
         PyErr_SetString(PyExc_TypeError, "an audit takes bytes");
         return NULL;
     }
-    if (UNREADY(&self->held))
+    if (UNREADY(&self->holder))
         return NULL;
-    PyObject *rest = self->rest, *all = rest ? PySequence_Concat(rest, chunk) : Py_NewRef(chunk);
+    PyObject *unread = self->unread, *all = unread ? PySequence_Concat(unread, chunk) : Py_NewRef(chunk);
     if (!all)
         return NULL;
-    self->rest = NULL;
-    Py_XDECREF(rest);
+    self->unread = NULL;
+    Py_XDECREF(unread);
     const char *at = PyBytes_AsString(all);
     size_t len = (size_t)PyBytes_Size(all);
-    CALL(code, &self->held, len > LONG_TEXT, asm_audit(SLOT(self), (const uint8_t *)at, len, &taken, &told));
+    CALL(code, &self->holder, len > LONG_TEXT, asm_audit(SLOT(self), (const uint8_t *)at, len, &consumed, &numbers));
     if (code == ASM_MEMORY)
-        self->rest = taken ? PyBytes_FromStringAndSize(at + taken, (Py_ssize_t)(len - taken)) : Py_NewRef(all);
+        self->unread = consumed ? PyBytes_FromStringAndSize(at + consumed, (Py_ssize_t)(len - consumed)) : Py_NewRef(all);
     Py_DECREF(all);
     if (code == ASM_MEMORY)
         return PyErr_NoMemory();
     /* If no further byte came, the report would be about the part that contains the long line. */
-    if (code == ASM_LONG_LINE && asm_audited(SLOT(self), &told) == ASM_MEMORY)
+    if (code == ASM_LONG_LINE && asm_audited(SLOT(self), &numbers) == ASM_MEMORY)
         return PyErr_NoMemory();
-    return numbers_of(code, &told);
+    return numbers_of(code, &numbers);
 }
 
-static PyObject *audit_end(Audit *self, PyObject *Py_UNUSED(none))
+static PyObject *audit_numbers(Audit *self, PyObject *Py_UNUSED(none))
 {
-    asm_audit_numbers told;
-    if (UNREADY(&self->held))
+    asm_audit_numbers numbers;
+    if (UNREADY(&self->holder))
         return NULL;
-    int32_t code = asm_audited(SLOT(self), &told);
-    return code == ASM_MEMORY ? PyErr_NoMemory() : numbers_of(code, &told);
+    int32_t code = asm_audited(SLOT(self), &numbers);
+    return code == ASM_MEMORY ? PyErr_NoMemory() : numbers_of(code, &numbers);
 }
 
 static PyObject *audit_state(Audit *self, PyObject *Py_UNUSED(none))
 {
     int32_t code;
     Room room;
-    if (UNREADY(&self->held))
+    if (UNREADY(&self->holder))
         return NULL;
     room_begin(&room);
-    RUN(&self->held, 1, TOLD(code, &room, asm_audit_state(SLOT(self), ROOM(&room))));
-    PyObject *told = code == ASM_DONE ? PyBytes_FromStringAndSize((char *)room.at, (Py_ssize_t)room.written) : NULL;
+    RUN(&self->holder, 1, WITH_ROOM(code, &room, asm_audit_state(SLOT(self), ROOM(&room))));
+    PyObject *result = code == ASM_DONE ? PyBytes_FromStringAndSize((char *)room.at, (Py_ssize_t)room.written) : NULL;
     if (code != ASM_DONE)
-        refuse(self->held.core, code, "no_part", "(i)", (int)code);
+        refuse(self->holder.core, code, "no_part", "(i)", (int)code);
     room_end(&room);
-    return told;
+    return result;
 }
 
-static void audit_gone(Audit *self)
+static void audit_dealloc(Audit *self)
 {
-    Py_XDECREF(self->rest);
-    held_gone(self);
+    Py_XDECREF(self->unread);
+    holder_dealloc(self);
 }
 
 static PyMethodDef audit_methods[] = {
-    HELD_METHODS,
-    {"_take", (PyCFunction)audit_feed, METH_O, NULL},
-    {"_told", (PyCFunction)audit_end, METH_NOARGS, NULL},
+    HOLDER_METHODS,
+    {"_feed", (PyCFunction)audit_feed, METH_O, NULL},
+    {"_numbers", (PyCFunction)audit_numbers, METH_NOARGS, NULL},
     {"_state", (PyCFunction)audit_state, METH_NOARGS, NULL},
-    {"free", (PyCFunction)held_free, METH_NOARGS, "free($self, /)\n--\n\nRelease it; it may be called again."},
-    {"__exit__", METHOD(held_exit), METH_FASTCALL, NULL},
+    {"free", (PyCFunction)holder_free, METH_NOARGS, "free($self, /)\n--\n\nRelease it; releasing again has no effect."},
+    {"__exit__", METHOD(holder_exit), METH_FASTCALL, NULL},
     {0},
 };
-static PyType_Slot audit_slots[] = {{Py_tp_new, audit_new}, {Py_tp_dealloc, audit_gone}, {Py_tp_methods, audit_methods},
-    {Py_tp_members, held_members}, {Py_tp_getset, held_gets}, {0}};
+static PyType_Slot audit_slots[] = {{Py_tp_new, audit_new}, {Py_tp_dealloc, audit_dealloc}, {Py_tp_methods, audit_methods},
+    {Py_tp_members, holder_members}, {Py_tp_getset, holder_getters}, {0}};
 PyType_Spec audit_spec = {"folugben._core.Audit", sizeof(Audit), 0, Py_TPFLAGS_DEFAULT | Py_TPFLAGS_BASETYPE, audit_slots};
 
 /* Imports the Python module whose functions raise errors. */
@@ -100,19 +100,19 @@ static PyObject *core_use(PyObject *module, PyObject *refusals)
     return Py_NewRef(Py_None);
 }
 
-static PyObject *core_encoded(PyObject *module, PyObject *words)
+static PyObject *core_encode(PyObject *module, PyObject *words)
 {
-    PyObject *value, *told = NULL;
+    PyObject *value, *result = NULL;
     const char *name;
     Text text;
     if (!PyArg_ParseTuple(words, "Os", &value, &name) || write_named(PyModule_GetState(module), &text, value, name))
         return NULL;
-    told = PyBytes_FromStringAndSize(text.at, (Py_ssize_t)text.len);
+    result = PyBytes_FromStringAndSize(text.at, (Py_ssize_t)text.len);
     text_end(&text);
-    return told;
+    return result;
 }
 
-static PyObject *core_decoded(PyObject *Py_UNUSED(module), PyObject *it)
+static PyObject *core_decode(PyObject *Py_UNUSED(module), PyObject *it)
 {
     char *at;
     Py_ssize_t len;
@@ -120,7 +120,7 @@ static PyObject *core_decoded(PyObject *Py_UNUSED(module), PyObject *it)
 }
 
 /* The same as Python's own values; a second argument says that it is a location. */
-static PyObject *core_owned(PyObject *module, PyObject *words)
+static PyObject *core_to_python(PyObject *module, PyObject *words)
 {
     const char *at;
     Py_ssize_t len;
@@ -133,7 +133,7 @@ static PyObject *core_owned(PyObject *module, PyObject *words)
 enum { CHECK, REPLAY, TRACE, AGGREGATE, COMPOSE, EXPLAIN, ERROR_TEXT };
 
 /* Makes a call that needs no slot: (call, form, text, text) to (code, text, number, moves). */
-static PyObject *core_told(PyObject *Py_UNUSED(module), PyObject *words)
+static PyObject *core_text_call(PyObject *Py_UNUSED(module), PyObject *words)
 {
     int call, form = 0;
     const uint8_t *one = NULL, *two = NULL;
@@ -158,9 +158,9 @@ static PyObject *core_told(PyObject *Py_UNUSED(module), PyObject *words)
         }
     while (code == ASM_SMALL && room_grow(&room, &code));
     PyEval_RestoreThread(was);
-    PyObject *told = Py_BuildValue("iy#KI", (int)code, room.at, (Py_ssize_t)room.written, (unsigned long long)number, (unsigned)moves);
+    PyObject *result = Py_BuildValue("iy#KI", (int)code, room.at, (Py_ssize_t)room.written, (unsigned long long)number, (unsigned)moves);
     room_end(&room);
-    return code == ASM_MEMORY ? (Py_XDECREF(told), PyErr_NoMemory()) : told;
+    return code == ASM_MEMORY ? (Py_XDECREF(result), PyErr_NoMemory()) : result;
 }
 
 static PyObject *core_version(PyObject *Py_UNUSED(module), PyObject *Py_UNUSED(none))
@@ -168,7 +168,7 @@ static PyObject *core_version(PyObject *Py_UNUSED(module), PyObject *Py_UNUSED(n
     return PyLong_FromUnsignedLong(asm_version());
 }
 
-static PyObject *imported(const char *module, const char *name)
+static PyObject *import_name(const char *module, const char *name)
 {
     PyObject *from = PyImport_ImportModule(module), *its = from ? PyObject_GetAttrString(from, name) : NULL;
     Py_XDECREF(from);
@@ -176,13 +176,13 @@ static PyObject *imported(const char *module, const char *name)
 }
 
 static PyStructSequence_Field played_fields[] = {
-    {"number", "The number of the move; 0 where the rule wrote nothing, so that nothing was fired."},
+    {"number", "The number of the move; 0 if the rule wrote nothing, so that nothing was fired."},
     {"result", "What the rule returned."},
-    {"retries", "How many tries were in vain before."},
+    {"retries", "How many tries failed before."},
     {0},
 };
 static PyStructSequence_Desc played = {
-    "folugben.Played", "What `play` has done, as a pair of the number and the result; it has `retries` too.", played_fields, 2};
+    "folugben.Played", "The result of `play`: a pair of the move's number and the rule's result, with `retries`.", played_fields, 2};
 
 static int core_begin(PyObject *module)
 {
@@ -198,9 +198,9 @@ static int core_begin(PyObject *module)
         if (!*types[k].type || PyModule_AddType(module, *types[k].type))
             return -1;
     }
-    core->counter = imported("collections", "Counter");
-    PyObject *of_async = imported("types", "CoroutineType"), *of_yield = imported("types", "GeneratorType");
-    PyObject *of_both = imported("types", "AsyncGeneratorType");
+    core->counter = import_name("collections", "Counter");
+    PyObject *of_async = import_name("types", "CoroutineType"), *of_yield = import_name("types", "GeneratorType");
+    PyObject *of_both = import_name("types", "AsyncGeneratorType");
     core->no_rules = of_async && of_yield && of_both ? PyTuple_Pack(3, of_async, of_yield, of_both) : NULL;
     Py_XDECREF(of_async);
     Py_XDECREF(of_yield);
@@ -248,10 +248,10 @@ static void core_free(void *module)
 
 static PyMethodDef methods[] = {
     {"use", core_use, METH_O, NULL},
-    {"encoded", core_encoded, METH_VARARGS, NULL},
-    {"decoded", core_decoded, METH_O, NULL},
-    {"owned", core_owned, METH_VARARGS, NULL},
-    {"told", core_told, METH_VARARGS, NULL},
+    {"encode", core_encode, METH_VARARGS, NULL},
+    {"decode", core_decode, METH_O, NULL},
+    {"to_python", core_to_python, METH_VARARGS, NULL},
+    {"text_call", core_text_call, METH_VARARGS, NULL},
     {"version", core_version, METH_NOARGS, NULL},
     {0},
 };

@@ -4,11 +4,11 @@
 #include "core.h"
 
 /* Raises the error of the code of a call on it and on other slots. */
-PyObject *location_refused(Location *self, int32_t code)
+PyObject *refuse_location(Location *self, int32_t code)
 {
     if (code == ASM_EMPTY && !IS_FULL(self))
-        return refuse(self->held.core, code, "freed", "(s)", "location");
-    return refuse(self->held.core, code, "expect", "(i)", (int)code);
+        return refuse(self->holder.core, code, "freed_object", "(s)", "location");
+    return refuse(self->holder.core, code, "expect", "(i)", (int)code);
 }
 
 static PyObject *location_new(PyTypeObject *type, PyObject *words, PyObject *named)
@@ -19,7 +19,7 @@ static PyObject *location_new(PyTypeObject *type, PyObject *words, PyObject *nam
     Text text;
     if (!PyArg_ParseTupleAndKeywords(words, named, "O", names, &place) || write_named(core, &text, place, "place"))
         return NULL;
-    Location *self = held_new(type, core);
+    Location *self = holder_new(type, core);
     if (self && (self->text = PyBytes_FromStringAndSize(text.at, (Py_ssize_t)text.len))) {
         int32_t code = asm_location(BYTES(&text), SLOT(self));
         if (code != ASM_DONE)
@@ -38,26 +38,26 @@ static PyObject *location_text(Location *self, void *Py_UNUSED(none))
 
 static PyObject *location_place(Location *self, void *Py_UNUSED(none))
 {
-    return read_own_text(self->held.core, PyBytes_AsString(self->text), (size_t)PyBytes_Size(self->text), 1);
+    return read_own_text(self->holder.core, PyBytes_AsString(self->text), (size_t)PyBytes_Size(self->text), 1);
 }
 
 static PyObject *location_repr(Location *self)
 {
-    PyObject *place = location_place(self, NULL), *told = place ? PyUnicode_FromFormat("Location(%R)", place) : NULL;
+    PyObject *place = location_place(self, NULL), *result = place ? PyUnicode_FromFormat("Location(%R)", place) : NULL;
     Py_XDECREF(place);
-    return told;
+    return result;
 }
 
-static void location_gone(Location *self)
+static void location_dealloc(Location *self)
 {
     Py_XDECREF(self->text);
-    held_gone(self);
+    holder_dealloc(self);
 }
 
 static PyMethodDef location_methods[] = {
-    HELD_METHODS,
-    {"free", (PyCFunction)held_free, METH_NOARGS, "free($self, /)\n--\n\nRelease it; it may be called again."},
-    {"__exit__", METHOD(held_exit), METH_FASTCALL, NULL},
+    HOLDER_METHODS,
+    {"free", (PyCFunction)holder_free, METH_NOARGS, "free($self, /)\n--\n\nRelease it; releasing again has no effect."},
+    {"__exit__", METHOD(holder_exit), METH_FASTCALL, NULL},
     {0},
 };
 static PyGetSetDef location_gets[] = {
@@ -67,8 +67,8 @@ static PyGetSetDef location_gets[] = {
 };
 static PyType_Slot location_slots[] = {
     {Py_tp_doc, "Location(place)\n--\n\n"
-                "A location that is prepared once, for calls of agents and steps of any storage, which write no text of it then."},
-    {Py_tp_new, location_new}, {Py_tp_dealloc, location_gone}, {Py_tp_methods, location_methods}, {Py_tp_members, held_members},
+                "A location that is prepared once, for agents and steps of any storage: calls with it write no text of it."},
+    {Py_tp_new, location_new}, {Py_tp_dealloc, location_dealloc}, {Py_tp_methods, location_methods}, {Py_tp_members, holder_members},
     {Py_tp_getset, location_gets}, {Py_tp_repr, location_repr}, {0}};
 PyType_Spec location_spec = {"folugben.Location", sizeof(Location), 0, Py_TPFLAGS_DEFAULT | Py_TPFLAGS_IMMUTABLETYPE, location_slots};
 
@@ -117,7 +117,7 @@ static int read_operand(Core *core, PyObject *value, Change *its)
     }
     its->len = (size_t)len;
     if (ODD(is_odd) && !PyErr_Occurred())
-        refuse(core, ASM_SHAPE, "odd", "(ssO)", "value", "", value);
+        refuse(core, ASM_SHAPE, "no_value", "(ssO)", "value", "", value);
     return is_odd ? -1 : 0;
 }
 
@@ -125,15 +125,15 @@ static int read_operand(Core *core, PyObject *value, Change *its)
 int place_begin(Core *core, Place *its, PyObject *place)
 {
     memset(&its->own, 0, sizeof its->own);
-    its->held = is_location(core, place) ? (Location *)place : NULL;
+    its->prepared = is_location(core, place) ? (Location *)place : NULL;
     text_begin(&its->text);
-    return its->held ? 0 : write_named(core, &its->text, place, "place");
+    return its->prepared ? 0 : write_named(core, &its->text, place, "place");
 }
 
 /* Prepares it, in the course of calls, unless it is. */
-int32_t place_made(Place *its)
+int32_t prepare_place(Place *its)
 {
-    return its->held ? ASM_DONE : asm_location(BYTES(&its->text), &its->own);
+    return its->prepared ? ASM_DONE : asm_location(BYTES(&its->text), &its->own);
 }
 
 void place_end(Place *its)
@@ -143,16 +143,16 @@ void place_end(Place *its)
 }
 
 /* Raises the error of the code of its making, or of a call that it was passed to. */
-PyObject *place_refused(Core *core, Place *its, int32_t code)
+PyObject *refuse_place(Core *core, Place *its, int32_t code)
 {
-    if (its->held)
-        return location_refused(its->held, code);
+    if (its->prepared)
+        return refuse_location(its->prepared, code);
     return refuse(core, code, "location", "(iy#)", (int)code, its->text.at, (Py_ssize_t)its->text.len);
 }
 
 static size_t place_len(Place *its)
 {
-    return its->held ? (size_t)PyBytes_Size(its->held->text) : its->text.len;
+    return its->prepared ? (size_t)PyBytes_Size(its->prepared->text) : its->text.len;
 }
 
 int change_begin(Core *core, Change *its, PyObject *const *words, Py_ssize_t count, int verb)
@@ -187,7 +187,7 @@ void change_end(Change *its)
 /* Appends it to the instructions of a move. */
 int32_t change_put(Change *its, struct asm_move *move)
 {
-    its->code = place_made(&its->place);
+    its->code = prepare_place(&its->place);
     its->is_placed = its->code == ASM_DONE;
     if (its->is_placed)
         its->code = asm_instruct(move, AT(&its->place), its->verb, its->kind, its->number, its->at, its->len, its->amount);
@@ -200,36 +200,36 @@ uint64_t change_size(Change *its)
 }
 
 /* Raises why it was not appended. */
-PyObject *change_refused(Core *core, Change *its)
+PyObject *refuse_change(Core *core, Change *its)
 {
     Place *at = &its->place;
     if (!its->is_placed || its->code == ASM_EMPTY)
-        return place_refused(core, at, its->code);
-    const char *text = at->held ? PyBytes_AsString(at->held->text) : at->text.at;
-    return refuse(core, its->code, "instructed", "(iy#iiLy#I)", (int)its->code, text, (Py_ssize_t)place_len(at), its->verb, its->kind,
+        return refuse_place(core, at, its->code);
+    const char *text = at->prepared ? PyBytes_AsString(at->prepared->text) : at->text.at;
+    return refuse(core, its->code, "instruct", "(iy#iiLy#I)", (int)its->code, text, (Py_ssize_t)place_len(at), its->verb, its->kind,
         (long long)its->number, its->at, (Py_ssize_t)its->len, (unsigned)its->amount);
 }
 
 static PyObject *instruct(Move *self, PyObject *const *words, Py_ssize_t count, int verb)
 {
-    Core *core = self->held.core;
+    Core *core = self->holder.core;
     Change its;
-    PyObject *told = NULL;
+    PyObject *result = NULL;
     if (change_begin(core, &its, words, count, verb))
         return NULL;
-    if (!UNREADY(&self->held) && !PLACE_UNREADY(&its.place)) {
+    if (!UNREADY(&self->holder) && !PLACE_UNREADY(&its.place)) {
         if (ODD(self->is_freed))
-            refuse(core, ASM_EMPTY, "freed", "(s)", "move");
+            refuse(core, ASM_EMPTY, "freed_object", "(s)", "move");
         else if (ODD(change_put(&its, SLOT(self)) != ASM_DONE))
-            change_refused(core, &its);
+            refuse_change(core, &its);
         else {
             self->count++;
             self->size += change_size(&its);
-            told = Py_NewRef((PyObject *)self);
+            result = Py_NewRef((PyObject *)self);
         }
     }
     change_end(&its);
-    return told;
+    return result;
 }
 
 CHANGES(static, Move, move, instruct)
@@ -242,19 +242,19 @@ static Py_ssize_t move_len(Move *self)
 /* Appends the instructions of another move. */
 static PyObject *unite(Move *self, PyObject *it)
 {
-    Core *core = self->held.core;
+    Core *core = self->holder.core;
     Move *other = (Move *)it;
     if (Py_TYPE(it) != core->move || other == self) {
         PyErr_SetString(PyExc_TypeError, "a move is united with another Move");
         return NULL;
     }
-    if (UNREADY(&self->held) || UNREADY(&other->held))
+    if (UNREADY(&self->holder) || UNREADY(&other->holder))
         return NULL;
     if (ODD(self->is_freed || other->is_freed))
-        return refuse(core, ASM_EMPTY, "freed", "(s)", "move");
+        return refuse(core, ASM_EMPTY, "freed_object", "(s)", "move");
     int32_t code = IS_FULL(other) ? asm_unite(SLOT(self), SLOT(other)) : ASM_DONE;
     if (ODD(code != ASM_DONE))
-        return refuse(core, code, "united", "(inn)", (int)code, move_len(self), move_len(other));
+        return refuse(core, code, "unite", "(inn)", (int)code, move_len(self), move_len(other));
     self->count += move_len(other);
     self->size += other->size;
     return Py_NewRef((PyObject *)self);
@@ -267,7 +267,7 @@ static PyObject *move_or(PyObject *one, PyObject *two)
         PyErr_Clear();
         return Py_NewRef(Py_NotImplemented);
     }
-    Move *both = held_new(core->move, core);
+    Move *both = holder_new(core->move, core);
     PyObject *first = both ? unite(both, one) : NULL, *second = first ? unite(both, two) : NULL;
     Py_XDECREF(first);
     Py_XDECREF((PyObject *)both);
@@ -284,17 +284,17 @@ static void drop(Move *self)
 
 static PyObject *move_clear(Move *self, PyObject *Py_UNUSED(none))
 {
-    if (UNREADY(&self->held))
+    if (UNREADY(&self->holder))
         return NULL;
     if (ODD(self->is_freed))
-        return refuse(self->held.core, ASM_EMPTY, "freed", "(s)", "move");
+        return refuse(self->holder.core, ASM_EMPTY, "freed_object", "(s)", "move");
     drop(self);
     return Py_NewRef((PyObject *)self);
 }
 
 static PyObject *move_free(Move *self, PyObject *Py_UNUSED(none))
 {
-    if (UNREADY(&self->held))
+    if (UNREADY(&self->holder))
         return NULL;
     drop(self);
     self->is_freed = 1;
@@ -309,7 +309,7 @@ static PyObject *move_exit(Move *self, PyObject *const *Py_UNUSED(words), Py_ssi
 static PyObject *move_new(PyTypeObject *type, PyObject *words, PyObject *named)
 {
     static char *names[] = {NULL};
-    return PyArg_ParseTupleAndKeywords(words, named, "", names) ? held_new(type, core_of(type)) : NULL;
+    return PyArg_ParseTupleAndKeywords(words, named, "", names) ? holder_new(type, core_of(type)) : NULL;
 }
 
 static int move_bool(Move *Py_UNUSED(self))
@@ -325,24 +325,26 @@ static PyObject *move_repr(Move *self)
 }
 
 static PyMethodDef methods[] = {
-    HELD_METHODS,
+    HOLDER_METHODS,
     CHANGE_METHODS(move),
     {"bagadd", METHOD(move_bag_add), METH_FASTCALL, NULL},
     {"bagremove", METHOD(move_bag_remove), METH_FASTCALL, NULL},
     {"unite", (PyCFunction)unite, METH_O,
-        "unite($self, other, /)\n--\n\nAppend the instructions of another move: it does then what both do at once. `ManyError` where these\n"
-        "are more than 4,096; nothing is appended then. `one | other` makes a third move."},
+        "unite($self, other, /)\n--\n\n"
+        "Append the instructions of another move: the move then does what both do at once. `one | other` makes a third move.\n\n"
+        "Raises:\n"
+        "    ManyError: there are more than 4,096 instructions; nothing is appended."},
     {"clear", (PyCFunction)move_clear, METH_NOARGS, "clear($self, /)\n--\n\nDrop its instructions."},
-    {"free", (PyCFunction)move_free, METH_NOARGS, "free($self, /)\n--\n\nRelease it; it may be called again."},
+    {"free", (PyCFunction)move_free, METH_NOARGS, "free($self, /)\n--\n\nRelease it; releasing again has no effect."},
     {"__exit__", METHOD(move_exit), METH_FASTCALL, NULL},
     {0},
 };
 static PyType_Slot slots[] = {
     {Py_tp_doc, "Move()\n--\n\n"
-                "A move that is gathered instruction by instruction, and pushed by a step; at prepared locations without any text.\n\n"
-                "It keeps its instructions until `clear`, and may be pushed any number of times, in steps of any storage. One that\n"
-                "`Step.pop_move` returns counts what was popped as one instruction; more can be gathered behind that."},
-    {Py_tp_new, move_new}, {Py_tp_dealloc, held_gone}, {Py_tp_methods, methods}, {Py_tp_members, held_members},
-    {Py_tp_getset, held_gets}, {Py_tp_repr, move_repr}, {Py_sq_length, move_len}, {Py_nb_bool, move_bool},
+                "A move that is gathered instruction by instruction, and pushed by a step; without text if its locations are prepared.\n\n"
+                "It retains its instructions until `clear`, and may be pushed any number of times, in steps of any storage. A move that\n"
+                "`Step.pop_move` returns counts the popped moves as one instruction, and more may be appended."},
+    {Py_tp_new, move_new}, {Py_tp_dealloc, holder_dealloc}, {Py_tp_methods, methods}, {Py_tp_members, holder_members},
+    {Py_tp_getset, holder_getters}, {Py_tp_repr, move_repr}, {Py_sq_length, move_len}, {Py_nb_bool, move_bool},
     {Py_nb_or, move_or}, {Py_nb_inplace_or, unite}, {0}};
 PyType_Spec move_spec = {"folugben.Move", sizeof(Move), 0, Py_TPFLAGS_DEFAULT | Py_TPFLAGS_IMMUTABLETYPE, slots};

@@ -1,7 +1,7 @@
 /* Rules that agents play, and agents that one thread plays by turns. */
 #include "core.h"
 
-void agent_saw(Agent *self)
+void update_seen(Agent *self)
 {
     self->seen = asm_seen(SLOT(self));
     self->is_behind = 0;
@@ -11,12 +11,12 @@ void agent_saw(Agent *self)
  * step, and has seen more, it takes the state of that one, so that it follows only the newest moves. That one is behind then,
  * and catches up before it reports its own state. The interpreter's lock is held, so nobody else is at work with either,
  * unless its slot is busy. */
-void agent_turn(Agent *self)
+void take_newest_state(Agent *self)
 {
     unsigned long thread = PyThread_get_thread_ident();
     Turn *turn = &self->storage->turns[(thread >> 12) % TURNS];
     Agent *other = turn->thread == thread ? turn->agent : NULL;
-    int is_free = other && other != self && other->thread == thread && !other->steps && !other->held.is_busy;
+    int is_free = other && other != self && other->thread == thread && !other->steps && !other->holder.is_busy;
     if (is_free && other->seen > self->seen && asm_take_state(SLOT(self), SLOT(other)) == ASM_DONE) {
         other->seen = self->seen;
         other->is_behind = 1;
@@ -27,7 +27,7 @@ void agent_turn(Agent *self)
 }
 
 /* Follows if another agent has taken its state; in the course of calls. */
-int32_t agent_catches_up(Agent *self)
+int32_t catch_up(Agent *self)
 {
     uint32_t number;
     int32_t code = self->is_behind ? asm_follow(SLOT(self), &number) : ASM_DONE;
@@ -35,44 +35,44 @@ int32_t agent_catches_up(Agent *self)
     return code;
 }
 
-static PyObject *played(Core *core, int64_t number, PyObject *told, long tries)
+static PyObject *new_played(Core *core, int64_t number, PyObject *result, long tries)
 {
     PyObject *its = PyStructSequence_New(core->played), *one = PyLong_FromLongLong(number), *retries = PyLong_FromLong(tries);
     if (its && one && retries) {
         PyStructSequence_SetItem(its, 0, one);
-        PyStructSequence_SetItem(its, 1, told);
+        PyStructSequence_SetItem(its, 1, result);
         PyStructSequence_SetItem(its, 2, retries);
         return its;
     }
     Py_XDECREF(its);
     Py_XDECREF(one);
     Py_XDECREF(retries);
-    Py_DECREF(told);
+    Py_DECREF(result);
     return NULL;
 }
 
 /* What follows an attempt: what was played, or null; null without an exception means: try again. */
-static PyObject *tried(Step *step, PyObject *told, long tries)
+static PyObject *end_attempt(Step *step, PyObject *result, long tries)
 {
-    Core *core = step->held.core;
-    if (told && ODD(PyObject_IsInstance(told, core->no_rules))) {
-        refuse(core, ASM_SHAPE, "no_rule", "(O)", told);
-        Py_CLEAR(told);
+    Core *core = step->holder.core;
+    if (result && ODD(PyObject_IsInstance(result, core->no_rules))) {
+        refuse(core, ASM_SHAPE, "no_rule", "(O)", result);
+        Py_CLEAR(result);
     }
-    int is_idle = told && !step->is_pushed && IS_FULL(step);
-    int64_t number = !told ? -1 : is_idle ? 0 : step_fires(step, 1);
-    if (IS_FULL(step) && !(ODD(step->agent->held.is_busy) && unready(&step->agent->held)))
+    int is_idle = result && !step->is_pushed && IS_FULL(step);
+    int64_t number = !result ? -1 : is_idle ? 0 : fire_step(step, 1);
+    if (IS_FULL(step) && !(ODD(step->agent->holder.is_busy) && unready(&step->agent->holder)))
         step_drop(step);
     Py_DECREF((PyObject *)step);
     if (is_idle || number > 0)
-        return played(core, number, told, tries);
-    Py_XDECREF(told);
+        return new_played(core, number, result, tries);
+    Py_XDECREF(result);
     return NULL;
 }
 
 PyObject *agent_play(Agent *self, PyObject *words, PyObject *named)
 {
-    Core *core = self->held.core;
+    Core *core = self->holder.core;
     PyObject *rule, *its = NULL;
     if (named) {
         PyObject *call = PyObject_GetAttrString(core->refusals, "play"), *before = call ? PyTuple_Pack(1, (PyObject *)self) : NULL;
@@ -86,13 +86,13 @@ PyObject *agent_play(Agent *self, PyObject *words, PyObject *named)
     if (!PyArg_ParseTuple(words, "O:play", &rule))
         return NULL;
     for (long tries = 0;; tries++) {
-        Step *step = step_begun(self, core->step);
-        its = step ? tried(step, PyObject_CallFunctionObjArgs(rule, (PyObject *)step, NULL), tries) : NULL;
+        Step *step = begin_step(self, core->step);
+        its = step ? end_attempt(step, PyObject_CallFunctionObjArgs(rule, (PyObject *)step, NULL), tries) : NULL;
         if (its || PyErr_Occurred())
             return its;
-        PyObject *waited = PyErr_CheckSignals() ? NULL : PyObject_CallMethod(core->refusals, "back_off", "l", tries);
-        if (!waited)
+        PyObject *none = PyErr_CheckSignals() ? NULL : PyObject_CallMethod(core->refusals, "back_off", "l", tries);
+        if (!none)
             return NULL;
-        Py_DECREF(waited);
+        Py_DECREF(none);
     }
 }

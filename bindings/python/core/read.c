@@ -12,7 +12,7 @@ typedef struct {
 
 static PyObject *read_value(Reader *from);
 
-static PyObject *broken(void)
+static PyObject *refuse_json(void)
 {
     if (!PyErr_Occurred())
         PyErr_SetString(PyExc_SystemError, "folugben: the library wrote a text that can't be read");
@@ -44,7 +44,7 @@ static char *utf_8(char *to, unsigned character)
 }
 
 /* A text with escapes, from after its first quote to its last one. */
-static PyObject *unescaped(const char *at, const char *end)
+static PyObject *unescape(const char *at, const char *end)
 {
     static const char from[] = "nrtbf", to[] = "\n\r\t\b\f";
     char *room = PyMem_Malloc((size_t)(end - at)), *put = room;
@@ -62,14 +62,14 @@ static PyObject *unescaped(const char *at, const char *end)
             }
             put = utf_8(put, character);
         } else {
-            const char *known = strchr(from, at[1]);
-            *put++ = known && *known ? to[known - from] : at[1];
+            const char *escape = strchr(from, at[1]);
+            *put++ = escape && *escape ? to[escape - from] : at[1];
             at += 2;
         }
     }
-    PyObject *told = PyUnicode_DecodeUTF8(room, put - room, NULL);
+    PyObject *result = PyUnicode_DecodeUTF8(room, put - room, NULL);
     PyMem_Free(room);
-    return told;
+    return result;
 }
 
 static PyObject *read_str(Reader *from)
@@ -82,9 +82,9 @@ static PyObject *read_str(Reader *from)
             at++;
         }
     if (at >= from->end)
-        return broken();
+        return refuse_json();
     from->at = at + 1;
-    return is_escaped ? unescaped(begin, at) : PyUnicode_DecodeUTF8(begin, at - begin, NULL);
+    return is_escaped ? unescape(begin, at) : PyUnicode_DecodeUTF8(begin, at - begin, NULL);
 }
 
 /* Returns whether the closing character is next; a comma before another member is skipped. */
@@ -114,20 +114,20 @@ static PyObject *read_items(Reader *from)
 }
 
 /* A list as the result of a Python function on it. */
-static PyObject *made_of(PyObject *list, PyObject *(*make)(PyObject *))
+static PyObject *convert_list(PyObject *list, PyObject *(*make)(PyObject *))
 {
-    PyObject *told = list ? make(list) : NULL;
+    PyObject *result = list ? make(list) : NULL;
     Py_XDECREF(list);
-    return told;
+    return result;
 }
 
 static PyObject *read_list(Reader *from)
 {
     PyObject *list = read_items(from);
-    return from->is_own && from->depth > 0 ? made_of(list, PyList_AsTuple) : list;
+    return from->is_own && from->depth > 0 ? convert_list(list, PyList_AsTuple) : list;
 }
 
-static PyObject *counted(Core *core, PyObject *pairs)
+static PyObject *new_counter(Core *core, PyObject *pairs)
 {
     PyObject *bag = PyObject_CallNoArgs(core->counter);
     for (Py_ssize_t k = 0; bag && k < PyList_Size(pairs); k++) {
@@ -141,15 +141,15 @@ static PyObject *counted(Core *core, PyObject *pairs)
 /* A set or a bag; it stays as in JSON if two of its elements are equal in Python, as True and 1. */
 static PyObject *read_members(Reader *from, int is_bag)
 {
-    PyObject *list = read_items(from), *told = NULL;
+    PyObject *list = read_items(from), *result = NULL;
     if (list)
-        told = is_bag ? counted(from->core, list) : PyFrozenSet_New(list);
-    if (told && (is_bag ? PyDict_Size(told) : PySet_Size(told)) != PyList_Size(list)) {
-        Py_DECREF(told);
-        told = Py_BuildValue("{sO}", is_bag ? "bag" : "set", list);
+        result = is_bag ? new_counter(from->core, list) : PyFrozenSet_New(list);
+    if (result && (is_bag ? PyDict_Size(result) : PySet_Size(result)) != PyList_Size(list)) {
+        Py_DECREF(result);
+        result = Py_BuildValue("{sO}", is_bag ? "bag" : "set", list);
     }
     Py_XDECREF(list);
-    return told;
+    return result;
 }
 
 static int begins(Reader *from, const char *word)
@@ -164,17 +164,17 @@ static int begins(Reader *from, const char *word)
 /* A list, a set or a bag as Python's own; null without an exception if an object is none. */
 static PyObject *read_own(Reader *from)
 {
-    PyObject *told;
+    PyObject *result;
     if (begins(from, "{\"list\":"))
-        told = made_of(read_items(from), PyList_AsTuple);
+        result = convert_list(read_items(from), PyList_AsTuple);
     else if (begins(from, "{\"set\":"))
-        told = read_members(from, 0);
+        result = read_members(from, 0);
     else if (begins(from, "{\"bag\":"))
-        told = read_members(from, 1);
+        result = read_members(from, 1);
     else
         return NULL;
     from->at++;
-    return told;
+    return result;
 }
 
 static PyObject *read_object(Reader *from)
@@ -186,7 +186,7 @@ static PyObject *read_object(Reader *from)
     from->at++;
     from->depth++;
     while (dict && !is_end(from, '}')) {
-        PyObject *key = from->at < from->end && *from->at == '"' ? read_str(from) : broken(), *one = NULL;
+        PyObject *key = from->at < from->end && *from->at == '"' ? read_str(from) : refuse_json(), *one = NULL;
         from->at++;
         if (!key || !(one = read_value(from)) || PyDict_SetItem(dict, key, one))
             Py_CLEAR(dict);
@@ -201,7 +201,7 @@ static PyObject *read_word(Reader *from, const char *word, PyObject *value)
 {
     size_t len = strlen(word);
     if ((size_t)(from->end - from->at) < len || memcmp(from->at, word, len))
-        return broken();
+        return refuse_json();
     from->at += len;
     return Py_NewRef(value);
 }
@@ -216,11 +216,11 @@ static PyObject *read_number(Reader *from)
         number = 10 * number + (unsigned)(*from->at - '0');
     size_t len = (size_t)(from->at - begin);
     if (ODD(len == (size_t)is_minus))
-        return broken();
+        return refuse_json();
     if (ODD(len > 18)) {
         char digits[32];
         if (len >= sizeof digits)
-            return broken();
+            return refuse_json();
         memcpy(digits, begin, len);
         digits[len] = 0;
         return PyLong_FromString(digits, NULL, 10);
@@ -231,7 +231,7 @@ static PyObject *read_number(Reader *from)
 static PyObject *read_value(Reader *from)
 {
     if (from->at >= from->end)
-        return broken();
+        return refuse_json();
     switch (*from->at) {
     case '"': return read_str(from);
     case '[': return read_list(from);
@@ -265,7 +265,7 @@ PyObject *read_values(Core *core, Room *room, uint32_t *number)
     for (*number = 0; at < end && *at != ','; at++)
         *number = 10 * *number + (uint32_t)(*at - '0');
     at += sizeof between - 1;
-    return at < end ? read_own_text(core, at, (size_t)(end - at), 0) : broken();
+    return at < end ? read_own_text(core, at, (size_t)(end - at), 0) : refuse_json();
 }
 
 /* The value that a call without text returned. */

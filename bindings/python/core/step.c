@@ -2,13 +2,13 @@
 #include "core.h"
 
 /* Raises the error of the code of a call on it, and on the location or the move that was passed. */
-PyObject *step_refused(Step *self, int32_t code)
+PyObject *refuse_step(Step *self, int32_t code)
 {
-    return refuse(self->held.core, code, code == ASM_EMPTY ? "over" : "step", "(iO)", (int)code, (PyObject *)self);
+    return refuse(self->holder.core, code, code == ASM_EMPTY ? "step_over" : "step", "(iO)", (int)code, (PyObject *)self);
 }
 
 /* A step is over if its slot is empty. */
-static void closes(Step *self)
+static void count_closed(Step *self)
 {
     self->agent->steps -= self->is_open && !IS_FULL(self);
     self->is_open &= IS_FULL(self);
@@ -17,27 +17,27 @@ static void closes(Step *self)
 void step_drop(Step *self)
 {
     asm_free(SLOT(self));
-    closes(self);
+    count_closed(self);
 }
 
 /* Makes a step of a type, and begins it. */
-Step *step_begun(Agent *agent, PyTypeObject *type)
+Step *begin_step(Agent *agent, PyTypeObject *type)
 {
-    Step *self = held_new(type, agent->held.core);
+    Step *self = holder_new(type, agent->holder.core);
     if (!self)
         return NULL;
     self->agent = (Agent *)Py_NewRef((PyObject *)agent);
     int32_t code;
     /* Last, as making it may run Python code. */
-    if (UNREADY(&agent->held)) {
+    if (UNREADY(&agent->holder)) {
         Py_DECREF((PyObject *)self);
         return NULL;
     }
-    agent_turn(agent);
-    CALL(code, &agent->held, agent_is_far(agent), asm_begin(SLOT(agent), SLOT(self), &self->number));
+    take_newest_state(agent);
+    CALL(code, &agent->holder, agent_is_far(agent), asm_begin(SLOT(agent), SLOT(self), &self->number));
     if (ODD(code != ASM_DONE)) {
         Py_DECREF((PyObject *)self);
-        return (Step *)agent_refused(agent, code);
+        return (Step *)refuse_agent(agent, code);
     }
     agent->seen = self->number;
     agent->is_behind = 0;
@@ -53,10 +53,10 @@ static PyObject *step_new(PyTypeObject *type, PyObject *words, PyObject *named)
     static char *names[] = {"agent", NULL};
     Agent *agent;
     int is_right = PyArg_ParseTupleAndKeywords(words, named, "O!", names, core_of(type)->agent, &agent);
-    return is_right ? (PyObject *)step_begun(agent, type) : NULL;
+    return is_right ? (PyObject *)begin_step(agent, type) : NULL;
 }
 
-static void step_gone(Step *self)
+static void step_dealloc(Step *self)
 {
     Agent *agent = self->agent;
     PyObject_GC_UnTrack(self);
@@ -64,7 +64,7 @@ static void step_gone(Step *self)
         agent->steps -= self->is_open;
         agent->last = agent->last == self ? NULL : agent->last;
     }
-    held_gone(self);
+    holder_dealloc(self);
     Py_XDECREF((PyObject *)agent);
 }
 
@@ -79,16 +79,16 @@ static PyObject *offer(Step *self, int is_text)
 {
     Room room;
     int32_t code;
-    if (UNREADY(&self->agent->held))
+    if (UNREADY(&self->agent->holder))
         return NULL;
     room_begin(&room);
-    TOLD(code, &room, asm_offer(SLOT(self), ROOM(&room)));
+    WITH_ROOM(code, &room, asm_offer(SLOT(self), ROOM(&room)));
     PyObject *its;
     if (code != ASM_DONE)
-        its = step_refused(self, code);
+        its = refuse_step(self, code);
     else
         its = is_text ? PyBytes_FromStringAndSize((char *)room.at, (Py_ssize_t)room.written)
-                      : read_own_text(self->held.core, room.at, room.written, 0);
+                      : read_own_text(self->holder.core, room.at, room.written, 0);
     room_end(&room);
     return its;
 }
@@ -104,34 +104,34 @@ static PyObject *step_offer_text(Step *self, PyObject *Py_UNUSED(none))
 }
 
 /* Commits, and writes the answer of a refusal. Only a commit that records can answer that the agent has moved on. */
-static int32_t commits(Step *self, asm_numbers *numbers, Room *room)
+static int32_t commit_and_answer(Step *self, asm_numbers *numbers, Room *room)
 {
     Agent *agent = self->agent;
-    int32_t answered, code = agent->storage->records ? asm_commit_recorded(SLOT(agent), SLOT(self), numbers)
+    int32_t answer_code, code = agent->storage->records ? asm_commit_recorded(SLOT(agent), SLOT(self), numbers)
                                                      : asm_commit(SLOT(agent), SLOT(self), numbers);
     if (ODD(room && (code == ASM_STALE || code == ASM_CLASH))) {
-        TOLD(answered, room, asm_answer(SLOT(agent), ROOM(room)));
-        code = answered == ASM_DONE ? code : answered;
+        WITH_ROOM(answer_code, room, asm_answer(SLOT(agent), ROOM(room)));
+        code = answer_code == ASM_DONE ? code : answer_code;
     }
     return code;
 }
 
 /* Fires. Returns the number of the move, 0 if an attempt must be begun again, -1 with an exception. */
-int64_t step_fires(Step *self, int is_try)
+int64_t fire_step(Step *self, int is_try)
 {
     Agent *agent = self->agent;
     asm_numbers numbers;
     Room room;
     int32_t code;
-    if (UNREADY(&agent->held))
+    if (UNREADY(&agent->holder))
         return -1;
     room_begin(&room);
-    CALL(code, &agent->held, agent_is_far(agent), commits(self, &numbers, is_try ? NULL : &room));
+    CALL(code, &agent->holder, agent_is_far(agent), commit_and_answer(self, &numbers, is_try ? NULL : &room));
     agent->seen = asm_seen(SLOT(agent));
     if (code == ASM_DONE) {
         self->fired = numbers.fired;
         self->is_fired = 1;
-        closes(self);
+        count_closed(self);
         if (numbers.fired > agent->storage->last)
             agent->storage->last = numbers.fired;
         return (int64_t)(agent->base + numbers.fired);
@@ -139,9 +139,9 @@ int64_t step_fires(Step *self, int is_try)
     self->is_tried |= code != ASM_EMPTY;
     int is_vain = is_try && (code == ASM_STALE || code == ASM_CLASH || code == ASM_BUSY || code == ASM_MOVED);
     if (!is_vain && code == ASM_EMPTY)
-        step_refused(self, code);
+        refuse_step(self, code);
     else if (!is_vain)
-        refuse(self->held.core, code, "committed", "(iy#II)", (int)code, room.at, (Py_ssize_t)room.written, (unsigned)numbers.from,
+        refuse(self->holder.core, code, "commit", "(iy#II)", (int)code, room.at, (Py_ssize_t)room.written, (unsigned)numbers.from,
             (unsigned)numbers.to);
     room_end(&room);
     return is_vain ? 0 : -1;
@@ -149,13 +149,13 @@ int64_t step_fires(Step *self, int is_try)
 
 static PyObject *step_commit(Step *self, PyObject *Py_UNUSED(none))
 {
-    int64_t number = step_fires(self, 0);
+    int64_t number = fire_step(self, 0);
     return number < 0 ? NULL : PyLong_FromLongLong(number);
 }
 
 static PyObject *step_try_commit(Step *self, PyObject *Py_UNUSED(none))
 {
-    int64_t number = step_fires(self, 1);
+    int64_t number = fire_step(self, 1);
     return number < 0 ? NULL : PyLong_FromLongLong(number);
 }
 
@@ -173,7 +173,7 @@ static PyObject *step_try_fire(PyObject *self, PyObject *Py_UNUSED(none))
 
 static PyObject *step_free(Step *self, PyObject *Py_UNUSED(none))
 {
-    if (UNREADY(&self->agent->held))
+    if (UNREADY(&self->agent->holder))
         return NULL;
     step_drop(self);
     return Py_NewRef(Py_None);
@@ -182,7 +182,7 @@ static PyObject *step_free(Step *self, PyObject *Py_UNUSED(none))
 /* Of a shared run: the step is over, as the run has fired its move. */
 static PyObject *step_end(Step *self, PyObject *fired)
 {
-    if (number_of(self->held.core, fired, "move", 0, UINT32_MAX, &self->fired))
+    if (number_of(self->holder.core, fired, "move", 0, UINT32_MAX, &self->fired))
         return NULL;
     self->is_fired = 1;
     return step_free(self, NULL);
@@ -192,7 +192,7 @@ static PyObject *step_exit(Step *self, PyObject *const *words, Py_ssize_t count)
 {
     if (self->is_fired)
         return Py_NewRef(Py_None);
-    if (UNREADY(&self->agent->held))
+    if (UNREADY(&self->agent->holder))
         return NULL;
     int is_forgotten = count > 0 && words[0] == Py_None && !self->is_tried && self->is_pushed && asm_depth(SLOT(self)) > 0;
     step_drop(self);
@@ -204,7 +204,7 @@ static PyObject *step_exit(Step *self, PyObject *const *words, Py_ssize_t count)
 static PyObject *step_repr(Step *self)
 {
     Agent *agent = self->agent;
-    if (UNREADY(&agent->held))
+    if (UNREADY(&agent->holder))
         return NULL;
     if (self->is_fired || !IS_FULL(self))
         return PyUnicode_FromString("<Step, over>");
@@ -217,14 +217,14 @@ static PyObject *step_number(Step *self, void *Py_UNUSED(none))
     return PyLong_FromUnsignedLongLong(self->agent->base + self->number);
 }
 
-static PyObject *step_fired(Step *self, void *Py_UNUSED(none))
+static PyObject *step_fired_number(Step *self, void *Py_UNUSED(none))
 {
     return PyLong_FromUnsignedLongLong(self->fired ? self->agent->base + self->fired : 0);
 }
 
 static PyObject *step_depth(Step *self, void *Py_UNUSED(none))
 {
-    return UNREADY(&self->agent->held) ? NULL : PyLong_FromUnsignedLong(asm_depth(SLOT(self)));
+    return UNREADY(&self->agent->holder) ? NULL : PyLong_FromUnsignedLong(asm_depth(SLOT(self)));
 }
 
 static PyObject *step_agent(Step *self, void *Py_UNUSED(none))
@@ -232,60 +232,74 @@ static PyObject *step_agent(Step *self, void *Py_UNUSED(none))
     return Py_NewRef((PyObject *)self->agent);
 }
 
-static PyObject *step_full(Step *self, void *Py_UNUSED(none))
+static PyObject *step_is_full(Step *self, void *Py_UNUSED(none))
 {
-    return UNREADY(&self->agent->held) ? NULL : PyBool_FromLong(IS_FULL(self));
+    return UNREADY(&self->agent->holder) ? NULL : PyBool_FromLong(IS_FULL(self));
 }
 
 static PyMethodDef methods[] = {
-    HELD_METHODS,
+    HOLDER_METHODS,
     CHANGE_METHODS(step),
     {"get", (PyCFunction)step_get, METH_O,
-        "get($self, places, /)\n--\n\nReturn the values of the locations, as they are seen through the pushed moves; of a `Location` its value.\n\n"
-        "A location is got where its value is made from that of the state below, and the fire names it. At most 256 are got and\n"
-        "functions scanned, else `ManyError`. What a pushed move put there depends on nothing."},
+        "get($self, places, /)\n--\n\nReturn the values of the locations, as seen through the pushed moves; of a `Location` its value.\n\n"
+        "A get is tracked, so the fire depends on it, if the value depends on that of the state below. What a pushed move put there isn't\n"
+        "tracked.\n\n"
+        "Raises:\n"
+        "    ManyError: the step would depend on more than 256 locations and functions."},
     {"see", (PyCFunction)step_see, METH_O,
-        "see($self, places, /)\n--\n\nReturn what `get` returns, but the step doesn't depend on it: for what is shown, of any number of locations."},
+        "see($self, places, /)\n--\n\n"
+        "Return what `get` returns, of any number of locations, but track nothing: the step doesn't depend on it."},
     {"scan", (PyCFunction)step_scan, METH_O,
         "scan($self, name, /)\n--\n\nReturn each location with this function name and its value, as a list of pairs, ascending.\n\n"
         "The step then depends on the whole function: a write to any location of it makes the fire `StaleError`."},
     {"push", (PyCFunction)step_push, METH_O,
-        "push($self, instructions, /)\n--\n\nPush a move, which is fired with the others.\n\n"
-        "`ClashError`, with the location and the cause, where its updates clash on what is seen; `ManyError` for more than 4,096 instructions\n"
-        "in all; `DeepError` where 64 moves are pushed. A push that is refused, or popped, is a dry run."},
+        "push($self, instructions, /)\n--\n\n"
+        "Push a move, which is fired with the others. A push that is refused, or popped, is a dry run.\n\n"
+        "Raises:\n"
+        "    ClashError: its updates clash on what is seen; the error has the location and the cause.\n"
+        "    ManyError: the moves have more than 4,096 instructions together.\n"
+        "    DeepError: 64 moves are pushed."},
     {"extend", (PyCFunction)step_extend, METH_O,
-        "extend($self, instructions, /)\n--\n\nThe same, but the move joins the one that was pushed last, and is popped with it."},
+        "extend($self, instructions, /)\n--\n\nDo the same, but add the move to the one that was pushed last; both are popped together."},
     {"pop", (PyCFunction)step_pop, METH_NOARGS,
-        "pop($self, /)\n--\n\nTake away the move that was pushed last, with those that extend it. `Error` with the code NO_PUSH without one."},
+        "pop($self, /)\n--\n\nRemove the move that was pushed last, with those that extend it.\n\n"
+        "Raises:\n"
+        "    Error: no move is pushed; the code is NO_PUSH."},
     {"pop_move", (PyCFunction)step_pop_move, METH_NOARGS,
-        "pop_move($self, /)\n--\n\nThe same, and return the one move that does what the popped ones do in turn. `ManyError` where that has more\n"
-        "than 4,096 instructions; nothing is popped then."},
+        "pop_move($self, /)\n--\n\nDo the same, and return the one move that does what the popped moves do in turn.\n\n"
+        "Raises:\n"
+        "    ManyError: that move has more than 4,096 instructions; nothing is popped."},
     {"offer", (PyCFunction)step_offer, METH_NOARGS,
-        "offer($self, /)\n--\n\nReturn what `commit` would offer: {\"fire\": [..], \"reads\": [..]}, which `Agent.fire` takes. Scans aren't in it."},
+        "offer($self, /)\n--\n\n"
+        "Return what `commit` would attempt to append: {\"fire\": [..], \"reads\": [..]}, as `Agent.fire` takes it, without scans."},
     {"commit", (PyCFunction)step_commit, METH_NOARGS,
-        "commit($self, /)\n--\n\nFire one move that does what the pushed moves do in turn. Return its number; the step is over then.\n\n"
-        "A `ConflictError` where the step is to be begun again: `StaleError`, `BusyError`, `CommitClashError` where what is written\n"
-        "by now doesn't bear an update, or `CommitMovedError` where it records and its agent has gone on. `FullError` as of a fire; `ManyError` where more than 256 locations and functions are named."},
+        "commit($self, /)\n--\n\n"
+        "Fire one move that does what the pushed moves do in turn, and return its number. The step is over then.\n\n"
+        "Raises:\n"
+        "    ConflictError: begin the step again. It is a `StaleError`, a `BusyError`, a `CommitClashError` if the present values don't\n"
+        "        accept an update, or a `CommitMovedError` if it records and its agent has moved past the step's number.\n"
+        "    FullError: the number of fired moves has reached the capacity.\n"
+        "    ManyError: the fire would name more than 256 locations and functions."},
     {"try_commit", (PyCFunction)step_try_commit, METH_NOARGS,
-        "try_commit($self, /)\n--\n\nThe same, but return 0 where the step is to be begun again."},
+        "try_commit($self, /)\n--\n\nCommit the same way, but return 0 if the step must be begun again."},
     {"fire", step_fire, METH_NOARGS, NULL},
     {"try_fire", step_try_fire, METH_NOARGS, NULL},
-    {"free", (PyCFunction)step_free, METH_NOARGS, "free($self, /)\n--\n\nRelease it; it may be called again."},
+    {"free", (PyCFunction)step_free, METH_NOARGS, "free($self, /)\n--\n\nRelease it; releasing again has no effect."},
     {"_offer_text", (PyCFunction)step_offer_text, METH_NOARGS, NULL},
     {"_end", (PyCFunction)step_end, METH_O, NULL},
     {"__exit__", METHOD(step_exit), METH_FASTCALL, NULL},
     {0},
 };
 static PyGetSetDef gets[] = {
-    {"_is_full", (getter)step_full, NULL, NULL, NULL},
+    {"_is_full", (getter)step_is_full, NULL, NULL, NULL},
     {"_agent", (getter)step_agent, NULL, NULL, NULL},
-    {"number", (getter)step_number, NULL, "How many moves had led to the state that it sees.", NULL},
-    {"fired", (getter)step_fired, NULL, "The number of the move that it fired, 0 where it fired none.", NULL},
+    {"number", (getter)step_number, NULL, "The version of the state that it sees: how many moves had been fired.", NULL},
+    {"fired", (getter)step_fired_number, NULL, "The number of the move that it fired; 0 if it fired none.", NULL},
     {"depth", (getter)step_depth, NULL, "How many moves are pushed, at most 64; 0 for a step that is over.", NULL},
     {0},
 };
 static PyMemberDef members[] = {
-    {"__weaklistoffset__", T_PYSSIZET, offsetof(Held, weak), READONLY, NULL},
+    {"__weaklistoffset__", T_PYSSIZET, offsetof(Holder, weak), READONLY, NULL},
     {"_thread", T_ULONG, offsetof(Step, thread), READONLY, NULL},
     {"_own_number", T_UINT, offsetof(Step, number), READONLY, NULL},
     {"_size", T_ULONGLONG, offsetof(Step, size), READONLY, NULL},
@@ -295,11 +309,11 @@ static PyMemberDef members[] = {
 };
 static PyType_Slot slots[] = {
     {Py_tp_doc, "Step(agent)\n--\n\n"
-                "A step of an agent: what it does between a look and a fire, on the state that `number` moves have led to.\n\n"
-                "`push` puts a move over that state, through which all is seen that is got and pushed later. `commit` fires one move that\n"
-                "does what the pushed ones do in turn, unless something was written since that the step depends on. A refused call leaves\n"
-                "the step unchanged. The step is over once it is fired, and at the end of its `with`; calls then raise `OverError`. One that\n"
-                "isn't fired leaves no trace. Where the agent has gone on since, a get, a scan or a push raises `MovedError`."},
-    {Py_mp_subscript, step_at}, {Py_tp_new, step_new}, {Py_tp_dealloc, step_gone}, {Py_tp_traverse, step_traverse}, {Py_tp_methods, methods},
+                "A step of an agent: a transaction on the snapshot at version `number`.\n\n"
+                "`push` adds a move, which later gets and pushes see. `commit` fires one move that does what the pushed moves do in turn, unless\n"
+                "something that the step depends on was written since. A refused call leaves the step unchanged. The step is over once it is\n"
+                "fired, and at the end of its `with`; calls then raise `OverError`. A step that isn't fired leaves no trace. If its agent has\n"
+                "moved past `number`, a get, a scan or a push raises `MovedError`."},
+    {Py_mp_subscript, step_at}, {Py_tp_new, step_new}, {Py_tp_dealloc, step_dealloc}, {Py_tp_traverse, step_traverse}, {Py_tp_methods, methods},
     {Py_tp_members, members}, {Py_tp_getset, gets}, {Py_tp_repr, step_repr}, {0}};
 PyType_Spec step_spec = {"folugben.Step", sizeof(Step), 0, Py_TPFLAGS_DEFAULT | Py_TPFLAGS_BASETYPE | Py_TPFLAGS_HAVE_GC, slots};

@@ -5,38 +5,38 @@ typedef int32_t (*TextCall)(struct asm_agent *agent, struct asm_step *step, cons
 typedef int32_t (*MoveCall)(struct asm_agent *agent, struct asm_step *step, struct asm_move *move, uint8_t *out, size_t room, size_t *written);
 
 /* Makes a call that takes a text. */
-static int32_t told(Step *self, TextCall call, const uint8_t *text, size_t len, Room *room)
+static int32_t call_by_text(Step *self, TextCall call, const uint8_t *text, size_t len, Room *room)
 {
     Agent *agent = self->agent;
     int32_t code;
-    RUN(&agent->held, len > LONG_TEXT, TOLD(code, room, call(SLOT(agent), SLOT(self), text, len, ROOM(room))));
+    RUN(&agent->holder, len > LONG_TEXT, WITH_ROOM(code, room, call(SLOT(agent), SLOT(self), text, len, ROOM(room))));
     return code;
 }
 
 /* Counts a text that is read with its place: a commit may record it. */
-static void got(Step *self, size_t place, const Room *room)
+static void grow_by_read(Step *self, size_t place, const Room *room)
 {
     self->size += place + (self->agent->storage->records ? room->written : 0);
 }
 
 /* The fire may now name locations whose values are unknown. */
-static void names_more(Step *self)
+static void grow_by_name(Step *self)
 {
     self->size += self->agent->storage->records ? LINE_LIMIT : 0;
 }
 
 /* Called after a push: if a move before it has partial updates, the fire may name what both write. */
-static void grew(Step *self, int is_partial)
+static void grow_by_push(Step *self, int is_partial)
 {
     self->is_pushed = 1;
     if (self->is_partial)
-        names_more(self);
+        grow_by_name(self);
     self->is_partial |= is_partial;
 }
 
 static PyObject *values_of(Step *self, TextCall call, PyObject *places)
 {
-    Core *core = self->held.core;
+    Core *core = self->holder.core;
     Text text;
     Room room;
     PyObject *values = NULL;
@@ -44,13 +44,13 @@ static PyObject *values_of(Step *self, TextCall call, PyObject *places)
     if (write_named(core, &text, places, "places"))
         return NULL;
     room_begin(&room);
-    if (!UNREADY(&self->agent->held)) {
-        int32_t code = told(self, call, BYTES(&text), &room);
-        got(self, text.len, &room);
+    if (!UNREADY(&self->agent->holder)) {
+        int32_t code = call_by_text(self, call, BYTES(&text), &room);
+        grow_by_read(self, text.len, &room);
         if (code == ASM_DONE)
             values = read_values(core, &room, &number);
         else if (code == ASM_EMPTY || code == ASM_MOVED)
-            step_refused(self, code);
+            refuse_step(self, code);
         else
             refuse(core, code, "read", "(iiy#)", (int)code, ASM_FORM_LOCATIONS, text.at, (Py_ssize_t)text.len);
     }
@@ -62,27 +62,27 @@ static PyObject *values_of(Step *self, TextCall call, PyObject *places)
 /* The value at one location, prepared or not. */
 PyObject *step_at(Step *self, PyObject *place)
 {
-    Core *core = self->held.core;
+    Core *core = self->holder.core;
     Agent *agent = self->agent;
     Place at;
     PyObject *one = NULL;
     if (place_begin(core, &at, place))
         return NULL;
-    if (!UNREADY(&agent->held) && !PLACE_UNREADY(&at)) {
+    if (!UNREADY(&agent->holder) && !PLACE_UNREADY(&at)) {
         asm_value value;
         Room room;
         room_begin(&room);
-        int32_t code = place_made(&at);
+        int32_t code = prepare_place(&at);
         int is_placed = code == ASM_DONE;
         if (is_placed)
-            TOLD(code, &room, asm_get_at(SLOT(agent), SLOT(self), AT(&at), &value, ROOM(&room)));
-        got(self, at.held ? (size_t)PyBytes_Size(at.held->text) : at.text.len, &room);
+            WITH_ROOM(code, &room, asm_get_at(SLOT(agent), SLOT(self), AT(&at), &value, ROOM(&room)));
+        grow_by_read(self, at.prepared ? (size_t)PyBytes_Size(at.prepared->text) : at.text.len, &room);
         if (!ODD(code != ASM_DONE))
             one = value_of(core, &value, &room);
         else if (!is_placed || (code == ASM_EMPTY && IS_FULL(self) && IS_FULL(agent)))
-            place_refused(core, &at, code);
+            refuse_place(core, &at, code);
         else
-            step_refused(self, code);
+            refuse_step(self, code);
         room_end(&room);
     }
     place_end(&at);
@@ -91,12 +91,12 @@ PyObject *step_at(Step *self, PyObject *place)
 
 PyObject *step_get(Step *self, PyObject *places)
 {
-    return is_location(self->held.core, places) ? step_at(self, places) : values_of(self, asm_get, places);
+    return is_location(self->holder.core, places) ? step_at(self, places) : values_of(self, asm_get, places);
 }
 
 PyObject *step_see(Step *self, PyObject *place)
 {
-    if (!is_location(self->held.core, place))
+    if (!is_location(self->holder.core, place))
         return values_of(self, asm_see, place);
     PyObject *places = PyTuple_Pack(1, place), *values = places ? values_of(self, asm_see, places) : NULL;
     PyObject *one = values ? Py_XNewRef(PyList_GetItem(values, 0)) : NULL;
@@ -109,23 +109,23 @@ PyObject *step_scan(Step *self, PyObject *name)
 {
     Py_ssize_t len;
     Room room;
-    const uint8_t *text = name_of(self->held.core, name, 1, &len);
-    if (!text || UNREADY(&self->agent->held))
+    const uint8_t *text = name_of(self->holder.core, name, 1, &len);
+    if (!text || UNREADY(&self->agent->holder))
         return NULL;
     room_begin(&room);
-    int32_t code = told(self, asm_step_scan, text, (size_t)len, &room);
-    PyObject *pairs = code == ASM_DONE ? read_own_text(self->held.core, room.at, room.written, 0) : step_refused(self, code);
+    int32_t code = call_by_text(self, asm_step_scan, text, (size_t)len, &room);
+    PyObject *pairs = code == ASM_DONE ? read_own_text(self->holder.core, room.at, room.written, 0) : refuse_step(self, code);
     room_end(&room);
     return pairs;
 }
 
 /* Raises why a move isn't pushed. */
-static PyObject *not_pushed(Step *self, int32_t code, const char *move, size_t len, Room *room)
+static PyObject *refuse_push(Step *self, int32_t code, const char *move, size_t len, Room *room)
 {
     if (code == ASM_EMPTY || code == ASM_MOVED)
-        return step_refused(self, code);
-    names_more(self);
-    return refuse(self->held.core, code, "pushed", "(iy#y#O)", (int)code, move, (Py_ssize_t)len, room->at,
+        return refuse_step(self, code);
+    grow_by_name(self);
+    return refuse(self->holder.core, code, "push", "(iy#y#O)", (int)code, move, (Py_ssize_t)len, room->at,
         (Py_ssize_t)(code == ASM_CLASH || code == ASM_LARGE ? room->written : 0), (PyObject *)self);
 }
 
@@ -133,21 +133,21 @@ static PyObject *grow_by_text(Step *self, TextCall call, PyObject *move)
 {
     Text text;
     Room room;
-    PyObject *done = NULL;
-    if (write_named(self->held.core, &text, move, "instructions"))
+    PyObject *result = NULL;
+    if (write_named(self->holder.core, &text, move, "instructions"))
         return NULL;
     room_begin(&room);
-    if (!UNREADY(&self->agent->held)) {
-        int32_t code = told(self, call, BYTES(&text), &room);
+    if (!UNREADY(&self->agent->holder)) {
+        int32_t code = call_by_text(self, call, BYTES(&text), &room);
         self->size += text.len;
         /* A move of no instructions is not reported as missing. */
         if (code == ASM_DONE && text.len > 2)
-            grew(self, 1);
-        done = code == ASM_DONE ? Py_NewRef(Py_None) : not_pushed(self, code, text.at, text.len, &room);
+            grow_by_push(self, 1);
+        result = code == ASM_DONE ? Py_NewRef(Py_None) : refuse_push(self, code, text.at, text.len, &room);
     }
     room_end(&room);
     text_end(&text);
-    return done;
+    return result;
 }
 
 static PyObject *grow(Step *self, TextCall text_call, MoveCall call, PyObject *it)
@@ -156,24 +156,24 @@ static PyObject *grow(Step *self, TextCall text_call, MoveCall call, PyObject *i
     Move *move = (Move *)it;
     Room room;
     int32_t code;
-    if (Py_TYPE(it) != self->held.core->move)
+    if (Py_TYPE(it) != self->holder.core->move)
         return grow_by_text(self, text_call, it);
-    if (UNREADY(&agent->held) || UNREADY(&move->held))
+    if (UNREADY(&agent->holder) || UNREADY(&move->holder))
         return NULL;
     if (ODD(move->is_freed))
-        return refuse(self->held.core, ASM_EMPTY, "freed", "(s)", "move");
+        return refuse(self->holder.core, ASM_EMPTY, "freed_object", "(s)", "move");
     room_begin(&room);
     /* A slot holds no move of no instructions. */
     if (IS_FULL(move))
-        TOLD(code, &room, call(SLOT(agent), SLOT(self), SLOT(move), ROOM(&room)));
+        WITH_ROOM(code, &room, call(SLOT(agent), SLOT(self), SLOT(move), ROOM(&room)));
     else
-        code = told(self, text_call, (const uint8_t *)"[]", 2, &room);
+        code = call_by_text(self, text_call, (const uint8_t *)"[]", 2, &room);
     self->size += move->size;
     if (code == ASM_DONE && IS_FULL(move))
-        grew(self, 1);
-    PyObject *done = ODD(code != ASM_DONE) ? not_pushed(self, code, "", 0, &room) : Py_NewRef(Py_None);
+        grow_by_push(self, 1);
+    PyObject *result = ODD(code != ASM_DONE) ? refuse_push(self, code, "", 0, &room) : Py_NewRef(Py_None);
     room_end(&room);
-    return done;
+    return result;
 }
 
 PyObject *step_push(Step *self, PyObject *move)
@@ -189,56 +189,56 @@ PyObject *step_extend(Step *self, PyObject *move)
 /* Makes one instruction join the move that was pushed last. */
 static PyObject *change(Step *self, PyObject *const *words, Py_ssize_t count, int verb)
 {
-    Core *core = self->held.core;
+    Core *core = self->holder.core;
     Agent *agent = self->agent;
     struct asm_move move = {0};
     Change its;
-    PyObject *done = NULL;
+    PyObject *result = NULL;
     if (change_begin(core, &its, words, count, verb))
         return NULL;
-    if (!UNREADY(&agent->held) && !PLACE_UNREADY(&its.place)) {
+    if (!UNREADY(&agent->holder) && !PLACE_UNREADY(&its.place)) {
         Room room;
         room_begin(&room);
         int32_t code = change_put(&its, &move);
         if (code == ASM_DONE)
-            TOLD(code, &room, asm_extend_move(SLOT(agent), SLOT(self), &move, ROOM(&room)));
+            WITH_ROOM(code, &room, asm_extend_move(SLOT(agent), SLOT(self), &move, ROOM(&room)));
         asm_free(&move.slot);
         self->size += change_size(&its);
         if (code == ASM_DONE) {
-            grew(self, verb != ASM_PUT);
-            done = Py_NewRef(Py_None);
+            grow_by_push(self, verb != ASM_PUT);
+            result = Py_NewRef(Py_None);
         } else if (its.code != ASM_DONE)
-            change_refused(core, &its);
+            refuse_change(core, &its);
         else
-            not_pushed(self, code, "", 0, &room);
+            refuse_push(self, code, "", 0, &room);
         room_end(&room);
     }
     change_end(&its);
-    return done;
+    return result;
 }
 
 CHANGES(, Step, step, change)
 
 PyObject *step_pop(Step *self, PyObject *Py_UNUSED(none))
 {
-    if (UNREADY(&self->agent->held))
+    if (UNREADY(&self->agent->holder))
         return NULL;
     int32_t code = asm_pop(SLOT(self));
-    names_more(self);
+    grow_by_name(self);
     self->is_pushed &= asm_depth(SLOT(self)) > 0;
-    return code == ASM_DONE ? Py_NewRef(Py_None) : step_refused(self, code);
+    return code == ASM_DONE ? Py_NewRef(Py_None) : refuse_step(self, code);
 }
 
 PyObject *step_pop_move(Step *self, PyObject *Py_UNUSED(none))
 {
-    Core *core = self->held.core;
-    Move *move = held_new(core->move, core);
-    if (!move || UNREADY(&self->agent->held)) {
+    Core *core = self->holder.core;
+    Move *move = holder_new(core->move, core);
+    if (!move || UNREADY(&self->agent->holder)) {
         Py_XDECREF((PyObject *)move);
         return NULL;
     }
     int32_t code = asm_pop_move(SLOT(self), SLOT(move));
-    names_more(self);
+    grow_by_name(self);
     self->is_pushed &= asm_depth(SLOT(self)) > 0;
     if (code == ASM_DONE) {
         move->is_popped = 1;
@@ -247,5 +247,5 @@ PyObject *step_pop_move(Step *self, PyObject *Py_UNUSED(none))
         return (PyObject *)move;
     }
     Py_DECREF((PyObject *)move);
-    return step_refused(self, code);
+    return refuse_step(self, code);
 }

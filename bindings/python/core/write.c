@@ -109,17 +109,17 @@ static int write_int(Text *text, PyObject *value)
     long long number = PyLong_AsLongLongAndOverflow(value, &is_over);
     if (is_over) {
         Py_ssize_t len;
-        PyObject *told = PyNumber_ToBase(value, 10);
-        const char *word = told ? PyUnicode_AsUTF8AndSize(told, &len) : NULL;
+        PyObject *decimal = PyNumber_ToBase(value, 10);
+        const char *word = decimal ? PyUnicode_AsUTF8AndSize(decimal, &len) : NULL;
         int failed = !word || text_put(text, word, (size_t)len);
-        Py_XDECREF(told);
+        Py_XDECREF(decimal);
         return failed ? -1 : 0;
     }
     char digits[24], *at = digits + sizeof digits;
-    unsigned long long rest = number < 0 ? 0ULL - (unsigned long long)number : (unsigned long long)number;
+    unsigned long long remaining = number < 0 ? 0ULL - (unsigned long long)number : (unsigned long long)number;
     do
-        *--at = (char)('0' + rest % 10);
-    while (rest /= 10);
+        *--at = (char)('0' + remaining % 10);
+    while (remaining /= 10);
     if (number < 0)
         *--at = '-';
     return text_put(text, at, (size_t)(digits + sizeof digits - at));
@@ -273,7 +273,7 @@ int write_more(Core *core, Text *text, PyObject *value, const char *name)
     if (!write_value(core, text, value, kind))
         return 0;
     if (text->odd && text->path)
-        refuse(core, ASM_SHAPE, "odd", "(sOO)", name, text->path, text->odd);
+        refuse(core, ASM_SHAPE, "no_value", "(sOO)", name, text->path, text->odd);
     Py_CLEAR(text->odd);
     Py_CLEAR(text->path);
     return -1;

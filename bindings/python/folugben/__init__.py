@@ -79,7 +79,7 @@ from ._errors import DamagedError, DeepError, Error, FullError, LargeError, Many
 from ._errors import PastError, StaleError, TooLongError, UnknownError, error_text, explain
 from ._explore import DiffersError, Explored, explore
 from ._functions import aggregate, check, compose, replay, trace, version
-from ._held import ForkedError, NestedError
+from ._guards import ForkedError, NestedError
 from ._import import import_run
 from ._library import Code, TextForm
 from ._reading import audit, part

@@ -11,14 +11,14 @@ from typing import BinaryIO, TextIO
 
 from . import __version__, audit, import_run, part, replay, trace
 from ._errors import BadJournalError, DamagedError, Error
-from ._exports import judged, write_csv, write_itf, write_page, write_perfetto
-from ._reading import follow, is_stored, save, verify
-from ._texts import encoded
+from ._exports import verdict, write_csv, write_itf, write_page, write_perfetto
+from ._reading import follow, is_stored_run, save, verify
+from ._texts import encode
 
 
 def _check(journal: bytes, out: TextIO) -> bool:
-    is_legal, told = judged(journal)
-    out.write(told + "\n")
+    is_legal, line = verdict(journal)
+    out.write(line + "\n")
     return is_legal
 
 
@@ -27,17 +27,17 @@ class _Progress:
 
     def __init__(self, file: str) -> None:
         self._size = os.path.getsize(file) if os.path.isfile(file) else 0
-        self._file, self._next, self._is_told = file, time.monotonic() + 1, False
+        self._file, self._next, self._is_shown = file, time.monotonic() + 1, False
 
     def __call__(self, done: int) -> None:
         if time.monotonic() >= self._next:
-            self._next, self._is_told = time.monotonic() + 1, True
+            self._next, self._is_shown = time.monotonic() + 1, True
             of = f"{100 * done // self._size:3} % of " if self._size else ""
             sys.stderr.write(f"\r{self._file}: {of}{max(done, self._size):,} bytes ")
             sys.stderr.flush()
 
     def end(self) -> None:
-        if self._is_told:
+        if self._is_shown:
             sys.stderr.write("\r\033[K")
 
 
@@ -47,14 +47,14 @@ def _audit(file: str, _: int | None, out: TextIO) -> bool:
     try:
         calls, moves, parts = audit(sys.stdin.buffer if file == "-" else file, progress)
     except BadJournalError as bad:
-        told = str(bad)
+        line = str(bad)
     else:
-        told = f"legal {calls} {moves} {parts}"
+        line = f"legal {calls} {moves} {parts}"
     finally:
         if progress is not None:
             progress.end()
-    out.write(told + "\n")
-    return told.startswith("legal")
+    out.write(line + "\n")
+    return line.startswith("legal")
 
 
 def _verify(target: str, _: int | None, out: TextIO) -> bool:
@@ -81,7 +81,7 @@ def _follow(target: str, _: int | None, out: TextIO) -> bool:
 
 def _replay(journal: bytes, out: TextIO) -> bool:
     for at, value in replay(journal):
-        out.write(f"[{encoded(at, 'place').decode()},{encoded(value, 'value').decode()}]\n")
+        out.write(f"[{encode(at, 'place').decode()},{encode(value, 'value').decode()}]\n")
     return True
 
 
@@ -91,7 +91,7 @@ def _trace(journal: bytes, out: TextIO) -> bool:
     return True
 
 
-def _written(write: Callable[[bytes, TextIO], None]) -> Callable[[bytes, TextIO], bool]:
+def _writer(write: Callable[[bytes, TextIO], None]) -> Callable[[bytes, TextIO], bool]:
     def work(journal: bytes, out: TextIO) -> bool:
         write(journal, out)
         return True
@@ -108,11 +108,11 @@ def _part(journal: bytes, out: TextIO) -> bool:
 _Work = Callable[[str, int | None, TextIO], bool]
 
 
-def _whole(work: Callable[[bytes, TextIO], bool]) -> _Work:
+def _on_journal(work: Callable[[bytes, TextIO], bool]) -> _Work:
     """Return the command that does some work on a journal, read completely."""
 
     def on_file(file: str, number: int | None, out: TextIO) -> bool:
-        if number is None and is_stored(file):
+        if number is None and is_stored_run(file):
             raise IsADirectoryError(f"{file} is a run, of which this command takes one part: --part 0 and so on")
         source: str | BinaryIO = sys.stdin.buffer if file == "-" else file
         if number is not None:
@@ -123,40 +123,40 @@ def _whole(work: Callable[[bytes, TextIO], bool]) -> _Work:
 
 
 COMMANDS: dict[str, tuple[_Work, str]] = {
-    "audit": (_audit, "whether each answer is right, in a run of any number of parts"),
-    "verify": (_verify, "whether the segments of a run are those that were saved, by their digests"),
-    "save": (_save, "a run as one file; --output names it"),
-    "follow": (_follow, "an audit of a run that goes on, with a line for each look that found more; Ctrl-C ends it"),
-    "check": (_whole(_check), "whether each answer is the one that a storage of one thread gives there"),
-    "part": (_whole(_part), "a part of a run, as a journal; --part tells which"),
-    "replay": (_whole(_replay), "the state that the moves leave, a location and its value on each line"),
-    "trace": (_whole(_trace), "what each call did"),
-    "csv": (_whole(_written(write_csv)), "a table of all changes"),
-    "itf": (_whole(_written(write_itf)), "the run in the Informal Trace Format of Apalache and Quint"),
-    "perfetto": (_whole(_written(write_perfetto)), "the run as Chrome's trace events, for Perfetto"),
-    "view": (_whole(_written(write_page)), "a page that shows the run in a browser; --output names its file"),
+    "audit": (_audit, "check whether each answer is right, in a run of any number of parts"),
+    "verify": (_verify, "check by their digests whether the segments of a run are those that were saved"),
+    "save": (_save, "write a run as one file; --output names it"),
+    "follow": (_follow, "audit a run while it is written, with a line for each poll that found more; Ctrl-C ends it"),
+    "check": (_on_journal(_check), "check whether each answer is the one that a sequential storage gives there"),
+    "part": (_on_journal(_part), "write a part of a run, as a journal; --part names it"),
+    "replay": (_on_journal(_replay), "write the state after the moves, a location and its value on each line"),
+    "trace": (_on_journal(_trace), "write what each call did"),
+    "csv": (_on_journal(_writer(write_csv)), "write a table of all changes"),
+    "itf": (_on_journal(_writer(write_itf)), "write the run in the Informal Trace Format of Apalache and Quint"),
+    "perfetto": (_on_journal(_writer(write_perfetto)), "write the run as Chrome's trace events, for Perfetto"),
+    "view": (_on_journal(_writer(write_page)), "write a page that shows the run in a browser; --output names its file"),
 }
 # Commands that accept only stored runs.
 ON_RUNS = ("verify", "save", "follow")
 
 
 def _words() -> argparse.ArgumentParser:
-    parser = argparse.ArgumentParser(prog="folugben", description="What runs and their journals tell.")
+    parser = argparse.ArgumentParser(prog="folugben", description="Audit, read and convert runs and their journals.")
     parser.add_argument("--version", action="version", version=f"folugben {__version__}")
     commands = parser.add_subparsers(dest="command", required=True, metavar="COMMAND")
-    for name, (_, told) in COMMANDS.items():
-        command = commands.add_parser(name, help=told, description=told[0].upper() + told[1:] + ".")
+    for name, (_, text) in COMMANDS.items():
+        command = commands.add_parser(name, help=text, description=text[0].upper() + text[1:] + ".")
         what = "a run" if name in ON_RUNS else "a run, or a journal; - is standard input"
         command.add_argument("files", nargs="+", metavar="FILE", help=what)
         if name != "audit" and name not in ON_RUNS:
-            only = "of a run of several parts the one with this number, from 0 up, alone"
+            only = "take only the part with this number, counted from 0"
             command.add_argument("-p", "--part", type=int, metavar="N", default=0 if name == "part" else None, help=only)
         if name == "itf":
-            command.add_argument("--from", type=int, metavar="N", dest="first", default=0, help="the first state, 0 up")
+            command.add_argument("--from", type=int, metavar="N", dest="first", default=0, help="the first state, counted from 0")
             command.add_argument("--to", type=int, metavar="N", dest="last", help="the last state")
-        command.add_argument("-o", "--output", type=Path, metavar="FILE", help="where to write, in place of standard output")
-    told = "imports a run of version 0.2, which is one file, into a new folder"
-    command = commands.add_parser("import", help=told, description=told[0].upper() + told[1:] + ".")
+        command.add_argument("-o", "--output", type=Path, metavar="FILE", help="write to this file in place of standard output")
+    text = "import a run of version 0.2, which is one file, into a new folder"
+    command = commands.add_parser("import", help=text, description=text[0].upper() + text[1:] + ".")
     command.add_argument("file", metavar="FILE")
     command.add_argument("folder", metavar="FOLDER")
     return parser
@@ -174,15 +174,15 @@ def _import(file: str, folder: str) -> int:
     return 0
 
 
-def _work_on(asked: argparse.Namespace, out: TextIO) -> int:
-    work, status = COMMANDS[asked.command][0], 0
-    if asked.command == "itf":
-        work = _whole(_written(partial(write_itf, first=asked.first, last=asked.last)))
-    for file in asked.files:
-        if len(asked.files) > 1 and asked.command in ("audit", "check", "verify"):
+def _work_on(arguments: argparse.Namespace, out: TextIO) -> int:
+    work, status = COMMANDS[arguments.command][0], 0
+    if arguments.command == "itf":
+        work = _on_journal(_writer(partial(write_itf, first=arguments.first, last=arguments.last)))
+    for file in arguments.files:
+        if len(arguments.files) > 1 and arguments.command in ("audit", "check", "verify"):
             out.write(f"{file}: ")
         try:
-            status = status if work(file, getattr(asked, "part", None), out) else 1
+            status = status if work(file, getattr(arguments, "part", None), out) else 1
         except (BadJournalError, DamagedError, Error, IndexError, ValueError) as refused:
             print(f"folugben: {file}: {refused}", file=sys.stderr)
             status = 1
@@ -190,7 +190,7 @@ def _work_on(asked: argparse.Namespace, out: TextIO) -> int:
     return status
 
 
-def _expect_apart(output: Path, files: list[str]) -> None:
+def _expect_other_output(output: Path, files: list[str]) -> None:
     """Check that an output is none of the inputs, and in none of the runs read."""
     for file in files:
         if output.exists() and os.path.exists(file) and output.samefile(file):
@@ -204,15 +204,15 @@ def main(words: list[str] | None = None) -> int:
 
     It is 1 if a run or a journal is illegal, damaged or none, and 2 if a file or an argument is refused.
     """
-    asked = _words().parse_args(words)
+    arguments = _words().parse_args(words)
     try:
-        if asked.command == "import":
-            return _import(asked.file, asked.folder)
-        if asked.output is None:
-            return _work_on(asked, sys.stdout)
-        _expect_apart(asked.output, asked.files)
-        with asked.output.open("w", encoding="utf-8", newline="") as out:
-            return _work_on(asked, out)
+        if arguments.command == "import":
+            return _import(arguments.file, arguments.folder)
+        if arguments.output is None:
+            return _work_on(arguments, sys.stdout)
+        _expect_other_output(arguments.output, arguments.files)
+        with arguments.output.open("w", encoding="utf-8", newline="") as out:
+            return _work_on(arguments, out)
     except OSError as fault:
         print(f"folugben: {fault}", file=sys.stderr)
         return 2

@@ -2,10 +2,10 @@
 from typing import Any, NamedTuple
 
 from ._core import Audit
-from ._errors import BadJournalError, Error, Text, exact
+from ._errors import BadJournalError, Error, Text, exact_bytes
 from ._library import Code
 from ._lines import LINE_LIMIT
-from ._texts import owned
+from ._texts import to_python
 
 
 class Counts(NamedTuple):
@@ -35,7 +35,7 @@ class Auditor(Audit):
             raise TypeError("this Auditor was made before")
         self._fault: BadJournalError | None = None
         self._counts = Counts(0, 0, 0)
-        self._take(b"")
+        self._feed(b"")
 
     def feed(self, chunk: Text) -> Counts:
         """Check the next bytes or characters, any number; return the counts so far.
@@ -46,9 +46,9 @@ class Auditor(Audit):
             BadJournalError: at the first wrong answer, the first fault, or the first part that opens with another state; a line
                 of more than 1,073,741,824 bytes is such a fault too.
         """
-        text = exact(chunk, "what an audit takes")
+        text = exact_bytes(chunk, "what an audit takes")
         self._expect_sound()
-        code, parts, calls, moves = self._take(text)
+        code, parts, calls, moves = self._feed(text)
         if code != Code.DONE:
             self._fault = self._bad(code, parts, calls)
             raise self._fault
@@ -70,7 +70,7 @@ class Auditor(Audit):
             BadJournalError: the last part isn't complete.
         """
         self._expect_sound()
-        code, parts, calls, moves = self._told()
+        code, parts, calls, moves = self._numbers()
         if code != Code.DONE:
             raise self._bad(code, parts, calls)
         return Counts(calls, moves, parts)
@@ -82,7 +82,7 @@ class Auditor(Audit):
             Error: no part has begun; the code is NO_PART.
         """
         self._expect_sound()
-        pairs: list[Any] = owned(self._state())
+        pairs: list[Any] = to_python(self._state())
         return pairs
 
     @staticmethod
@@ -93,9 +93,9 @@ class Auditor(Audit):
 
     def _expect_sound(self) -> None:
         if not self._is_full:
-            raise Error(Code.EMPTY, said="the audit was freed")
+            raise Error(Code.EMPTY, detail="the audit was freed")
         if self._fault is not None:
-            bad = BadJournalError(self._fault.code, self._fault.numbers, self._fault.said)
+            bad = BadJournalError(self._fault.code, self._fault.numbers, self._fault.detail)
             bad.part = self._fault.part
             raise bad
 

@@ -37,14 +37,14 @@ _APPEND = """prepare folugben_append(bigint, bigint, bytea[], bigint[], integer[
     union all select place, token, null, null, null, null from own order by place limit $2"""
 
 
-class Lost(Exception):
+class ConnectionLost(Exception):
     """The connection to a server is lost; it is unknown whether what was sent is done."""
 
 
 class Database(Protocol):
     """A connection for one thread at a time.
 
-    Its statements have ? for each value. Each call raises `Lost` if the connection is lost.
+    Its statements have ? for each value. Each call raises `ConnectionLost` if the connection is lost.
     """
 
     # The type of bytes.
@@ -82,7 +82,7 @@ class Database(Protocol):
         Return whether no other process has it.
         """
 
-    def let(self, agent: int) -> None:
+    def release(self, agent: int) -> None:
         """Release the number for others."""
 
     def close(self) -> None:
@@ -141,7 +141,7 @@ def reaching(target: object) -> Iterator[None]:
     """
     try:
         yield
-    except Lost as error:
+    except ConnectionLost as error:
         raise ConnectionError(errno.ECONNREFUSED, f"the server doesn't answer: {error}") from error
     except sqlite3.Error as error:
         raise _as_os_error(error, target) from error
@@ -255,7 +255,7 @@ class Sqlite:
     def hold(self, agent: int) -> bool:
         return self._lock(fcntl.F_WRLCK, agent)
 
-    def let(self, agent: int) -> None:
+    def release(self, agent: int) -> None:
         self._lock(fcntl.F_UNLCK, agent)
 
     def _lock(self, kind: int, agent: int) -> bool:
@@ -306,7 +306,7 @@ class Postgres:
             try:
                 self._db = driver.connect(server)
             except driver.OperationalError as error:
-                raise Lost(str(error)) from error
+                raise ConnectionLost(str(error)) from error
             except driver.ProgrammingError as error:
                 raise ValueError(f"{server} is no name of a server: {str(error).strip()}") from error
             self._db.autocommit, self._is_prepared = True, False
@@ -326,7 +326,7 @@ class Postgres:
             # psycopg 2 may raise the base class for a server that is gone, before it marks its connection as closed.
             is_lost = isinstance(error, (self._driver.OperationalError, self._driver.InterfaceError))
             if is_lost or type(error) is self._driver.DatabaseError or self._db.closed:
-                raise Lost(str(error)) from error
+                raise ConnectionLost(str(error)) from error
             raise
 
     def insert(self, table: str, rows: Sequence[Sequence[Any]], more: str = "") -> None:
@@ -357,7 +357,7 @@ class Postgres:
             yield
             self.run("commit")
         except BaseException:
-            with contextlib.suppress(Lost):
+            with contextlib.suppress(ConnectionLost):
                 self.run("rollback")
             raise
 
@@ -373,7 +373,7 @@ class Postgres:
         held = self.run("select pg_try_advisory_lock(hashtext('folugben agent ' || ?), ?)", (self._schema, agent))
         return bool(held[0][0])
 
-    def let(self, agent: int) -> None:
+    def release(self, agent: int) -> None:
         self.run("select pg_advisory_unlock(hashtext('folugben agent ' || ?), ?)", (self._schema, agent))
 
     def close(self) -> None:

@@ -1,6 +1,7 @@
 """Exceptions of calls that weren't answered, or whose move wasn't fired or pushed."""
 import json
 import operator
+import warnings
 from collections.abc import Iterable
 from typing import Any, TypeAlias
 
@@ -9,14 +10,9 @@ from ._library import Code, ERROR_TEXT, EXPLAIN, TextForm
 
 CODES = frozenset(Code)
 # The codes whose own line says less than what an error says.
-_SAID = frozenset({
+_DETAIL_SUFFICES = frozenset({
     Code.NOT_JSON, Code.SHAPE, Code.CAPACITY, Code.AGENTS, Code.AHEAD, Code.OPERAND, Code.NO_FORM, Code.MANY, Code.LONG_MOVE,
 })
-# The library's message about a text, and the message about the values from which the text was made.
-_OF_VALUES = {
-    "are an array": "are a list or a tuple", "is an array of": "is a tuple or a list of", "an object is": "a dict is",
-    'a list is written {"list":[..]}': 'a list is a tuple, or written {"list":[..]}',
-}
 
 # A text in UTF-8, or as a Python str.
 Text: TypeAlias = bytes | bytearray | memoryview | str
@@ -29,11 +25,6 @@ NUMBERS: dict[int, str] = {
     Code.NOT_JSON: "line {}",
     Code.SHAPE: "line {}",
 }
-
-# A MOVE that contains the instructions, or the declared reads.
-INSTRUCTIONS = b'{"fire":%b,"reads":[]}'
-READS = b'{"fire":[],"reads":%b}'
-
 
 # Why the updates of a location clash.
 _CAUSES = {
@@ -50,28 +41,41 @@ _CAUSES = {
 def error_text(code: int) -> str:
     """Return the meaning of a code, in one line."""
     code = int.__index__(operator.index(code))
-    return _core.told(ERROR_TEXT, code if -(2**31) <= code < 2**31 else -1)[1].decode()
+    return _core.text_call(ERROR_TEXT, code if -(2**31) <= code < 2**31 else -1)[1].decode()
 
 
-class Error(Exception):
+class _Detailed:
+    """An error with a detail, and the former name of it."""
+
+    detail: str
+
+    @property
+    def said(self) -> str:
+        """Return `detail` by its former name, which the next version removes."""
+        name = type(self).__name__
+        warnings.warn(f"{name}.said is deprecated: it is {name}.detail", DeprecationWarning, stacklevel=2)
+        return self.detail
+
+
+class Error(_Detailed, Exception):
     """A call that wasn't answered, with its code, and its numbers if the code has any.
 
-    `said` reports, for a refused text, where and why, as `explain` does; for a refused move, at which location; and for
+    `detail` reports, for a refused text, where and why, as `explain` does; for a refused move, at which location; and for
     refused declared reads and scans, which one is named at a number that the agent hasn't seen.
     """
 
-    _said_alone = _SAID
+    _detail_suffices = _DETAIL_SUFFICES
 
-    def __init__(self, code: int, numbers: Iterable[int] = (), said: str = "") -> None:
+    def __init__(self, code: int, numbers: Iterable[int] = (), detail: str = "") -> None:
         self.code = Code(code) if code in CODES else code
         self.numbers = tuple(numbers) if code in NUMBERS else ()
-        self.said = said
-        super().__init__(self.code, self.numbers, self.said)
+        self.detail = detail
+        super().__init__(self.code, self.numbers, self.detail)
 
     def __str__(self) -> str:
         text = error_text(self.code)
-        if self.said:
-            text = self.said if self.code in self._said_alone else f"{text}: {self.said}"
+        if self.detail:
+            text = self.detail if self.code in self._detail_suffices else f"{text}: {self.detail}"
         where = NUMBERS[self.code].format(*self.numbers) if self.numbers else ""
         return text if text.endswith(where) else f"{text} ({where})"
 
@@ -168,22 +172,22 @@ class BrokenError(RuntimeError):
         self.part, self.__cause__ = part, cause
 
     def __str__(self) -> str:
-        told = str(self.__cause__) or type(self.__cause__).__name__
-        return f"the run has ended, as its part {self.part} couldn't be written: {told}"
+        reason = str(self.__cause__) or type(self.__cause__).__name__
+        return f"the run has ended, as its part {self.part} couldn't be written: {reason}"
 
 
-class DamagedError(RuntimeError):
+class DamagedError(_Detailed, RuntimeError):
     """What is stored of a run isn't what the run has written.
 
     `segment` is the number of the first segment concerned.
     """
 
-    def __init__(self, segment: int, said: str) -> None:
-        super().__init__(segment, said)
-        self.segment, self.said = segment, said
+    def __init__(self, segment: int, detail: str) -> None:
+        super().__init__(segment, detail)
+        self.segment, self.detail = segment, detail
 
     def __str__(self) -> str:
-        return f"segment {self.segment}: {self.said}"
+        return f"segment {self.segment}: {self.detail}"
 
 
 class MismatchError(ValueError):
@@ -220,7 +224,7 @@ class OverError(Error):
 class MissingError(Error):
     """A move has no receipt among the agents that were returned to the storage.
 
-    `numbers` has its number, and `said` names the agents that weren't returned.
+    `numbers` has its number, and `detail` names the agents that weren't returned.
     """
 
 
@@ -232,7 +236,7 @@ class BadJournalError(Error):
     """
 
     # Its message is of a line of JSON.
-    _said_alone = _SAID - {Code.SHAPE}
+    _detail_suffices = _DETAIL_SUFFICES - {Code.SHAPE}
     part: int | None = None
 
     @property
@@ -256,7 +260,7 @@ KINDS: dict[int, type[Error]] = {
 }
 
 
-def expect(code: int, kind: type[Error] | None = None, numbers: Iterable[int] = (), said: str = "") -> None:
+def expect(code: int, kind: type[Error] | None = None, numbers: Iterable[int] = (), detail: str = "") -> None:
     """Raise the error of a code, unless it is DONE.
 
     The exception is of the given kind, or else of the kind of the code.
@@ -265,20 +269,20 @@ def expect(code: int, kind: type[Error] | None = None, numbers: Iterable[int] = 
         raise MemoryError
     if code != Code.DONE:
         raised = KINDS.get(code, Error) if kind is None else kind
-        raise raised(code, numbers, said)
+        raise raised(code, numbers, detail)
 
 
 def refusal(code: int, text: bytes, clash: type[ClashError] = ClashError) -> StaleError | ClashError | LargeError:
     """Return the exception of a code whose text is a location, for a clash with cause."""
-    ((kind, told),) = _core.owned(text).items()
-    at, *cause = told if kind == "clash" else (told,)
-    said = ", ".join([_core.encoded(at, "place").decode(), *cause])
+    ((kind, answer),) = _core.to_python(text).items()
+    at, *cause = answer if kind == "clash" else (answer,)
+    detail = ", ".join([_core.encode(at, "place").decode(), *cause])
     raised: StaleError | ClashError | LargeError
     if kind == "clash":
-        raised = clash(code, said=said)
+        raised = clash(code, detail=detail)
         raised.cause = cause[0]
     else:
-        raised = StaleError(code, said=said) if kind == "stale" else LargeError(code, said=said)
+        raised = StaleError(code, detail=detail) if kind == "stale" else LargeError(code, detail=detail)
     raised.at = at
     return raised
 
@@ -287,7 +291,7 @@ def as_conflict(error: Error) -> Error:
     """Return the error of a commit that was answered as a fire."""
     if type(error) is not ClashError:
         return error
-    clash = CommitClashError(error.code, said=error.said)
+    clash = CommitClashError(error.code, detail=error.detail)
     clash.at, clash.cause = error.at, error.cause
     return clash
 
@@ -300,18 +304,18 @@ def ahead(reads: Iterable[Any], seen: int, scans: Iterable[Any] = ()) -> Error:
     for kind, those in ("read", reads), ("scan", scans):
         for place, (at, number) in enumerate(those, 1):
             if number > seen:
-                said = f"{kind} {place}: {json.dumps(at)} is named at {number}, and the agent has seen {seen}"
-                return Error(Code.AHEAD, said=said)
+                detail = f"{kind} {place}: {json.dumps(at)} is named at {number}, and the agent has seen {seen}"
+                return Error(Code.AHEAD, detail=detail)
     return Error(Code.AHEAD)
 
 
-def exact(text: Text, name: str) -> bytes:
+def exact_bytes(text: Text, name: str) -> bytes:
     """Return the bytes of a text, ignoring a subclass's own length and encoding."""
     if isinstance(text, str):
         try:
             return str.encode(text)
         except UnicodeEncodeError as error:
-            raise Error(Code.SHAPE, said=f"{name} has {text[error.start]!r} at {error.start}, which isn't Unicode") from None
+            raise Error(Code.SHAPE, detail=f"{name} has {text[error.start]!r} at {error.start}, which isn't Unicode") from None
     if isinstance(text, (bytes, bytearray, memoryview)):
         return b"".join((text,))
     raise TypeError(f"{name} is bytes or a str, and not {type(text).__name__!r}")
@@ -322,77 +326,9 @@ def explain(form: int, text: Text) -> str:
 
     The form is LOCATIONS, MOVE, STATE, EVENT or SCRIPT.
     """
-    form, text = int.__index__(operator.index(form)), exact(text, "a text")
+    form, text = int.__index__(operator.index(form)), exact_bytes(text, "a text")
     if form not in frozenset(TextForm):
-        raise Error(Code.NO_FORM, said=f"a form is one of TextForm, 0 to {len(TextForm) - 1}, and not {form}")
-    code, said, *_ = _core.told(EXPLAIN, form, text)
+        raise Error(Code.NO_FORM, detail=f"a form is one of TextForm, 0 to {len(TextForm) - 1}, and not {form}")
+    code, detail, *_ = _core.text_call(EXPLAIN, form, text)
     expect(code)
-    return said.decode()
-
-
-def refused_number(text: bytes) -> str:
-    """Return where a text has its first number outside 64 bits, as [0][2]["set"][1].
-
-    The result is empty if there is none.
-    """
-
-    def found(value: Any, path: str) -> str:
-        if isinstance(value, float) or isinstance(value, int) and not -(2**63) <= value < 2**63:
-            return f"{path} is {value}"
-        inner = value.items() if isinstance(value, dict) else enumerate(value) if isinstance(value, list) else ()
-        return next((told for key, it in inner if (told := found(it, f"{path}[{json.dumps(key)}]"))), "")
-
-    told = found(json.loads(text), "")
-    return told.replace('["fire"]', "instructions", 1).replace('["reads"]', "reads", 1)
-
-
-def is_json(text: bytes) -> bool:
-    """Return whether a text is JSON; the library doesn't read it if it nests too deep."""
-    try:
-        json.loads(text)
-    except (ValueError, RecursionError) as error:
-        return isinstance(error, RecursionError)
-    return True
-
-
-def expect_read(code: int, form: int, text: bytes) -> None:
-    """Raise the error of a call that was passed values as a text of this form.
-
-    Nothing is raised for the code DONE.
-    """
-    if code == Code.NOT_JSON and is_json(text):
-        expect(Code.SHAPE, said="lists nest at most 8 deep")
-    if code in (Code.NOT_JSON, Code.SHAPE):
-        said = explain(form, text)
-        for its, of_values in _OF_VALUES.items():
-            said = said.replace(its, of_values)
-        if " is whole, from " in said and (at := refused_number(text)):
-            said += f", and {at}"
-        expect(code, said=said)
-    expect(code)
-
-
-def expect_scans(code: int, scans: Iterable[Any]) -> None:
-    """Raise the error of a fire whose move is read.
-
-    For SHAPE, the error names the first of the scans that is none.
-    """
-    if code == Code.SHAPE:
-        for place, scan in enumerate(scans, 1):
-            if not is_scan(scan):
-                expect(code, said=f"scan {place}: a scan is a tuple or a list of a function's name and a number, from 0 to 4,294,967,295")
-    expect(code)
-
-
-def is_scan(value: Any) -> bool:
-    """Return whether the value of a text is a function's name with a number of moves."""
-    if not isinstance(value, list) or len(value) != 2:
-        return False
-    name, number = value
-    return isinstance(name, str) and type(number) is int and 0 <= number < 2**32
-
-
-def expect_part(code: int, move: bytes, part: bytes) -> None:
-    """The same for a text that is a part of a MOVE: INSTRUCTIONS or READS."""
-    # If it isn't JSON, the byte is reported, counted from its own beginning.
-    expect_read(code, TextForm.MOVE, move % part if code == Code.SHAPE else part)
+    return detail.decode()

@@ -13,8 +13,8 @@ from heapq import heappop, heappush
 from typing import TYPE_CHECKING, NamedTuple, TypeAlias
 
 from ._errors import Error
-from ._footprint import Footprint, Noted
-from ._found import Breach, Event, Holds, Invariant, listed
+from ._footprint import Footprint, RecordingPlayer
+from ._breaches import Breach, Event, Holds, Invariant, turns_for
 from ._turns import EndlessError, Turns, interleave, play_all
 
 if TYPE_CHECKING:
@@ -69,7 +69,7 @@ class _Node(NamedTuple):
     # Which agents were chosen, or must be.
     chosen: set[int]
 
-    def follow(self, player: Noted, footprint: Footprint) -> "_Node":
+    def follow(self, player: RecordingPlayer, footprint: Footprint) -> "_Node":
         """Return the node after the last event of a player."""
         there, did = self.after.get(player.number), (player.key, player.now)
         if there is None:
@@ -91,14 +91,14 @@ class _Tree:
     def __init__(self, footprints: dict[tuple[int, bytes], Footprint]) -> None:
         self.root, self.footprints, self.has_grown = _Node({}, {}, set()), footprints, False
 
-    def footprint(self, player: Noted) -> Footprint:
+    def footprint(self, player: RecordingPlayer) -> Footprint:
         """Return the footprint of the last event of a player."""
         key = player.number, player.key
         known = self.footprints.get(key)
         if known is None:
             self.footprints[key] = player.now
         else:
-            self.footprints[key] = known.joined(player.now)
+            self.footprints[key] = known.union(player.now)
             self.has_grown |= self.footprints[key] != known
         return self.footprints[key]
 
@@ -107,7 +107,7 @@ def _differs(agent: int) -> DiffersError:
     return DiffersError(f"agent {agent} did something else in the same schedule: the programs draw, or share more than the storage")
 
 
-class _Blocked(Exception):
+class _AllAsleep(Exception):
     """All agents are asleep: each further schedule is tried elsewhere."""
 
 
@@ -115,18 +115,18 @@ class _Play:
     """One schedule: a plan's agents run first, then the current one, unless asleep."""
 
     def __init__(self, make: Make, programs: Sequence[Program], tree: _Tree, plan: list[int], turns: int) -> None:
-        self._plan, self._tree, self._node, self._begun, self._last = plan[::-1], tree, tree.root, 0, -1
+        self._plan, self._tree, self._node, self._started, self._last = plan[::-1], tree, tree.root, 0, -1
         self.events: list[Event] = []
         # The nodes before the events, and the turns of each agent before its first event.
         self._nodes, self.begins, self._is_open = [tree.root], [0] * len(programs), False
         # The numbers of events before which an agent must be tried, and that agent.
         self._reversals: list[tuple[int, int]] = []
         self._turns = Turns(len(programs), self._choose, turns)
-        self.players = [Noted(self._turns, number) for number in range(len(programs))]
+        self.players = [RecordingPlayer(self._turns, number) for number in range(len(programs))]
         with make() as storage:
             agents = [storage.agent(number) for number in range(len(programs))]
             _, self.errors = play_all(self._turns, agents, programs, self.players)
-            self.is_blocked = isinstance(self._turns.fault, _Blocked)
+            self.is_blocked = isinstance(self._turns.fault, _AllAsleep)
             if self._turns.fault is not None and not self.is_blocked:
                 raise self._turns.fault
             self._end_event()
@@ -137,9 +137,9 @@ class _Play:
 
     def _choose(self, alive: list[int]) -> int:
         # At first each agent runs up to its first event.
-        if self._begun < len(self.players):
-            self._begun += 1
-            return self._begun - 1
+        if self._started < len(self.players):
+            self._started += 1
+            return self._started - 1
         self._end_event()
         if self._plan:
             self._last = self._plan.pop()
@@ -148,7 +148,7 @@ class _Play:
         else:
             awake = [it for it in alive if it not in self._node.asleep]
             if not awake:
-                raise _Blocked
+                raise _AllAsleep
             self._last = self._usual(awake)
         self._node.chosen.add(self._last)
         self._is_open = True
@@ -232,35 +232,35 @@ def explore(
             An agent that polls again and again is made to wait for others, but then the number of schedules is infinite.
         DiffersError: the programs did something else in the same schedule.
     """
-    end, holds, played, pushed = time.monotonic() + seconds, Holds(invariant, at_end), 0, 0
+    end, holds, schedules_played, queued = time.monotonic() + seconds, Holds(invariant, at_end), 0, 0
     tree, is_exact = _Tree({}), True
     queue = [(0, 0, list[int]())]
-    while queue and played < schedules and time.monotonic() < end:
+    while queue and schedules_played < schedules and time.monotonic() < end:
         play = _Play(make, programs, tree, heappop(queue)[2], turns)
-        played += 1
+        schedules_played += 1
         is_exact = is_exact and all(it.is_exact for it in play.players)
         for length, plan in play.plans():
-            pushed += 1
-            heappush(queue, (length, pushed, plan))
+            queued += 1
+            heappush(queue, (length, queued, plan))
         breach = None if play.is_blocked else holds.breach(play.events, play.errors, play.journal)
         if breach is not None:
-            turns_of, journal = _replayed(make, programs, breach, play, turns)
+            turns_of, journal = _replay_finding(make, programs, breach, play, turns)
             if breach.error is None and not holds.is_broken(journal):
                 raise DiffersError(f"{breach.broken}, but not when it was played again by the turns {turns_of}")
-            return Explored(played, False, turns_of, journal, breach.broken, breach.error)
+            return Explored(schedules_played, False, turns_of, journal, breach.broken, breach.error)
         if not queue and tree.has_grown:
             tree, queue = _Tree(tree.footprints), [(0, 0, [])]
-    return Explored(played, is_exact and not queue)
+    return Explored(schedules_played, is_exact and not queue)
 
 
-def _replayed(make: Make, programs: Sequence[Program], breach: Breach, play: _Play, most: int) -> tuple[list[int], bytes]:
+def _replay_finding(make: Make, programs: Sequence[Program], breach: Breach, play: _Play, most: int) -> tuple[list[int], bytes]:
     """Return the turns of a finding, and the journal of that schedule.
 
     The turns are those up to the finding, if all programs end after it.
     """
     rest = [event for event in play.events if event not in breach.events]
     for events in breach.events, breach.events + rest:
-        turns, is_ended = listed(events, play.events, play.begins), True
+        turns, is_ended = turns_for(events, play.events, play.begins), True
         with make() as storage:
             agents = [storage.agent(number) for number in range(len(programs))]
             try:

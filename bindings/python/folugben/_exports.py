@@ -4,7 +4,6 @@ ITF is the Informal Trace Format.
 """
 import csv
 import html
-import json
 import pathlib
 import re
 import subprocess
@@ -15,7 +14,7 @@ from typing import Any, TextIO
 from ._errors import BadJournalError, TooLongError
 from ._functions import check, trace
 from ._library import Code
-from ._texts import encoded
+from ._texts import encode
 
 # The largest number of characters of the states in the Informal Trace Format.
 ITF_LIMIT = 1 << 30
@@ -25,7 +24,7 @@ JOIN = pathlib.Path(__file__).parents[3] / "viewer" / "join"
 
 
 def _text(value: Any) -> str:
-    return encoded(value, "value").decode()
+    return encode(value, "value").decode()
 
 
 def _cell(value: Any) -> str:
@@ -51,8 +50,8 @@ def write_csv(journal: bytes, out: TextIO) -> None:
     for event in lines:
         if "updates" in event:
             move += 1
-            for at, *told in event["updates"]:
-                old, new = map(_cell, told) if len(told) == 2 else ("", _cell(told[0]))
+            for at, *change in event["updates"]:
+                old, new = map(_cell, change) if len(change) == 2 else ("", _cell(change[0]))
                 table.writerow([move, event["agent"], at[0], _cell(at[1:]), old, new])
 
 
@@ -75,7 +74,7 @@ def _itf(value: Any) -> Any:
     return {"#map": [[_itf(element), _itf(count)] for element, count in members]}
 
 
-class _Held:
+class _ItfValue:
     """The value of a location in the Informal Trace Format.
 
     Each member of a set or a bag is held as a text, so that a change costs time in proportion to its size.
@@ -97,48 +96,48 @@ class _Held:
         if count:
             self._members[key] = _text(_itf(element) if "set" in self._value else [_itf(element), _itf(count)])
 
-    def change(self, told: dict[str, Any]) -> None:
+    def change(self, difference: dict[str, Any]) -> None:
         self._entry = ""
-        for element, _, count in told.get("counts", ()):
+        for element, _, count in difference.get("counts", ()):
             self._put(element, count)
         for count, side in enumerate(("removed", "added")):
-            for element in told.get(side, ()):
+            for element in difference.get(side, ()):
                 self._put(element, count)
 
     def entry(self) -> str:
-        self._entry = self._entry or f"[{self._at},{self._written()}]"
+        self._entry = self._entry or f"[{self._at},{self._value_text()}]"
         return self._entry
 
-    def _written(self) -> str:
+    def _value_text(self) -> str:
         if not isinstance(self._value, dict) or "list" in self._value:
             return _text(_itf(self._value))
         return f'{{"#{"set" if "set" in self._value else "map"}":[{",".join(self._members.values())}]}}'
 
 
-def _moments(journal: bytes) -> Iterator[tuple[dict[str, Any], dict[str, dict[str, _Held]]]]:
+def _moments(journal: bytes) -> Iterator[tuple[dict[str, Any], dict[str, dict[str, _ItfValue]]]]:
     """Yield the metadata of each state, and its content by function and location.
 
     The content is one dict, which each move changes.
     """
     lines = trace(journal)
-    held: dict[str, dict[str, _Held]] = {}
+    contents: dict[str, dict[str, _ItfValue]] = {}
 
     def put(at: list[Any], value: Any) -> None:
-        places = held.setdefault(at[0], {})
+        places = contents.setdefault(at[0], {})
         places.pop(_text(at), None)
         if value is not None:
-            places[_text(at)] = _Held(at, value)
+            places[_text(at)] = _ItfValue(at, value)
 
     for at, value in next(lines)["init"]:
         put(at, value)
-    yield {"index": 0}, held
+    yield {"index": 0}, contents
     index = 0
     for event in lines:
         if "updates" in event:
             index += 1
-            for at, *told in event["updates"]:
-                put(at, told[1]) if len(told) == 2 else held[at[0]][_text(at)].change(told[0])
-            yield {"index": index, "agent": event["agent"]}, held
+            for at, *change in event["updates"]:
+                put(at, change[1]) if len(change) == 2 else contents[at[0]][_text(at)].change(change[0])
+            yield {"index": index, "agent": event["agent"]}, contents
 
 
 def write_itf(journal: bytes, out: TextIO, source: str = "", first: int = 0, last: int | None = None) -> None:
@@ -155,16 +154,16 @@ def write_itf(journal: bytes, out: TextIO, source: str = "", first: int = 0, las
     meta = {"format": "ITF", "format-description": "https://apalache-mc.org/docs/adr/015adr-trace.html", "source": source}
     out.write(f'{{"#meta":{_text(meta)},"vars":{_text(names)},"states":[')
     written = 0
-    for told, held in _moments(journal):
-        if told["index"] < first or last is not None and told["index"] > last:
+    for state, contents in _moments(journal):
+        if state["index"] < first or last is not None and state["index"] > last:
             continue
-        entries = (",".join(it.entry() for it in held.get(name, {}).values()) for name in names)
-        members = [f'"#meta":{_text(told)}', *(f'{_text(name)}:{{"#map":[{it}]}}' for name, it in zip(names, entries))]
+        entries = (",".join(it.entry() for it in contents.get(name, {}).values()) for name in names)
+        members = [f'"#meta":{_text(state)}', *(f'{_text(name)}:{{"#map":[{it}]}}' for name, it in zip(names, entries))]
         text = ",\n" * (written > 0) + "{" + ",".join(members) + "}"
         written += len(text)
         if written > ITF_LIMIT:
-            said = f"the states of moves {first} to {told['index']} have more than {ITF_LIMIT:,} characters"
-            raise TooLongError(Code.LONG_LINE, said=f"{said}: take fewer by --from and --to")
+            detail = f"the states of moves {first} to {state['index']} have more than {ITF_LIMIT:,} characters"
+            raise TooLongError(Code.LONG_LINE, detail=f"{detail}: take fewer by --from and --to")
         out.write(text)
     out.write("]}\n")
 
@@ -177,11 +176,11 @@ def _slices(journal: bytes) -> Iterator[dict[str, Any]]:
     last: dict[str, tuple[int, int]] = {}
     for event in lines:
         number, agent, reply = event["event"], event["agent"], event["reply"]
-        told = reply if isinstance(reply, str) else next(iter(reply))
-        name = {"number": "read", "fired": f"move {reply['fired']}" if told == "fired" else ""}.get(told, told)
+        kind = reply if isinstance(reply, str) else next(iter(reply))
+        name = {"number": "read", "fired": f"move {reply['fired']}" if kind == "fired" else ""}.get(kind, kind)
         arguments = {key: event[key] for key in ("call", "reply", "right", "updates") if key in event}
-        yield {"ph": "X", "name": name, "cat": told, "pid": 1, "tid": agent, "ts": 10 * number, "dur": 8, "args": arguments}
-        if told == "stale" and _text(reply["stale"]) in last:
+        yield {"ph": "X", "name": name, "cat": kind, "pid": 1, "tid": agent, "ts": 10 * number, "dur": 8, "args": arguments}
+        if kind == "stale" and _text(reply["stale"]) in last:
             mover, moved = last[_text(reply["stale"])]
             flow = {"name": "stale", "cat": "stale", "id": number, "pid": 1}
             yield {"ph": "s", "tid": mover, "ts": 10 * moved + 4, **flow}
@@ -216,14 +215,14 @@ def write_page(journal: bytes, out: TextIO, name: str = "run") -> None:
     page = _page()
     lines = "".join(_text(it) + "\n" for it in trace(journal))
     # In JSON a < is only in texts, where \u003c means the same; so nothing in a trace ends the element that holds it.
-    told = f'<script id="trace" type="application/jsonl" data-name="{html.escape(name)}" data-by="libfolugben">\n' + lines.replace("<", "\\u003c")
-    found = re.search(r'^<script id="trace"[^>]*>', page, re.M)
-    if found is None:
+    script = f'<script id="trace" type="application/jsonl" data-name="{html.escape(name)}" data-by="libfolugben">\n' + lines.replace("<", "\\u003c")
+    place = re.search(r'^<script id="trace"[^>]*>', page, re.M)
+    if place is None:
         raise ValueError("the page has no place for a trace")
-    out.write(page[: found.start()] + told + page[found.end() :])
+    out.write(page[: place.start()] + script + page[place.end() :])
 
 
-def judged(journal: bytes) -> tuple[bool, str]:
+def verdict(journal: bytes) -> tuple[bool, str]:
     """Return whether a journal is legal, and the line that reports it."""
     try:
         calls, moves = check(journal)

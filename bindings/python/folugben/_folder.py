@@ -46,7 +46,7 @@ class Segment(NamedTuple):
     def following(self, moves: int, events: int, text: memoryview) -> "Segment":
         """Return the segment that comes next, with this text."""
         bare = Segment(self.number + 1, self.end, moves, events, "")
-        digest = begun_digest(bare, self.digest, len(text))
+        digest = start_digest(bare, self.digest, len(text))
         digest.update(text)
         return bare._replace(digest=digest.hexdigest())
 
@@ -55,7 +55,7 @@ class Segment(NamedTuple):
 START = Segment(-1, 0, 0, 0, NO_DIGEST)
 
 
-def begun_digest(segment: Segment, previous: str, length: int) -> "hashlib._Hash":
+def start_digest(segment: Segment, previous: str, length: int) -> "hashlib._Hash":
     """Return the digest of everything before the text of a segment."""
     line = f"{previous} {segment.number} {segment.first} {segment.moves} {segment.events} {length}\n"
     return hashlib.sha256(line.encode())
@@ -66,7 +66,7 @@ class RunFolder:
 
     def __init__(self, path: str | os.PathLike[str]) -> None:
         self.path = pathlib.Path(os.path.realpath(path))
-        self._fd = _opened(self.path)
+        self._fd = _open_folder(self.path)
 
     def segments(self) -> list[Segment]:
         """Return the segments that are there now.
@@ -75,19 +75,19 @@ class RunFolder:
             FileNotFoundError: there is none.
             DamagedError: the names aren't those of a run.
         """
-        found = [it for it in os.listdir(self._fd) if it.endswith(_SUFFIX)]
+        names = [it for it in os.listdir(self._fd) if it.endswith(_SUFFIX)]
         segments, last = [], START
-        for name in sorted(found):
-            told = _NAME.fullmatch(name)
-            if told is None:
+        for name in sorted(names):
+            parsed = _NAME.fullmatch(name)
+            if parsed is None:
                 raise DamagedError(last.number + 1, f"{name!r} is no name of a segment")
-            number, moves, events = map(int, told.groups()[:3])
+            number, moves, events = map(int, parsed.groups()[:3])
             if number != last.number + 1:
-                said = f"another file has this number too: {name}" if number == last.number else "its file is missing"
-                raise DamagedError(min(number, last.number + 1), said)
+                detail = f"another file has this number too: {name}" if number == last.number else "its file is missing"
+                raise DamagedError(min(number, last.number + 1), detail)
             if number == 0 and moves + events > 0:
                 raise DamagedError(0, "the opening segment has no event")
-            last = Segment(number, last.end, moves, events, told[4])
+            last = Segment(number, last.end, moves, events, parsed[4])
             segments.append(last)
         if not segments:
             raise FileNotFoundError(errno.ENOENT, "the folder has no run", str(self.path))
@@ -105,14 +105,14 @@ class RunFolder:
             raise DamagedError(segment.number, "its file is gone") from None
         with open(fd, "rb", buffering=0) as file:
             length = os.fstat(fd).st_size
-            digest = begun_digest(segment, previous, length)
+            digest = start_digest(segment, previous, length)
             while chunk := file.read(CHUNK):
                 digest.update(chunk)
                 yield chunk
         if digest.hexdigest() != segment.digest:
             raise DamagedError(segment.number, "its text isn't the one that was saved")
 
-    def rest(self, last: Segment) -> list[bytes]:
+    def unsaved_journals(self, last: Segment) -> list[bytes]:
         """Return what is after the last segment: nothing."""
         return []
 
@@ -138,7 +138,7 @@ class RunWriter(RunFolder):
         try:
             self._lock = os.open(_LOCK, os.O_RDWR | os.O_CREAT | os.O_CLOEXEC | os.O_NOFOLLOW, 0o600, dir_fd=self._fd)
             fcntl.flock(self._lock, fcntl.LOCK_EX | fcntl.LOCK_NB)
-            self._expect_there()
+            self._expect_unmoved()
             # An earlier, killed run may have renamed files: its work is flushed before it is reported.
             os.fsync(self._fd)
             sync_folder(self.path.parent)
@@ -149,7 +149,7 @@ class RunWriter(RunFolder):
             raise
 
     @classmethod
-    def created(cls, path: str | os.PathLike[str], opening: memoryview) -> "RunWriter":
+    def create(cls, path: str | os.PathLike[str], opening: memoryview) -> "RunWriter":
         """Create a run with an opening segment.
 
         Raises:
@@ -170,7 +170,7 @@ class RunWriter(RunFolder):
         return writer
 
     @classmethod
-    def resumed(cls, path: str | os.PathLike[str]) -> tuple["RunWriter", list[Segment]]:
+    def resume(cls, path: str | os.PathLike[str]) -> tuple["RunWriter", list[Segment]]:
         """Open an earlier run to continue it.
 
         Return it with its segments, of which no text was read.
@@ -201,12 +201,12 @@ class RunWriter(RunFolder):
         now = self.last.following(moves, events, text)
         if now.number >= 10**8:
             raise OSError(errno.EFBIG, "a run has at most 100,000,000 segments", str(self.path))
-        self._expect_there()
+        self._expect_unmoved()
         self._write_new(text)
         os.rename(_NEW, now.name, src_dir_fd=self._fd, dst_dir_fd=self._fd)
         os.fsync(self._fd)
         self.last, self._size = now, len(text)
-        self._expect_there()
+        self._expect_unmoved()
 
     def _write_new(self, text: memoryview) -> None:
         flags = os.O_WRONLY | os.O_CREAT | os.O_EXCL | os.O_CLOEXEC
@@ -232,7 +232,7 @@ class RunWriter(RunFolder):
         with contextlib.suppress(FileNotFoundError):
             os.unlink(_NEW, dir_fd=self._fd)
 
-    def _expect_there(self) -> None:
+    def _expect_unmoved(self) -> None:
         """Check that the path leads to this folder, with the lock and the last segment.
 
         Raises:
@@ -270,12 +270,12 @@ def _same(one: os.stat_result, other: os.stat_result) -> bool:
     return (one.st_dev, one.st_ino) == (other.st_dev, other.st_ino)
 
 
-def _opened(path: pathlib.Path) -> int:
+def _open_folder(path: pathlib.Path) -> int:
     try:
         return os.open(path, os.O_RDONLY | os.O_DIRECTORY | os.O_CLOEXEC)
     except NotADirectoryError as error:
-        said = "a run is a folder; a run of version 0.2, one file, is imported by: python -m folugben import"
-        raise NotADirectoryError(error.errno, said, str(path)) from None
+        detail = "a run is a folder; a run of version 0.2, one file, is imported by: python -m folugben import"
+        raise NotADirectoryError(error.errno, detail, str(path)) from None
 
 
 def _expect_empty(path: pathlib.Path) -> None:

@@ -8,12 +8,12 @@ from contextlib import contextmanager
 from typing import Any
 
 from ._errors import ClashError, Error, FullError
-from ._texts import encoded
-from ._turns import WRITES, Played, Player, Turns
+from ._texts import encode
+from ._turns import WRITES, TurnProxy, Player, Turns
 
 # The calls that see what other agents did, or write. All others depend only on what their agent has seen.
 _COMMITS = frozenset({"commit", "try_commit", "fire", "try_fire"})
-_LOOKS = _COMMITS | {"step", "read", "follow", "stands", "learn"}
+_POLLS = _COMMITS | {"step", "read", "follow", "stands", "learn"}
 
 
 class Footprint:
@@ -24,7 +24,7 @@ class Footprint:
 
     def __init__(self) -> None:
         self.reads, self.scans = set[str](), set[str]()
-        self.writes, self.written = set[str](), set[str]()
+        self.writes, self.written_names = set[str](), set[str]()
         self.reads_all = False
 
     def read(self, places: Iterable[Any]) -> None:
@@ -33,17 +33,17 @@ class Footprint:
     def write(self, places: Iterable[Any]) -> None:
         for place in places:
             self.writes.add(text_of(place))
-            self.written.add(name_of(place))
+            self.written_names.add(name_of(place))
 
     def meets(self, other: "Footprint") -> bool:
         """Return whether the order matters: one writes what the other reads or writes."""
         return self._disturbs(other) or other._disturbs(self) or not self.writes.isdisjoint(other.writes)
 
     def _disturbs(self, other: "Footprint") -> bool:
-        is_read = not self.writes.isdisjoint(other.reads) or not self.written.isdisjoint(other.scans)
+        is_read = not self.writes.isdisjoint(other.reads) or not self.written_names.isdisjoint(other.scans)
         return is_read or other.reads_all and bool(self.writes)
 
-    def joined(self, other: "Footprint") -> "Footprint":
+    def union(self, other: "Footprint") -> "Footprint":
         """Return what either of the two reads and writes."""
         both = Footprint()
         for name, own in vars(self).items():
@@ -62,19 +62,19 @@ def name_of(place: Any) -> str:
 
 def text_of(place: Any) -> str:
     """Return the text of a location, prepared or not."""
-    return encoded(getattr(place, "place", place), "place").decode()
+    return encode(getattr(place, "place", place), "place").decode()
 
 
-def _without_number(name: str, is_step: bool, told: Any) -> Any:
+def _without_number(name: str, is_step: bool, answer: Any) -> Any:
     """Return the answer of a call, except numbers of moves."""
     if name in ("read", "peek", "state") or name == "scan" and not is_step:
-        return told[1]
+        return answer[1]
     if name in _COMMITS:
-        return told > 0
-    return told if name in ("get", "see", "scan", "stands", "__getitem__") else None
+        return answer > 0
+    return answer if name in ("get", "see", "scan", "stands", "__getitem__") else None
 
 
-class Noted(Player):
+class RecordingPlayer(Player):
     """Takes a turn only at each poll and each fire, and records events.
 
     An event is what is done from one such turn to the next one.
@@ -85,16 +85,16 @@ class Noted(Player):
         # The current event, its number of calls, and whether it has fired; before the first one it is the beginning.
         self.now, self.calls, self.is_move = Footprint(), 1, False
         # A digest of all answers to the agent before this event, and of those by now: the program's next action depends on it.
-        self.key = self._told = b""
+        self.key = self._digest = b""
         # Whether everything recorded for an event was recorded within it.
         self.is_exact = True
         # The step that is open, and the functions that it scanned.
-        self._step: Played | None = None
+        self._step: TurnProxy | None = None
         self._scanned: list[str] = []
 
-    def call(self, it: Played, name: str, words: tuple[Any, ...], named: dict[str, Any]) -> Any:
-        is_step = type(it) is Played
-        if name not in _LOOKS:
+    def call(self, it: TurnProxy, name: str, words: tuple[Any, ...], named: dict[str, Any]) -> Any:
+        is_step = type(it) is TurnProxy
+        if name not in _POLLS:
             self._turns.count()
             self.calls += 1
             if is_step and it is not self._step:
@@ -104,15 +104,15 @@ class Noted(Player):
             is_mixed = self._step is not None and it is not self._step
             self.now.reads_all |= is_mixed
             self._turns.wait(self.number)
-            self.now, self.calls, self.is_move, self.key = Footprint(), 1, False, self._told
+            self.now, self.calls, self.is_move, self.key = Footprint(), 1, False, self._digest
             self.now.reads_all = is_mixed
         with self._expecting():
-            told = self._step_call(it, name, words, named) if is_step else self._agent_call(it, name, *words, **named)
-            self._hear(_without_number(name, is_step, told))
-            return told
+            answer = self._step_call(it, name, words, named) if is_step else self._agent_call(it, name, *words, **named)
+            self._add_answer(_without_number(name, is_step, answer))
+            return answer
 
-    def _hear(self, told: Any) -> None:
-        self._told = hashlib.blake2b(self._told + encoded(told, "told")).digest()
+    def _add_answer(self, answer: Any) -> None:
+        self._digest = hashlib.blake2b(self._digest + encode(answer, "answer")).digest()
 
     def _depend(self) -> None:
         self.now.reads_all, self.is_exact = True, False
@@ -126,10 +126,10 @@ class Noted(Player):
             if isinstance(error, ClashError):
                 self.now.read([error.at])
             self.now.reads_all |= isinstance(error, FullError)
-            self._hear([type(error).__name__, getattr(error, "at", None)])
+            self._add_answer([type(error).__name__, getattr(error, "at", None)])
             raise
 
-    def _agent_call(self, it: Played, name: str, *words: Any, **named: Any) -> Any:
+    def _agent_call(self, it: TurnProxy, name: str, *words: Any, **named: Any) -> Any:
         call = getattr(it.own, name)
         if name == "fire":
             return self._fire(it, *words, **named)
@@ -146,33 +146,33 @@ class Noted(Player):
             self.now.reads_all = True
         elif name == "learn":
             self._depend()
-        told = call(*words, **named)
+        answer = call(*words, **named)
         if name == "step":
-            told = self._step = Played(told, self)
+            answer = self._step = TurnProxy(answer, self)
             self._scanned = []
-        return told
+        return answer
 
-    def _fire(self, it: Played, instructions: Any, reads: Iterable[Any] = (), scans: Iterable[Any] = ()) -> Any:
+    def _fire(self, it: TurnProxy, instructions: Any, reads: Iterable[Any] = (), scans: Iterable[Any] = ()) -> Any:
         named, over = list(reads), list(scans)
         self.now.read(at for at, _ in named)
         self.now.scans.update(name for name, _ in over)
-        return self._fired([it[1] for it in instructions], lambda: it.own.fire(instructions, named, over))
+        return self._record_fire([it[1] for it in instructions], lambda: it.own.fire(instructions, named, over))
 
-    def _fired(self, places: list[Any], fire: Any) -> Any:
+    def _record_fire(self, places: list[Any], fire: Any) -> Any:
         # It counts as written even if the fire is refused: an event must have the same footprint wherever it comes.
         self.now.write(places)
         number = fire()
         self.is_move = number > 0
         return number
 
-    def _step_call(self, it: Played, name: str, words: tuple[Any, ...], named: dict[str, Any]) -> Any:
+    def _step_call(self, it: TurnProxy, name: str, words: tuple[Any, ...], named: dict[str, Any]) -> Any:
         call = getattr(it.own, name)
         if name in _COMMITS:
             self._step = None
             offer = it.own.offer()
             self.now.read(at for at, _ in offer["reads"])
             self.now.scans.update(self._scanned)
-            return self._fired([it[1] for it in offer["fire"]], call)
+            return self._record_fire([it[1] for it in offer["fire"]], call)
         if name in ("get", "see"):
             places = words[0] if words else named["places"]
             self.now.read([places] if hasattr(places, "place") else places)
@@ -181,15 +181,15 @@ class Noted(Player):
         elif name == "scan":
             self._scanned += [*words, *named.values()]
             self.now.scans.update(self._scanned)
-        told = call(*words, **named)
+        answer = call(*words, **named)
         if name in ("push", "extend", *WRITES):
             # A partial update is accepted or refused by the value that it changes.
             self.now.read(at for word, at, *_ in it.own.offer()["fire"] if word != "put")
-        return told
+        return answer
 
-    def look(self, it: Played, name: str) -> None:
+    def on_attribute(self, it: TurnProxy, name: str) -> None:
         if it is self._step and name in ("free", "__exit__"):
             self._step = None
-        if name in ("seen", "misses") or name == "number" and type(it) is Played:
+        if name in ("seen", "misses") or name == "number" and type(it) is TurnProxy:
             # The number of all moves by now.
             self.now.reads_all = True

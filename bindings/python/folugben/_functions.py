@@ -3,9 +3,10 @@ from collections.abc import Iterable, Iterator, Sequence
 from typing import Any
 
 from . import _core
-from ._errors import INSTRUCTIONS, BadJournalError, Text, exact, expect, expect_part, expect_read, explain, refusal
+from ._errors import BadJournalError, Text, exact_bytes, expect, explain, refusal
 from ._library import AGGREGATE, CHECK, COMPOSE, REPLAY, TRACE, Code, TextForm
-from ._texts import Form, decoded, encoded, owned
+from ._text_errors import INSTRUCTIONS, expect_part, expect_read
+from ._texts import Form, decode, encode, to_python
 
 
 def version() -> int:
@@ -16,15 +17,15 @@ def version() -> int:
     return _core.version()
 
 
-def _told(call: int, journal: Text) -> tuple[bytes, int, int]:
+def _journal_answer(call: int, journal: Text) -> tuple[bytes, int, int]:
     """Return the answer of a call on a journal: a text, and two numbers."""
-    text = exact(journal, "a journal")
-    code, told, number, moves = _core.told(call, 0, text)
-    said = ""
+    text = exact_bytes(journal, "a journal")
+    code, answer, number, moves = _core.text_call(call, 0, text)
+    detail = ""
     if code in (Code.NOT_JSON, Code.SHAPE) and number > 1:
-        said = explain(TextForm.EVENT, text.split(b"\n", number)[number - 1])
-    expect(code, BadJournalError, (number,), said)
-    return told, number, moves
+        detail = explain(TextForm.EVENT, text.split(b"\n", number)[number - 1])
+    expect(code, BadJournalError, (number,), detail)
+    return answer, number, moves
 
 
 def check(journal: Text) -> tuple[int, int]:
@@ -33,12 +34,12 @@ def check(journal: Text) -> tuple[int, int]:
     Raises:
         BadJournalError: the journal isn't legal, or is none.
     """
-    return _told(CHECK, journal)[1:]
+    return _journal_answer(CHECK, journal)[1:]
 
 
 def replay(journal: Text) -> list[Any]:
     """Return the state after the moves of a journal, as a list of pairs."""
-    pairs: list[Any] = owned(_told(REPLAY, journal)[0])
+    pairs: list[Any] = to_python(_journal_answer(REPLAY, journal)[0])
     return pairs
 
 
@@ -51,7 +52,7 @@ def trace(journal: Text) -> Iterator[dict[str, Any]]:
     Raises:
         BadJournalError: it is no journal; raised before the first object.
     """
-    return map(decoded, _told(TRACE, journal)[0].split(b"\n")[:-1])
+    return map(decode, _journal_answer(TRACE, journal)[0].split(b"\n")[:-1])
 
 
 def aggregate(state: Iterable[Form], instructions: Sequence[Form]) -> list[Any]:
@@ -63,12 +64,12 @@ def aggregate(state: Iterable[Form], instructions: Sequence[Form]) -> list[Any]:
     Raises:
         ClashError: the updates clash; the error has the smallest location that does.
     """
-    old, move = encoded(list(state), "state"), encoded(instructions, "instructions")
-    code, told, *_ = _core.told(AGGREGATE, 0, old, move)
+    old, move = encode(list(state), "state"), encode(instructions, "instructions")
+    code, answer, *_ = _core.text_call(AGGREGATE, 0, old, move)
     # The code is that of the state if the fault is there.
     if code in (Code.NOT_JSON, Code.SHAPE) and explain(TextForm.STATE, old):
         expect_read(code, TextForm.STATE, old)
-    return _answered(code, told, move)
+    return _move_answer(code, answer, move)
 
 
 def compose(first: Sequence[Form], second: Sequence[Form]) -> list[Any]:
@@ -80,18 +81,18 @@ def compose(first: Sequence[Form], second: Sequence[Form]) -> list[Any]:
         ClashError, LargeError: on no state do both fire: updates clash, or an amount or a sum of increments is too large.
         ManyError: it would have more than 4,096 instructions.
     """
-    one, two = encoded(first, "first"), encoded(second, "second")
-    code, told, *_ = _core.told(COMPOSE, 0, one, two)
+    one, two = encode(first, "first"), encode(second, "second")
+    code, answer, *_ = _core.text_call(COMPOSE, 0, one, two)
     if code in (Code.NOT_JSON, Code.SHAPE) and explain(TextForm.MOVE, INSTRUCTIONS % one):
         expect_part(code, INSTRUCTIONS, one)
-    return _answered(code, told, two)
+    return _move_answer(code, answer, two)
 
 
-def _answered(code: int, told: bytes, move: bytes) -> list[Any]:
+def _move_answer(code: int, text: bytes, move: bytes) -> list[Any]:
     """Return the answer of a call on a move, or raise the error of its code."""
-    expect(code, said="the one move would have more than 4,096 instructions") if code == Code.LONG_MOVE else None
+    expect(code, detail="the one move would have more than 4,096 instructions") if code == Code.LONG_MOVE else None
     if code in (Code.CLASH, Code.LARGE):
-        raise refusal(code, told)
+        raise refusal(code, text)
     expect_part(code, INSTRUCTIONS, move)
-    answer: list[Any] = owned(told)
+    answer: list[Any] = to_python(text)
     return answer

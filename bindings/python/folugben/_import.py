@@ -13,7 +13,7 @@ from ._errors import BadJournalError
 from ._folder import CHUNK, RunWriter, sync_folder
 from ._library import Code
 from ._reading import HEADER
-from ._texts import decoded
+from ._texts import decode
 
 
 def import_run(file: str | os.PathLike[str], folder: str | os.PathLike[str]) -> tuple[Counts, int]:
@@ -29,24 +29,24 @@ def import_run(file: str | os.PathLike[str], folder: str | os.PathLike[str]) -> 
     path = pathlib.Path(os.path.realpath(folder))
     if path.exists():
         raise FileExistsError(errno.EEXIST, "there is something already", str(path))
-    made = path.with_name(f".{path.name}.{secrets.token_hex(4)}")
+    temporary = path.with_name(f".{path.name}.{secrets.token_hex(4)}")
     try:
         with open(file, "rb") as source:
-            told = _imported(source, made)
-        os.rename(made, path)
+            result = _import_parts(source, temporary)
+        os.rename(temporary, path)
         sync_folder(path.parent)
     finally:
-        shutil.rmtree(made, ignore_errors=True)
-    return told
+        shutil.rmtree(temporary, ignore_errors=True)
+    return result
 
 
-def _imported(source: BinaryIO, made: pathlib.Path) -> tuple[Counts, int]:
+def _import_parts(source: BinaryIO, temporary: pathlib.Path) -> tuple[Counts, int]:
     writer, counts, complete = None, Counts(0, 0, 0), 0
     try:
         for text, now in _parts(source):
             moves, events = now.moves - counts.moves, now.calls - counts.calls
             if writer is None:
-                writer = RunWriter.created(made, memoryview(_opening(text)))
+                writer = RunWriter.create(temporary, memoryview(_opening(text)))
             # What opens the run is there by now.
             if events > 0 or counts.parts > 0:
                 writer.save(memoryview(text), moves, events)
@@ -76,7 +76,7 @@ def _parts(source: BinaryIO) -> Iterator[tuple[bytes, Counts]]:
 
 def _opening(text: bytes) -> bytes:
     """Return the journal without a call that opens as this one does."""
-    header = decoded(text.split(b"\n", 1)[0])
+    header = decode(text.split(b"\n", 1)[0])
     with Storage(header["init"], header["capacity"]) as storage:
         return storage.close_journal()
 

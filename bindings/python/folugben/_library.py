@@ -4,7 +4,7 @@ from enum import IntEnum
 from . import _core
 
 # The version of the library that this package was written for.
-WRITTEN_FOR = 2000
+LIBRARY_VERSION = 2000
 
 
 class Code(IntEnum):
@@ -25,14 +25,14 @@ class TextForm(IntEnum):
 # The kinds of values: those above TEXT are passed as texts of JSON. What an instruction does.
 UNDEF, BOOL, NUM, TEXT, LIST, SET, BAG = range(7)
 PUT, ADD, REMOVE, BAGADD, BAGREMOVE, INC = range(6)
-# The calls of `_core.told`.
+# The calls of `_core.text_call`.
 CHECK, REPLAY, TRACE, AGGREGATE, COMPOSE, EXPLAIN, ERROR_TEXT = range(7)
 
 
 def expect_version() -> None:
     """Check that the library has the version that this package was written for."""
-    if _core.version() != WRITTEN_FOR:
-        raise ImportError(f"the library has version {_core.version()}, and this package was written for {WRITTEN_FOR}")
+    if _core.version() != LIBRARY_VERSION:
+        raise ImportError(f"the library has version {_core.version()}, and this package was written for {LIBRARY_VERSION}")
 
 
 expect_version()

@@ -3,7 +3,7 @@ from typing import TYPE_CHECKING, Any
 
 from ._errors import TooLongError
 from ._library import Code
-from ._texts import decoded, encoded
+from ._texts import decode, encode
 
 if TYPE_CHECKING:
     from ._core import Agent
@@ -18,7 +18,7 @@ SHORT = LINE_LIMIT // 16
 
 def too_long(what: str, length: int) -> TooLongError:
     """Return the error of something that would be too long."""
-    return TooLongError(Code.LONG_LINE, said=f"{what} would make a line of about {length:,} bytes, and an audit reads {LINE_LIMIT:,}")
+    return TooLongError(Code.LONG_LINE, detail=f"{what} would make a line of about {length:,} bytes, and an audit reads {LINE_LIMIT:,}")
 
 
 def expect_call(call: bytes) -> None:
@@ -29,9 +29,9 @@ def expect_call(call: bytes) -> None:
     """
     if 2 * len(call) + ROOM <= LINE_LIMIT:
         return
-    told: dict[str, Any] = decoded(call)
-    places = [it[1] for it in told["fire"]] + [it[0] for it in told["reads"]]
-    length = len(call) + max((len(encoded(place, "place")) for place in places), default=0) + ROOM
+    parsed: dict[str, Any] = decode(call)
+    places = [it[1] for it in parsed["fire"]] + [it[0] for it in parsed["reads"]]
+    length = len(call) + max((len(encode(place, "place")) for place in places), default=0) + ROOM
     if length > LINE_LIMIT:
         raise too_long("the move", length)
 
@@ -42,9 +42,9 @@ def expect_recorded(call: bytes, agent: "Agent") -> None:
     Raises:
         TooLongError: the line may be too long.
     """
-    length = agent._peek_length([at for at, _ in decoded(call)["reads"]]) + ROOM
+    length = agent._peek_length([at for at, _ in decode(call)["reads"]]) + ROOM
     if length > LINE_LIMIT:
-        raise too_long("what the step got", length)
+        raise too_long("the tracked reads", length)
 
 
 def expect_state(length: int) -> None:

@@ -10,7 +10,7 @@ from typing import NamedTuple
 
 from ._database import Database, connect, reaching
 from ._errors import DamagedError, MismatchError
-from ._folder import START, Segment, begun_digest
+from ._folder import START, Segment, start_digest
 
 _FORMAT = 1
 # Text is compressed in pieces of this many bytes, each by itself.
@@ -18,7 +18,7 @@ _PIECE = 1 << 20
 # How many calls are appended by one transaction, and read at once.
 BATCH, READ = 500, 5_000
 # The calls of this many saved segments stay in the log, for a process that is behind.
-_KEPT = 2
+_SEGMENTS_KEPT = 2
 _TABLES = """
 create table run(one integer primary key check (one = 1), format integer not null, moves integer not null, joined bigint not null);
 create table segment(number bigint primary key, first_move bigint not null, moves bigint not null, events bigint not null,
@@ -43,7 +43,7 @@ class Call(NamedTuple):
     scans: str
 
 
-class Placed(NamedTuple):
+class PlacedCall(NamedTuple):
     """A call of the log at its place."""
 
     place: int
@@ -65,7 +65,7 @@ class Log:
         self.moves = 0
 
     @classmethod
-    def opened(cls, target: str | os.PathLike[str], opening: Callable[[int], bytes] | None, moves: int) -> "Log":
+    def open(cls, target: str | os.PathLike[str], opening: Callable[[int], bytes] | None, moves: int) -> "Log":
         """Open a run for writing, or create it if an opening is passed.
 
         The opening is a function that returns the opening journal for a capacity in moves.
@@ -129,7 +129,7 @@ class Log:
         self.database.close()
         self.database = connect(self.target)
 
-    def exchange(self, calls: list[Call], applied: int) -> list[Placed]:
+    def exchange(self, calls: list[Call], applied: int) -> list[PlacedCall]:
         """Append calls at the next places, except those whose token is there.
 
         Return the calls after a place, which are durable.
@@ -138,18 +138,18 @@ class Log:
             Behind: the log doesn't have the next one any more.
         """
         own = {call.token: call for call in calls}
-        found: list[Placed] = []
+        placed: list[PlacedCall] = []
         for row in self.database.append(calls, applied, READ):
             token = bytes(row[1])
-            found.append(Placed(row[0], own.get(token) or Call(token, *row[2:])))
+            placed.append(PlacedCall(row[0], own.get(token) or Call(token, *row[2:])))
         # Of a call that was appended twice the later place stays empty.
-        if found and found[0].place > applied + 1:
+        if placed and placed[0].place > applied + 1:
             self._expect_not_behind(applied)
-        return found
+        return placed
 
     def _expect_not_behind(self, applied: int) -> None:
         (dropped,) = self.database.run("select coalesce(max(last_place), 0) from segment where number <= "
-                                       "(select max(number) from segment) - ?", (_KEPT,))[0]
+                                       "(select max(number) from segment) - ?", (_SEGMENTS_KEPT,))[0]
         if dropped > applied:
             raise Behind
 
@@ -171,7 +171,7 @@ class Log:
             if not there:
                 self._insert(segment, text, last_place)
                 self.database.run("delete from call where place <= (select last_place from segment where number = ?)",
-                                  (segment.number - _KEPT,))
+                                  (segment.number - _SEGMENTS_KEPT,))
             elif there[0][0] != segment.digest:
                 raise DamagedError(segment.number, "another process has saved another text of it")
 
@@ -199,7 +199,7 @@ class Log:
             return Segment(*row)
         raise DamagedError(number, "its row is missing")
 
-    def ended(self, segment: Segment | None = None) -> tuple[Segment, Segment, int]:
+    def segment_end(self, segment: Segment | None = None) -> tuple[Segment, Segment, int]:
         """Return a segment, with the one before it, and the place at which it ended.
 
         Without a number it is the last segment.
@@ -215,7 +215,7 @@ class Log:
             DamagedError: the text isn't the one that was saved; raised at its end at the latest.
         """
         rows = self.database.run("select length from segment where number = ?", (segment.number,))
-        digest, place, length = begun_digest(segment, previous, rows[0][0] if rows else 0), 0, 0
+        digest, place, length = start_digest(segment, previous, rows[0][0] if rows else 0), 0, 0
         while rows and length < rows[0][0]:
             data = self.database.run("select data from piece where segment = ? and place = ?", (segment.number, place))
             piece = b""

@@ -23,12 +23,12 @@ class PartStep(Step):
     _agent: "PartAgent"
 
     @property
-    def is_taken(self) -> bool:
+    def is_withdrawn(self) -> bool:
         """Whether another thread has returned its agent, at the end of its part.
 
         The part has ended or had to end.
         """
-        return self._agent._is_taken
+        return self._agent._is_withdrawn
 
     def offer(self) -> dict[str, Any]:
         """Return the same, with numbers of the run."""
@@ -46,7 +46,7 @@ class PartStep(Step):
         try:
             return super().commit()
         except FullError:
-            raise PastError(Code.FULL, said="the part of the run has ended, so begin another step") from None
+            raise PastError(Code.FULL, detail="the part of the run has ended, so begin another step") from None
 
     def try_commit(self) -> int:
         """Commit the same way, but return 0 if the step must be begun again.
@@ -67,7 +67,7 @@ class PartStep(Step):
             expect_call(call)
             if receipts > 1:
                 expect_recorded(call, self._agent)
-        self._agent.tried(receipts)
+        self._agent.count_receipts(receipts)
 
 
 class PartAgent(Agent):
@@ -87,18 +87,18 @@ class PartAgent(Agent):
         self.is_by_turns = here.is_by_turns
         return PartStep(self)
 
-    def tried(self, receipts: int = 1) -> None:
+    def count_receipts(self, receipts: int = 1) -> None:
         """Count the receipts that a call leaves."""
         self._tries += receipts
         if self._tries >= _EACH:
             self._tries, tries = 0, self._tries
             self.part.chain.count(self.part, tries)
 
-    def _expect_held(self) -> None:
+    def _raise_why_returned(self) -> None:
         self.part.chain.expect_going()
-        if self._is_taken or self.part.has_ended():
-            raise PastError(Code.EMPTY, said="the part of the run has ended, so begin another step")
-        raise Error(Code.EMPTY, said="the agent was given back")
+        if self._is_withdrawn or self.part.has_ended():
+            raise PastError(Code.EMPTY, detail="the part of the run has ended, so begin another step")
+        raise Error(Code.EMPTY, detail="the agent was returned")
 
 
 class Part:
@@ -111,7 +111,7 @@ class Part:
         self.most = capacity
         self.next: Part | None = None
         # How many calls left receipts; when its first move was noticed; when agents in steps are returned.
-        self.tries, self.begun, self.until = 0, 0.0, 0.0
+        self.tries, self.first_move_at, self.until = 0, 0.0, 0.0
         # Whether a move is missing, so that no part comes after it; whether it is on the disk; whether
         # it ends at rest though agents are played by turns.
         self.is_last = self.is_written = self.is_forced = False
@@ -122,7 +122,7 @@ class Part:
     def has_ended(self) -> bool:
         return self.is_written or self.next is not None
 
-    def end_at_rest(self, is_forced: bool = False) -> None:
+    def end_when_idle(self, is_forced: bool = False) -> None:
         """End the part before it is full.
 
         Agents that come wait, and those in steps are returned after a while.
@@ -131,12 +131,12 @@ class Part:
             self.most, self.until = 0, time.monotonic() + PATIENCE
         self.is_forced = self.is_forced or is_forced
 
-    def go_on(self) -> None:
+    def cancel_end(self) -> None:
         """Continue the part until it is full."""
-        self.most, self.tries, self.begun, self.is_forced = self.capacity, 0, 0.0, False
+        self.most, self.tries, self.first_move_at, self.is_forced = self.capacity, 0, 0.0, False
 
     def missing(self, move: int) -> MissingError:
         abandoned = sorted(own for own, agent in self.agents.items() if agent.is_abandoned)
         were = "was" if len(abandoned) == 1 else "were"
-        said = f"agent{'s' * (len(abandoned) > 1)} {', '.join(map(str, abandoned))} {were} abandoned" if abandoned else ""
-        return MissingError(Code.MISSING, (move,), said)
+        detail = f"agent{'s' * (len(abandoned) > 1)} {', '.join(map(str, abandoned))} {were} abandoned" if abandoned else ""
+        return MissingError(Code.MISSING, (move,), detail)

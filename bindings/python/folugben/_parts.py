@@ -37,7 +37,7 @@ import weakref
 from ._core import Storage
 from ._errors import BrokenError, Error, MissingError, TooLongError
 from ._folder import RunWriter
-from ._held import Locked, one_call
+from ._guards import LockHolder, one_call
 from ._library import Code
 from ._lines import expect_lines, expect_state
 from ._part import PATIENCE, Part, PartAgent
@@ -54,7 +54,7 @@ _WAITING = 2
 _EVENTS = re.compile(rb'\{"agents":\d+,"capacity":\d+,"events":(\d+),')
 
 
-class Chain(Locked):
+class Chain(LockHolder):
     """The parts of a run that aren't on the disk yet, and the thread that saves them."""
 
     def __init__(self, folder: RunWriter, storage: Storage, moves: int, tries: int, every: float | None) -> None:
@@ -62,7 +62,7 @@ class Chain(Locked):
         # The lock itself is acquired, as a condition's own methods aren't safe for a signal handler that raises.
         lock = threading.RLock()
         self._changed = threading.Condition(lock)
-        self._locked_by(lock)
+        self._set_lock(lock)
         # How many parts and moves are on the disk.
         self.saved = folder.last.number + 1, folder.last.end
         self._oldest = Part(self, *self.saved, moves, storage)
@@ -72,8 +72,8 @@ class Chain(Locked):
         self._writer.start()
         _chains.add(self)
 
-    def _is_copied(self) -> None:
-        super()._is_copied()
+    def _enter_child(self) -> None:
+        super()._enter_child()
         self.is_closing = True
         self._folder.leave()
         _chains.discard(self)
@@ -83,7 +83,7 @@ class Chain(Locked):
         if self._fault is not None:
             raise BrokenError(*self._fault)
         if self.is_closing:
-            raise Error(Code.EMPTY, said="the run was closed")
+            raise Error(Code.EMPTY, detail="the run was closed")
 
     def newest(self) -> Part:
         part = self._oldest
@@ -94,26 +94,26 @@ class Chain(Locked):
     # Calls of agents.
 
     @one_call
-    def come(self, own: int, before: PartAgent | None) -> PartAgent:
+    def enter(self, own: int, before: PartAgent | None) -> PartAgent:
         """Bring an agent into the newest part, and return it.
 
         If it is there and has seen all its moves, a further part is opened.
         """
         while True:
             with self._lock:
-                agent = self._come_at_once(own, before)
-                self._take_by_turns()
+                agent = self._enter_at_once(own, before)
+                self._return_by_turns()
             if agent is not None:
                 return agent
             # Neither is a wait on the condition.
             time.sleep(_MOMENT)
 
-    def _come_at_once(self, own: int, before: PartAgent | None) -> PartAgent | None:
+    def _enter_at_once(self, own: int, before: PartAgent | None) -> PartAgent | None:
         """Do the same; return None if another thread must act before."""
         self.expect_going()
         newest = self.newest()
         if before is not None and before.part is newest and before._is_full:
-            if self._is_at_end(before):
+            if self._has_seen_all(before):
                 if self._is_behind():
                     return None
                 self._open_behind(before)
@@ -123,11 +123,11 @@ class Chain(Locked):
         if before is not None and before.part is not newest:
             before.__exit__(None, None, None)
             self._changed.notify_all()
-        if newest.most == 0 and not self._is_rested(newest):
+        if newest.most == 0 and not self._end_if_idle(newest):
             return None
-        return self._into(self.newest(), own)
+        return self._enter_part(self.newest(), own)
 
-    def _take_by_turns(self) -> None:
+    def _return_by_turns(self) -> None:
         """Return to the storage agents that stay in a step, by turns, of an old part.
 
         Too many parts have come after an old part. Time has no influence on it.
@@ -138,9 +138,9 @@ class Chain(Locked):
             part = part.next
         for part in ended[:-_WAITING] if here.is_by_turns else ():
             part.is_forced, part.until = True, 0.0
-            self._is_left(part)
+            self._return_agents(part)
 
-    def _is_at_end(self, agent: PartAgent) -> bool:
+    def _has_seen_all(self, agent: PartAgent) -> bool:
         """Poll the log; return whether the agent has seen its part's capacity of moves."""
         return agent.follow() == agent.part.capacity
 
@@ -157,19 +157,19 @@ class Chain(Locked):
         part, waiting = self._oldest, 0
         while part.next is not None:
             # By turns no part comes to rest while another one waits, so nobody waits for such a part.
-            waiting += not here.is_by_turns or self._is_left(part)
+            waiting += not here.is_by_turns or self._return_agents(part)
             part = part.next
         return waiting >= _WAITING
 
-    def _into(self, part: Part, own: int) -> PartAgent:
+    def _enter_part(self, part: Part, own: int) -> PartAgent:
         agent = part.agents.get(own)
         if agent is None:
             agent = part.agents[own] = PartAgent(part, own)
         try:
-            agent._come()
+            agent._check_out()
         except Error as error:
             if error.code == Code.NUMBER:
-                raise Error(Code.NUMBER, said=f"agent {own} was abandoned") from None
+                raise Error(Code.NUMBER, detail=f"agent {own} was abandoned") from None
             raise
         return agent
 
@@ -194,7 +194,7 @@ class Chain(Locked):
         with self._lock:
             part.tries += tries
             if part.tries > self._tries:
-                part.end_at_rest()
+                part.end_when_idle()
 
     @one_call
     def state(self) -> tuple[int, bytes]:
@@ -215,33 +215,33 @@ class Chain(Locked):
         if own is None:
             own = next(it for it in range(257) if it not in part.agents)
             part.agents[own] = PartAgent(part, own)
-        return part.agents[own]._glimpse()
+        return part.agents[own]._newest_state()
 
     # A part that ends before it is full.
 
-    def _is_rested(self, part: Part, is_flush: bool = False) -> bool:
+    def _end_if_idle(self, part: Part, is_flush: bool = False) -> bool:
         """End a part if all its agents are between two steps.
 
         Return whether that is done, or is given up.
         """
         if part.is_last or self._is_behind():
             return False
-        if self._is_left(part):
+        if self._return_agents(part):
             try:
-                self._end_at_rest(part)
+                self._end_idle(part)
             except TooLongError:
                 # It continues until it is full.
-                part.go_on()
+                part.cancel_end()
                 if is_flush:
                     raise
             return not part.is_last
         # If agents are played by turns, none comes to rest while another one waits.
         if here.is_by_turns and not part.is_forced:
-            part.go_on()
+            part.cancel_end()
             return True
         return False
 
-    def _end_at_rest(self, part: Part) -> None:
+    def _end_idle(self, part: Part) -> None:
         expect_state(len(self._last_state(part)[1]))
         # The writer finds and reports a missing move, once the parts before it are written.
         part.is_last = part.storage._close() > 0
@@ -250,11 +250,11 @@ class Chain(Locked):
             part.next = further
         self._changed.notify_all()
 
-    def _is_left(self, part: Part) -> bool:
+    def _return_agents(self, part: Part) -> bool:
         """Return the agents that may be returned; return whether none is left in the part."""
-        return all([agent._leave(self._may_take(agent)) for agent in part.agents.values()])
+        return all([agent._try_return(self._may_return(agent)) for agent in part.agents.values()])
 
-    def _may_take(self, agent: PartAgent) -> bool:
+    def _may_return(self, agent: PartAgent) -> bool:
         """Return whether another thread may return an agent that is in a step."""
         is_waited_for = agent.is_by_turns and not agent.part.is_forced
         return self.is_closing or not is_waited_for and time.monotonic() > agent.part.until
@@ -267,7 +267,7 @@ class Chain(Locked):
             part = self.newest()
             is_empty = part.moves() == 0
             if not is_empty and not part.has_ended():
-                part.end_at_rest(is_forced=True)
+                part.end_when_idle(is_forced=True)
         while not self._is_flushed(part, is_empty):
             time.sleep(_MOMENT)
 
@@ -278,8 +278,8 @@ class Chain(Locked):
             if self.saved[0] >= part.number + (not is_empty):
                 return True
             if not is_empty and not part.has_ended() and not self._is_over:
-                part.end_at_rest(is_forced=True)
-                self._is_rested(part, is_flush=True)
+                part.end_when_idle(is_forced=True)
+                self._end_if_idle(part, is_flush=True)
             return self._is_over
 
     # Calls of the writer.
@@ -296,7 +296,7 @@ class Chain(Locked):
                     self._folder.save(journal, moves, int(events[1]))
                     self.saved = part.number + 1, part.base + moves
                 journal.release()
-                self._let_go(part)
+                self._release(part)
         except BaseException as error:
             self._break(self._oldest.number if part is None else part.number, error)
         finally:
@@ -317,7 +317,7 @@ class Chain(Locked):
                 with contextlib.suppress(MemoryError):
                     self._end_by_time()
                     is_due = part.has_ended() or part.is_last or self.is_closing
-                    if is_due and self._is_left(part):
+                    if is_due and self._return_agents(part):
                         return part
                 self._changed.wait(_SOON if is_due else later)
         return None
@@ -327,11 +327,11 @@ class Chain(Locked):
         part, now = self.newest(), time.monotonic()
         if self._every is None or part.is_last or self.is_closing:
             return
-        if part.begun == 0.0:
-            part.begun = now if part.moves() > 0 else 0.0
-        elif now >= part.begun + self._every:
-            part.end_at_rest()
-            self._is_rested(part)
+        if part.first_move_at == 0.0:
+            part.first_move_at = now if part.moves() > 0 else 0.0
+        elif now >= part.first_move_at + self._every:
+            part.end_when_idle()
+            self._end_if_idle(part)
 
     def _journal(self, part: Part) -> tuple[memoryview, int]:
         """Return the journal of a part, and its number of moves."""
@@ -342,7 +342,7 @@ class Chain(Locked):
         expect_lines(journal)
         return journal, part.moves()
 
-    def _let_go(self, part: Part) -> None:
+    def _release(self, part: Part) -> None:
         part.storage.free()
         with self._lock:
             part.is_written = True
@@ -377,14 +377,14 @@ class Chain(Locked):
 
 
 def _close_all() -> None:
-    told: list[BrokenError] = []
+    errors: list[BrokenError] = []
     for chain in list(_chains):
         try:
             chain.close()
         except BrokenError as broken:
-            told.append(broken)
-    if told:
-        raise told[0]
+            errors.append(broken)
+    if errors:
+        raise errors[0]
 
 
 atexit.register(_close_all)

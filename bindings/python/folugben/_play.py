@@ -27,11 +27,11 @@ def back_off(tries: int) -> None:
     time.sleep(0 if more < 0 else min(_LONGEST_SLEEP, 1e-6 * 2 ** min(more, 10)))
 
 
-def no_rule(told: Any) -> None:
+def no_rule(result: Any) -> None:
     """Refuse a function's result that does nothing before it is awaited or iterated."""
-    if isinstance(told, _NO_RULES):
-        getattr(told, "close", lambda: None)()
-        raise TypeError(f"a rule is a plain function, and {told.__qualname__} is an async def or a generator: it wrote nothing")
+    if isinstance(result, _NO_RULES):
+        getattr(result, "close", lambda: None)()
+        raise TypeError(f"a rule is a plain function, and {result.__qualname__} is an async def or a generator: it wrote nothing")
 
 
 def play(
@@ -46,23 +46,23 @@ def play(
         conflict: ConflictError | None = None
         with agent.step() as step:
             try:
-                told = rule(step)
+                result = rule(step)
             except PastError as past:
                 # Another thread has returned its agent, as the part of its run has ended.
-                if not getattr(step, "is_taken", False):
+                if not getattr(step, "is_withdrawn", False):
                     raise
                 conflict = past
             else:
-                if isinstance(told, _NO_RULES):
-                    no_rule(told)
+                if isinstance(result, _NO_RULES):
+                    no_rule(result)
                 if not step._is_pushed:
-                    return Played((0, told, retries))
+                    return Played((0, result, retries))
                 try:
                     number = step.commit() if is_bounded else step.try_commit()
                 except ConflictError as error:
                     number, conflict = 0, error
                 if number:
-                    return Played((number, told, retries))
+                    return Played((number, result, retries))
             step._is_tried = True
         retries += 1
         if conflict is not None and is_bounded and (retries == tries or end is not None and time.monotonic() >= end):

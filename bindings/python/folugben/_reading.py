@@ -10,12 +10,12 @@ from ._database import is_database, is_server
 from ._errors import BadJournalError, DamagedError
 from ._folder import CHUNK, START, RunFolder, Segment
 from ._log import Behind, Log
-from ._replica import rest
+from ._replica import unsaved_journals
 
 # How the header of a part begins; no line of an event begins so.
 HEADER = b'{"agents":'
 # How often `follow` checks for a further segment.
-_LOOK = 0.2
+_POLL_PAUSE = 0.2
 
 
 class Readable(Protocol):
@@ -37,7 +37,7 @@ class Store(Protocol):
             DamagedError: it isn't the one that was saved.
         """
 
-    def rest(self, last: Segment) -> list[bytes]:
+    def unsaved_journals(self, last: Segment) -> list[bytes]:
         """Return the journals of what is after a segment, and isn't saved as one.
 
         Raises:
@@ -48,7 +48,7 @@ class Store(Protocol):
         """Close it; closing again has no effect."""
 
 
-def opened(target: str | os.PathLike[str]) -> Store:
+def open_store(target: str | os.PathLike[str]) -> Store:
     """Open a stored run for reading.
 
     It is a folder, a SQLite file, or a schema of a PostgreSQL server.
@@ -58,7 +58,7 @@ def opened(target: str | os.PathLike[str]) -> Store:
     return RunFolder(target)
 
 
-def is_stored(target: object) -> bool:
+def is_stored_run(target: object) -> bool:
     """Return whether a target is a stored run, and not one file with a run."""
     if is_server(target):
         return True
@@ -72,8 +72,8 @@ class LogStore:
         self._log = Log.reading(target)
         self.segments, self.text, self.close = self._log.segments, self._log.text, self._log.close
 
-    def rest(self, last: Segment) -> list[bytes]:
-        return rest(self._log, last)
+    def unsaved_journals(self, last: Segment) -> list[bytes]:
+        return unsaved_journals(self._log, last)
 
 
 class Reading:
@@ -81,7 +81,7 @@ class Reading:
 
     def __init__(self, store: Store, progress: Callable[[int], None] | None = None) -> None:
         self._store, self._progress = store, progress
-        self._auditor, self._fed = Auditor(), 0
+        self._auditor, self._fed_bytes = Auditor(), 0
         # The last segment that was read.
         self.last = START
 
@@ -101,7 +101,7 @@ class Reading:
         while True:
             counts = self.audit(self._store.segments())
             with contextlib.suppress(Behind):
-                for journal in self._store.rest(self.last):
+                for journal in self._store.unsaved_journals(self.last):
                     counts = self._auditor.feed(journal)
                 return counts
 
@@ -129,9 +129,9 @@ class Reading:
         try:
             for chunk in self._store.text(segment, self.last.digest):
                 self._auditor.feed(chunk)
-                self._fed += len(chunk)
+                self._fed_bytes += len(chunk)
                 if self._progress is not None:
-                    self._progress(self._fed)
+                    self._progress(self._fed_bytes)
             calls, moves, parts = self._auditor.end()
         except BadJournalError as bad:
             bad.part = segment.number
@@ -152,25 +152,25 @@ def audit(run: str | os.PathLike[str] | Readable, progress: Callable[[int], None
         DamagedError: a segment of a folder isn't the one that was saved.
     """
     if isinstance(run, (str, os.PathLike)):
-        if is_stored(run):
-            with contextlib.closing(opened(run)) as store, Reading(store, progress) as reading:
+        if is_stored_run(run):
+            with contextlib.closing(open_store(run)) as store, Reading(store, progress) as reading:
                 return reading.audit_all()
         with open(run, "rb", buffering=0) as file:
-            return _audited(file, progress)
+            return _audit_file(file, progress)
     if not hasattr(run, "read"):
         raise TypeError(f"audit takes a path or a file, and not {type(run).__name__!r}: feed bytes to an Auditor")
-    return _audited(run, progress)
+    return _audit_file(run, progress)
 
 
-def _audited(file: Readable, progress: Callable[[int], None] | None) -> Counts:
+def _audit_file(file: Readable, progress: Callable[[int], None] | None) -> Counts:
     # Whatever a pipe has is read at once, so that a wrong answer is reported when it arrives.
-    read, fed = getattr(file, "read1", file.read), 0
+    read, fed_bytes = getattr(file, "read1", file.read), 0
     with Auditor() as auditor:
         while chunk := read(CHUNK):
             auditor.feed(chunk)
-            fed += len(chunk)
+            fed_bytes += len(chunk)
             if progress is not None:
-                progress(fed)
+                progress(fed_bytes)
         return auditor.end()
 
 
@@ -183,7 +183,7 @@ def verify(target: str | os.PathLike[str]) -> Segment:
         DamagedError: a text isn't the one that was saved.
     """
     last = START
-    with contextlib.closing(opened(target)) as store:
+    with contextlib.closing(open_store(target)) as store:
         for segment in store.segments():
             for _ in store.text(segment, last.digest):
                 pass
@@ -202,24 +202,24 @@ def follow(target: str | os.PathLike[str]) -> Iterator[Counts]:
 
     Yield the counts after what is there, and after each check that found more.
     """
-    with contextlib.closing(opened(target)) as store, Reading(store) as reading:
+    with contextlib.closing(open_store(target)) as store, Reading(store) as reading:
         while True:
             segments = store.segments()
             if len(segments) > reading.last.number + 1:
                 yield reading.audit(segments)
-            time.sleep(_LOOK)
+            time.sleep(_POLL_PAUSE)
 
 
 def texts(target: str | os.PathLike[str]) -> Iterator[bytes]:
     """Yield the journal of each segment of a stored run, and of what comes after."""
     last = START
-    with contextlib.closing(opened(target)) as store:
+    with contextlib.closing(open_store(target)) as store:
         while True:
             for segment in store.segments()[last.number + 1 :]:
                 yield b"".join(store.text(segment, last.digest))
                 last = segment
             with contextlib.suppress(Behind):
-                yield from store.rest(last)
+                yield from store.unsaved_journals(last)
                 return
 
 
@@ -232,8 +232,8 @@ def part(run: str | os.PathLike[str] | BinaryIO, number: int) -> bytes:
         IndexError: there are fewer parts.
     """
     if isinstance(run, (str, os.PathLike)):
-        if is_stored(run):
-            with contextlib.closing(opened(run)) as store:
+        if is_stored_run(run):
+            with contextlib.closing(open_store(run)) as store:
                 return _part_of(store, number)
         with open(run, "rb") as file:
             return part(file, number)

@@ -9,11 +9,12 @@ import sys
 from typing import TYPE_CHECKING, Any, NoReturn
 
 from . import _core
-from ._errors import INSTRUCTIONS, READS, BusyError, ClashError, CommitClashError, CommitMovedError, Error, MissingError, OverError
-from ._errors import ahead, expect, expect_part, expect_read, expect_scans, explain, refusal
-from ._held import ForkedError
+from ._errors import BusyError, ClashError, CommitClashError, CommitMovedError, Error, MissingError, OverError
+from ._errors import ahead, expect, explain, refusal
+from ._guards import ForkedError
 from ._library import Code, INC, TEXT, TextForm
 from ._play import back_off, no_rule, play
+from ._text_errors import INSTRUCTIONS, READS, expect_part, expect_read, expect_scans
 from ._texts import expect_name, not_a_value
 
 if TYPE_CHECKING:
@@ -32,14 +33,14 @@ _RANGES = {
 
 
 def out_of_range(what: str, value: int, least: int, most: int) -> NoReturn:
-    code, said = _RANGES[what]
-    raise Error(code, said=said.format(value=int.__index__(value), most=most))
+    code, detail = _RANGES[what]
+    raise Error(code, detail=detail.format(value=int.__index__(value), most=most))
 
 
 def number_of(what: str, value: int, least: int, most: int) -> int:
     """Check for an integer in a range."""
-    whole = int.__index__(operator.index(value))
-    return whole if least <= whole <= most else out_of_range(what, whole, least, most)
+    integer = int.__index__(operator.index(value))
+    return integer if least <= integer <= most else out_of_range(what, integer, least, most)
 
 
 def own_number(number: int) -> int:
@@ -52,20 +53,20 @@ def capacity_of(capacity: int) -> int:
     return number_of("capacity", capacity, 1, 1_048_576)
 
 
-def forked() -> NoReturn:
+def forked_object() -> NoReturn:
     raise ForkedError("this was made in the parent of this process, and a fork's child has a copy of it alone")
 
 
-def freed(what: str) -> NoReturn:
-    raise Error(Code.EMPTY, said=f"the {what} was freed")
+def freed_object(what: str) -> NoReturn:
+    raise Error(Code.EMPTY, detail=f"the {what} was freed")
 
 
-def odd(name: str, path: str, value: Any) -> NoReturn:
+def no_value(name: str, path: str, value: Any) -> NoReturn:
     not_a_value(value, name + path)
 
 
-def no_agent(said: str, it: Any) -> NoReturn:
-    raise TypeError(f"{said}, and not {'from ' * said.endswith('from an agent')}{type(it).__name__!r}")
+def no_agent(detail: str, it: Any) -> NoReturn:
+    raise TypeError(f"{detail}, and not {'from ' * detail.endswith('from an agent')}{type(it).__name__!r}")
 
 
 def name(it: Any) -> NoReturn:
@@ -77,32 +78,32 @@ def name(it: Any) -> NoReturn:
 # Of agents and storages.
 
 
-def gone(agent: "Agent") -> NoReturn:
+def returned_agent(agent: "Agent") -> NoReturn:
     """Raise the error of an agent that isn't held; an agent of a run may know why."""
-    getattr(agent, "_expect_held", lambda: None)()
-    raise Error(Code.EMPTY, said="the agent was given back")
+    getattr(agent, "_raise_why_returned", lambda: None)()
+    raise Error(Code.EMPTY, detail="the agent was returned")
 
 
 def no_such_agent(code: int, own: int) -> NoReturn:
-    raise Error(code, said=f"agent {own}" if code == Code.NUMBER else f"agent {own} was not given back")
+    raise Error(code, detail=f"agent {own}" if code == Code.NUMBER else f"agent {own} was not returned")
 
 
 def missing(move: int, agents: bytes, is_abandoned: bool) -> NoReturn:
     at_work = sorted(agents)
-    said = f"agent {at_work[0]} was not given back" if at_work else "an agent was abandoned"
+    detail = f"agent {at_work[0]} was not returned" if at_work else "an agent was abandoned"
     if len(at_work) > 1:
-        said = f"agents {', '.join(map(str, at_work))} were not given back"
+        detail = f"agents {', '.join(map(str, at_work))} were not returned"
     elif at_work and not is_abandoned:
-        said += f": it fired move {move}"
-    raise MissingError(Code.MISSING, (move,), said)
+        detail += f": it fired move {move}"
+    raise MissingError(Code.MISSING, (move,), detail)
 
 
-def fired_behind(fired: int, closed: int) -> NoReturn:
-    raise Error(Code.NO_JOURNAL, said=f"{fired} moves were fired, and the journal tells {closed}: close it again")
+def journal_behind(fired: int, closed: int) -> NoReturn:
+    raise Error(Code.NO_JOURNAL, detail=f"{fired} moves were fired, and the journal has {closed}: close it again")
 
 
 def not_full(seen: int) -> NoReturn:
-    raise Error(Code.NOT_FULL, said=f"the agent's own state stands at {seen} moves, and its storage has room for more")
+    raise Error(Code.NOT_FULL, detail=f"the agent's own state is at version {seen}, and its storage has room for more moves")
 
 
 def leave(storage: "Storage", path: str, error: BaseException | None) -> None:
@@ -117,7 +118,7 @@ def leave(storage: "Storage", path: str, error: BaseException | None) -> None:
 
 def read(code: int, form: int, text: bytes) -> None:
     if code == Code.MANY:
-        expect(code, said=f"{len(json.loads(text)):,} locations: a read, or a step, depends on at most 256 locations and functions")
+        expect(code, detail=f"{len(json.loads(text)):,} locations: a read, or a step, depends on at most 256 locations and functions")
     expect_read(code, form, text)
 
 
@@ -125,24 +126,24 @@ def stands(code: int, agent: "Agent", reads: bytes) -> None:
     if code == Code.AHEAD:
         raise ahead(json.loads(reads), agent.seen)
     if code == Code.MANY:
-        expect(code, said=f"{len(json.loads(reads)):,} reads: at most 256")
+        expect(code, detail=f"{len(json.loads(reads)):,} reads: at most 256")
     expect_part(code, READS, reads)
 
 
-def fired(code: int, agent: "Agent", told: bytes, from_: int, to: int, call: bytes, scans: bytes) -> None:
+def fire(code: int, agent: "Agent", answer: bytes, from_: int, to: int, call: bytes, scans: bytes) -> None:
     if code == Code.AHEAD:
         raise ahead(json.loads(call)["reads"], agent.seen, json.loads(scans))
     if code == Code.SHAPE and not explain(TextForm.MOVE, call):
         expect_scans(code, json.loads(scans))
     if code == Code.MANY:
         count = len(json.loads(call)["reads"]) + len(json.loads(scans))
-        expect(code, said=f"{count:,} reads and scans: a fire names at most 256")
-    answered(code, told, from_, to, ClashError)
+        expect(code, detail=f"{count:,} reads and scans: a fire names at most 256")
+    answer_refused(code, answer, from_, to, ClashError)
     expect_read(code, TextForm.MOVE, call)
 
 
 def no_part(code: int) -> None:
-    expect(code, said="no part has begun" if code == Code.NO_PART else "the audit was freed")
+    expect(code, detail="no part has begun" if code == Code.NO_PART else "the audit was freed")
 
 
 # Of steps, locations and moves.
@@ -153,66 +154,66 @@ _STEP_LIMITS: dict[int, str] = {
 }
 
 
-def over(code: int, step: "Step") -> NoReturn:
+def step_over(code: int, step: "Step") -> NoReturn:
     """Raise the error of a step that is over, or whose agent isn't held.
 
     A step of a shared run may know why.
     """
     if not step._is_full:
         raise OverError(code)
-    getattr(step, "_expect_held", lambda: None)()
-    gone(step._agent)
+    getattr(step, "_raise_why_returned", lambda: None)()
+    returned_agent(step._agent)
 
 
 def step(code: int, it: "Step") -> None:
-    agent, said = it._agent, ""
+    agent, detail = it._agent, ""
     if code == Code.MOVED and it._thread != agent._thread:
-        said = f"agent {agent.number} is used by two threads"
-    expect(code, said=_STEP_LIMITS.get(code, said))
+        detail = f"agent {agent.number} is used by two threads"
+    expect(code, detail=_STEP_LIMITS.get(code, detail))
 
 
-def answered(code: int, told: bytes, from_: int, to: int, clash: type[ClashError]) -> None:
+def answer_refused(code: int, answer: bytes, from_: int, to: int, clash: type[ClashError]) -> None:
     if code in (Code.STALE, Code.CLASH):
-        raise refusal(code, told, clash)
+        raise refusal(code, answer, clash)
     if code == Code.BUSY:
         raise BusyError(code, (from_, to))
 
 
-def committed(code: int, told: bytes, from_: int, to: int) -> None:
-    answered(code, told, from_, to, CommitClashError)
+def commit(code: int, answer: bytes, from_: int, to: int) -> None:
+    answer_refused(code, answer, from_, to, CommitClashError)
     expect(code, CommitMovedError if code == Code.MOVED else None)
 
 
-def pushed(code: int, move: bytes, told: bytes, step: "Step") -> None:
+def push(code: int, move: bytes, answer: bytes, step: "Step") -> None:
     if code in (Code.CLASH, Code.LARGE):
-        raised = refusal(code, told)
-        if isinstance(raised, ClashError) and raised.cause == "Kind":
-            (value,) = step.see([raised.at])
-            raised.there = "nothing" if value is None else f"{value!r:.60}"
-        raise raised
+        error = refusal(code, answer)
+        if isinstance(error, ClashError) and error.cause == "Kind":
+            (value,) = step.see([error.at])
+            error.there = "nothing" if value is None else f"{value!r:.60}"
+        raise error
     if code == Code.LONG_MOVE:
         count = f"{len(json.loads(move)):,} more: " if move else ""
-        expect(code, said=f"{count}the moves of a step come to at most 4,096 instructions")
+        expect(code, detail=f"{count}the moves of a step come to at most 4,096 instructions")
     if code == Code.MANY:
-        expect(code, said="a step depends on at most 256 locations and functions")
+        expect(code, detail="a step depends on at most 256 locations and functions")
     expect_part(code, INSTRUCTIONS, move)
 
 
-def united(code: int, own: int, others: int) -> None:
+def unite(code: int, own: int, others: int) -> None:
     many = f"{own:,} instructions and {others:,} more: a move has at most 4,096"
-    expect(code, said=many if code == Code.LONG_MOVE else "")
+    expect(code, detail=many if code == Code.LONG_MOVE else "")
 
 
 def location(code: int, text: bytes) -> None:
     expect_read(code, TextForm.LOCATIONS, b"[%b]" % text if code == Code.SHAPE else text)
 
 
-def instructed(code: int, place: bytes, verb: int, kind: int, number: int, text: bytes | None, amount: int) -> None:
+def instruct(code: int, place: bytes, verb: int, kind: int, number: int, text: bytes | None, amount: int) -> None:
     if kind > TEXT and code in (Code.NOT_JSON, Code.SHAPE):
         expect_part(code, INSTRUCTIONS, b'[["%b",%b,%b%b]]' % (_WORDS[verb], place, text or b"", b",%d" % amount if amount else b""))
     if code == Code.OPERAND:
-        expect(code, said="inc takes a whole number" if verb == INC else "a set or a bag can be put, and is no element")
-    expect(code, said="a move has at most 4,096 instructions" if code == Code.LONG_MOVE else "")
+        expect(code, detail="inc takes a whole number" if verb == INC else "a set or a bag can be put, and is no element")
+    expect(code, detail="a move has at most 4,096 instructions" if code == Code.LONG_MOVE else "")
 
 
 _core.use(sys.modules[__name__])

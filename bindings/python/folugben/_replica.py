@@ -27,7 +27,7 @@ class Answer(NamedTuple):
     error: Error | None
 
 
-class Ended(NamedTuple):
+class EndedSegment(NamedTuple):
     """A segment that has ended, with its text and the place of its last call."""
 
     segment: Segment
@@ -44,21 +44,21 @@ class Era:
     def __init__(self, state: bytes, number: int, base: int, moves: int) -> None:
         self.number, self.base = number, base
         # The numbers that agents of this process may have in the storage.
-        self._free, self._used = list(range(_AGENTS - 1, 0, -1)), set[int]()
-        self.storage = Storage._opened(state, moves)
+        self._free_numbers, self._used_numbers = list(range(_AGENTS - 1, 0, -1)), set[int]()
+        self.storage = Storage._open_text(state, moves)
         self.applier = self.storage.agent(0)
         # The agents of the calls, as in the log.
         self.agents: list[int] = []
 
     def agent(self) -> Agent:
         """Return an agent of this process for beginning steps; it fires nothing."""
-        if not self._free:
-            raise ManyError(Code.MANY, said=f"one process has at most {_AGENTS - 1} agents of a shared run")
-        number = self._free.pop()
-        if number in self._used:
+        if not self._free_numbers:
+            raise ManyError(Code.MANY, detail=f"one process has at most {_AGENTS - 1} agents of a shared run")
+        number = self._free_numbers.pop()
+        if number in self._used_numbers:
             agent = self.storage.take(number)
         else:
-            self._used.add(number)
+            self._used_numbers.add(number)
             agent = self.storage.agent(number)
         agent._base = self.base
         return agent
@@ -67,7 +67,7 @@ class Era:
         """Take back an agent of this process."""
         if agent._is_full:
             self.storage.give(agent)
-            self._free.append(agent.number)
+            self._free_numbers.append(agent.number)
 
     def journal(self) -> bytes:
         """Close it and return its journal, with the agents' numbers of the log."""
@@ -86,7 +86,7 @@ class Replica:
 
     def __init__(self, log: Log, last: Segment | None = None) -> None:
         self._moves = log.moves
-        self.segment, previous, self.applied = log.ended(last)
+        self.segment, previous, self.applied = log.segment_end(last)
         with Auditor() as auditor:
             for chunk in log.text(self.segment, previous.digest):
                 auditor.feed(chunk)
@@ -95,7 +95,7 @@ class Replica:
         self.era = Era(state, self.segment.number + 1, self.segment.end, self._moves)
         self._fired = 0
 
-    def apply(self, place: int, call: Call, is_own: bool = False) -> tuple[Answer | None, Ended | None]:
+    def apply(self, place: int, call: Call, is_own: bool = False) -> tuple[Answer | None, EndedSegment | None]:
         """Fire the call at the next place.
 
         Return its answer, if it is this process's own and its segment hadn't ended, and what it has ended.
@@ -124,14 +124,14 @@ class Replica:
             self._fired = fired
         return Answer(fired and era.base + fired, error) if is_own else None
 
-    def _end(self, era: Era, place: int) -> Ended:
+    def _end(self, era: Era, place: int) -> EndedSegment:
         state = self.state_text()[1]
         expect_state(len(state))
         following = Era(state, era.number + 1, era.base + self._fired, self._moves)
         text = era.journal()
         self.segment = self.segment.following(self._fired, len(era.agents), memoryview(text))
         self.era, self._fired = following, 0
-        return Ended(self.segment, text, place)
+        return EndedSegment(self.segment, text, place)
 
     def state_text(self) -> tuple[int, bytes]:
         """Return the number of moves of the run up to its place, and the state's text."""
@@ -141,7 +141,7 @@ class Replica:
         return era.base + number, text
 
 
-def rest(log: Log, last: Segment) -> list[bytes]:
+def unsaved_journals(log: Log, last: Segment) -> list[bytes]:
     """Return the journals of what the log has after a saved segment.
 
     Raises:
@@ -149,11 +149,11 @@ def rest(log: Log, last: Segment) -> list[bytes]:
     """
     replica, journals = Replica(log, last), list[bytes]()
     try:
-        while placed := log.exchange([], replica.applied):
-            for place, call in placed:
-                _, ended = replica.apply(place, call)
-                if ended is not None:
-                    journals.append(ended.text)
+        while placed_calls := log.exchange([], replica.applied):
+            for place, call in placed_calls:
+                _, segment_end = replica.apply(place, call)
+                if segment_end is not None:
+                    journals.append(segment_end.text)
     except TooLongError:
         pass  # it is the last one
     return [*journals, replica.era.journal()] if replica.era.agents else journals

@@ -12,17 +12,17 @@ from typing import Any, Literal, NoReturn, Self
 from ._core import Storage
 from ._errors import BrokenError, Error
 from ._folder import RunWriter
-from ._held import ForkedError, is_in_call, one_call
+from ._guards import ForkedError, is_in_call, one_call
 from ._library import Code
 from ._lines import expect_state
 from ._parts import Chain
 from ._reading import Reading
 from ._refusals import capacity_of, own_number
 from ._run_agent import RunAgent
-from ._texts import Form, owned
+from ._texts import Form, to_python
 
 # The runs whose `with` is active, which SIGTERM ends.
-_entered: list[Chain] = []
+_active_chains: list[Chain] = []
 
 
 def _end_all(number: int, frame: FrameType | None) -> NoReturn:
@@ -31,7 +31,7 @@ def _end_all(number: int, frame: FrameType | None) -> NoReturn:
     Agents on other threads find their run closed.
     """
     signal.signal(signal.SIGTERM, signal.SIG_IGN)
-    for chain in _entered:
+    for chain in _active_chains:
         chain.is_closing = True
     raise SystemExit(128 + number)
 
@@ -77,7 +77,7 @@ class Run:
         with Storage(init, capacity, record=record) as opening:
             journal = memoryview(opening.close_journal())
             expect_state(len(journal))
-            self._begin(RunWriter.created(self._path, journal), lambda: opening.next(capacity), capacity)
+            self._begin(RunWriter.create(self._path, journal), lambda: opening.next(capacity), capacity)
 
     @classmethod
     def resume(
@@ -100,7 +100,7 @@ class Run:
             raise ValueError(f"check is 'all' or 'last', and not {check!r}")
         run = cls.__new__(cls)
         capacity = run._prepare(path, moves, every, receipts, record)
-        folder, segments = RunWriter.resumed(run._path)
+        folder, segments = RunWriter.resume(run._path)
         try:
             with Reading(folder) as reading:
                 reading.audit(segments) if check == "all" else reading.audit_last(segments)
@@ -109,7 +109,7 @@ class Run:
         except BaseException:
             folder.close()
             raise
-        run._begin(folder, lambda: Storage._opened(state, capacity, record), capacity)
+        run._begin(folder, lambda: Storage._open_text(state, capacity, record), capacity)
         return run
 
     def _prepare(
@@ -128,9 +128,9 @@ class Run:
         self._agents: weakref.WeakValueDictionary[int, RunAgent] = weakref.WeakValueDictionary()
         return capacity
 
-    def _begin(self, folder: RunWriter, opened: Callable[[], Storage], capacity: int) -> None:
+    def _begin(self, folder: RunWriter, open_storage: Callable[[], Storage], capacity: int) -> None:
         try:
-            self._chain = Chain(folder, opened(), capacity, self._receipts, self._every)
+            self._chain = Chain(folder, open_storage(), capacity, self._receipts, self._every)
         except BaseException:
             folder.close()
             raise
@@ -145,8 +145,8 @@ class Run:
         with self._chain._lock:
             self._chain.expect_going()
             one = self._agents.get(own)
-            if one is not None and not one._is_gone:
-                raise Error(Code.NUMBER, said=f"agent {own}")
+            if one is not None and not one._is_returned:
+                raise Error(Code.NUMBER, detail=f"agent {own}")
             agent = self._agents[own] = RunAgent(self, own)
         return agent
 
@@ -168,7 +168,7 @@ class Run:
         The state is pairs of a location and its value, ascending.
         """
         number, text = self._chain.state()
-        return number, owned(text)
+        return number, to_python(text)
 
     def close(self) -> None:
         """End the run: return all agents, and wait until the last part is on the disk.
@@ -199,7 +199,7 @@ class Run:
     def __enter__(self) -> Self:
         is_main = threading.current_thread() is threading.main_thread()
         if is_main and signal.getsignal(signal.SIGTERM) in (signal.SIG_DFL, _end_all):
-            _entered.append(self._chain)
+            _active_chains.append(self._chain)
             signal.signal(signal.SIGTERM, _end_all)
         return self
 
@@ -210,15 +210,15 @@ class Run:
             return
         try:
             self.close()
-        except (BrokenError, ForkedError) as told:
+        except (BrokenError, ForkedError) as broken:
             if error is None:
                 raise
             if not isinstance(error, BrokenError):
-                error.add_note(str(told))
+                error.add_note(str(broken))
         finally:
-            if self._chain in _entered:
-                _entered.remove(self._chain)
-                if not _entered:
+            if self._chain in _active_chains:
+                _active_chains.remove(self._chain)
+                if not _active_chains:
                     signal.signal(signal.SIGTERM, signal.SIG_DFL)
 
     def __repr__(self) -> str:

@@ -6,12 +6,12 @@ from typing import TYPE_CHECKING, Any, NoReturn, Self, TypeVar, overload
 
 from ._core import Location, Played, Step
 from ._errors import Error, FullError, PastError, ahead
-from ._held import is_in_call
+from ._guards import is_in_call
 from ._library import Code
 from ._lines import LINE_LIMIT, SHORT, expect_call, too_long
 from ._part import PartAgent, PartStep
 from ._play import play
-from ._texts import Form, encoded
+from ._texts import Form, encode
 
 if TYPE_CHECKING:
     from ._run import Run
@@ -36,7 +36,7 @@ class RunAgent:
         self._run, self._chain, self._own = run, run._chain, own
         self._in: PartAgent | None = None
         # How many moves it fired in the parts before, minus those of another agent before it in its own; and how many it saw last.
-        self._before, self._seen, self._is_gone = 0, 0, False
+        self._before, self._seen, self._is_returned = 0, 0, False
 
     def step(self) -> PartStep:
         """Begin a step, on its own state after a poll."""
@@ -47,12 +47,12 @@ class RunAgent:
                     step = agent.begin()
                 except Error as error:
                     # It was returned meanwhile, as it was at rest in a part that had ended.
-                    self._expect_given(agent, error)
+                    self._raise_unless_withdrawn(agent, error)
                 else:
                     if step._own_number < agent.part.most:
                         return step
                     step.free()
-            self._go_on()
+            self._enter_newest()
 
     def play(
         self, rule: Callable[[Step], _R], /, *, tries: int | None = None, timeout: float | None = None
@@ -70,15 +70,15 @@ class RunAgent:
             ManyError: there are more than 256 locations.
             TooLongError: the values have more than 8,388,608 bytes as text, half of what a line of the journal may have.
         """
-        def look(agent: PartAgent) -> tuple[int, list[Any]]:
-            agent.tried()
+        def poll(agent: PartAgent) -> tuple[int, list[Any]]:
+            agent.count_receipts()
             agent.follow()
             length = agent._peek_length(places)
             if length > LINE_LIMIT // 2:
                 raise too_long("the read", length)
             return agent.read(places)
 
-        return self._looked(look)
+        return self._call_polling(poll)
 
     def fire(self, instructions: Sequence[Form], reads: Iterable[Form] = (), scans: Iterable[Form] = ()) -> int:
         """Fire a move that depends on these reads and scans, as a storage's agent does.
@@ -87,29 +87,29 @@ class RunAgent:
             PastError: one of them is named at a number of a part that has ended; it is a `ConflictError`.
             TooLongError: the line of the move would be too long.
         """
-        named, functions = list(reads), list(scans)
-        if len(call := b'{"fire":%b,"reads":%b}' % (encoded(instructions, "instructions"), encoded(named, "reads"))) > SHORT:
+        reads_list, functions = list(reads), list(scans)
+        if len(call := b'{"fire":%b,"reads":%b}' % (encode(instructions, "instructions"), encode(reads_list, "reads"))) > SHORT:
             expect_call(call)
         while True:
             agent = self._in
             if agent is not None:
-                own, over = self._of_part(named, agent), self._of_part(functions, agent, "scan")
-                agent.tried()
+                own, over = self._of_part(reads_list, agent), self._of_part(functions, agent, "scan")
+                agent.count_receipts()
                 try:
                     return agent.part.base + agent.fire(instructions, own, over)
                 except FullError:
                     pass
                 except Error as error:
-                    self._expect_seen(named, error, functions)
-                    self._expect_given(agent, error)
-            self._go_on()
+                    self._raise_if_ahead(reads_list, error, functions)
+                    self._raise_unless_withdrawn(agent, error)
+            self._enter_newest()
 
     def follow(self) -> int:
         """Poll until nothing more is found, and advance its own state.
 
         Return the number of moves that it has seen then.
         """
-        return self._looked(lambda agent: (agent.follow(), None))[0]
+        return self._call_polling(lambda agent: (agent.follow(), None))[0]
 
     def stands(self, reads: Iterable[Form]) -> tuple[Any, ...] | None:
         """Poll; return the smallest named location written since its number, or None.
@@ -119,17 +119,17 @@ class RunAgent:
         Raises:
             PastError: as by `fire`.
         """
-        named = list(reads)
+        reads_list = list(reads)
 
-        def look(agent: PartAgent) -> tuple[int, tuple[Any, ...] | None]:
+        def poll(agent: PartAgent) -> tuple[int, tuple[Any, ...] | None]:
             try:
-                told = agent.stands(self._of_part(named, agent))
+                result = agent.stands(self._of_part(reads_list, agent))
             except Error as error:
-                self._expect_seen(named, error)
+                self._raise_if_ahead(reads_list, error)
                 raise
-            return agent.seen, told
+            return agent.seen, result
 
-        return self._looked(look)[1]
+        return self._call_polling(poll)[1]
 
     @overload
     def peek(self, places: Location) -> tuple[int, Any]: ...
@@ -143,52 +143,52 @@ class RunAgent:
         If its part ended since the last poll, while it was in no step, that is the beginning of the newest part.
         """
 
-        def tell(agent: PartAgent) -> tuple[int, Any]:
+        def read_own(agent: PartAgent) -> tuple[int, Any]:
             return agent.peek(places)
 
-        return self._told(tell)
+        return self._call_own_state(read_own)
 
     def state(self) -> tuple[int, list[Any]]:
         """Return the version of its own state, as `peek` does, and that state."""
-        return self._told(PartAgent.state)
+        return self._call_own_state(PartAgent.state)
 
     def scan(self, name: str) -> tuple[int, list[Any]]:
         """Return the same with only the locations of one function name."""
-        return self._told(lambda agent: agent.scan(name))
+        return self._call_own_state(lambda agent: agent.scan(name))
 
-    def _looked(self, look: Callable[[PartAgent], tuple[int, _R]]) -> tuple[int, _R]:
+    def _call_polling(self, poll: Callable[[PartAgent], tuple[int, _R]]) -> tuple[int, _R]:
         """Return the result of a poll in a part that hasn't ended."""
         while True:
             agent = self._in
             if agent is not None:
                 try:
-                    number, told = look(agent)
+                    number, result = poll(agent)
                 except Error as error:
-                    self._expect_given(agent, error)
+                    self._raise_unless_withdrawn(agent, error)
                 else:
                     if number < agent.part.most:
-                        return agent.part.base + number, told
-            self._go_on()
+                        return agent.part.base + number, result
+            self._enter_newest()
 
-    def _told(self, tell: Callable[[PartAgent], tuple[int, _R]]) -> tuple[int, _R]:
+    def _call_own_state(self, read_own: Callable[[PartAgent], tuple[int, _R]]) -> tuple[int, _R]:
         """Return the answer of a call on its own state."""
         while True:
             agent = self._in
             if agent is not None:
                 try:
-                    number, told = tell(agent)
-                    return agent.part.base + number, told
+                    number, result = read_own(agent)
+                    return agent.part.base + number, result
                 except Error as error:
-                    self._expect_given(agent, error)
-            self._go_on()
+                    self._raise_unless_withdrawn(agent, error)
+            self._enter_newest()
 
-    def _expect_seen(self, named: list[Form], error: Error, functions: Iterable[Form] = ()) -> None:
+    def _raise_if_ahead(self, reads_list: list[Form], error: Error, functions: Iterable[Form] = ()) -> None:
         """Report the numbers of the run, if a read or a scan is named at a future one."""
         if type(error) is Error and error.code == Code.AHEAD:
-            raise ahead(named, self.seen, functions) from None
+            raise ahead(reads_list, self.seen, functions) from None
 
     @staticmethod
-    def _expect_given(agent: PartAgent, error: Error) -> None:
+    def _raise_unless_withdrawn(agent: PartAgent, error: Error) -> None:
         """Raise an error, except one that comes from a part's end.
 
         Such an error occurs when another thread has returned the agent.
@@ -197,28 +197,28 @@ class RunAgent:
             raise error
 
     @staticmethod
-    def _of_part(named: list[Form], agent: PartAgent, kind: str = "read") -> list[Form]:
+    def _of_part(reads_list: list[Form], agent: PartAgent, kind: str = "read") -> list[Form]:
         """Return the declared reads or scans with their numbers in the part of its agent.
 
         The library reports an item that is none.
         """
         own: list[Form] = []
-        for place, read in enumerate(named, 1):
+        for place, read in enumerate(reads_list, 1):
             number = read[1] if isinstance(read, (list, tuple)) and len(read) == 2 else None
             if not isinstance(number, int) or number < 0:
                 own.append(read)
             elif number >= agent.part.base:
                 own.append([read[0], number - agent.part.base])
             else:
-                said = f"{kind} {place} names {json.dumps(read[0])} at {number}, and that part has ended at {agent.part.base}"
-                raise PastError(Code.AHEAD, said=f"{said}, so read again")
+                detail = f"{kind} {place} names {json.dumps(read[0])} at {number}, and that part has ended at {agent.part.base}"
+                raise PastError(Code.AHEAD, detail=f"{detail}, so read again")
         return own
 
-    def _go_on(self) -> None:
+    def _enter_newest(self) -> None:
         """Enter the newest part."""
-        if self._is_gone:
-            raise Error(Code.EMPTY, said="the agent was given back")
-        was, now = self._in, self._chain.come(self._own, self._in)
+        if self._is_returned:
+            raise Error(Code.EMPTY, detail="the agent was returned")
+        was, now = self._in, self._chain.enter(self._own, self._in)
         if now is not was:
             before = self._before + (was._counts()[1] if was is not None else 0) - now._counts()[1]
             self._before, self._in = before, now
@@ -252,7 +252,7 @@ class RunAgent:
         self._end(self._chain.abandon)
 
     def _end(self, leave: Callable[[PartAgent], None]) -> None:
-        self._is_gone, agent = True, self._in
+        self._is_returned, agent = True, self._in
         if agent is not None:
             seen, won = agent._counts()
             leave(agent)
@@ -266,13 +266,13 @@ class RunAgent:
     def __exit__(self, kind: type[BaseException] | None, error: BaseException | None, traced: TracebackType | None) -> None:
         if is_in_call():
             # A finalizer ends the `with` during another call: the writer returns the agent.
-            self._is_gone, self._in = True, None
+            self._is_returned, self._in = True, None
         else:
             self.give()
 
     def __repr__(self) -> str:
-        if self._is_gone:
-            return f"<RunAgent {self._own}, given back>"
+        if self._is_returned:
+            return f"<RunAgent {self._own}, returned>"
         return f"<RunAgent {self._own}, {self.seen} moves seen>"
 
     def __reduce__(self) -> NoReturn:

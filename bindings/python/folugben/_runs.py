@@ -8,35 +8,35 @@ from ._errors import Text
 from ._functions import trace
 from ._reading import texts
 from ._shared import SharedRun
-from ._texts import encoded, owned
+from ._texts import encode, to_python
 
 if TYPE_CHECKING:
     from ._run import Run
 
 
-def _ordered(element: Any) -> tuple[Any, ...]:
+def _sort_key(element: Any) -> tuple[Any, ...]:
     """Return the sort key of elements in the order of the storage."""
     if isinstance(element, dict):
-        return 5, len(element["list"]), [_ordered(it) for it in element["list"]]
+        return 5, len(element["list"]), [_sort_key(it) for it in element["list"]]
     if isinstance(element, bool) or element is None:
         return (0 if element is None else 2 if element else 1,)
     return (3, element) if isinstance(element, int) else (4, element.encode())
 
 
-def _changed(old: Any, change: list[Any]) -> Any:
+def _apply_change(old: Any, change: list[Any]) -> Any:
     """Return the value after a change of a trace."""
     if len(change) == 3:
         return change[2]
-    told = change[1]
-    if "counts" in told:
-        counts = {encoded(element, "element"): [element, count] for element, count in old["bag"]}
-        for element, _, count in told["counts"]:
-            counts[encoded(element, "element")] = [element, count]
-        return {"bag": sorted((it for it in counts.values() if it[1]), key=lambda it: _ordered(it[0]))}
-    members = {encoded(element, "element"): element for element in old["set"] + told["added"]}
-    for element in told["removed"]:
-        members.pop(encoded(element, "element"), None)
-    return {"set": sorted(members.values(), key=_ordered)}
+    difference = change[1]
+    if "counts" in difference:
+        counts = {encode(element, "element"): [element, count] for element, count in old["bag"]}
+        for element, _, count in difference["counts"]:
+            counts[encode(element, "element")] = [element, count]
+        return {"bag": sorted((it for it in counts.values() if it[1]), key=lambda it: _sort_key(it[0]))}
+    members = {encode(element, "element"): element for element in old["set"] + difference["added"]}
+    for element in difference["removed"]:
+        members.pop(encode(element, "element"), None)
+    return {"set": sorted(members.values(), key=_sort_key)}
 
 
 def states(run: "Text | os.PathLike[str] | Run | SharedRun") -> Iterator[tuple[int, dict[tuple[Any, ...], Any]]]:
@@ -66,17 +66,17 @@ def states(run: "Text | os.PathLike[str] | Run | SharedRun") -> Iterator[tuple[i
 
 def by_place(values: dict[str, Any]) -> dict[tuple[Any, ...], Any]:
     """Return the same values by location instead of by the location's text."""
-    told = {_place(at): value for at, value in values.items()}
-    if len(told) < len(values):
+    result = {_place(at): value for at, value in values.items()}
+    if len(result) < len(values):
         seen = dict[tuple[Any, ...], str]()
         other, at = next((was, at) for at in values if (was := seen.setdefault(_place(at), at)) != at)
         raise ValueError(f"{other} and {at} are two locations, and one key in Python, where True == 1: read the trace")
-    return told
+    return result
 
 
 @functools.lru_cache(65536)
 def _place(text: str) -> tuple[Any, ...]:
-    place: tuple[Any, ...] = owned(text.encode(), True)
+    place: tuple[Any, ...] = to_python(text.encode(), True)
     return place
 
 
@@ -86,8 +86,8 @@ def states_by_text(journal: Text) -> Iterator[tuple[int, dict[str, Any]]]:
     They are one dict, which each further move changes.
     """
     lines = trace(journal)
-    told = {encoded(at, "at").decode(): value for at, value in next(lines)["init"] if value is not None}
-    values = {at: _own(value) for at, value in told.items()}
+    json_values = {encode(at, "at").decode(): value for at, value in next(lines)["init"] if value is not None}
+    values = {at: _own(value) for at, value in json_values.items()}
     yield 0, values
     number = 0
     for event in lines:
@@ -95,13 +95,13 @@ def states_by_text(journal: Text) -> Iterator[tuple[int, dict[str, Any]]]:
             continue
         number += 1
         for change in event["updates"]:
-            at = encoded(change[0], "at").decode()
-            told[at] = _changed(told.get(at), change)
-            values[at] = _own(told[at])
-            if told[at] is None:
-                del told[at], values[at]
+            at = encode(change[0], "at").decode()
+            json_values[at] = _apply_change(json_values.get(at), change)
+            values[at] = _own(json_values[at])
+            if json_values[at] is None:
+                del json_values[at], values[at]
         yield number, values
 
 
 def _own(value: Any) -> Any:
-    return owned(encoded(value, "value")) if isinstance(value, dict) else value
+    return to_python(encode(value, "value")) if isinstance(value, dict) else value

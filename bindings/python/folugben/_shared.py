@@ -7,14 +7,14 @@ from typing import Any, NoReturn, Self, TypeVar, overload
 
 from ._core import Agent, Location, Played, Step, Storage
 from ._errors import BrokenError, Error, PastError, as_conflict
-from ._held import ForkedError, is_in_call
+from ._guards import ForkedError, is_in_call
 from ._library import Code
 from ._lines import expect_call, expect_state
 from ._log import Log
 from ._play import play
 from ._refusals import capacity_of, own_number
 from ._replica import Era
-from ._texts import Form, encoded, owned
+from ._texts import Form, encode, to_python
 from ._worker import Worker
 
 _R = TypeVar("_R")
@@ -68,32 +68,32 @@ class SharedStep(Step):
             return 0
         return fired and self._era.base + fired
 
-    def _fire(self, vain: tuple[int, ...]) -> int:
-        if self._shared._is_gone:
+    def _fire(self, conflicts: tuple[int, ...]) -> int:
+        if self._shared._is_returned:
             self._is_tried = True
-            raise Error(Code.EMPTY, said="the agent was given back")
+            raise Error(Code.EMPTY, detail="the agent was returned")
         call, scans = self._call()
         answer = self._shared._worker.answer(self._era.number, self._shared.number, call, scans)
         if answer is None:
-            raise PastError(Code.EMPTY, said="the segment of the run has ended, so begin another step")
+            raise PastError(Code.EMPTY, detail="the segment of the run has ended, so begin another step")
         if answer.error is None:
             self._shared._won, self._shared._fired = self._shared._won + 1, answer.fired
             self._end(answer.fired - self._era.base)
             return answer.fired - self._era.base
         self._is_tried = True
-        if answer.error.code in vain:
+        if answer.error.code in conflicts:
             return 0
         raise as_conflict(answer.error)
 
-    def _expect_held(self) -> None:
-        if not self._shared._is_gone:
-            raise PastError(Code.EMPTY, said="the agent has gone on to another segment, so begin another step")
+    def _raise_why_returned(self) -> None:
+        if not self._shared._is_returned:
+            raise PastError(Code.EMPTY, detail="the agent has gone on to another segment, so begin another step")
 
     def _call(self) -> tuple[bytes, bytes]:
         """Return what the fire attempts to append, and the scans that it depends on."""
         call = self._offer_text()
         expect_call(call)
-        return call, encoded([[name, self._own_number] for name in self._scans], "scans") if self._scans else b"[]"
+        return call, encode([[name, self._own_number] for name in self._scans], "scans") if self._scans else b"[]"
 
 
 class SharedRun:
@@ -129,7 +129,7 @@ class SharedRun:
 
         if state is not None:
             opening(capacity)  # a refused argument creates no file
-        self._worker = Worker(Log.opened(self._target, None if state is None else opening, capacity))
+        self._worker = Worker(Log.open(self._target, None if state is None else opening, capacity))
         self._agents: weakref.WeakValueDictionary[int, SharedAgent] = weakref.WeakValueDictionary()
 
     @property
@@ -146,10 +146,10 @@ class SharedRun:
         own = own_number(number)
         self._worker.expect_going()
         one = self._agents.get(own)
-        if one is not None and not one._is_gone:
-            raise Error(Code.NUMBER, said=f"agent {own}")
+        if one is not None and not one._is_returned:
+            raise Error(Code.NUMBER, detail=f"agent {own}")
         if not self._worker.hold(own):
-            raise Error(Code.NUMBER, said=f"agent {own} is in use by another process")
+            raise Error(Code.NUMBER, detail=f"agent {own} is in use by another process")
         agent = self._agents[own] = SharedAgent(self, own)
         return agent
 
@@ -160,7 +160,7 @@ class SharedRun:
         """
         self._worker.follow()
         number, text = self._worker.state_text()
-        return number, owned(text)
+        return number, to_python(text)
 
     def close(self) -> None:
         """Leave the run, which continues in other processes; closing again has no effect.
@@ -197,11 +197,11 @@ class SharedAgent:
     def __init__(self, run: SharedRun, own: int) -> None:
         self._run, self._worker, self._own = run, run._worker, own
         self._in: tuple[Era, Agent] | None = None
-        self._won, self._fired, self._is_gone = 0, 0, False
+        self._won, self._fired, self._is_returned = 0, 0, False
 
     def step(self) -> SharedStep:
         """Begin a step on the state of this process's replica."""
-        era, agent = self._now()
+        era, agent = self._newest()
         return SharedStep(self, agent, era)
 
     def play(
@@ -216,7 +216,7 @@ class SharedAgent:
         Return the number of moves seen.
         """
         self._worker.follow()
-        era, agent = self._now()
+        era, agent = self._newest()
         return era.base + agent.follow()
 
     @overload
@@ -227,19 +227,19 @@ class SharedAgent:
 
     def peek(self, places: Location | Sequence[Form]) -> tuple[int, Any]:
         """Return the version of its own state, and the values of the locations there."""
-        era, agent = self._now()
+        era, agent = self._newest()
         number, values = agent.peek(places)
         return era.base + number, values
 
     def state(self) -> tuple[int, list[Any]]:
         """Return the version of its own state, and that state."""
-        era, agent = self._now()
+        era, agent = self._newest()
         number, state = agent.state()
         return era.base + number, state
 
     def scan(self, name: str) -> tuple[int, list[Any]]:
         """Return the same with only the locations of one function name."""
-        era, agent = self._now()
+        era, agent = self._newest()
         number, pairs = agent.scan(name)
         return era.base + number, pairs
 
@@ -256,24 +256,24 @@ class SharedAgent:
     @property
     def seen(self) -> int:
         """How many moves of the run it has seen."""
-        era, agent = self._now()
+        era, agent = self._newest()
         return max(self._fired, era.base + agent.seen)
 
     def give(self) -> None:
         """Return the agent; returning again has no effect."""
-        if not self._is_gone:
-            self._is_gone = True
+        if not self._is_returned:
+            self._is_returned = True
             self._leave()
-            self._worker.let(self._own)
+            self._worker.release(self._own)
 
-    def _now(self) -> tuple[Era, Agent]:
+    def _newest(self) -> tuple[Era, Agent]:
         """Return the newest segment, and its agent there."""
-        if self._is_gone:
-            raise Error(Code.EMPTY, said="the agent was given back")
+        if self._is_returned:
+            raise Error(Code.EMPTY, detail="the agent was returned")
         self._worker.expect_going()
         if self._in is None or self._in[0] is not self._worker.replica.era:
             self._leave()
-            self._in = self._worker.come()
+            self._in = self._worker.enter()
         return self._in
 
     def _leave(self) -> None:
@@ -289,7 +289,7 @@ class SharedAgent:
             self.give()
 
     def __repr__(self) -> str:
-        return f"<SharedAgent {self._own}{', given back' if self._is_gone else ''}>"
+        return f"<SharedAgent {self._own}{', returned' if self._is_returned else ''}>"
 
     def __reduce__(self) -> NoReturn:
         raise TypeError("cannot copy or pickle 'SharedAgent' object")

@@ -5,7 +5,7 @@ from collections.abc import Callable, Sequence
 from types import TracebackType
 from typing import Any, Self, TypeVar
 
-from ._core import Played as CorePlayed
+from ._core import Played
 from ._play import play
 
 _A = TypeVar("_A")
@@ -37,7 +37,7 @@ class _Here(threading.local):
 here = _Here()
 
 
-class _Stopped(BaseException):
+class _Stop(BaseException):
     """Ends a work at its next turn."""
 
 
@@ -55,7 +55,7 @@ class Turns:
         for gate in self._gates:
             gate.acquire()
         self._now: int | None = None
-        self._taken, self._is_stopped = 0, False
+        self._turns_taken, self._is_stopped = 0, False
         # What ended all of them, unless it is one of their own errors.
         self.fault: BaseException | None = None
 
@@ -66,16 +66,16 @@ class Turns:
             self._choose()
         self._gates[number].acquire()
         if self._is_stopped:
-            raise _Stopped
+            raise _Stop
 
     def count(self) -> None:
         """Count a turn that the current work takes without waiting."""
         with self._lock:
-            self._taken += 1
-            if self._taken > self._most:
+            self._turns_taken += 1
+            if self._turns_taken > self._most:
                 self._stop(self._endless(sorted(self._alive)))
             if self._is_stopped:
-                raise _Stopped
+                raise _Stop
 
     def end(self, number: int) -> None:
         with self._lock:
@@ -115,9 +115,9 @@ class Turns:
 
     def _next(self) -> int | None:
         alive = sorted(self._alive)
-        if self._taken >= self._most and alive:
+        if self._turns_taken >= self._most and alive:
             raise self._endless(alive)
-        self._taken += 1
+        self._turns_taken += 1
         return self._choice(alive) if alive else None
 
     def _endless(self, alive: list[int]) -> EndlessError:
@@ -135,17 +135,17 @@ class Player:
         """Wait for the first turn, before anything is done."""
         self._turns.wait(self.number)
 
-    def call(self, it: "Played", name: str, words: tuple[Any, ...], named: dict[str, Any]) -> Any:
+    def call(self, it: "TurnProxy", name: str, words: tuple[Any, ...], named: dict[str, Any]) -> Any:
         """Do one call of an agent or a step."""
         self._turns.wait(self.number)
-        told = getattr(it.own, name)(*words, **named)
-        return Played(told, self) if name == "step" else told
+        answer = getattr(it.own, name)(*words, **named)
+        return TurnProxy(answer, self) if name == "step" else answer
 
-    def look(self, it: "Played", name: str) -> None:
+    def on_attribute(self, it: "TurnProxy", name: str) -> None:
         """Do nothing: an attribute that is no call takes no turn."""
 
 
-class Played:
+class TurnProxy:
     """A step or an agent whose calls take turns; otherwise the same as the original."""
 
     def __init__(self, own: Any, player: Player) -> None:
@@ -158,10 +158,10 @@ class Played:
     def __getattr__(self, name: str) -> Any:
         if name in ("own", "player"):
             raise AttributeError(name)  # a copy is being made
-        found = getattr(self.own, name)
+        attribute = getattr(self.own, name)
         if name not in CALLS:
-            self.player.look(self, name)
-            return found
+            self.player.on_attribute(self, name)
+            return attribute
         return lambda *words, **named: self.player.call(self, name, tuple(map(_bare, words)), named)
 
     def __getitem__(self, place: Any) -> Any:
@@ -172,44 +172,44 @@ class Played:
         return self
 
     def __exit__(self, kind: type[BaseException] | None, error: BaseException | None, traced: TracebackType | None) -> None:
-        self.player.look(self, "__exit__")
+        self.player.on_attribute(self, "__exit__")
         self.own.__exit__(kind, error, traced)
 
     def __repr__(self) -> str:
         return repr(self.own)
 
 
-class PlayedAgent(Played):
+class AgentProxy(TurnProxy):
     """An agent whose calls take turns, and those of its steps."""
 
-    def step(self) -> Played:
-        step: Played = self.player.call(self, "step", (), {})
+    def step(self) -> TurnProxy:
+        step: TurnProxy = self.player.call(self, "step", (), {})
         return step
 
     def play(
         self, rule: Callable[[Any], _R], /, *, tries: int | None = None, timeout: float | None = None
-    ) -> CorePlayed[_R]:
+    ) -> Played[_R]:
         return play(self, rule, tries=tries, timeout=timeout)
 
 
 def _bare(word: Any) -> Any:
-    return word.own if type(word) in (Played, PlayedAgent) else word
+    return word.own if type(word) in (TurnProxy, AgentProxy) else word
 
 
 def play_all(
     turns: Turns, agents: Sequence[_A], works: Sequence[Callable[[_A], _R]], players: Sequence[Player]
 ) -> tuple[list[Any], dict[int, BaseException]]:
     """Play each work on its own thread; return the works' results and their errors."""
-    told: list[Any] = [None] * len(works)
+    results: list[Any] = [None] * len(works)
     errors = dict[int, BaseException]()
 
     def play(number: int) -> None:
         here.is_by_turns = True
-        agent: Any = PlayedAgent(agents[number], players[number])
+        agent: Any = AgentProxy(agents[number], players[number])
         try:
             players[number].begin()
-            told[number] = works[number](agent)
-        except _Stopped:
+            results[number] = works[number](agent)
+        except _Stop:
             pass
         except BaseException as error:
             errors[number] = error
@@ -229,15 +229,15 @@ def play_all(
             if thread.ident is not None:
                 thread.join(_GRACE)
         raise
-    return told, errors
+    return results, errors
 
 
-def _drawn(seed: int) -> Callable[[list[int]], int]:
+def _by_seed(seed: int) -> Callable[[list[int]], int]:
     """Draw the next thread by a seed."""
     return random.Random(seed).choice
 
 
-def _listed(turns: Sequence[int]) -> Callable[[list[int]], int]:
+def _by_list(turns: Sequence[int]) -> Callable[[list[int]], int]:
     """Choose the next thread by a list.
 
     Each number counts round those that haven't ended. After the end of the list the current work continues.
@@ -277,10 +277,10 @@ def interleave(
     """
     if len(agents) != len(works):
         raise ValueError(f"{len(agents)} agents for {len(works)} works")
-    turns = Turns(len(agents), _drawn(seed) if isinstance(seed, int) else _listed(seed), most)
-    told, errors = play_all(turns, agents, works, [Player(turns, number) for number in range(len(works))])
+    turns = Turns(len(agents), _by_seed(seed) if isinstance(seed, int) else _by_list(seed), most)
+    results, errors = play_all(turns, agents, works, [Player(turns, number) for number in range(len(works))])
     if turns.fault is not None:
         raise turns.fault
     for number in sorted(errors):
         raise errors[number]
-    return told
+    return results

@@ -18,12 +18,13 @@ from collections.abc import Callable, Iterable, Iterator
 from typing import TypeVar
 
 from ._core import Agent
-from ._database import Lost, reaching
+from ._database import ConnectionLost, reaching
 from ._errors import BrokenError, Error, UnknownError
-from ._held import Locked, NestedError
+from ._guards import LockHolder, NestedError
 from ._library import Code
-from ._log import BATCH, READ, Behind, Call, Log, Placed
-from ._replica import Answer, Ended, Era, Replica
+from ._log import BATCH, READ, Behind, Call, Log, PlacedCall
+from ._replica import Answer, EndedSegment, Era, Replica
+from ._waiter import Waiter
 
 _R = TypeVar("_R")
 
@@ -36,39 +37,7 @@ _PATIENCE = 60.0
 _workers: "weakref.WeakSet[Worker]" = weakref.WeakSet()
 
 
-class Waiter:
-    """An agent that waits for the answer to its call."""
-
-    __slots__ = ("call", "may_lead", "is_sent", "is_over", "answer", "fault", "_woken")
-
-    def __init__(self, call: Call, may_lead: bool) -> None:
-        # Whether the call may be in the log, and whether all is known.
-        self.call, self.may_lead, self.is_sent, self.is_over = call, may_lead, False, False
-        self.answer: Answer | None = None
-        self.fault: BaseException | None = None
-        self._woken = threading.Lock()
-        self._woken.acquire()
-
-    def end(self, answer: Answer | None, fault: BaseException | None = None) -> None:
-        self.answer, self.fault, self.is_over = answer, fault, True
-        self.wake()
-
-    def wake(self) -> None:
-        """Wake it to check whether all is known, or whether it leads."""
-        if self._woken.locked():
-            self._woken.release()
-
-    def wait(self, seconds: float = -1) -> None:
-        self._woken.acquire(timeout=seconds)
-
-    def told(self) -> Answer | None:
-        """Return the answer; None if its segment had ended before its place."""
-        if self.fault is not None:
-            raise self.fault
-        return self.answer
-
-
-class Worker(Locked):
+class Worker(LockHolder):
     """Appends and applies.
 
     An answer is returned once its call is durable in the log, and applied.
@@ -84,7 +53,7 @@ class Worker(Locked):
             raise
         lock = threading.RLock()
         self._changed = threading.Condition(lock)
-        self._locked_by(lock)
+        self._set_lock(lock)
         # Who leads: a waiter, or the worker; whether the leader waits for further calls; and the thread that is in a turn.
         self._leader: Waiter | Worker | None = None
         self._is_gathering, self._leading = False, 0
@@ -94,22 +63,22 @@ class Worker(Locked):
         self._prefix, self._count = secrets.token_bytes(10), itertools.count()
         # Calls to append; those that may be in the log, by their tokens.
         self._waiting: list[Waiter] = []
-        self._sent: dict[bytes, Waiter] = {}
+        self._sent_calls: dict[bytes, Waiter] = {}
         # How many calls are expected to come at once, and how long it waits for them.
         self._expected, self._moment = 1, 0.0
         # How often the complete log was asked for, and applied; and when that was last polled.
-        self._asked = self._applied = 0
-        self._looked = 0.0
+        self._requests = self._requests_done = 0
+        self._polled_at = 0.0
         # The numbers of this process's agents.
-        self._held: set[int] = set()
+        self._agent_numbers: set[int] = set()
         self._fault: BaseException | None = None
         self._is_closing = self._is_over = False
         self._thread = threading.Thread(target=self._work, name=f"worker of {log.target}", daemon=True)
         self._thread.start()
         _workers.add(self)
 
-    def _is_copied(self) -> None:
-        super()._is_copied()
+    def _enter_child(self) -> None:
+        super()._enter_child()
         self._log.database.leave()
 
     def expect_going(self) -> None:
@@ -117,7 +86,7 @@ class Worker(Locked):
         if self._fault is not None:
             raise BrokenError(self.replica.era.number, self._fault)
         if self._is_closing:
-            raise Error(Code.EMPTY, said="the run was closed")
+            raise Error(Code.EMPTY, detail="the run was closed")
 
     # Calls of agents.
 
@@ -141,7 +110,7 @@ class Worker(Locked):
         finally:
             if self._leader is waiter:
                 self._hand_over()
-        return waiter.told()
+        return waiter.result()
 
     def _expect_no_turn(self) -> None:
         """Check that this thread isn't in a turn, as a finalizer during a turn would be."""
@@ -153,14 +122,14 @@ class Worker(Locked):
         self._expect_no_turn()
         with self._lock:
             self.expect_going()
-            self._asked += 1
-            asked = self._asked
+            self._requests += 1
+            request = self._requests
             self._changed.notify_all()
-            while self._applied < asked:
+            while self._requests_done < request:
                 self.expect_going()
                 self._changed.wait()
 
-    def come(self) -> tuple[Era, Agent]:
+    def enter(self) -> tuple[Era, Agent]:
         """Return an agent of the newest segment, to begin steps with."""
         with self._lock:
             era = self.replica.era
@@ -182,16 +151,16 @@ class Worker(Locked):
         with self._using:
             is_held = self._reaching(lambda: self._log.database.hold(agent))
             if is_held:
-                self._held.add(agent)
+                self._agent_numbers.add(agent)
             return is_held
 
-    def let(self, agent: int) -> None:
+    def release(self, agent: int) -> None:
         """Release the number for others."""
         self._expect_no_turn()
         with self._using:
-            self._held.discard(agent)
+            self._agent_numbers.discard(agent)
             if not self._is_over:
-                self._reaching(lambda: self._log.database.let(agent))
+                self._reaching(lambda: self._log.database.release(agent))
 
     def close(self) -> None:
         """End it, once all waiting calls are answered."""
@@ -215,9 +184,9 @@ class Worker(Locked):
         """Wait until nobody leads and there is work. Return whether the run is active."""
         with self._changed:
             while self._fault is None:
-                if self._leader is None and self._is_closing and not self._waiting and not self._sent:
+                if self._leader is None and self._is_closing and not self._waiting and not self._sent_calls:
                     return False
-                is_due = self._waiting or self._asked != self._applied or time.monotonic() >= self._looked + _PAUSE
+                is_due = self._waiting or self._requests != self._requests_done or time.monotonic() >= self._polled_at + _PAUSE
                 if self._leader is None and is_due:
                     self._leader, self._is_gathering = self, bool(self._waiting)
                     return True
@@ -248,7 +217,7 @@ class Worker(Locked):
             self._leader, self._is_gathering = following, following is not None
             if following is not None:
                 following.wake()
-            elif self._waiting or self._is_closing or self._fault is not None or self._asked != self._applied:
+            elif self._waiting or self._is_closing or self._fault is not None or self._requests != self._requests_done:
                 self._changed.notify_all()
 
     def _gathers(self, leader: "Waiter | Worker") -> bool:
@@ -273,72 +242,72 @@ class Worker(Locked):
             self._changed.wait(seconds)
 
     def _is_due(self) -> bool:
-        return len(self._waiting) >= self._expected or self._is_closing or self._asked != self._applied
+        return len(self._waiting) >= self._expected or self._is_closing or self._requests != self._requests_done
 
     def _turn(self) -> None:
-        begun = time.monotonic()
+        start = time.monotonic()
         with self._lock:
             batch, self._waiting = self._waiting[:BATCH], self._waiting[BATCH:]
-            asked = self._asked
+            request = self._requests
             for waiter in batch:
-                self._sent[waiter.call.token] = waiter
+                self._sent_calls[waiter.call.token] = waiter
         try:
-            placed = self._exchange(batch)
+            placed_calls = self._exchange(batch)
         except Behind:
             self._rejoin()
             return
-        self._moment = max(_LEAST_MOMENT, min(_MOMENT, (time.monotonic() - begun) / 4))
-        answered: list[tuple[Waiter, Answer | None]] = []
+        self._moment = max(_LEAST_MOMENT, min(_MOMENT, (time.monotonic() - start) / 4))
+        answers: list[tuple[Waiter, Answer | None]] = []
         try:
-            self._apply(placed, answered)
+            self._apply(placed_calls, answers)
         finally:
             # Agents that are answered now may call again soon, in addition to those that wait by now.
-            self._expected = max(1, min(BATCH, len(answered) + len(self._waiting)))
+            self._expected = max(1, min(BATCH, len(answers) + len(self._waiting)))
             # Agents are woken when all is done, as they would only slow that down.
-            for waiter, answer in answered:
+            for waiter, answer in answers:
                 waiter.end(answer)
-        if len(placed) < READ:
-            self._looked = time.monotonic()
-            if asked != self._applied:
+        if len(placed_calls) < READ:
+            self._polled_at = time.monotonic()
+            if request != self._requests_done:
                 with self._changed:
-                    self._applied = asked
+                    self._requests_done = request
                     self._changed.notify_all()
 
-    def _apply(self, placed: list[Placed], answered: list[tuple[Waiter, Answer | None]]) -> None:
+    def _apply(self, placed_calls: list[PlacedCall], answers: list[tuple[Waiter, Answer | None]]) -> None:
         """Apply calls to the replica, and record the answers to those of this process."""
-        rest = iter(placed)
-        while (ended := self._apply_some(rest, answered)) is not None:
+        remaining = iter(placed_calls)
+        while (ended := self._apply_some(remaining, answers)) is not None:
             self._save(ended)
 
-    def _apply_some(self, placed: Iterator[Placed], answered: list[tuple[Waiter, Answer | None]]) -> Ended | None:
+    def _apply_some(self, placed_calls: Iterator[PlacedCall], answers: list[tuple[Waiter, Answer | None]]) -> EndedSegment | None:
         """Apply calls until one ends a segment."""
-        sent = self._sent
+        sent = self._sent_calls
         with self._lock:
-            for place, call in placed:
+            for place, call in placed_calls:
                 waiter = sent.get(call.token)
                 answer, ended = self.replica.apply(place, call, waiter is not None)
                 if waiter is not None:
                     del sent[call.token]
-                    answered.append((waiter, answer))
+                    answers.append((waiter, answer))
                 if ended is not None:
                     return ended
         return None
 
-    def _exchange(self, batch: list[Waiter]) -> list[Placed]:
+    def _exchange(self, batch: list[Waiter]) -> list[PlacedCall]:
         with self._using:
             while True:
                 try:
-                    placed = self._log.exchange([waiter.call for waiter in batch], self.replica.applied)
-                except Lost as error:
-                    _note_sent(batch)
+                    placed_calls = self._log.exchange([waiter.call for waiter in batch], self.replica.applied)
+                except ConnectionLost as error:
+                    _mark_sent(batch)
                     self._reconnect(error)
                     # Those that are in the log stay there once.
-                    batch = list(self._sent.values())
+                    batch = list(self._sent_calls.values())
                 else:
-                    _note_sent(batch)
-                    return placed
+                    _mark_sent(batch)
+                    return placed_calls
 
-    def _save(self, ended: Ended) -> None:
+    def _save(self, ended: EndedSegment) -> None:
         with self._using:
             self._reaching(lambda: self._log.save(*ended))
 
@@ -347,7 +316,7 @@ class Worker(Locked):
         while True:
             try:
                 return work()
-            except Lost as error:
+            except ConnectionLost as error:
                 self._reconnect(error)
 
     def _reconnect(self, error: Exception) -> None:
@@ -356,10 +325,10 @@ class Worker(Locked):
         while True:
             try:
                 self._log.reconnect()
-                if not all(map(self._log.database.hold, self._held)):
-                    raise Error(Code.EMPTY, said="another process has taken an agent's number while the server was away")
+                if not all(map(self._log.database.hold, self._agent_numbers)):
+                    raise Error(Code.EMPTY, detail="another process has taken an agent's number while the server was away")
                 return
-            except (ConnectionError, Lost):
+            except (ConnectionError, ConnectionLost):
                 if time.monotonic() > end:
                     raise error from None
                 time.sleep(pause)
@@ -372,26 +341,26 @@ class Worker(Locked):
         with self._changed:
             self.replica = replica
         # What was sent just now is after that. Of what was sent before, the answer may have been dropped with the call.
-        for waiter in list(self._sent.values()):
+        for waiter in list(self._sent_calls.values()):
             if waiter.is_sent:
-                del self._sent[waiter.call.token]
+                del self._sent_calls[waiter.call.token]
                 waiter.end(None, UnknownError())
-        _note_sent(self._sent.values())
+        _mark_sent(self._sent_calls.values())
 
     def _end(self) -> None:
         with self._changed:
             self._is_over = True
             fault = self._fault
-            for waiter in [*self._waiting, *self._sent.values()]:
-                waiter.end(None, BrokenError(self.replica.era.number, fault) if fault else Error(Code.EMPTY, said="the run was closed"))
-            self._waiting, self._sent = [], {}
+            for waiter in [*self._waiting, *self._sent_calls.values()]:
+                waiter.end(None, BrokenError(self.replica.era.number, fault) if fault else Error(Code.EMPTY, detail="the run was closed"))
+            self._waiting, self._sent_calls = [], {}
             self._changed.notify_all()
         with self._using:
             self._log.close()
         _workers.discard(self)
 
 
-def _note_sent(waiters: Iterable[Waiter]) -> None:
+def _mark_sent(waiters: Iterable[Waiter]) -> None:
     for waiter in waiters:
         waiter.is_sent = True
 

@@ -30,8 +30,8 @@ def used() -> int:
     """Return the number of bytes that malloc has handed out."""
     call = ctypes.CDLL(None).mallinfo2
     call.restype = _Memory
-    told = call()
-    return told.uordblks + told.hblkhd
+    usage = call()
+    return usage.uordblks + usage.hblkhd
 
 
 async def waits(step: folugben.Step) -> None:
@@ -131,7 +131,7 @@ class World:
             "idle plays": lambda: (self.other.play(lambda it: None), agent.play(lambda it: it[at], tries=2, timeout=9.0)),
             "plays by turns": self.play_by_turns,
             "wrong rules": lambda: [refused(lambda: agent.play(waits)), refused(lambda: agent.play(waits, tries=2))],
-            "own values": lambda: (folugben.replay(JOURNAL), list(folugben.states(JOURNAL)), folugben._core.owned(b'{"set":[true,1]}')),
+            "own values": lambda: (folugben.replay(JOURNAL), list(folugben.states(JOURNAL)), folugben._core.to_python(b'{"set":[true,1]}')),
             "peek": lambda: (agent.peek(at), agent.peek([["x", 1], ["t"]]), agent.state(), agent.scan("x"), agent.follow()),
             "read": lambda: (agent.read([["x", 1]]), agent.answer(), agent.stands([[["x", 1], agent.seen]]), agent.learn(self.other)),
             "agent's fire": lambda: agent.fire([["put", ["x", 1], ["a"][0]]], [[["x", 2], agent.seen]], [("t", agent.seen)]),
@@ -143,7 +143,7 @@ class World:
             "freed": lambda: [refused(it) for it in (lambda: step(lambda it: it.get(self.freed)), lambda: move.put(self.freed, 1))],
             "over": lambda: refused(lambda: [it.free() or it.get(at) for it in [agent.step()]]), "open": self.open,
             "no agent": lambda: [refused(lambda: self.storage.agent(it)) for it in (0, 2**40, -1, "a")],
-            "told": lambda: (repr(agent), repr(self.storage), repr(agent.step()), agent.seen, agent.won, self.storage.moves()),
+            "reprs": lambda: (repr(agent), repr(self.storage), repr(agent.step()), agent.seen, agent.won, self.storage.moves()),
             "close": lambda: (agent.fire([]), refused(self.storage.close_journal)), "copy": lambda: refused(agent.__reduce__),
             "forgotten": lambda: step(lambda it: it.push(move.clear().put(at, 1))),
             "functions": lambda: (folugben.aggregate([], [["put", ["x"], 1]]), folugben.compose([], []), folugben.explain(0, "[")),

@@ -11,7 +11,7 @@ from collections import Counter, defaultdict
 from unittest import mock
 
 import folugben
-from folugben._texts import encoded
+from folugben._texts import encode
 
 
 def value(it):
@@ -37,7 +37,7 @@ def place(it):
 
 
 def pairs(it):
-    return [(place(at), value(told)) for at, told in it]
+    return [(place(at), value(number)) for at, number in it]
 
 
 def call(it):
@@ -56,13 +56,13 @@ class Watch:
         self._check, self.faults = folugben.check, []
         # What gets returned, by the storage and the number of moves; how often agents read; how many reads commits have recorded
         # in a journal.
-        self._got, self._reads, self._recorded = defaultdict(dict), Counter(), {}
+        self._values_read, self._reads, self._recorded = defaultdict(dict), Counter(), {}
 
-    def got(self, step, places, values):
+    def add_read(self, step, places, values):
         """Record what was read of the state, through no pushed move."""
         if step.depth == 0:
-            names = (repr(place(json.loads(encoded(getattr(at, "place", at), "place")))) for at in places)
-            self._got[step._agent._storage, step._own_number].update(zip(names, values))
+            names = (repr(place(json.loads(encode(getattr(at, "place", at), "place")))) for at in places)
+            self._values_read[step._agent._storage, step._own_number].update(zip(names, values))
 
     def read(self, agent):
         self._reads[agent._storage] += 1
@@ -74,21 +74,21 @@ class Watch:
             reads = [at for at, line in enumerate(events) if b'"call":{"read"' in line]
             self._recorded[journal] = len(reads) - self._reads[storage]
             for at in reads:
-                events[at] = self._as_got(storage, json.loads(events[at]))
+                events[at] = self._with_values_read(storage, json.loads(events[at]))
             try:
                 self._check(b"".join([header, *events]))
             except folugben.BadJournalError as bad:
                 self.faults.append(f"{bad}: {events[bad.call or 0]}")
         return journal
 
-    def _as_got(self, storage, event):
+    def _with_values_read(self, storage, event):
         """Return the line of a read, with what was read."""
         reply = event["reply"]
-        got = self._got.get((storage, reply["number"]), {})
+        values_read = self._values_read.get((storage, reply["number"]), {})
         for at, where in enumerate(event["call"]["read"]):
             name = repr(place(where))
-            if name in got:
-                reply["values"][at] = json.loads(encoded(got[name], "value"))
+            if name in values_read:
+                reply["values"][at] = json.loads(encode(values_read[name], "value"))
         return json.dumps(event, separators=(",", ":")).encode() + b"\n"
 
     def counted(self, counts, its):
@@ -98,8 +98,8 @@ class Watch:
         """
         journals = [its] if isinstance(its, bytes) else [file.read_bytes() for file in pathlib.Path(its).glob("*.journal")]
         calls, *others = counts
-        told = calls - sum(self._recorded.get(journal, 0) for journal in journals), *others
-        return told if type(counts) is tuple else type(counts)(*told)
+        adjusted = calls - sum(self._recorded.get(journal, 0) for journal in journals), *others
+        return adjusted if type(counts) is tuple else type(counts)(*adjusted)
 
 
 class Recorded(unittest.TestCase):
@@ -114,8 +114,8 @@ class Recorded(unittest.TestCase):
     def setUp(self):
         self.watch, self.patches = Watch(), contextlib.ExitStack()
         self.addCleanup(self.assert_judged)
-        self.patch(folugben.Step, "get", self.noted)
-        self.patch(folugben.Step, "__getitem__", self.noted)
+        self.patch(folugben.Step, "get", self.recording)
+        self.patch(folugben.Step, "__getitem__", self.recording)
         self.patch(folugben.Agent, "read", lambda read: lambda its, places: (read(its, places), self.watch.read(its))[0])
         self.patch(folugben.Storage, "close_journal", lambda close: lambda its: self.watch.closed(its, close(its)))
         for kind, name in (folugben.Storage, "__init__"), (folugben.Run, "__init__"), (folugben.Run, "resume"):
@@ -128,14 +128,14 @@ class Recorded(unittest.TestCase):
     def patch(self, owner, name, make):
         self.patches.enter_context(mock.patch.object(owner, name, make(getattr(owner, name))))
 
-    def noted(self, get):
-        def got(step, places):
-            told = get(step, places)
-            is_list = isinstance(told, list) and get.__name__ == "get"
-            self.watch.got(step, places if is_list else [places], told if is_list else [told])
-            return told
+    def recording(self, get):
+        def get_recorded(step, places):
+            values = get(step, places)
+            is_list = isinstance(values, list) and get.__name__ == "get"
+            self.watch.add_read(step, places if is_list else [places], values if is_list else [values])
+            return values
 
-        return got
+        return get_recorded
 
     def assert_judged(self):
         self.patches.close()

@@ -27,7 +27,7 @@ class Shared(Rooms):
         super().setUp()
         self.target = str(self.room / "bank.db")
 
-    def whole(self):
+    def text(self):
         """Return the run as one text."""
         out = io.BytesIO()
         save(self.target, out)
@@ -39,7 +39,7 @@ class Shared(Rooms):
         Each of them raised the count.
         """
         self.assertEqual(audit(self.target).moves, moves)
-        self.assertEqual(audit(io.BytesIO(self.whole())), audit(self.target))
+        self.assertEqual(audit(io.BytesIO(self.text())), audit(self.target))
         counts = [values[("count",)] for _, values in states(_Target(self.target))]
         self.assertEqual(counts, list(range(moves + 1)))
         verify(self.target)
@@ -50,15 +50,15 @@ class Plays(Shared):
         def work(own):
             with run.agent(own) as agent:
                 for _ in range(30):
-                    told[own].append(agent.play(raised)[0])
+                    numbers[own].append(agent.play(raised)[0])
                 self.assertEqual((agent.won, agent.number), (30, own))
 
-        told = [[] for _ in range(4)]
+        numbers = [[] for _ in range(4)]
         with SharedRun(self.target, INIT, 25) as run:
             self.assertEqual(in_threads(work, 4), ([], True))
             self.assertEqual(run.state(), (120, [(COUNT, 120)]))
-        self.assertEqual(sorted(sum(told, [])), list(range(1, 121)))
-        self.assertTrue(all(it == sorted(it) for it in told))
+        self.assertEqual(sorted(sum(numbers, [])), list(range(1, 121)))
+        self.assertTrue(all(it == sorted(it) for it in numbers))
         self.assert_is_run(120)
 
     def test_two_replicas_have_the_same_states(self):
@@ -74,10 +74,10 @@ class Plays(Shared):
             with SharedRun(self.target) as late:
                 self.assertEqual([it.state() for it in (one, other, late)], 3 * [(20, [(COUNT, 20)])])
         self.assert_is_run(20)
-        agents = [json.loads(line)["agent"] for line in self.whole().splitlines() if b'"call"' in line]
+        agents = [json.loads(line)["agent"] for line in self.text().splitlines() if b'"call"' in line]
         self.assertEqual(agents, 10 * [0, 1])
 
-    def test_what_was_read_or_scanned_is_rested_on(self):
+    def test_a_step_depends_on_its_reads_and_scans(self):
         with SharedRun(self.target, INIT, 100) as run, run.agent(0) as agent, run.agent(1) as other:
             for see, change in [
                 (lambda step: step.get([COUNT]), [["put", COUNT, 7]]),
@@ -144,13 +144,13 @@ class Plays(Shared):
     def test_numbers_of_agents(self):
         with SharedRun(self.target, INIT) as run, SharedRun(self.target) as other:
             agent = run.agent(3)
-            for it, said in (run, "agent 3"), (other, "agent 3 is in use by another process"):
-                with self.assertRaisesRegex(Error, said):
+            for it, message in (run, "agent 3"), (other, "agent 3 is in use by another process"):
+                with self.assertRaisesRegex(Error, message):
                     it.agent(3)
             agent.give()
             agent.give()
             for call in (agent.step, agent.follow, lambda: agent.peek(AT)):
-                with self.assertRaisesRegex(Error, "was given back"):
+                with self.assertRaisesRegex(Error, "was returned"):
                     call()
             with other.agent(3) as again:
                 self.assertEqual(again.play(raised)[0], 1)
@@ -161,7 +161,7 @@ class Plays(Shared):
         with self.assertRaisesRegex(Error, "the run was closed"):
             run.agent(3)
 
-    def test_what_is_told_must_fit_the_run(self):
+    def test_the_arguments_must_fit_the_run(self):
         self.assertRaises(FileNotFoundError, SharedRun, self.target)
         SharedRun(self.target, INIT, 7).close()
         SharedRun(self.target, INIT, 100).close()
@@ -191,7 +191,7 @@ class Plays(Shared):
         self.assertIsInstance(caught.exception.__cause__, TooLongError)
         self.assertEqual(audit(self.target).moves, 3)
 
-    def test_what_was_altered_is_found(self):
+    def test_altered_data_is_found(self):
         with SharedRun(self.target, INIT, 3) as run, run.agent(0) as agent:
             for _ in range(10):
                 agent.play(raised)
@@ -222,13 +222,13 @@ class Plays(Shared):
             with SharedRun(self.target, INIT, 2) as run, SharedRun(self.target) as other:
                 with run.agent(0) as agent, other.agent(1) as ben:
                     ben.play(raised)
-                    told = []
+                    answers = []
 
                     def play():
                         try:
-                            told.append(ben.play(raised))
+                            answers.append(ben.play(raised))
                         except UnknownError as unknown:
-                            told.append(unknown)
+                            answers.append(unknown)
 
                     def exchanged(batch):
                         if batch and not is_behind.is_set():
@@ -241,13 +241,13 @@ class Plays(Shared):
                     with mock.patch.object(other._worker, "_exchange", exchanged):
                         thread.start()
                         self.assertTrue(has_batch.wait(60))
-                        for waiter in other._worker._sent.values():
+                        for waiter in other._worker._sent_calls.values():
                             waiter.is_sent = is_sent
                         for _ in range(20):
                             agent.play(raised)
                         is_behind.set()
                         thread.join(60)
-                    self.assertIsInstance(told[0], UnknownError if is_sent else tuple)
+                    self.assertIsInstance(answers[0], UnknownError if is_sent else tuple)
                     self.assertEqual(ben.follow(), other.state()[0])
                     self.assertGreater(ben.play(raised)[0], 21)
                 self.assertEqual(run.state(), other.state())
@@ -316,7 +316,7 @@ with SharedRun(sys.argv[1], bank.INIT, 50) as run:
 
         No answered move is lost or done twice.
         """
-        rng, told = random.Random(), []
+        rng, answers = random.Random(), []
 
         def start(place):
             words = [sys.executable, "shared_bank.py", self.target, agents * place, agents, times]
@@ -330,15 +330,15 @@ with SharedRun(sys.argv[1], bank.INIT, 50) as run:
                 self.disturb()
             place = rng.randrange(processes)
             alive[place].send_signal(signal.SIGKILL)
-            told += alive[place].communicate()[0].splitlines()
+            answers += alive[place].communicate()[0].splitlines()
             alive[place] = start(place)
             kills -= 1
         for child in alive:
-            told += child.communicate(timeout=300)[0].splitlines()
+            answers += child.communicate(timeout=300)[0].splitlines()
             self.assertEqual(child.returncode, 0)
-        return self.assert_kept([json.loads(line) for line in told if line.endswith("]")])
+        return self.assert_none_lost([json.loads(line) for line in answers if line.endswith("]")])
 
-    def assert_kept(self, told):
+    def assert_none_lost(self, answers):
         """Check that each answered move is in the run once, with its number.
 
         Each state has the sum.
@@ -348,11 +348,11 @@ with SharedRun(sys.argv[1], bank.INIT, 50) as run:
             self.assertEqual(sum(values["account", own] for own in range(ACCOUNTS)), ACCOUNTS * MONEY)
             marks.append(values.get(("mark",)))
         self.assertEqual(len(set(marks)), len(marks))
-        self.assertEqual({number: marks[number] for number, _ in told}, dict(told))
+        self.assertEqual({number: marks[number] for number, _ in answers}, dict(answers))
         self.assertEqual(audit(self.target).moves, len(marks) - 1)
         with SharedRun(self.target) as one, SharedRun(self.target) as other:
             self.assertEqual(one.state(), other.state())
-        return len(marks), len(told)
+        return len(marks), len(answers)
 
 
 class _Target:

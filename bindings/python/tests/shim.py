@@ -64,12 +64,12 @@ def wrapper(result: str, name: str, words: str) -> str:
     if not slots:
         return ""
     # A call that is passed a slot twice refuses it.
-    given = [f"{slot}" if k == 0 else f"{slot} == {slots[0]} ? NULL : (void *){slot}" for k, slot in enumerate(slots)]
+    arguments = [f"{slot}" if k == 0 else f"{slot} == {slots[0]} ? NULL : (void *){slot}" for k, slot in enumerate(slots)]
     lines = [f"{result} __real_{name}({words});", f"{result} __wrap_{name}({words}) {{"]
-    lines += [f'    if ({it}) enter({it}, "{name}");' for it in (f"({own})" for own in given)]
+    lines += [f'    if ({it}) enter({it}, "{name}");' for it in (f"({own})" for own in arguments)]
     call = f"__real_{name}({', '.join(names)})"
     lines.append(f"    {call};" if result == "void" else f"    {result} code_ = {call};")
-    lines += [f"    if ({it}) leave({it});" for it in (f"({own})" for own in given)]
+    lines += [f"    if ({it}) leave({it});" for it in (f"({own})" for own in arguments)]
     lines += ["}"] if result == "void" else ["    return code_;", "}"]
     return "\n".join(lines)
 
@@ -84,7 +84,7 @@ def build(room: pathlib.Path) -> None:
     shutil.copytree(PACKAGE, package, ignore=shutil.ignore_patterns("*.so", "__pycache__"))
     text = re.sub(r"/\*.*?\*/", "", HEADER.read_text(), flags=re.S).replace("FOLUGBEN_NODISCARD ", "")
     found = re.findall(r"^(int32_t|uint32_t|uint64_t|void) (asm_\w+)\(([^)]*)\);", text, re.M)
-    wrapped = {name: told for result, name, words in found if (told := wrapper(result, name, words))}
+    wrapped = {name: source for result, name, words in found if (source := wrapper(result, name, words))}
     (room / "shim.c").write_text(BEGIN + "\n".join(wrapped.values()) + "\n")
     subprocess.run(
         ["cc", "-shared", "-fPIC", "-O1", "-std=gnu11", "-fvisibility=hidden", f"-I{HEADER.parent}", f"-I{INCLUDE}", "-o",

@@ -38,9 +38,9 @@ def threads(seconds):
         counts = [0] * 4
         with Run(path, INIT, 200) as run:
             errors, is_over = in_threads(work, 4, seconds + 60)
-        told = audit(path)
-        assert (errors, is_over, told.moves) == ([], True, sum(counts)), (errors, is_over, told, counts)
-        return told
+        audited = audit(path)
+        assert (errors, is_over, audited.moves) == ([], True, sum(counts)), (errors, is_over, audited, counts)
+        return audited
 
 
 def tried(case, name, method, *words):
@@ -72,5 +72,5 @@ WORKS = {
 }
 
 if __name__ == "__main__":
-    begun = time.monotonic()
-    print(*sys.argv[1:], WORKS[sys.argv[1]](int(sys.argv[2])), f"{time.monotonic() - begun:.0f} s", flush=True)
+    start = time.monotonic()
+    print(*sys.argv[1:], WORKS[sys.argv[1]](int(sys.argv[2])), f"{time.monotonic() - start:.0f} s", flush=True)

@@ -72,18 +72,18 @@ class Agents(unittest.TestCase):
         with self.assertRaises(MissingError) as caught:
             self.storage.close_journal()
         self.assertEqual(caught.exception.numbers, (1,))
-        self.assertEqual(str(caught.exception), folugben.error_text(folugben.Code.MISSING) + ": agent 0 was not given back: it fired move 1")
+        self.assertEqual(str(caught.exception), folugben.error_text(folugben.Code.MISSING) + ": agent 0 was not returned: it fired move 1")
         first.give()
         journal = self.storage.close_journal()
         self.assertEqual(check(journal), (2, 1))
         self.assertEqual(replay(journal), [(("count",), 0)])
 
-    def test_a_with_gives_the_agent_back(self):
+    def test_a_with_returns_the_agent(self):
         with self.storage.agent(3) as agent:
             agent.fire([["put", ["count"], "ü"]])
         self.assertEqual(replay(self.storage.close_journal()), [(("count",), "ü")])
 
-    def test_a_with_that_an_exception_ends_gives_the_agent_back(self):
+    def test_a_with_that_an_exception_ends_returns_the_agent(self):
         reader = self.storage.agent(1)
         with self.assertRaises(KeyError), self.storage.agent(0) as agent:
             agent.fire([["put", ["count"], 5]])
@@ -92,7 +92,7 @@ class Agents(unittest.TestCase):
         reader.give()
         self.assertEqual(check(self.storage.close_journal()), (2, 1))
 
-    def test_a_with_whose_agent_cannot_be_given_back(self):
+    def test_a_with_whose_agent_cannot_be_returned(self):
         agent = self.storage.agent(0)
         self.storage.free()
         with self.assertRaises(Error) as caught, agent:
@@ -112,11 +112,11 @@ class Agents(unittest.TestCase):
         self.assertEqual(self.storage.agent(2).read(COUNT), (0, [0]))
 
     def test_the_moves_of_an_agent_that_was_freed_are_missing(self):
-        first, lost = self.storage.agent(0), self.storage.agent(1)
+        first, abandoned = self.storage.agent(0), self.storage.agent(1)
         self.assertEqual(self.storage.moves(), 0)
         first.fire([])
-        lost.fire([])
-        lost.free()
+        abandoned.fire([])
+        abandoned.free()
         self.assertEqual(self.storage.moves(), 2)
         for wanted in (1, 2):
             with self.assertRaises(MissingError) as caught:
@@ -152,7 +152,7 @@ class Agents(unittest.TestCase):
         agent.give()
         self.assertEqual(replay(self.storage.close_journal()), [(("count",), "x" * 5000)])
 
-    def test_threads_that_make_and_give_agents_of_one_storage(self):
+    def test_threads_that_make_and_return_agents_of_one_storage(self):
         # A large state makes the calls that close long, so that others begin meanwhile.
         state = [[["count"], 0]] + [[["own", k], k] for k in range(2000)]
 
@@ -226,17 +226,17 @@ class Agents(unittest.TestCase):
             self.assertEqual((error.code, error.numbers), (code, numbers), text)
             self.assertEqual(str(error), folugben.error_text(code) + behind)
 
-    def test_an_error_is_told_in_words(self):
+    def test_an_error_has_a_message(self):
         busy = BusyError(folugben.Code.BUSY, (3, 67))
-        told = "64 offers were lost (the agent had seen 3 moves at the start of the call and 67 at its end)"
-        self.assertEqual(str(busy), told)
-        self.assertEqual(str(pickle.loads(pickle.dumps(busy))), told)
+        message = "64 offers were lost (the agent had seen 3 moves at the start of the call and 67 at its end)"
+        self.assertEqual(str(busy), message)
+        self.assertEqual(str(pickle.loads(pickle.dumps(busy))), message)
         self.assertEqual(str(Error(folugben.Code.NOT_JSON)), "not JSON")
 
-    def test_a_refused_text_says_where(self):
+    def test_a_refused_text_has_a_place(self):
         agent = self.storage.agent(0)
         nested = [["add", ["s"], 1], ["inc", ["x"], 2], ["put", ["s"], {"set": [{"set": []}]}]]
-        for said, call, *arguments in [
+        for message, call, *arguments in [
             ("pair 1: a pair is a tuple or a list of a location and its value", Storage, [1]),
             ("init[0][1] is nan, which is no whole number: pass int(..) of it, or str(..)", Storage, [[["x"], float("nan")]]),
             ("location 2: a location can't hold a bag", agent.read, [["x"], ["y", {"bag": []}]]),
@@ -251,8 +251,8 @@ class Agents(unittest.TestCase):
         ]:
             with self.assertRaises(Error) as caught:
                 call(*arguments)
-            self.assertEqual(str(caught.exception), said)
-            self.assertEqual(str(pickle.loads(pickle.dumps(caught.exception))), said)
+            self.assertEqual(str(caught.exception), message)
+            self.assertEqual(str(pickle.loads(pickle.dumps(caught.exception))), message)
 
     def test_texts_are_explained(self):
         self.assertEqual(folugben.explain(folugben.TextForm.LOCATIONS, b'[["x"]]'), "")
@@ -275,7 +275,7 @@ class Agents(unittest.TestCase):
         self.assertEqual(folugben.version(), 1_000_000 * major + 1_000 * minor + patch)
 
     def test_a_library_of_another_version_is_refused(self):
-        with mock.patch.object(_library, "WRITTEN_FOR", 1000), self.assertRaises(ImportError) as caught:
+        with mock.patch.object(_library, "LIBRARY_VERSION", 1000), self.assertRaises(ImportError) as caught:
             _library.expect_version()
         self.assertIn("has version 2000, and this package was written for 1000", str(caught.exception))
 

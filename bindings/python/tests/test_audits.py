@@ -69,21 +69,21 @@ class Audits(unittest.TestCase):
         cls.journals = next(it for it in map(parts_of_a_run, range(100)) if all(journal.count(b"\n") > 8 for journal in it))
         cls.text = b"".join(cls.journals)
 
-    def assert_told(self, text: bytes, *wanted: object) -> None:
+    def assert_counts(self, text: bytes, *wanted: object) -> None:
         """Check the same in chunks of each size; the report of a fault begins so."""
-        told = [fed(text, size) for size in (1, 61, 4096, 1 << 20)]
-        self.assertEqual(told, told[:1] * 4)
-        self.assertEqual(told[0][: len(wanted)], wanted)
+        results = [fed(text, size) for size in (1, 61, 4096, 1 << 20)]
+        self.assertEqual(results, results[:1] * 4)
+        self.assertEqual(results[0][: len(wanted)], wanted)
 
     def test_a_run_of_several_parts_is_counted(self):
         for seed in range(20):
             journals = parts_of_a_run(seed)
             numbers = [check(journal) for journal in journals]
             calls, moves = (sum(it) for it in zip(*numbers))
-            self.assert_told(b"".join(journals), calls, moves, 4, replay(journals[-1]))
-        self.assert_told(self.journals[0], *check(self.journals[0]), 1, replay(self.journals[0]))
+            self.assert_counts(b"".join(journals), calls, moves, 4, replay(journals[-1]))
+        self.assert_counts(self.journals[0], *check(self.journals[0]), 1, replay(self.journals[0]))
 
-    def test_each_fault_is_told_with_its_part_and_its_place(self):
+    def test_each_fault_is_reported_with_its_part_and_its_place(self):
         first, second = self.journals[0], self.journals[1]
         number = first.count(b"\n")
 
@@ -105,11 +105,11 @@ class Audits(unittest.TestCase):
             (second + first, APART, 1, ()),
         ]:
             with self.subTest(wanted):
-                self.assert_told(text, *wanted)
+                self.assert_counts(text, *wanted)
         bad = fed(first + altered(second, 3, wrong), 100)
         self.assertEqual(bad[-1], f"part 1: {folugben.error_text(ILLEGAL)} (call 2, counted from 0)")
 
-    def test_a_line_may_be_longer_than_a_whole_journal_that_is_checked(self):
+    def test_a_line_may_be_longer_than_a_complete_journal_that_is_checked(self):
         auditor = Auditor()
         auditor.feed(self.text)
         for _ in range(17):
@@ -119,7 +119,7 @@ class Audits(unittest.TestCase):
         self.assertEqual((caught.exception.code, caught.exception.part), (NOT_JSON, 4))
 
     @unittest.skipUnless("FOLUGBEN_LONG" in os.environ, "it takes 3 GiB of memory")
-    def test_a_line_above_the_limit_is_told(self):
+    def test_a_line_above_the_limit_is_reported(self):
         auditor = Auditor()
         auditor.feed(self.text)
         with self.assertRaises(BadJournalError) as caught:
@@ -128,7 +128,7 @@ class Audits(unittest.TestCase):
         self.assertEqual((caught.exception.code, caught.exception.part), (LONG_LINE, 4))
         self.assertIn("1,073,741,824 bytes", str(caught.exception))
 
-    def test_a_fault_is_told_at_its_line_and_ever_after(self):
+    def test_a_fault_is_reported_at_its_line_and_from_then_on(self):
         lines = altered(self.text, 4, lambda event: event | {"reply": "full", "call": {"fire": [], "reads": []}}).splitlines(True)
         auditor = Auditor()
         for line in lines[:4]:
@@ -144,7 +144,7 @@ class Audits(unittest.TestCase):
             self.assertEqual((again.exception.part, again.exception.call), (0, 3))
         self.assertEqual(repr(auditor), f"<Auditor, {caught.exception}>")
 
-    def test_what_stands_so_far_can_be_asked_for(self):
+    def test_the_counts_so_far_can_be_asked_for(self):
         auditor = Auditor()
         self.assertEqual(auditor.counts, Counts(0, 0, 0))
         with self.assertRaises(Error) as caught:
@@ -164,7 +164,7 @@ class Audits(unittest.TestCase):
             self.assertEqual(auditor.state(), replay(journal))
         self.assertEqual(repr(auditor), f"<Auditor, {total.calls} calls, {total.moves} moves, 4 parts>")
 
-    def test_an_audit_that_was_freed_says_so(self):
+    def test_an_audit_that_was_freed_raises_an_error(self):
         with Auditor() as freed:
             freed.feed(self.text)
         for call in (lambda: freed.feed(b""), freed.end, freed.state):
@@ -201,7 +201,7 @@ class Files(unittest.TestCase):
         with self.assertRaises(FileNotFoundError):
             audit(self.room / "absent")
 
-    def test_a_wrong_answer_in_a_pipe_is_told_before_its_end(self):
+    def test_a_wrong_answer_in_a_pipe_is_reported_before_its_end(self):
         read_end, write_end = os.pipe()
         lines = self.run_file.read_bytes().splitlines(True)
         with open(read_end, "rb") as pipe, open(write_end, "wb", buffering=0) as out:
@@ -218,15 +218,15 @@ class Files(unittest.TestCase):
             with self.assertRaisesRegex(IndexError, f"no part {number}"):
                 part(self.run_file, number)
 
-    def test_progress_is_told_on_a_terminal(self):
+    def test_progress_is_shown_on_a_terminal(self):
         times, terminal = iter(range(0, 1000, 2)), io.StringIO()
         terminal.isatty = lambda: True
         with mock.patch.object(main.time, "monotonic", lambda: next(times)), mock.patch.object(sys, "stderr", terminal):
-            with contextlib.redirect_stdout(io.StringIO()) as told:
+            with contextlib.redirect_stdout(io.StringIO()) as output:
                 self.assertEqual(main.main(["audit", str(self.run_file)]), 0)
         size = f"{self.run_file.stat().st_size:,}"
         self.assertEqual(terminal.getvalue(), f"\r{self.run_file}: 100 % of {size} bytes \r\033[K")
-        self.assertEqual(told.getvalue(), "legal {} {} {}\n".format(*self.numbers))
+        self.assertEqual(output.getvalue(), "legal {} {} {}\n".format(*self.numbers))
 
     def called(self, *words: str, **more) -> subprocess.CompletedProcess:
         # The package that is tested, wherever this is run.
@@ -236,21 +236,21 @@ class Files(unittest.TestCase):
 
     def test_the_command_line_takes_runs(self):
         legal = "legal {} {} {}\n".format(*self.numbers).encode()
-        told = self.called("audit", str(self.run_file))
-        self.assertEqual((told.returncode, told.stdout, told.stderr), (0, legal, b""))
+        ran = self.called("audit", str(self.run_file))
+        self.assertEqual((ran.returncode, ran.stdout, ran.stderr), (0, legal, b""))
         self.assertEqual(self.called("audit", "-", input=self.run_file.read_bytes()).stdout, legal)
         cut, absent = self.room / "cut", self.room / "absent"
         cut.write_bytes(self.run_file.read_bytes()[:-1])
-        told = self.called("audit", str(self.run_file), str(cut))
-        self.assertEqual(told.returncode, 1)
-        self.assertEqual(told.stdout.decode(), f"{self.run_file}: {legal.decode()}{cut}: part 3: {folugben.error_text(CUT)}\n")
+        ran = self.called("audit", str(self.run_file), str(cut))
+        self.assertEqual(ran.returncode, 1)
+        self.assertEqual(ran.stdout.decode(), f"{self.run_file}: {legal.decode()}{cut}: part 3: {folugben.error_text(CUT)}\n")
         self.assertEqual(self.called("audit", str(absent)).returncode, 2)
         self.assertEqual(self.called("part", "-p", "2", str(self.run_file)).stdout, self.journals[2])
-        told = self.called("check", "-p", "1", str(self.run_file))
-        self.assertEqual(told.stdout.decode(), "legal {} {}\n".format(*check(self.journals[1])))
-        told = self.called("part", "-p", "4", str(self.run_file))
-        self.assertEqual((told.returncode, told.stdout), (1, b""))
-        self.assertIn(b"there is no part 4", told.stderr)
+        ran = self.called("check", "-p", "1", str(self.run_file))
+        self.assertEqual(ran.stdout.decode(), "legal {} {}\n".format(*check(self.journals[1])))
+        ran = self.called("part", "-p", "4", str(self.run_file))
+        self.assertEqual((ran.returncode, ran.stdout), (1, b""))
+        self.assertIn(b"there is no part 4", ran.stderr)
 
 
 if __name__ == "__main__":

@@ -138,7 +138,7 @@ def refused(error):
     It has its code, and where and why, and its numbers, with that of the part in an audit.
     """
     part = [error.part] if isinstance(error, BadJournalError) and error.part is not None else []
-    return {"error": error.code.name, "said": error.said, "numbers": [*error.numbers, *part]}
+    return {"error": error.code.name, "said": error.detail, "numbers": [*error.numbers, *part]}
 
 
 def in_python(call, wanted):
@@ -161,15 +161,15 @@ def in_python(call, wanted):
 
 
 class Conformance(unittest.TestCase):
-    def assert_answered(self, call, told, wanted, where):
-        if isinstance(wanted, dict) and "error" in wanted and isinstance(told, dict) and "error" in told:
-            told = {key: value for key, value in told.items() if key in wanted}
+    def assert_answer(self, call, answer, wanted, where):
+        if isinstance(wanted, dict) and "error" in wanted and isinstance(answer, dict) and "error" in answer:
+            answer = {key: value for key, value in answer.items() if key in wanted}
         wanted = in_python(call, wanted)
-        told, wanted = (sorted(it.items()) if isinstance(it, dict) else it for it in (told, wanted))
+        answer, wanted = (sorted(it.items()) if isinstance(it, dict) else it for it in (answer, wanted))
         # True and 1 are different values.
-        self.assertEqual(repr(told), repr(wanted), where)
+        self.assertEqual(repr(answer), repr(wanted), where)
 
-    def test_each_line_is_answered_so(self):
+    def test_each_call_of_the_table_has_its_answer(self):
         for name in ("moves", "calls", "steps", "journals"):
             replayer, case, count = Replayer(), "", 0
             for number, line in enumerate((TABLES / f"{name}.jsonl").read_text().splitlines(), 1):
@@ -179,7 +179,7 @@ class Conformance(unittest.TestCase):
                     replayer.case(case)
                     continue
                 *words, wanted = [*words, None] if call == "end" else words
-                self.assert_answered(call, replayer.answer(call, *words), wanted, f"{name}.jsonl:{number}, {case}: {line[:200]}")
+                self.assert_answer(call, replayer.answer(call, *words), wanted, f"{name}.jsonl:{number}, {case}: {line[:200]}")
                 count += 1
             self.assertGreater(count, 20, name)
 

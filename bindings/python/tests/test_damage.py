@@ -38,17 +38,17 @@ class Folders(Rooms):
         for _ in range(times):
             number = rng.randrange(5)
             file = segments(self.path)[number]
-            whole = file.read_bytes()
-            altered = bytearray(whole)
+            original = file.read_bytes()
+            altered = bytearray(original)
             if rng.random() < 0.6:
                 altered[rng.randrange(len(altered))] ^= 1 << rng.randrange(8)
             elif rng.random() < 0.8:
                 del altered[rng.randrange(len(altered)) :]
             else:
-                altered += whole[: rng.randrange(1, len(whole))]
+                altered += original[: rng.randrange(1, len(original))]
             file.write_bytes(altered)
             self.assert_refused(number, number == 4)
-            file.write_bytes(whole)
+            file.write_bytes(original)
         self.assertEqual(audit(self.path), (14, 14, 5))
 
     def test_another_legal_text_is_found(self):
@@ -100,7 +100,7 @@ class Folders(Rooms):
                     Run.resume(self.path, check=check)
                 self.assertRegex(str(caught.exception), "segment 4: its text has other numbers|part 4: ")
 
-    def test_an_illegal_segment_is_told_with_its_number(self):
+    def test_an_illegal_segment_is_reported_with_its_number(self):
         self.replace_last(part(self.path, 4).replace(b'{"fired":1}', b'{"fired":9}'), 2, 2)
         for check in "all", "last":
             with self.assertRaises(BadJournalError) as caught:
@@ -120,7 +120,7 @@ class Folders(Rooms):
 
 
 class AtWork(Rooms):
-    def assert_noticed(self, alter, said):
+    def assert_detected(self, alter, message):
         with contextlib.suppress(BrokenError), Run(self.path, INIT, 4) as run, run.agent(0) as agent:
             for _ in range(6):
                 agent.play(raised)
@@ -128,33 +128,33 @@ class AtWork(Rooms):
             alter()
             with self.assertRaises(BrokenError) as caught:
                 run.flush()
-            self.assertRegex(str(caught.exception), said)
+            self.assertRegex(str(caught.exception), message)
             self.assertIsInstance(caught.exception.__cause__, DamagedError)
             self.assertEqual((run.saved, caught.exception.part), (4, 2))
 
     def test_a_folder_that_is_moved_removed_or_replaced(self):
         moved = self.room / "moved"
-        self.assert_noticed(lambda: self.path.rename(moved), "was removed")
+        self.assert_detected(lambda: self.path.rename(moved), "was removed")
         self.assertEqual(audit(moved), (4, 4, 2))
-        self.assert_noticed(lambda: shutil.rmtree(self.path), "was removed")
-        self.assert_noticed(lambda: (shutil.copytree(self.path, self.room / "c"), shutil.rmtree(self.path),
+        self.assert_detected(lambda: shutil.rmtree(self.path), "was removed")
+        self.assert_detected(lambda: (shutil.copytree(self.path, self.room / "c"), shutil.rmtree(self.path),
                                      (self.room / "c").rename(self.path)), "moved or replaced")
         self.assertEqual(audit(self.path), (4, 4, 2))
 
     def test_a_file_that_is_removed_or_truncated(self):
-        self.assert_noticed(lambda: segments(self.path)[1].unlink(), "was removed")
+        self.assert_detected(lambda: segments(self.path)[1].unlink(), "was removed")
         shutil.rmtree(self.path)
-        self.assert_noticed(lambda: segments(self.path)[1].write_bytes(b"x"), "another size")
+        self.assert_detected(lambda: segments(self.path)[1].write_bytes(b"x"), "another size")
 
     def test_a_lock_that_is_replaced(self):
-        self.assert_noticed(lambda: ((self.path / "lock").unlink(), (self.path / "lock").touch()), "lock in .* was replaced")
+        self.assert_detected(lambda: ((self.path / "lock").unlink(), (self.path / "lock").touch()), "lock in .* was replaced")
 
 
 class PowerFailures(Rooms):
     """After a failure at a random moment, a run has all that was reported as saved."""
 
     def fail(self, times, notes_folder=True):
-        rng, lost = random.Random(times), 0
+        rng, failures = random.Random(times), 0
         for _ in range(max(1, times // 60)):
             shutil.rmtree(self.path, ignore_errors=True)
             log = crashes.Log(self.path, notes_folder)
@@ -163,8 +163,8 @@ class PowerFailures(Rooms):
             saves = [place for place, call in enumerate(log.calls) if call[0] == "saved"]
             for _ in range(min(times, 60)):
                 end = rng.choice((rng.randint(0, len(log.calls)), min(len(log.calls), rng.choice(saves) + rng.randint(0, 4))))
-                lost += not self.goes_on(*crashes.crashed(log.calls[:end], rng), rng)
-        return lost
+                failures += not self.continues(*crashes.crashed(log.calls[:end], rng), rng)
+        return failures
 
     def write(self, rng):
         for times in range(3):
@@ -174,7 +174,7 @@ class PowerFailures(Rooms):
                     if rng.random() < 0.2:
                         run.flush()
 
-    def goes_on(self, files, saved, rng):
+    def continues(self, files, saved, rng):
         """Return whether a run continues after a failure, with all that was saved."""
         path = self.room / "left"
         shutil.rmtree(path, ignore_errors=True)
@@ -262,7 +262,7 @@ class Lines(Rooms):
                 agent.read([["x"], ["y"]])
         self.assertEqual(audit(self.path), (2, 2, 2))
 
-    def test_what_a_step_got_that_is_too_long(self):
+    def test_tracked_reads_that_are_too_long(self):
         places = [("s", own) for own in range(8)]
         added = [[("add", at, number) for at in places] for number in range(3)]
 
@@ -282,7 +282,7 @@ class Lines(Rooms):
                 for at in places:
                     agent.play(lambda step: step.put(at, {at[0] * 2_500}))
                 for get in gets:
-                    with self.assertRaisesRegex(TooLongError, "what the step got would make a line") if record else contextlib.nullcontext():
+                    with self.assertRaisesRegex(TooLongError, "the tracked reads would make a line") if record else contextlib.nullcontext():
                         agent.play(lambda step: (get(step), step.put("y", 1)))
                     # Half of it isn't too long.
                     agent.play(lambda step: (step.get(places[:4]), step.push(added[1][:3]), step.pop(), step.put("z", 1)))

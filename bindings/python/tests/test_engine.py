@@ -108,7 +108,7 @@ class Rules(unittest.TestCase):
         rule = Par(inner, Update(["beside"], count))
         self.assertEqual(self.played(rule, COUNT, ["inner"], ["beside"]), [10, 10, 3])
 
-    def test_a_dry_run_is_rested_on(self):
+    def test_a_step_depends_on_its_dry_runs(self):
         # In sequence these come to nothing, except on a number.
         rule = Par(Seq(Instruction("inc", COUNT, 1), Instruction("inc", COUNT, -1)), Update(["g"], 1))
         with self.agent.step() as step:
@@ -118,7 +118,7 @@ class Rules(unittest.TestCase):
                 step.commit()
         self.assertEqual(caught.exception.at, COUNT)
 
-    def test_a_step_that_clashes_with_what_a_rival_wrote_is_begun_anew(self):
+    def test_a_step_that_clashes_with_a_write_of_a_rival_is_begun_again(self):
         rival, texts = self.rival, ["no number", "none"]
 
         class Raised(Rule):
@@ -144,7 +144,7 @@ class Rules(unittest.TestCase):
         replies = [event["reply"] for event in events if event["agent"] == 2 and "fire" in event["call"]]
         self.assertEqual(replies, [{"clash": [list(COUNT), "Kind"]}] * 2 + [{"fired": 6}])
 
-    def test_a_clash_in_a_sequence_is_told(self):
+    def test_a_clash_in_a_sequence_is_reported(self):
         for rule in (Seq(Par(raised(), Update(COUNT, 9)), raised()), Par(Seq(Update(["s"], 1), Add(["s"], 2)))):
             with self.assertRaises(ClashError), self.agent.step() as step:
                 rule.play(step)
@@ -186,7 +186,7 @@ class Machines(unittest.TestCase):
 
 
 class Endless(Rooms):
-    def test_a_machine_goes_on_for_as_long_as_it_is_told(self):
+    def test_a_machine_runs_for_the_given_time(self):
         for times in (1, 2):
             run_on(self.path, bank.INIT, bank.PROGRAMS, 0.3, moves=20)
             counts = audit(self.path)
@@ -212,11 +212,11 @@ class Endless(Rooms):
 
     def test_the_command_line(self):
         for times in (1, 2):
-            told = subprocess.run([sys.executable, "-m", "folugben_engine", self.path, "0.2"], capture_output=True, text=True,
+            ran = subprocess.run([sys.executable, "-m", "folugben_engine", self.path, "0.2"], capture_output=True, text=True,
                                   env=environment())
             counts = audit(self.path)
-            said = "folugben_engine.bank: {} calls and {} moves in {} parts are legal, and the sum of the accounts stays\n"
-            self.assertEqual((told.stdout, told.stderr), (said.format(*counts), ""))
+            report = "folugben_engine.bank: {} calls and {} moves in {} parts are legal, and the sum of the accounts stays\n"
+            self.assertEqual((ran.stdout, ran.stderr), (report.format(*counts), ""))
 
 
 class Page(unittest.TestCase):

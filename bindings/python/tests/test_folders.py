@@ -27,8 +27,8 @@ class Folders(Rooms):
             with self.assertRaisesRegex(BlockingIOError, "another run is at work"):
                 Run.resume(self.path)
             code = "import sys, folugben; folugben.Run.resume(sys.argv[1])"
-            told = called(code, self.path)
-            self.assertIn("BlockingIOError", told.stderr)
+            ran = called(code, self.path)
+            self.assertIn("BlockingIOError", ran.stderr)
             agent.play(raised)
         with self.assertRaisesRegex(FileExistsError, "Run.resume goes on"):
             Run(self.path, INIT)
@@ -178,11 +178,11 @@ class Pages(Rooms):
                     exec(code, names)
                 continue
             own = command.replace("python3", sys.executable)
-            told = subprocess.run(own, shell=True, capture_output=True, text=True, env=environment())
+            ran = subprocess.run(own, shell=True, capture_output=True, text=True, env=environment())
             # How many calls were stale is another number each time.
             calls = re.compile(r"legal \d+")
-            self.assertEqual(calls.sub("legal", told.stdout), calls.sub("legal", printed.replace("    ", "")), command)
-            self.assertEqual((told.returncode, told.stderr), (0, ""), command)
+            self.assertEqual(calls.sub("legal", ran.stdout), calls.sub("legal", printed.replace("    ", "")), command)
+            self.assertEqual((ran.returncode, ran.stderr), (0, ""), command)
         return count, out.getvalue()
 
     def test_the_page_of_runs_does_what_it_shows(self):

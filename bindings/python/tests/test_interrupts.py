@@ -168,8 +168,8 @@ class Interrupts(unittest.TestCase):
         gc.set_threshold(1)
         self.interrupted(handler, work)
         gc.collect()
-        told = self.agent.follow() and self.agent.peek([["own"], ["other"]])[1]
-        self.assertEqual(told, [1 + self.agent.won, 2 + rival.won])
+        values = self.agent.follow() and self.agent.peek([["own"], ["other"]])[1]
+        self.assertEqual(values, [1 + self.agent.won, 2 + rival.won])
 
 
 if __name__ == "__main__":

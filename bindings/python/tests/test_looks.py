@@ -25,7 +25,7 @@ class Looks(unittest.TestCase):
             call(*arguments)
         return caught.exception.code
 
-    def test_the_whole_state_and_one_name(self):
+    def test_the_complete_state_and_one_name(self):
         ascending = [(("count",), 0), (("f", True), {"set": [True, 1]}), (("f", 1), "one"), (("g",), "ü")]
         number, pairs = self.agent.state()
         self.assertEqual((number, repr(pairs)), (0, repr(ascending)))
@@ -35,7 +35,7 @@ class Looks(unittest.TestCase):
         self.assertEqual(repr(self.agent.scan("f")), repr((1, [ascending[1], (("f", 2), 2**63 - 1)])))
         self.assertEqual(self.agent.state(), (1, [ascending[0], ascending[1], (("f", 2), 2**63 - 1), ascending[3]]))
 
-    def test_a_fire_rests_on_the_whole_functions_of_its_scans(self):
+    def test_a_fire_depends_on_the_complete_functions_of_its_scans(self):
         number, found = self.agent.scan("f")
         self.assertEqual(self.agent.fire([["put", ["count"], len(found)]], scans=[("f", number), ("none", number)]), 1)
         # A phantom: a location that had no value makes it stale, and is reported.
@@ -65,14 +65,14 @@ class Looks(unittest.TestCase):
         self.assertEqual((self.agent.seen, self.agent.misses), (0, 0))
 
     def test_a_number_that_is_yet_to_come_is_refused(self):
-        said = "read 2: "
+        message = "read 2: "
         reads = [[["g"], 0], [["f", 1], 1]]
         for _ in range(2):
             for call, *arguments in [(self.agent.fire, [], reads), (self.agent.stands, reads)]:
                 with self.assertRaises(Error) as caught:
                     call(*arguments)
                 self.assertEqual(caught.exception.code, folugben.Code.AHEAD)
-                self.assertEqual(str(caught.exception), said + '["f", 1] is named at 1, and the agent has seen 0')
+                self.assertEqual(str(caught.exception), message + '["f", 1] is named at 1, and the agent has seen 0')
             # The agent has not seen this move, though it was fired.
             self.rival.fire([])
         self.assertEqual((self.agent.seen, self.agent.misses), (0, 0))
@@ -83,7 +83,7 @@ class Looks(unittest.TestCase):
         self.rival.learn(self.agent)
         self.assertIsNone(self.rival.stands([[["g"], 3]]))
 
-    def test_looks_leave_no_receipt(self):
+    def test_polls_leave_no_receipt(self):
         for _ in range(50):
             self.agent.follow()
             self.agent.peek(COUNT)
@@ -104,14 +104,14 @@ class Looks(unittest.TestCase):
         self.assertEqual(self.agent.peek(COUNT * 1000), (1, [0] * 1000))
 
     def test_codes(self):
-        for said, call, *arguments in [
+        for message, call, *arguments in [
             ("location 2: a location can't hold a bag", self.agent.peek, [["x"], ["y", {"bag": []}]]),
             ("read 2: a read is a tuple or a list of a location and a number", self.agent.stands, [[["x"], 0], ["x"]]),
             ("reads[0][1] is nan, which is no whole number: pass int(..) of it, or str(..)", self.agent.stands, [[["x"], float("nan")]]),
         ]:
-            with self.subTest(said), self.assertRaises(Error) as caught:
+            with self.subTest(message), self.assertRaises(Error) as caught:
                 call(*arguments)
-            self.assertEqual(str(caught.exception), said)
+            self.assertEqual(str(caught.exception), message)
         self.assertRaises(ManyError, self.agent.stands, [[["x"], 0]] * 257)
         self.assertRaises(Error, self.agent.scan, "\ud800")
         self.agent.give()
@@ -123,7 +123,7 @@ class Looks(unittest.TestCase):
 
 
 class Next(unittest.TestCase):
-    def test_a_storage_goes_on_where_another_ended(self):
+    def test_a_storage_continues_where_another_ended(self):
         with Storage(STATE, 2) as first:
             with self.assertRaises(Error) as caught:
                 first.next()

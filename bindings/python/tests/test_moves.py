@@ -16,20 +16,20 @@ class Moves(unittest.TestCase):
         self.assertRaises(ManyError, compose, half, [["put", ["y"], 1]])
         self.assertEqual(len(aggregate([], half)), 4096)
 
-    def test_a_refused_text_says_where(self):
-        for said, call, *arguments in [
+    def test_a_refused_text_has_a_place(self):
+        for message, call, *arguments in [
             ("4,097 instructions, at most 4,096", aggregate, [], [["put", X, 1]] * 4097),
             ("instructions[0][2] is nan, which is no whole number: pass int(..) of it, or str(..)", aggregate, [], [["put", ["x"], float("nan")]]),
         ]:
-            with self.subTest(said), self.assertRaises(Error) as caught:
+            with self.subTest(message), self.assertRaises(Error) as caught:
                 call(*arguments)
-            self.assertEqual(str(caught.exception), said)
+            self.assertEqual(str(caught.exception), message)
 
-    def test_random_moves_do_in_sequence_what_the_model_tells(self):
+    def test_random_moves_do_in_sequence_what_the_model_does(self):
         moves, values = random_moves.model("moves"), random_moves.model("values")
         rng, seen = random.Random(6), set()
 
-        def told(call, *arguments):
+        def outcome(call, *arguments):
             try:
                 return call(*arguments)
             except (ClashError, moves.Clash) as clash:
@@ -39,8 +39,8 @@ class Moves(unittest.TestCase):
                 return "large", large.at if isinstance(large, LargeError) else own.place(values.location_json(large.at))
 
         def composed(*two):
-            told = moves.composed(*(list(map(moves.read_instruction, it)) for it in two))
-            return list(own.call({"fire": map(moves.instruction_json, told), "reads": []})["fire"])
+            move = moves.composed(*(list(map(moves.read_instruction, it)) for it in two))
+            return list(own.call({"fire": map(moves.instruction_json, move), "reads": []})["fire"])
 
         def updates(state, move):
             written = moves.updates_on(values.read_state(state), list(map(moves.read_instruction, move)))
@@ -49,9 +49,9 @@ class Moves(unittest.TestCase):
         for _ in range(4000):
             first, second = random_moves.move(rng), random_moves.move(rng)
             state = rng.choice([random_moves.INIT, [[at, random_moves.value(rng)] for at in random_moves.PLACES]])
-            one = told(compose, first, second)
-            self.assertEqual(repr(one), repr(told(composed, first, second)), (first, second))
-            self.assertEqual(repr(told(aggregate, state, first)), repr(told(updates, state, first)), (state, first))
+            one = outcome(compose, first, second)
+            self.assertEqual(repr(one), repr(outcome(composed, first, second)), (first, second))
+            self.assertEqual(repr(outcome(aggregate, state, first)), repr(outcome(updates, state, first)), (state, first))
             seen.add(one[0] if isinstance(one, tuple) else bool(one))
         self.assertEqual(seen, {"clash", "large", True, False})
 

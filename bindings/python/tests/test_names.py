@@ -25,6 +25,9 @@ class Names(unittest.TestCase):
                 self.assertIs(getattr(folugben, old), now)
         with self.assertRaises(AttributeError):
             folugben.Quick
+        for error in folugben.Error(folugben.Code.SHAPE, detail="a text"), folugben.DamagedError(1, "a text"):
+            with self.assertWarnsRegex(DeprecationWarning, "said is deprecated: it is .*detail"):
+                self.assertEqual(error.said, "a text")
         with Storage() as storage, storage.agent(0) as agent:
             with agent.step() as step, self.assertWarnsRegex(DeprecationWarning, "it is Step.commit"):
                 self.assertEqual(step.fire(), 1)
@@ -50,7 +53,7 @@ class Names(unittest.TestCase):
                 agent.fire([("put", "count", 1), ("put", "count", 2)])
             self.assertNotIsInstance(caught.exception, ConflictError)
 
-    def test_without_a_compiled_part_the_way_to_it_is_said(self) -> None:
+    def test_without_a_compiled_part_the_import_says_how_to_get_it(self) -> None:
         with tempfile.TemporaryDirectory() as room:
             package = pathlib.Path(folugben.__file__).resolve().parent
             shutil.copytree(package, pathlib.Path(room, "folugben"), ignore=shutil.ignore_patterns("*.so", "__pycache__"))

@@ -46,12 +46,12 @@ class Odd(unittest.TestCase):
         self.addCleanup(self.storage.free)
         self.addCleanup(self.agent.free)
 
-    def refused(self, kind: type[Exception], said: str, call: Callable[..., object], *arguments: object) -> None:
-        with self.subTest(said), self.assertRaises(kind) as caught:
+    def refused(self, kind: type[Exception], message: str, call: Callable[..., object], *arguments: object) -> None:
+        with self.subTest(message), self.assertRaises(kind) as caught:
             call(*arguments)
-        self.assertIn(said, str(caught.exception))
+        self.assertIn(message, str(caught.exception))
 
-    def test_subclasses_are_taken_for_what_they_hold(self) -> None:
+    def test_subclasses_are_read_as_their_values(self) -> None:
         self.assertEqual(explain(folugben.TextForm.LOCATIONS, Short(b"[]")), "")
         self.assertEqual(explain(folugben.TextForm.LOCATIONS, "[]"), "")
         self.assertEqual(explain(folugben.TextForm.LOCATIONS, bytearray(b"[nul]")), "not JSON at byte 2")
@@ -75,11 +75,11 @@ class Odd(unittest.TestCase):
         self.agent.give()
         journal = self.storage.close_journal()
         for kind in (Short, bytearray, memoryview, bytes.decode):
-            told = kind(journal)
-            self.assertEqual(check(told), (1, 1))
-            self.assertEqual(replay(told), [(("n",), 2)])
-            self.assertEqual(len(list(trace(told))), 2)
-            self.assertEqual([values for _, values in states(told)][-1], {("n",): 2})
+            text = kind(journal)
+            self.assertEqual(check(text), (1, 1))
+            self.assertEqual(replay(text), [(("n",), 2)])
+            self.assertEqual(len(list(trace(text))), 2)
+            self.assertEqual([values for _, values in states(text)][-1], {("n",): 2})
         self.refused(TypeError, "a journal is bytes or a str, and not 'list'", check, [journal])
 
     def test_a_counter_is_a_bag(self) -> None:
@@ -89,8 +89,8 @@ class Odd(unittest.TestCase):
         move = [["put", ["b"], words], ["put", ["c"], Counter()], ["put", ["d"], Counter({1: 2, None: 1})]]
         self.agent.fire(move)
         self.agent.follow()
-        told = self.agent.peek([["b"], ["c"], ["d"]])[1]
-        self.assertEqual(told, [Counter("aab"), Counter(), Counter({1: 2, None: 1})])
+        values = self.agent.peek([["b"], ["c"], ["d"]])[1]
+        self.assertEqual(values, [Counter("aab"), Counter(), Counter({1: 2, None: 1})])
         with Storage([[["b"], Counter("aab")]]) as storage, storage.agent(0) as agent:
             self.assertEqual(agent.peek([["b"]])[1], [Counter("aab")])
         for word in ("list", "set", "bag"):
@@ -99,7 +99,7 @@ class Odd(unittest.TestCase):
             self.assertEqual(self.agent.peek([["b"]])[1], [Counter([word])])
         self.refused(Error, "a count", self.agent.fire, [["put", ["b"], Counter({"a": -1})]])
 
-    def test_what_is_refused_is_told_with_its_path(self) -> None:
+    def test_a_refused_value_is_reported_with_its_path(self) -> None:
         nan, infinite = float("nan"), float("inf")
         put, move = self.agent.fire, Move()
         self.refused(Error, 'instructions[2]["set"][1] is nan', put, ["put", ["x"], {"set": [1, nan]}])
@@ -168,11 +168,11 @@ class Signals(unittest.TestCase):
         """Return the count after the move."""
         with self.agent.step() as step:
             step.push(move)
-            told: int = step.get(self.count)
+            value: int = step.get(self.count)
             step.pop()
-        return told
+        return value
 
-    def test_a_step_tells_what_it_fired(self) -> None:
+    def test_a_step_returns_the_number_that_it_fired(self) -> None:
         step = self.agent.step()
         step.push([["put", ["n"], 1]])
         self.assertEqual(step.fired, 0)

@@ -20,20 +20,20 @@ from threads import in_threads
 class Parts(Rooms):
     again = StaleError
 
-    def test_agents_in_threads_go_on_from_part_to_part(self):
-        agents, times, told = 4, 300, [[] for _ in range(4)]
+    def test_agents_in_threads_pass_from_part_to_part(self):
+        agents, times, numbers = 4, 300, [[] for _ in range(4)]
 
         def work(own):
             with run.agent(own) as agent:
                 for _ in range(times):
-                    told[own].append(agent.play(raised)[0])
+                    numbers[own].append(agent.play(raised)[0])
                 self.assertEqual((agent.won, agent.number), (times, own))
-                self.assertGreaterEqual(agent.seen, told[own][-1])
+                self.assertGreaterEqual(agent.seen, numbers[own][-1])
 
         with Run(self.path, INIT, 50) as run:
             self.assertEqual(in_threads(work, agents), ([], True))
-        self.assertEqual(sorted(itertools.chain(*told)), list(range(1, agents * times + 1)))
-        self.assertTrue(all(it == sorted(it) for it in told))
+        self.assertEqual(sorted(itertools.chain(*numbers)), list(range(1, agents * times + 1)))
+        self.assertTrue(all(it == sorted(it) for it in numbers))
         calls, moves, parts = audit(self.path)
         self.assertEqual((moves, parts, run.saved, run.parts), (1200, 25, 1200, 25))
         self.assertGreaterEqual(calls, moves)
@@ -75,7 +75,7 @@ class Parts(Rooms):
                 self.assertEqual((step.number, step.get(AT)), (25, 25))
         self.assertEqual(audit(self.path)[1:], (25, 6))
 
-    def test_a_step_whose_agent_has_gone_on_says_so(self):
+    def test_a_step_whose_agent_has_moved_on_raises_an_error(self):
         with Run(self.path, INIT, 5) as run, run.agent(0) as slow, run.agent(1) as quick:
             with slow.step() as step:
                 for _ in range(7):
@@ -87,7 +87,7 @@ class Parts(Rooms):
                 self.assertEqual(step.try_commit(), 0)
             with slow.step() as step:
                 slow.give()
-                with self.assertRaisesRegex(Error, "the agent was given back"):
+                with self.assertRaisesRegex(Error, "the agent was returned"):
                     step.get(AT)
 
     def test_a_part_waits_for_no_agent_that_is_idle(self):
@@ -142,7 +142,7 @@ class Parts(Rooms):
             self.assertEqual([agent.fire([["inc", COUNT, 1]]) for _ in range(10)], list(range(10, 20)))
         self.assertEqual(audit(self.path).moves, 19)
 
-    def test_who_waits_for_a_value_comes_into_the_newest_part(self):
+    def test_an_agent_that_waits_for_a_value_enters_the_newest_part(self):
         def work(own):
             with run.agent(own) as agent:
                 if own == 0:
@@ -165,9 +165,9 @@ class Parts(Rooms):
             first.give()
             others = lambda: first.play(raised), lambda: first.read([COUNT]), lambda: first.fire([])
             for call in (first.step, first.follow, *others):
-                with self.assertRaisesRegex(Error, "the agent was given back"):
+                with self.assertRaisesRegex(Error, "the agent was returned"):
                     call()
-            self.assertEqual((first.won, first.seen, repr(first)), (1, 1, "<RunAgent 0, given back>"))
+            self.assertEqual((first.won, first.seen, repr(first)), (1, 1, "<RunAgent 0, returned>"))
             # In the same part it is checked out again, with what it has seen and its receipts.
             for number in range(2, 12):
                 with run.agent(0) as again:
@@ -176,8 +176,8 @@ class Parts(Rooms):
             run.agent(0).play(raised)  # nobody holds it any more
             gc.collect()
             self.assertEqual(run.agent(0).play(raised), (13, None))
-            for number, said in [(256, "numbers are below 256"), (-1, "numbers are below 256")]:
-                with self.assertRaisesRegex(Error, said):
+            for number, message in [(256, "numbers are below 256"), (-1, "numbers are below 256")]:
+                with self.assertRaisesRegex(Error, message):
                     run.agent(number)
             self.assertEqual(repr(run.agent(3)), "<RunAgent 3, 0 moves seen>")
         self.assertEqual(audit(self.path).moves, 13)
@@ -202,7 +202,7 @@ class Parts(Rooms):
                     self.assertEqual((step.commit(), step.fired), (number, number))
         self.assertEqual(self.last_state(), [(COUNT, 20)])
 
-    def test_offers_have_numbers_of_the_run_and_popped_moves_go_on(self):
+    def test_offers_have_numbers_of_the_run_and_popped_moves_last(self):
         with Run(self.path, INIT, 3) as run, run.agent(0) as agent:
             for number in range(10):
                 with agent.step() as step:
@@ -251,23 +251,23 @@ class Parts(Rooms):
                     rng = random.Random(agent.number)
                     return [transfer(agent, rng)[0] for _ in range(12)]
 
-                told = interleave(agents, [work] * 3, seed)
-            return told, text_of(path)
+                answers = interleave(agents, [work] * 3, seed)
+            return answers, text_of(path)
 
         for seed in range(6):
             self.assertEqual(played(seed, f"{seed} a"), played(seed, f"{seed} b"))
             self.assertEqual(audit(self.room / f"{seed} a")[1:], (36, 7))
 
 
-    def test_who_stays_in_a_step_by_turns_holds_no_more_than_two_parts(self):
+    def test_an_agent_that_stays_in_a_step_by_turns_holds_at_most_two_parts(self):
         def played(name):
-            told, most = [], 0
+            answers, most = [], 0
             with Run(self.room / name, INIT, 5) as run:
                 def stays(agent):
                     with agent.step() as step:
                         for _ in range(100):
                             try:
-                                told.append(step.get(AT))
+                                answers.append(step.get(AT))
                             except PastError:
                                 return
 
@@ -282,19 +282,19 @@ class Parts(Rooms):
 
                 interleave([run.agent(0), run.agent(1)], [stays, raises], 3)
             self.assertLessEqual(most, 5)
-            return told, text_of(self.room / name)
+            return answers, text_of(self.room / name)
 
         self.assertEqual(played("one"), played("other"))
-        told, text = played("a third")
-        self.assertEqual(set(told), {told[0]})
-        self.assertTrue(10 < len(told) < 60, told)
+        answers, text = played("a third")
+        self.assertEqual(set(answers), {answers[0]})
+        self.assertTrue(10 < len(answers) < 60, answers)
         self.assertEqual(audit(self.room / "one").moves, 40)
 
 
 class Random(Rooms):
     """Agents act at random, in small parts, each of which may end in any way."""
 
-    def live(self, run, own, rng, told):
+    def live(self, run, own, rng, answers):
         """Repeatedly check an agent out, act with it, and release it.
 
         Return the numbers of the moves that it fired.
@@ -302,26 +302,26 @@ class Random(Rooms):
         for _ in range(rng.randrange(5, 15)):
             with run.agent(own) as agent:
                 for _ in range(rng.randrange(8)):
-                    rng.choice([self.plays, self.fires, self.holds, self.looks])(agent, rng, told)
+                    rng.choice([self.plays, self.fires, self.holds, self.polls])(agent, rng, answers)
                     time.sleep(rng.choice([0, 0, 0, 0.002]))
 
-    def plays(self, agent, rng, told):
-        told.append(agent.play(raised)[0])
+    def plays(self, agent, rng, answers):
+        answers.append(agent.play(raised)[0])
 
-    def fires(self, agent, rng, told):
+    def fires(self, agent, rng, answers):
         number, (count,) = agent.read([COUNT])
         with contextlib.suppress(ConflictError):
-            told.append(agent.fire([["put", COUNT, count + 1]], [(COUNT, number)]))
+            answers.append(agent.fire([["put", COUNT, count + 1]], [(COUNT, number)]))
 
-    def holds(self, agent, rng, told):
+    def holds(self, agent, rng, answers):
         with agent.step() as step:
             step.push([["put", COUNT, step.get(AT) + 1]])
             time.sleep(rng.choice([0, 0.001, 0.005]))
             self.assertEqual(step.get(AT), step.number + 1)
             if number := step.try_commit():
-                told.append(number)
+                answers.append(number)
 
-    def looks(self, agent, rng, told):
+    def polls(self, agent, rng, answers):
         number = agent.follow()
         self.assertEqual(agent.peek(AT)[0], agent.peek(AT)[1])
         self.assertGreaterEqual(agent.peek(AT)[0], number)
@@ -330,18 +330,18 @@ class Random(Rooms):
     def test_nothing_is_lost_and_nothing_done_twice(self):
         for seed in range(6):
             rng, self.path = random.Random(seed), self.room / str(seed)
-            told = [[] for _ in range(5)]
+            answers = [[] for _ in range(5)]
 
             def work(own):
-                self.live(run, own, random.Random(f"{seed} {own}"), told[own])
+                self.live(run, own, random.Random(f"{seed} {own}"), answers[own])
 
             limits = {"receipts": rng.choice([None, 64]), "every": rng.choice([None, 0.05])}
             with Run(self.path, INIT, rng.choice([1, 2, 7, 500]), **limits) as run:
                 self.assertEqual(in_threads(work, 5), ([], True))
-            numbers = sorted(itertools.chain(*told))
+            numbers = sorted(itertools.chain(*answers))
             self.assertEqual(numbers, list(range(1, len(numbers) + 1)))
             self.assertEqual((audit(self.path).moves, self.last_state()), (len(numbers), [(COUNT, len(numbers))]))
-            self.assertTrue(all(it == sorted(it) for it in told))
+            self.assertTrue(all(it == sorted(it) for it in answers))
 
 
 class Receipts(Rooms):
@@ -358,7 +358,7 @@ class Receipts(Rooms):
                 step.push([["inc", COUNT, 1]])
                 self.assertEqual(step.try_commit(), 0)
 
-    def test_a_part_that_keeps_too_much_ends_at_rest(self):
+    def test_a_part_with_too_many_receipts_ends_between_steps(self):
         with Run(self.path, INIT, 10_000, receipts=100) as run, run.agent(0) as agent, run.agent(1) as other:
             number = 0
             for _ in range(30):
@@ -386,7 +386,7 @@ class Receipts(Rooms):
         self.assertEqual((moves, self.last_state()), (800, [(COUNT, 800)]))
         self.assertGreaterEqual(parts, 4)
 
-    def test_a_step_that_lasts_is_given_back(self):
+    def test_a_step_that_lasts_is_ended(self):
         def work(own):
             with run.agent(own) as agent:
                 for _ in range(300):
@@ -405,11 +405,11 @@ class Receipts(Rooms):
     def test_a_step_that_lasts_bounds_memory_and_stops_no_saving(self):
         with Run(self.path, INIT, 10) as run, run.agent(0) as slow, run.agent(1) as quick:
             with slow.step() as step:
-                begun = time.monotonic()
+                start = time.monotonic()
                 for number in range(1, 200):
                     quick.play(raised)
                     self.assertLess(number - run.saved, 40)
-                self.assertLess(time.monotonic() - begun, 5)
+                self.assertLess(time.monotonic() - start, 5)
                 with self.assertRaises(PastError):
                     step.get(AT)
 
@@ -425,11 +425,11 @@ class Receipts(Rooms):
             self.assertEqual(tries, [199, 239, 279])
         self.assertEqual(self.last_state(), [(COUNT, 280)])
 
-    def test_an_agent_that_was_abandoned_is_told_at_rest_too(self):
+    def test_an_agent_that_was_abandoned_is_reported_between_steps_too(self):
         with contextlib.suppress(BrokenError), Run(self.path, INIT, 10_000, receipts=64) as run, run.agent(0) as agent:
-            with run.agent(1) as lost:
-                lost.play(raised)
-                lost.abandon()
+            with run.agent(1) as abandoned:
+                abandoned.play(raised)
+                abandoned.abandon()
             with self.assertRaises(BrokenError) as caught:
                 for _ in range(1_000):
                     agent.read([COUNT])

@@ -47,17 +47,17 @@ class Plain(unittest.TestCase):
         """Return the code of the error that the call raises, and its message."""
         with self.assertRaises(Error) as caught:
             call(*arguments)
-        return caught.exception.code, caught.exception.said
+        return caught.exception.code, caught.exception.detail
 
-    def test_each_value_is_told_as_with_texts(self):
+    def test_each_value_is_returned_as_with_texts(self):
         self.rival.fire([])
         with self.agent.step() as step:
             for k, value in enumerate(VALUES):
                 with Location(["v", k]) as at:
                     self.assertEqual((at.place, repr(at)), (("v", k), f"Location(('v', {k}))"))
                     (wanted,) = step.get([["v", k]])
-                    for told in (step.get(at), self.agent.peek(at)[1], wanted):
-                        self.assertEqual(repr(told), repr(own.value(value)))
+                    for result in (step.get(at), self.agent.peek(at)[1], wanted):
+                        self.assertEqual(repr(result), repr(own.value(value)))
                     self.assertEqual(self.agent.peek(at)[0], 1)
             self.assertIsNone(step.get(Location(["none", {"list": ["ä"]}])))
 
@@ -81,14 +81,14 @@ class Plain(unittest.TestCase):
                 for one in instructions:
                     gather(move, places, one)
                 self.assertEqual(len(move), len(instructions))
-                told = []
+                result = []
                 for call, pushed in zip(calls, (move, instructions)):
                     try:
-                        told.append(call(pushed))
+                        result.append(call(pushed))
                     except ClashError as error:
-                        told.append((error.at, error.cause))
-                self.assertEqual(*told)
-                clashes += told[0] is not None
+                        result.append((error.at, error.cause))
+                self.assertEqual(*result)
+                clashes += result[0] is not None
                 self.assertEqual(step.depth, wanted.depth)
                 for name in "sbnp":
                     self.assertEqual(repr(step.scan(name)), repr(wanted.scan(name)))
@@ -99,7 +99,7 @@ class Plain(unittest.TestCase):
             self.assertEqual(check(storage.close_journal()), (1, 1))
         self.assertGreater(clashes, 100)
 
-    def test_a_move_is_kept_and_gathered_further(self):
+    def test_a_move_is_retained_and_extended(self):
         count = Location(["count"])
         with Move() as move, self.agent.step() as step:
             step.push(move)
@@ -117,14 +117,14 @@ class Plain(unittest.TestCase):
 
     def test_sets_and_counters_of_python_are_put(self):
         at, move = Location(["v", 0]), Move()
-        for value, told in [
+        for value, result in [
             ({2, 1}, {1, 2}), (frozenset({"a", None}), {"a", None}), (set(), set()), ({True}, {True}), ({(1, ("a",))}, {(1, ("a",))}),
             (Counter("abba"), Counter("abba")), (Counter(), Counter()), ({"list": (1, {"list": []})}, (1, ())), ((), ()),
             ({"set": [1, True]}, {"set": [True, 1]}), ({"bag": [[1, 2], [True, 1]]}, {"bag": [(True, 1), (1, 2)]}),
         ]:
             with self.agent.step() as step:
                 step.push(move.clear().put(at, value))
-                self.assertEqual((step.get(at), type(step.get(at)).__name__), (told, type(told).__name__.replace("set", "frozenset")))
+                self.assertEqual((step.get(at), type(step.get(at)).__name__), (result, type(result).__name__.replace("set", "frozenset")))
                 self.assertIsInstance(step.get(at), Hashable if isinstance(value, (set, tuple)) else object)
                 step.push(Move().put(["v", 1], step.get(at)).put(("v", 2), value))
                 self.assertEqual(step["v", 1], step["v", 2])
@@ -161,8 +161,8 @@ class Plain(unittest.TestCase):
                 self.assertEqual((step.commit(), step.depth), (1, 0))
                 self.assertRaises(OverError, step.put, "x", 1)
                 self.assertRaises(OverError, lambda: step["x"])
-            told = dict(agent.state()[1]) if agent.follow() else {}
-            self.assertEqual(told, {("count",): 6, ("s", 1): {(1, True)}, ("b", "x"): Counter(["c", "c", "c", None])})
+            result = dict(agent.state()[1]) if agent.follow() else {}
+            self.assertEqual(result, {("count",): 6, ("s", 1): {(1, True)}, ("b", "x"): Counter(["c", "c", "c", None])})
             with agent.step() as step:
                 self.assertEqual(step["count"], 6)
                 step.put("count", 7)
@@ -193,7 +193,7 @@ class Plain(unittest.TestCase):
         with self.assertRaisesRegex(ValueError, r'\["f",true\] and \["f",1\] are two locations, and one key'):
             list(folugben.states(journal))
 
-    def test_a_popped_move_is_pushed_as_it_was(self):
+    def test_a_popped_move_is_pushed_unchanged(self):
         count, total = Location(["count"]), Location(["total"])
         with self.agent.step() as step:
             step.push([["put", ["count"], 1]])
@@ -262,12 +262,12 @@ class Plain(unittest.TestCase):
             self.assertRaises(TypeError, move.bagadd, at, value, 1)
         for value in ({"set": []}, {"bag": []}, {1}, Counter("a")):
             for call in (move.add, move.remove, lambda *words: move.bagadd(*words, 1)):
-                told = self.code_of(call, at, value)
-                self.assertEqual(told, (folugben.Code.OPERAND, "a set or a bag can be put, and is no element"))
+                result = self.code_of(call, at, value)
+                self.assertEqual(result, (folugben.Code.OPERAND, "a set or a bag can be put, and is no element"))
             self.assertEqual(self.code_of(move.inc, at, value)[0], folugben.Code.OPERAND)
         self.assertEqual(self.code_of(move.inc, at, {"list": []})[0], folugben.Code.OPERAND)
-        said = "instruction 1: a set can't hold a set"
-        self.assertEqual(self.code_of(move.put, at, {"set": [{"set": []}]}), (folugben.Code.SHAPE, said))
+        message = "instruction 1: a set can't hold a set"
+        self.assertEqual(self.code_of(move.put, at, {"set": [{"set": []}]}), (folugben.Code.SHAPE, message))
         for value in ({"list": [1.5]}, {"set": [1, 1]}, {"bag": [["a", 0]]}, {"bag": [["a", 2**32]]}, {"list": [], "x": 1},
                       {"list": [2**63]}, {"list": [{"set": []}]}, {"list": 1}):
             self.assertEqual(self.code_of(move.put, at, value)[0], folugben.Code.SHAPE)
@@ -287,15 +287,15 @@ class Plain(unittest.TestCase):
         for words in ((), (at,), (at, 1, 2)):
             self.assertRaises(TypeError, move.put, *words)
 
-    def test_a_text_that_is_no_location_says_why(self):
-        code, said = self.code_of(Location, 7)
+    def test_a_text_that_is_no_location_is_explained(self):
+        code, message = self.code_of(Location, 7)
         self.assertEqual(code, folugben.Code.SHAPE)
-        self.assertEqual(said, "location 1: a location is a tuple or a list of a name and at most 8 arguments")
+        self.assertEqual(message, "location 1: a location is a tuple or a list of a name and at most 8 arguments")
         self.assertEqual(self.code_of(Location, ["1x"])[0], folugben.Code.SHAPE)
         self.assertEqual(self.code_of(Location, ["x", 2**63])[0], folugben.Code.SHAPE)
         self.assertEqual(self.code_of(Location, ["x", float("nan")])[0], folugben.Code.SHAPE)
 
-    def test_what_is_over_or_freed_or_moved_on(self):
+    def test_a_step_that_is_over_or_freed_or_behind_its_agent(self):
         at, move = Location(["count"]), Move()
         move.put(at, 1)
         step = self.agent.step()
@@ -322,9 +322,9 @@ class Plain(unittest.TestCase):
         self.assertEqual(step.depth, 1)
         self.agent.give()
         for call, *arguments in ((step.get, Location(["x"])), (self.agent.peek, Location(["x"])), (step.try_commit,)):
-            self.assertEqual(self.code_of(call, *arguments), (folugben.Code.EMPTY, "the agent was given back"))
+            self.assertEqual(self.code_of(call, *arguments), (folugben.Code.EMPTY, "the agent was returned"))
 
-    def test_a_fire_that_may_be_in_vain(self):
+    def test_a_fire_that_may_fail(self):
         count, move = Location(["count"]), Move()
         with self.agent.step() as step:
             step.get(count)
@@ -375,7 +375,7 @@ class Plain(unittest.TestCase):
 
 class RecordedPlain(own.Recorded, Plain):
     # In that test a step commits whose agent has moved on.
-    test_what_is_over_or_freed_or_moved_on = None
+    test_a_step_that_is_over_or_freed_or_behind_its_agent = None
 
 
 if __name__ == "__main__":

@@ -68,10 +68,10 @@ class Plays(Rooms):
             with self.assertRaises(StaleError):
                 anna.play(stale, tries=3)
             self.assertEqual(len(tries), 3)
-            begun = time.monotonic()
+            start = time.monotonic()
             with self.assertRaises(ConflictError):
                 anna.play(stale, timeout=0.05)
-            self.assertLess(0.05, time.monotonic() - begun)
+            self.assertLess(0.05, time.monotonic() - start)
             self.assertGreater(len(tries), 4)
             for wrong in ({"tries": 0}, {"tries": -1}):
                 self.assertRaises(ValueError, anna.play, stale, **wrong)
@@ -107,54 +107,54 @@ class Said(unittest.TestCase):
         self.addCleanup(self.storage.free)
         self.agent = self.storage.agent(0)
 
-    def said(self, kind, regex, call, *words):
+    def assert_message(self, kind, regex, call, *words):
         with self.subTest(regex), self.assertRaisesRegex(kind, regex):
             call(*words)
 
     def test_ranges_and_limits(self):
         agent, move = self.agent, Move()
-        self.said(Error, "^a capacity is 1 to 1,048,576, not 0$", Storage, [], 0)
-        self.said(Error, "^agent 256: numbers are below 256$", self.storage.agent, 256)
-        self.said(Error, r'^read 1: \["x"\] is named at 7, and the agent has seen 0$', agent.fire, [], [("x", 7)])
-        self.said(Error, "^a form is one of TextForm, 0 to 4, and not 9$", explain, 9, "")
-        self.said(Error, "^inc takes a whole number$", move.inc, "x", "1")
-        self.said(ManyError, "^257 locations: a read, or a step, depends on at most 256", agent.read, [("x", k) for k in range(257)])
-        self.said(ManyError, "^258 reads and scans: a fire names at most 256$", agent.fire, [], [(("x", k), 0) for k in range(257)], [("f", 0)])
-        self.said(ManyError, "^257 reads: at most 256$", agent.stands, [(("x", k), 0) for k in range(257)])
+        self.assert_message(Error, "^a capacity is 1 to 1,048,576, not 0$", Storage, [], 0)
+        self.assert_message(Error, "^agent 256: numbers are below 256$", self.storage.agent, 256)
+        self.assert_message(Error, r'^read 1: \["x"\] is named at 7, and the agent has seen 0$', agent.fire, [], [("x", 7)])
+        self.assert_message(Error, "^a form is one of TextForm, 0 to 4, and not 9$", explain, 9, "")
+        self.assert_message(Error, "^inc takes a whole number$", move.inc, "x", "1")
+        self.assert_message(ManyError, "^257 locations: a read, or a step, depends on at most 256", agent.read, [("x", k) for k in range(257)])
+        self.assert_message(ManyError, "^258 reads and scans: a fire names at most 256$", agent.fire, [], [(("x", k), 0) for k in range(257)], [("f", 0)])
+        self.assert_message(ManyError, "^257 reads: at most 256$", agent.stands, [(("x", k), 0) for k in range(257)])
         half = [("put", ("x", k), k) for k in range(4096)]
-        self.said(ManyError, "^the one move would have more than 4,096 instructions$", compose, half, [("put", "y", 1)])
+        self.assert_message(ManyError, "^the one move would have more than 4,096 instructions$", compose, half, [("put", "y", 1)])
         for word, at, value in half:
             move.put(at, value)
-        self.said(ManyError, "^a move has at most 4,096 instructions$", move.put, "y", 1)
+        self.assert_message(ManyError, "^a move has at most 4,096 instructions$", move.put, "y", 1)
         with agent.step() as step:
             step.push(move)
-            self.said(ManyError, "^2 more: the moves of a step come to at most 4,096 instructions$", step.push, [("put", "y", 1), ("put", "z", 1)])
+            self.assert_message(ManyError, "^2 more: the moves of a step come to at most 4,096 instructions$", step.push, [("put", "y", 1), ("put", "z", 1)])
             step.get([("x", "a", k) for k in range(256)])
-            self.said(ManyError, "^a step depends on at most 256 locations and functions$", step.scan, "f")
+            self.assert_message(ManyError, "^a step depends on at most 256 locations and functions$", step.scan, "f")
             step.pop()
 
     def test_lists_that_are_too_deep(self):
         with self.agent.step() as step:
             for value in DEEP, {DEEP}:
-                self.said(Error, "lists nest at most 8 deep$", step.put, "x", value)
-                self.said(Error, "lists nest at most 8 deep$", step.push, [("put", "x", value)])
-            self.said(Error, "lists nest at most 8 deep$", step.get, [("x", DEEP)])
-            self.said(Error, "lists nest at most 8 deep$", Location, ("x", DEEP))
-            self.said(Error, "lists nest at most 8 deep$", lambda: step["x", DEEP])
-            self.said(Error, 'a list is a tuple, or written {"list"', step.push, [("put", "x", [1])])
-        self.said(Error, "lists nest at most 8 deep$", Storage, {"x": DEEP})
+                self.assert_message(Error, "lists nest at most 8 deep$", step.put, "x", value)
+                self.assert_message(Error, "lists nest at most 8 deep$", step.push, [("put", "x", value)])
+            self.assert_message(Error, "lists nest at most 8 deep$", step.get, [("x", DEEP)])
+            self.assert_message(Error, "lists nest at most 8 deep$", Location, ("x", DEEP))
+            self.assert_message(Error, "lists nest at most 8 deep$", lambda: step["x", DEEP])
+            self.assert_message(Error, 'a list is a tuple, or written {"list"', step.push, [("put", "x", [1])])
+        self.assert_message(Error, "lists nest at most 8 deep$", Storage, {"x": DEEP})
 
     def test_clashes(self):
         with self.agent.step() as step:
-            self.said(folugben.ClashError, r'\["none"\], Kind: .* inc a number, and there is nothing$', step.inc, "none", 1)
-            self.said(folugben.ClashError, r'\["count"\], Kind: .* and there is 0$', step.add, "count", 1)
-            self.said(folugben.ClashError, "Both: an element is added to a set and removed", step.push, [("add", "set", 1), ("remove", "set", 1)])
+            self.assert_message(folugben.ClashError, r'\["none"\], Kind: .* inc a number, and there is nothing$', step.inc, "none", 1)
+            self.assert_message(folugben.ClashError, r'\["count"\], Kind: .* and there is 0$', step.add, "count", 1)
+            self.assert_message(folugben.ClashError, "Both: an element is added to a set and removed", step.push, [("add", "set", 1), ("remove", "set", 1)])
             self.assertEqual(step.offer()["reads"], ((("count",), 0), (("none",), 0), (("set",), 0)))
 
     def test_names_that_are_none(self):
         for call in (self.agent.step().scan, lambda name: self.agent.fire([], scans=[(name, 0)])):
             for name in ("a b", "", "1a", "x" * 65, "ä", "a\0"):
-                self.said(Error, "is .*: a name has 1 to 64 letters, digits and _, and begins with no digit", call, name)
+                self.assert_message(Error, "is .*: a name has 1 to 64 letters, digits and _, and begins with no digit", call, name)
             self.assertRaises((TypeError, Error), call, 7)
         for name in ("a", "_", "Z9_", "x" * 64):
             self.assertEqual(self.agent.scan(name)[1], [])
@@ -165,13 +165,13 @@ class Said(unittest.TestCase):
         thread = threading.Thread(target=self.agent.follow)
         thread.start()
         thread.join()
-        self.said(MovedError, "agent 0 is used by two threads", lambda: step["count"])
+        self.assert_message(MovedError, "agent 0 is used by two threads", lambda: step["count"])
         step = self.agent.step()
         self.storage.agent(2).fire([("put", "count", 2)])
         self.agent.follow()
         with self.assertRaises(MovedError) as caught:
             step.get([("count",)])
-        self.assertEqual((caught.exception.code, caught.exception.said), (Code.MOVED, ""))
+        self.assertEqual((caught.exception.code, caught.exception.detail), (Code.MOVED, ""))
         self.assertEqual(check(self.closed())[1], 2)
 
     def closed(self):

@@ -6,7 +6,7 @@ from collections import Counter
 
 import own
 import random_moves
-from folugben._texts import encoded
+from folugben._texts import encode
 from folugben import ClashError, ConflictError, MovedError, StaleError, Storage, check, replay
 from threads import in_threads
 
@@ -17,7 +17,7 @@ class Twin:
     """The model of a step: the state below, and the moves over it with extensions."""
 
     def __init__(self, pairs):
-        self.below, self.frames = values.read_state(json.loads(encoded(pairs, "state"))), []
+        self.below, self.frames = values.read_state(json.loads(encode(pairs, "state"))), []
 
     def after(self, *further):
         """Return the pairs that are seen through the moves and further ones."""
@@ -127,8 +127,8 @@ class RandomSteps(unittest.TestCase):
 
 
 class Threads(unittest.TestCase):
-    def test_eight_threads_of_steps_and_looks(self):
-        accounts, looks, refused = [[["account", k], 100] for k in range(20)], [], []
+    def test_eight_threads_of_steps_and_polls(self):
+        accounts, snapshots, refused = [[["account", k], 100] for k in range(20)], [], []
 
         def transfer(rng, step, own):
             source, target = rng.sample(range(20), 2)
@@ -146,24 +146,24 @@ class Threads(unittest.TestCase):
                     with agent.step() as step:
                         # A scan of the step makes it stale more often than a scan of its agent.
                         scan = step.scan if rng.random() < 0.2 else lambda name: agent.scan(name)[1]
-                        looks.append((step.number, scan("account")))
+                        snapshots.append((step.number, scan("account")))
                         transfer(rng, step, own)
-                        looks.append((step.number, agent.scan("account")[1]))
+                        snapshots.append((step.number, agent.scan("account")[1]))
                         if rng.random() < 0.2:
                             agent.stands([])
                         try:
                             done += step.commit() > 0
                         except ConflictError as error:
                             refused.append(error)
-                    looks.append(agent.state())
+                    snapshots.append(agent.state())
 
         with Storage(accounts, 160) as storage:
             self.assertEqual(in_threads(work, 8), ([], True))
             journal = storage.close_journal()
         calls, fired = check(journal)
         self.assertEqual((fired, calls), (160, 160 + sum(isinstance(error, StaleError) for error in refused)))
-        states = {number: up_to(journal, number) for number, _ in looks}
-        for number, pairs in looks:
+        states = {number: up_to(journal, number) for number, _ in snapshots}
+        for number, pairs in snapshots:
             expected = states[number]
             if len(pairs) == len(accounts):
                 expected = [pair for pair in expected if pair[0][0] == "account"]

@@ -19,7 +19,7 @@ from threads import in_threads
 
 
 class Ends(Rooms):
-    def test_close_gives_all_back_and_ends_steps(self):
+    def test_close_returns_all_agents_and_ends_steps(self):
         run = Run(self.path, INIT, 5)
         agents = [run.agent(own) for own in range(3)]
         for _ in range(4):
@@ -87,14 +87,14 @@ class Ends(Rooms):
                             agent.play(raised)
                             return agent.abandon()
                 except BrokenError as broken:
-                    told.append(broken)
+                    errors.append(broken)
 
-        told, start = [], threading.Barrier(4)
+        errors, start = [], threading.Barrier(4)
         with self.assertRaises(BrokenError) as caught, Run(self.path, INIT, 20) as run:
             self.assertEqual(in_threads(work, 4), ([], True))
-        self.assertEqual(len(told), 3)
+        self.assertEqual(len(errors), 3)
         parts = audit(self.path).parts
-        for broken in (*told, caught.exception):
+        for broken in (*errors, caught.exception):
             self.assertEqual((broken.part, type(broken.__cause__)), (parts, MissingError))
             self.assertRegex(str(broken), f"part {parts} couldn't be written: .*agent 2 was abandoned")
         self.assertEqual(audit(self.path).moves, 20 * (parts - 1))
@@ -109,16 +109,16 @@ class Ends(Rooms):
                 with self.assertRaises(BrokenError) as caught:
                     while True:
                         agent.play(raised)
-            told.append(caught.exception)
+            errors.append(caught.exception)
 
-        told, start = [], threading.Barrier(3)
+        errors, start = [], threading.Barrier(3)
         with self.assertRaises(BrokenError), Run(self.path, INIT, 20) as run, run.agent(9) as other, fault:
             self.assertEqual(in_threads(work, 3), ([], True))
             for call in (other.step, other.follow, lambda: run.agent(8), run.close, lambda: other.play(raised)):
                 with self.assertRaises(BrokenError):
                     call()
         counts = audit(self.path)
-        self.assertEqual({(it.part, type(it.__cause__)) for it in told}, {(run.parts, kind)})
+        self.assertEqual({(it.part, type(it.__cause__)) for it in errors}, {(run.parts, kind)})
         self.assertEqual(run.saved, 20 * (run.parts - 1))
         # A file that has its name is there, though nobody was informed.
         self.assertEqual(counts[1:], (run.saved + 20 * is_named, run.parts + is_named))
@@ -165,7 +165,7 @@ class Ends(Rooms):
 
         self.assertEqual(self.assert_broken(mock.patch.object(Storage, "close_journal", refused), MemoryError), 3)
 
-    def test_refused_memory_of_an_opening_is_told_and_tried_again(self):
+    def test_refused_memory_of_an_opening_is_reported_and_tried_again(self):
         real, asked = Agent.go_on, [0]
 
         def refused(*words):
@@ -176,13 +176,13 @@ class Ends(Rooms):
 
         with Run(self.path, INIT, 3) as run, run.agent(0) as agent:
             with mock.patch.object(Agent, "go_on", refused):
-                told = 0
+                saved = 0
                 for _ in range(20):
                     try:
                         agent.play(raised)
                     except MemoryError:
-                        told += 1
-        self.assertEqual((told, audit(self.path).moves), (5, 15))
+                        saved += 1
+        self.assertEqual((saved, audit(self.path).moves), (5, 15))
 
     def test_a_full_disk(self):
         """A limit of the process stands in for the disk."""
@@ -198,10 +198,10 @@ try:
 except BrokenError as broken:
     print(broken.part, broken.__cause__.errno, broken)
 """
-        told = called(code, self.path)
-        number, error, said = told.stdout.split(" ", 2)
+        ran = called(code, self.path)
+        number, error, message = ran.stdout.split(" ", 2)
         counts = audit(self.path)
-        self.assertEqual((int(number), int(error), told.stderr), (counts.parts, errno.EFBIG, ""))
+        self.assertEqual((int(number), int(error), ran.stderr), (counts.parts, errno.EFBIG, ""))
         self.assertEqual(counts.moves, 30 * (counts.parts - 1))
         self.assertLess(counts.moves, 2_000)
 
@@ -223,45 +223,45 @@ for _ in range(7):
     agent.play(lambda step: step.push([["inc", ["count"], 1]]))
 """
         other = self.room / "other"
-        told = called(code, other)
-        self.assertEqual((told.returncode, told.stderr, audit(other)), (0, "", (7, 7, 3)))
+        ran = called(code, other)
+        self.assertEqual((ran.returncode, ran.stderr, audit(other)), (0, "", (7, 7, 3)))
 
 
 class Processes(Rooms):
     def write_what_is_refused(self, run, agent, other, step, pipe):
-        said = []
+        outcomes = []
         for call in (
             agent.step, lambda: agent.play(raised), other.step, lambda: other.play(raised), lambda: run.agent(3), run.close,
             step.commit, lambda: step.get([COUNT]), agent.follow, lambda: agent.fire([]), agent.give, agent.abandon,
         ):
             try:
                 call()
-                said.append("done")
+                outcomes.append("done")
             except ForkedError:
-                said.append("forked")
+                outcomes.append("forked")
             except BaseException as error:
-                said.append(repr(error))
+                outcomes.append(repr(error))
         with Run(self.room / "own", INIT, 5) as own, own.agent(0) as new:
-            said.append(str(new.play(lambda step: step.push([["inc", COUNT, 1]]))))
-        os.write(pipe, json.dumps(said).encode() + b"\n")
+            outcomes.append(str(new.play(lambda step: step.push([["inc", COUNT, 1]]))))
+        os.write(pipe, json.dumps(outcomes).encode() + b"\n")
 
     def test_a_fork_is_refused_and_holds_no_lock(self):
         run = Run(self.path, INIT, 5)
         agent, other = run.agent(0), run.agent(1)
         agent.play(raised)
         step = agent.step()
-        ready, told, done = os.pipe(), os.pipe(), os.pipe()
+        ready, report, done = os.pipe(), os.pipe(), os.pipe()
         child = os.fork()
         if child == 0:
             try:
-                self.write_what_is_refused(run, agent, other, step, told[1])
+                self.write_what_is_refused(run, agent, other, step, report[1])
                 os.read(ready[0], 1)
                 os._exit(0)
             finally:
                 os._exit(1)
-        with open(told[0], "rb") as pipe:
-            said = json.loads(pipe.readline())
-        self.assertEqual(said, ["forked"] * 12 + ["folugben.Played(number=1, result=None)"])
+        with open(report[0], "rb") as pipe:
+            outcomes = json.loads(pipe.readline())
+        self.assertEqual(outcomes, ["forked"] * 12 + ["folugben.Played(number=1, result=None)"])
         step.free()
         for _ in range(10):
             agent.play(raised)
@@ -271,7 +271,7 @@ class Processes(Rooms):
         self.assertEqual(audit(self.path).moves, 12)
         os.write(ready[1], b"x")
         self.assertEqual(os.waitpid(child, 0)[1], 0)
-        for fd in (*ready, told[1], *done):
+        for fd in (*ready, report[1], *done):
             os.close(fd)
 
     def test_a_child_that_ends_as_python_does(self):
@@ -286,8 +286,8 @@ with Run(sys.argv[1], [[["count"], 0]], 5) as run, run.agent(0) as agent:
     os.wait()
     agent.play(lambda step: step.push([["inc", ["count"], 1]]))
 """
-        told = called(code, self.path)
-        self.assertEqual(told.returncode, 0, told.stderr)
+        ran = called(code, self.path)
+        self.assertEqual(ran.returncode, 0, ran.stderr)
         self.assertEqual(audit(self.path), (8, 8, 3))
 
 
@@ -344,7 +344,7 @@ class Signals(Rooms):
         self.assertEqual(audit(self.path).moves, before + 1)
 
     def test_no_call_comes_between_two_lines_of_another(self):
-        told = []
+        outcomes = []
         real = Agent.go_on
 
         def between(*words):
@@ -353,9 +353,9 @@ class Signals(Rooms):
             ):
                 try:
                     call()
-                    told.append("done")
+                    outcomes.append("done")
                 except NestedError:
-                    told.append("nested")
+                    outcomes.append("nested")
             return real(*words)
 
         with Run(self.path, INIT, 2) as run, run.agent(0) as agent, run.agent(1) as other:
@@ -363,7 +363,7 @@ class Signals(Rooms):
             with mock.patch.object(Agent, "go_on", between):
                 for _ in range(3):
                     agent.play(raised)
-        self.assertEqual(told, ["nested"] * 7)
+        self.assertEqual(outcomes, ["nested"] * 7)
         self.assertEqual(audit(self.path).moves, 4)
 
 if __name__ == "__main__":

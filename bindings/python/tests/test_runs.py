@@ -14,7 +14,7 @@ from unittest import mock
 import own
 from folugben import BadJournalError, Storage, TooLongError, check, interleave, replay, states
 from folugben import _exports
-from folugben._texts import encoded
+from folugben._texts import encode
 from folugben_engine import bank
 from folugben_engine.turns import run_by_turns
 
@@ -50,10 +50,10 @@ def run(seed, transfer=guarded, agents=3, rounds=8):
                 transfer(agent, ACCOUNTS[from_], ACCOUNTS[(from_ + 1 + i % 3) % 4])
             return agent.won
 
-        told = interleave(all_agents, [work] * agents, seed)
+        results = interleave(all_agents, [work] * agents, seed)
         for agent in all_agents:
             agent.give()
-        return storage.close_journal(), told
+        return storage.close_journal(), results
 
 
 def keeps_sum(journal):
@@ -102,8 +102,8 @@ class Runs(unittest.TestCase):
                 agent.fire([["add", ["s"], "a"], ["add", ["s"], 1], ["remove", ["s"], 2]])
                 agent.fire([["bagadd", ["b"], "e", 2], ["bagadd", ["b"], None, 1], ["inc", ["n"], 4]])
                 agent.fire([["bagremove", ["b"], "e", 3], ["put", ["n"], None], ["put", ["l", {"list": [1]}], {"list": []}]])
-            told = list(states(storage.close_journal()))
-        self.assertEqual(told, [
+            moments = list(states(storage.close_journal()))
+        self.assertEqual(moments, [
             (0, {("s",): {2}, ("b",): Counter("e"), ("n",): 1}),
             (1, {("s",): {1, "a"}, ("b",): Counter("e"), ("n",): 1}),
             (2, {("s",): {1, "a"}, ("b",): Counter([None, *"eee"]), ("n",): 5}),
@@ -167,22 +167,22 @@ class Exports(unittest.TestCase):
         _exports.write_itf(journal, out)
         for (_, values), state in zip(states(journal), json.loads(out.getvalue())["states"], strict=True):
             found = {name: entries["#map"] for name, entries in state.items() if name != "#meta" and entries["#map"]}
-            self.assertEqual(found, {at[0]: [[{"#tup": []}, _exports._itf(json.loads(encoded(value, "value")))]] for at, value in values.items()})
+            self.assertEqual(found, {at[0]: [[{"#tup": []}, _exports._itf(json.loads(encode(value, "value")))]] for at, value in values.items()})
 
     def test_the_informal_trace_format_has_a_state_for_each_move(self):
-        told = json.loads(self.written(_exports.write_itf))
-        self.assertEqual((told["#meta"]["format"], told["vars"]), ("ITF", ["account"]))
-        self.assertEqual(len(told["states"]), check(self.journal)[1] + 1)
-        for index, ((_, values), state) in enumerate(zip(states(self.journal), told["states"], strict=True)):
+        itf = json.loads(self.written(_exports.write_itf))
+        self.assertEqual((itf["#meta"]["format"], itf["vars"]), ("ITF", ["account"]))
+        self.assertEqual(len(itf["states"]), check(self.journal)[1] + 1)
+        for index, ((_, values), state) in enumerate(zip(states(self.journal), itf["states"], strict=True)):
             self.assertEqual(state["#meta"]["index"], index)
             found = {("account", int(at["#tup"][0]["#bigint"])): int(value["#bigint"]) for at, value in state["account"]["#map"]}
             self.assertEqual(found, values)
 
     def test_the_informal_trace_format_is_bounded(self):
-        whole = json.loads(self.written(_exports.write_itf))["states"]
+        complete = json.loads(self.written(_exports.write_itf))["states"]
         out = io.StringIO()
         _exports.write_itf(self.journal, out, first=3, last=5)
-        self.assertEqual(json.loads(out.getvalue())["states"], whole[3:6])
+        self.assertEqual(json.loads(out.getvalue())["states"], complete[3:6])
         with mock.patch.object(_exports, "ITF_LIMIT", 1000):
             with self.assertRaisesRegex(TooLongError, "moves 0 to [0-9]+ have more than 1,000 characters: take fewer by --from and --to"):
                 self.written(_exports.write_itf)
@@ -217,23 +217,23 @@ class Exports(unittest.TestCase):
                 command = [sys.executable, "-m", "folugben", *words]
                 return subprocess.run(command, capture_output=True, text=True, env=os.environ | {"PYTHONPATH": str(package)}, **more)
 
-            told = call("check", str(good), str(bad))
+            ran = call("check", str(good), str(bad))
             calls, moves = check(self.journal)
-            self.assertIn(f"{good}: legal {calls} {moves}\n", told.stdout)
-            self.assertEqual(told.returncode, 1)
+            self.assertIn(f"{good}: legal {calls} {moves}\n", ran.stdout)
+            self.assertEqual(ran.returncode, 1)
             self.assertEqual(call("check", "-", input=self.journal.decode()).stdout, f"legal {calls} {moves}\n")
             for command in ("replay", "trace", "csv", "itf", "perfetto", "view"):
                 out = pathlib.Path(room, command)
-                told = call(command, str(good), "-o", str(out))
-                self.assertEqual((told.returncode, told.stderr, out.stat().st_size > 20), (0, "", True), command)
+                ran = call(command, str(good), "-o", str(out))
+                self.assertEqual((ran.returncode, ran.stderr, out.stat().st_size > 20), (0, "", True), command)
                 self.assertEqual(call(command, str(bad)).returncode, 1)
             self.assertIn('"trace":1', pathlib.Path(room, "view").read_text())
             self.assertEqual(call("csv", str(pathlib.Path(room, "absent"))).returncode, 2)
-            told = call("csv", str(good), "-o", str(good))
-            self.assertEqual((told.returncode, good.read_bytes()), (2, self.journal))
-            self.assertIn("is read, so it can't be written", told.stderr)
-            told = json.loads(call("itf", str(good), "--from", "2", "--to", "3").stdout)
-            self.assertEqual([it["#meta"]["index"] for it in told["states"]], [2, 3])
+            ran = call("csv", str(good), "-o", str(good))
+            self.assertEqual((ran.returncode, good.read_bytes()), (2, self.journal))
+            self.assertIn("is read, so it can't be written", ran.stderr)
+            ran = json.loads(call("itf", str(good), "--from", "2", "--to", "3").stdout)
+            self.assertEqual([it["#meta"]["index"] for it in ran["states"]], [2, 3])
 
 
 class RecordedRuns(own.Recorded, Runs):

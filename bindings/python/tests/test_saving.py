@@ -58,17 +58,17 @@ class Days(Rooms):
         Return how many moves and parts there are, and how many bytes of memory came in the second half.
         """
         times = [at for at in itertools.accumulate(gaps) if at < 86_400]
-        begun, wanted, before, clock = self.clock.now, [0], 0, self.clock
+        start, wanted, before, clock = self.clock.now, [0], 0, self.clock
         with Run(self.path, INIT, every=every) as run, run.agent(0) as agent:
             for at in times:
-                if wanted[1:] and begun + at >= ends:
+                if wanted[1:] and start + at >= ends:
                     clock.now = ends
                     self.end_part(run, agent, wanted)
-                clock.now = begun + at
+                clock.now = start + at
                 is_first = run._chain.newest().moves() == 0
                 self.assertEqual(agent.play(raised)[0], sum(wanted) + 1)
                 if is_first:
-                    until(lambda: run._chain.newest().begun == clock.now)
+                    until(lambda: run._chain.newest().first_move_at == clock.now)
                     ends = clock.now + every
                     wanted.append(0)
                 wanted[-1] += 1
@@ -104,32 +104,32 @@ class Days(Rooms):
 class Races(Rooms):
     """The writer's view of an agent during a call of the agent."""
 
-    def test_an_agent_is_given_back_between_its_steps_alone(self):
+    def test_an_agent_is_returned_only_between_its_steps(self):
         with Run(self.path, INIT, 100) as run, run.agent(0) as agent:
             agent.play(raised)
             step = agent.step()
-            self.assertFalse(agent._in._leave(False))
+            self.assertFalse(agent._in._try_return(False))
             step.push([["inc", COUNT, 1]])
             self.assertEqual((step.commit(), step.number, step.fired), (2, 1, 2))
-            self.assertTrue(agent._in._leave(False))
+            self.assertTrue(agent._in._try_return(False))
             self.assertEqual(agent.play(raised), (3, None))
             with agent.step() as step:
-                self.assertTrue(agent._in._leave(True))
+                self.assertTrue(agent._in._try_return(True))
                 with self.assertRaises(PastError):
                     step.get([COUNT])
             self.assertEqual(agent.play(raised), (4, None))
         self.assertEqual(audit(self.path).moves, 4)
 
-    def test_an_agent_that_is_in_a_call_is_not_given_back(self):
+    def test_an_agent_that_is_in_a_call_is_not_returned(self):
         # A large state makes its calls long, and the calls that return it come during them.
         state, ended = INIT + [[["y", number], "y" * 100] for number in range(50_000)], threading.Event()
 
-        def looks():
+        def poll():
             while not ended.is_set():
-                inner._leave(False)
+                inner._try_return(False)
 
         with Run(self.path, state, 1000) as run, run.agent(0) as agent:
-            thread = threading.Thread(target=looks)
+            thread = threading.Thread(target=poll)
             agent.follow()
             inner = agent._in
             thread.start()
@@ -159,10 +159,10 @@ class Saving(Rooms):
     def test_a_flush_waits_for_no_step_for_long(self):
         with Run(self.path, INIT) as run, run.agent(0) as agent, run.agent(1) as slow, slow.step() as step:
             agent.play(raised)
-            begun = time.monotonic()
+            start = time.monotonic()
             run.flush()
             self.assertEqual((run.saved, step.try_commit()), (1, 0))
-            self.assertTrue(0.05 < time.monotonic() - begun < 5)
+            self.assertTrue(0.05 < time.monotonic() - start < 5)
             self.assertRaises(PastError, step.commit)
             with slow.step() as step:
                 step.push([["inc", COUNT, 1]])
@@ -268,7 +268,7 @@ with Run(sys.argv[1], [[["count"], 0]]) as run, ThreadPoolExecutor() as pool:
         with self.assertRaisesRegex(Error, "the run was closed"):
             run.state()
 
-    def test_states_while_it_goes_on(self):
+    def test_states_of_an_active_run(self):
         with Run(self.path, INIT, 4) as run, run.agent(0) as agent:
             for _ in range(9):
                 agent.play(raised)
@@ -284,29 +284,29 @@ class Commands(Rooms):
             for _ in range(6):
                 agent.play(raised)
 
-    def told(self, *words):
+    def run_command(self, *words):
         with contextlib.redirect_stdout(io.StringIO()) as out, contextlib.redirect_stderr(io.StringIO()) as error:
             status = __main__.main([str(word) for word in words])
         return status, out.getvalue(), error.getvalue()
 
     def test_commands_on_a_folder(self):
-        self.assertEqual(self.told("audit", self.path), (0, "legal 6 6 3\n", ""))
-        self.assertRegex(self.told("verify", self.path)[1], "^3 segments, 6 moves, digest [0-9a-f]{64}\n$")
+        self.assertEqual(self.run_command("audit", self.path), (0, "legal 6 6 3\n", ""))
+        self.assertRegex(self.run_command("verify", self.path)[1], "^3 segments, 6 moves, digest [0-9a-f]{64}\n$")
         out = self.room / "one"
-        self.assertEqual(self.told("save", self.path, "-o", out), (0, "", ""))
+        self.assertEqual(self.run_command("save", self.path, "-o", out), (0, "", ""))
         self.assertEqual(out.read_bytes(), text_of(self.path))
         for command in "check", "replay", "trace", "csv", "itf", "perfetto", "view":
-            status, _, said = self.told(command, self.path)
+            status, _, message = self.run_command(command, self.path)
             self.assertEqual(status, 2)
-            self.assertIn("one part: --part 0 and so on", said)
-            self.assertEqual(self.told(command, self.path, "--part", "1", "-o", out), (0, "", ""), command)
-        self.assertEqual(self.told("check", self.path, "--part", "1")[1], "legal 4 4\n")
+            self.assertIn("one part: --part 0 and so on", message)
+            self.assertEqual(self.run_command(command, self.path, "--part", "1", "-o", out), (0, "", ""), command)
+        self.assertEqual(self.run_command("check", self.path, "--part", "1")[1], "legal 4 4\n")
         segments(self.path)[1].write_bytes(b"")
         for command in "audit", "verify", "save":
             words = ["-o", out] if command == "save" else []
-            self.assertEqual(self.told(command, self.path, *words)[::2],
+            self.assertEqual(self.run_command(command, self.path, *words)[::2],
                              (1, f"folugben: {self.path}: segment 1: its text isn't the one that was saved\n"))
-        self.assertEqual(self.told("verify", self.room / "absent")[0], 2)
+        self.assertEqual(self.run_command("verify", self.room / "absent")[0], 2)
 
     def test_an_audit_that_follows(self):
         command = [sys.executable, "-m", "folugben", "follow", self.path]
@@ -333,32 +333,32 @@ class Imports(Rooms):
         with Run(self.room / "made", INIT, 4) as run, run.agent(0) as agent:
             for _ in range(10):
                 agent.play(raised)
-        self.whole = text_of(self.room / "made")
+        self.complete = text_of(self.room / "made")
         self.file = self.room / "file"
 
     def test_a_file_is_imported(self):
-        self.file.write_bytes(self.whole)
+        self.file.write_bytes(self.complete)
         self.assertEqual(import_run(self.file, self.path), ((10, 10, 4), 0))
         self.assertEqual([it.name for it in segments(self.path)], [it.name for it in segments(self.room / "made")])
         with Run.resume(self.path) as run, run.agent(0) as agent:
             self.assertEqual(agent.play(raised), (11, None))
         self.assertRaises(FileExistsError, import_run, self.file, self.path)
-        self.assertEqual(self.file.read_bytes(), self.whole)
-        told = called("import sys; from folugben.__main__ import main; sys.exit(main(['import', *sys.argv[1:]]))", self.file, self.room / "2")
-        self.assertEqual((told.stdout, told.stderr, told.returncode), ("10 moves in 4 parts\n", "", 0))
+        self.assertEqual(self.file.read_bytes(), self.complete)
+        ran = called("import sys; from folugben.__main__ import main; sys.exit(main(['import', *sys.argv[1:]]))", self.file, self.room / "2")
+        self.assertEqual((ran.stdout, ran.stderr, ran.returncode), ("10 moves in 4 parts\n", "", 0))
 
     def test_an_incomplete_last_part_is_left_out(self):
-        last = len(self.whole) - segments(self.room / "made")[3].stat().st_size
-        for number, more in enumerate([b"", bytes(100), *(self.whole[last:end] for end in (last + 1, last + 50, -1))]):
-            self.file.write_bytes(self.whole[:last] + more)
+        last = len(self.complete) - segments(self.room / "made")[3].stat().st_size
+        for number, more in enumerate([b"", bytes(100), *(self.complete[last:end] for end in (last + 1, last + 50, -1))]):
+            self.file.write_bytes(self.complete[:last] + more)
             path = self.room / str(number)
             self.assertEqual(import_run(self.file, path), ((8, 8, 3), len(more)))
             self.assertEqual(audit(path), (8, 8, 3))
 
     def test_other_faults_are_refused(self):
-        middle = len(self.whole) // 2
-        for text in (b"", b"{", self.whole[:30], self.whole[:middle] + self.whole[middle + 1 :],
-                     self.whole.replace(b'{"fired":3}', b'{"fired":7}', 1), self.whole[:-4] + b"7}}\n"):
+        middle = len(self.complete) // 2
+        for text in (b"", b"{", self.complete[:30], self.complete[:middle] + self.complete[middle + 1 :],
+                     self.complete.replace(b'{"fired":3}', b'{"fired":7}', 1), self.complete[:-4] + b"7}}\n"):
             self.file.write_bytes(text)
             with self.assertRaises(BadJournalError):
                 import_run(self.file, self.path)

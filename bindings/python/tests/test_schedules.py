@@ -33,7 +33,7 @@ print(explore(make, [blind] * 3, sum_stays))
 INIT = dict(list(bank.INIT.items())[:5])
 
 
-def lost(agent):
+def count_blindly(agent):
     """Return an update that depends on nothing."""
     _, (count,) = agent.read([COUNT])
     agent.fire([["put", COUNT, count + 1]])
@@ -92,22 +92,22 @@ class Interleaved(unittest.TestCase):
     def test_each_call_takes_a_turn(self):
         lists = [list(it) for size in range(8) for it in itertools.product(range(2), repeat=size)]
         self.assertEqual(len(lists), 255)
-        broken = [it for it in lists if not counts_two(self.left([lost, lost], it)[-1])]
+        broken = [it for it in lists if not counts_two(self.left([count_blindly, count_blindly], it)[-1])]
         self.assertIn([0, 0, 1], broken)
         self.assertEqual([it for it in lists[:31] if not counts_two(self.left([guarded, guarded], it)[-1])], [])
 
     def test_a_list_is_counted_round_those_at_work(self):
-        told = []
+        order = []
 
         def work(agent):
             for _ in range(2):
                 agent.step().free()
-                told.append(agent.number)
+                order.append(agent.number)
 
         def order(turns):
-            told.clear()
+            order.clear()
             self.left([work] * 3, turns)
-            return "".join(map(str, told))
+            return "".join(map(str, order))
 
         self.assertEqual(order([]), "001122")
         self.assertEqual(order([2, 2, 2]), "220011")
@@ -115,7 +115,7 @@ class Interleaved(unittest.TestCase):
         self.assertEqual(order([5, 5, 5, 0, 0]), "220011")
         self.assertEqual(order([1, 1, 4, 1, 0, 0]), order([1, 1, 1, 1, 0, 0]))
 
-    def test_a_work_is_passed_what_stands_for_its_agent(self):
+    def test_a_work_is_passed_a_proxy_of_its_agent(self):
         def work(agent):
             other = agents[1 - agent.number]
             agent.learn(other)
@@ -131,14 +131,14 @@ class Interleaved(unittest.TestCase):
             interleave(agents, [lambda agent: agent.__enter__().give()] * 2, 1)
             self.assertEqual(check(storage.close_journal()), (0, 0))
 
-    def test_one_that_waits_for_ever_is_told(self):
+    def test_an_agent_that_waits_for_ever_is_reported(self):
         def waits(agent):
             while agent.follow() == 0:
                 pass
 
-        self.left([waits, lost], 1)
+        self.left([waits, count_blindly], 1)
         with self.assertRaisesRegex(EndlessError, "agents 0, 1 are still at work after 500 turns"):
-            self.left([waits, lost], [], most=500)
+            self.left([waits, count_blindly], [], most=500)
         with self.assertRaisesRegex(EndlessError, "agent 0 is still at work after 300 turns"):
             explore(counting, [waits], turns=300)
 
@@ -180,7 +180,7 @@ class Explored(unittest.TestCase):
         self.assertFalse(all(invariant(values) for _, values in states(explored.journal)))
 
     def test_the_plainest_lost_update(self):
-        explored = explore(counting, [lost, lost], at_end=counts_two)
+        explored = explore(counting, [count_blindly, count_blindly], at_end=counts_two)
         self.assertEqual((explored.turns, explored.is_exhaustive), ([0, 0, 1], False))
         self.assertEqual(explored.broken, "at the end it doesn't hold")
         self.assertEqual([values[("count",)] for _, values in states(explored.journal)], [0, 1, 1])
@@ -199,7 +199,7 @@ class Explored(unittest.TestCase):
             held = explore(make, [collect(True)] * 3, has_all)
             self.assertTrue(held.is_exhaustive, held)
 
-    def test_a_state_of_another_order_of_moves_that_are_apart(self):
+    def test_a_state_of_another_order_of_independent_moves(self):
         def puts(agent):
             agent.fire([["put", ["x", agent.number], 1]])
 
@@ -215,20 +215,20 @@ class Explored(unittest.TestCase):
             if agent.read([COUNT])[1] == [1]:
                 raise KeyError("count")
 
-        explored = explore(counting, [fails, lost])
+        explored = explore(counting, [fails, count_blindly])
         self.assertIsInstance(explored.error, KeyError)
         self.assertEqual((explored.turns, explored.broken), ([1], "agent 0 raised KeyError('count')"))
 
-    def test_one_that_waits_lets_others_go_on(self):
+    def test_an_agent_that_waits_lets_others_continue(self):
         def waits(agent):
             while agent.read([COUNT])[1] == [0]:
                 pass
             agent.fire([["put", COUNT, 5]])
 
-        explored = explore(counting, [waits, lost, lost], schedules=30, turns=500)
+        explored = explore(counting, [waits, count_blindly, count_blindly], schedules=30, turns=500)
         self.assertEqual((explored.turns, explored.schedules, explored.is_exhaustive), (None, 30, False))
-        found = explore(counting, [waits, lost, lost], lambda values: values[("count",)] != 2)
-        self.assert_breaks(found, counting, [waits, lost, lost], lambda values: values[("count",)] != 2)
+        found = explore(counting, [waits, count_blindly, count_blindly], lambda values: values[("count",)] != 2)
+        self.assert_breaks(found, counting, [waits, count_blindly, count_blindly], lambda values: values[("count",)] != 2)
         with self.assertRaisesRegex(EndlessError, "agents 0, 1 are still at work after 200 turns"):
             explore(counting, [waits, waits], turns=200)
 
@@ -244,9 +244,9 @@ class Explored(unittest.TestCase):
 
     def test_it_is_bounded(self):
         for bound in {"schedules": 2}, {"seconds": 0.0}:
-            told = explore(counting, [guarded] * 3, **bound)
-            self.assertEqual((told.is_exhaustive, told.turns, told.schedules), (False, None, bound.get("schedules", 0)))
-            self.assertIn("and there are more", str(told))
+            explored = explore(counting, [guarded] * 3, **bound)
+            self.assertEqual((explored.is_exhaustive, explored.turns, explored.schedules), (False, None, bound.get("schedules", 0)))
+            self.assertIn("and there are more", str(explored))
 
 
 def raising(at, times):
@@ -265,9 +265,9 @@ class Page(Rooms):
         (code,) = re.findall(r"```python\n([\s\S]*?)```", page)
         (self.room / "test_bank.py").write_text(code.replace("sum_stays)\n", "sum_stays, seconds=600)\n") + PRINTS)
         command = [sys.executable, "test_bank.py"]
-        told = subprocess.run(command, cwd=self.room, env=environment(), capture_output=True, text=True)
-        self.assertEqual((told.returncode, told.stderr), (0, ""))
-        self.assertIn(f"    {told.stdout}", page)
+        ran = subprocess.run(command, cwd=self.room, env=environment(), capture_output=True, text=True)
+        self.assertEqual((ran.returncode, ran.stderr), (0, ""))
+        self.assertIn(f"    {ran.stdout}", page)
         self.assertTrue(any(sum(values.values()) != 150 for _, values in states((self.room / "broken.journal").read_bytes())))
 
     @unittest.skipIf(importlib.util.find_spec("pytest") is None, "there is no pytest")
@@ -275,9 +275,9 @@ class Page(Rooms):
         code = re.findall(r"```python\n([\s\S]*?)```", (ROOT / "docs" / "SCHEDULES.md").read_text())[0]
         (self.room / "test_bank.py").write_text(code.replace("[guarded]", "[blind]"))
         command = [sys.executable, "-m", "pytest", "-q", "-p", "no:cacheprovider", "test_bank.py"]
-        told = subprocess.run(command, cwd=self.room, env=environment(), capture_output=True, text=True).stdout
-        self.assertIn("1 failed, 1 passed", told)
-        self.assertIn("AssertionError: <Explored: the invariant doesn't hold after move 2, by the turns [0, 0, 1]", told)
+        ran = subprocess.run(command, cwd=self.room, env=environment(), capture_output=True, text=True).stdout
+        self.assertIn("1 failed, 1 passed", ran)
+        self.assertIn("AssertionError: <Explored: the invariant doesn't hold after move 2, by the turns [0, 0, 1]", ran)
 
 
 class Counts(unittest.TestCase):
@@ -289,10 +289,10 @@ class Counts(unittest.TestCase):
     def test_steps_at_mostly_different_locations(self):
         work = raising(lambda own, count: ["x", "all" if own == count else own], 4)
         init = [[["x", it], 0] for it in (0, 1, 2, "all")]
-        told = explore(lambda: Storage(init, 100), [work] * 3, at_end=lambda values: sum(values.values()) == 12)
-        self.assertTrue(told.is_exhaustive, told)
+        explored = explore(lambda: Storage(init, 100), [work] * 3, at_end=lambda values: sum(values.values()) == 12)
+        self.assertTrue(explored.is_exhaustive, explored)
         # Each step is a poll and a fire, if none is stale.
-        self.assertLess(told.schedules * 100, math.factorial(24) // math.factorial(8) ** 3)
+        self.assertLess(explored.schedules * 100, math.factorial(24) // math.factorial(8) ** 3)
 
     def test_a_naive_search_tries_each_order(self):
         work = raising(lambda own, count: ["x", own], 2)
@@ -323,19 +323,19 @@ class Random(unittest.TestCase):
             if word == "inc":
                 step.push([["inc", ["n"], 1], ["put", x, by]])
                 return step.try_commit() > 0
-            told = step.scan("x") if word == "scan" else step.get([x])
-            if word == "if" and told != [by % 3]:
-                told += step.get([y])
-            step.push([["put", x if by % 2 else y, len(told) if word == "scan" else (told[0] or 0) + 1]])
-            return [told, step.try_commit() > 0]
+            values = step.scan("x") if word == "scan" else step.get([x])
+            if word == "if" and values != [by % 3]:
+                values += step.get([y])
+            step.push([["put", x if by % 2 else y, len(values) if word == "scan" else (values[0] or 0) + 1]])
+            return [values, step.try_commit() > 0]
 
-    def work(self, rng, told):
+    def work(self, rng, answers):
         """Return a program of a few words."""
         words = [(rng.choice(self.WORDS), ["x", rng.randrange(3)], ["y", rng.randrange(2)], rng.randrange(6))
                  for _ in range(rng.randrange(1, 3))]
 
         def play(agent):
-            heard = told[agent.number] = []
+            heard = answers[agent.number] = []
             for word in words:
                 try:
                     heard.append(self.do(agent, *word))
@@ -349,11 +349,11 @@ class Random(unittest.TestCase):
 
         An outcome is the answers to the agents in a schedule with its last state.
         """
-        rng, told, ends, moments = random.Random(seed), {}, set(), set()
-        works = [self.work(rng, told) for _ in range(3 if seed % 4 == 0 else 2)]
+        rng, answers, ends, moments = random.Random(seed), {}, set(), set()
+        works = [self.work(rng, answers) for _ in range(3 if seed % 4 == 0 else 2)]
 
         def at_end(values):
-            ends.add(repr((sorted(told.items()), sorted(values.items()))))
+            ends.add(repr((sorted(answers.items()), sorted(values.items()))))
 
         def invariant(values):
             moments.add(repr(sorted(values.items())))
@@ -367,9 +367,9 @@ class Random(unittest.TestCase):
     def test_nothing_is_missed(self):
         played = naively = 0
         for seed in range(12):
-            *told, count = self.outcomes(seed, False)
+            *outcomes, count = self.outcomes(seed, False)
             *needed, all_of_them = self.outcomes(seed, True)
-            self.assertEqual(told, needed, seed)
+            self.assertEqual(outcomes, needed, seed)
             self.assertLessEqual(count, all_of_them)
             played, naively = played + count, naively + all_of_them
         self.assertLess(played * 2, naively)

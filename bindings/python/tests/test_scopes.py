@@ -10,7 +10,7 @@ from collections.abc import Iterator
 
 import folugben
 from folugben import Agent, Error, ForkedError, Location, MissingError, Move, ConflictError, StaleError, Storage, check
-from folugben._held import one_call
+from folugben._guards import one_call
 
 COUNT = ["count"]
 
@@ -50,7 +50,7 @@ class Scopes(unittest.TestCase):
         self.assertEqual(self.storage.moves(), 0)
         self.assertTrue(issubclass(StaleError, ConflictError) and issubclass(folugben.BusyError, ConflictError))
 
-    def test_a_step_that_was_forgotten_is_told(self):
+    def test_a_step_that_was_forgotten_is_warned_of(self):
         agent = self.storage.agent(0)
         with self.assertWarns(ResourceWarning):
             with agent.step() as step:
@@ -83,45 +83,45 @@ class Scopes(unittest.TestCase):
                 raise KeyError
         self.assertEqual(check(self.path.read_bytes()), (2, 2))
 
-    def test_a_journal_that_lacks_a_move_is_told_beside_another_error(self):
+    def test_a_journal_that_lacks_a_move_is_reported_beside_another_error(self):
         with self.assertRaises(MissingError), Storage([], 10, journal=self.path) as storage:
             put(storage.agent(3), 1)
-            kept = list(gc.get_referrers())  # nothing holds the agent: it is returned by itself
+            referrers = list(gc.get_referrers())  # nothing holds the agent: it is returned by itself
             storage.agent(4).abandon()
-            lost = storage.agent(5)
-            put(lost, 2)
-            lost.abandon()
-            del kept
+            abandoned = storage.agent(5)
+            put(abandoned, 2)
+            abandoned.abandon()
+            del referrers
         with self.assertRaises(KeyError) as caught, Storage([], 10, journal=self.path) as storage:
             held = storage.agent(0)
             put(held, 1)
             raise KeyError
-        self.assertIn("agent 0 was not given back", caught.exception.__notes__[0])
+        self.assertIn("agent 0 was not returned", caught.exception.__notes__[0])
 
-    def test_missing_tells_who_is_not_given_back(self):
+    def test_missing_names_the_agents_that_were_not_returned(self):
         agents = [self.storage.agent(number) for number in (3, 7)]
         put(agents[0], 1)
         put(agents[1], 2)
         self.storage.agent(9)  # it fired nothing that could be missing
         with self.assertRaises(MissingError) as caught:
             self.storage.close_journal()
-        self.assertIn("agents 3, 7 were not given back", str(caught.exception))
+        self.assertIn("agents 3, 7 were not returned", str(caught.exception))
         agents.pop().give()
         with self.assertRaises(MissingError) as caught:
             self.storage.close_journal()
-        self.assertTrue(str(caught.exception).endswith("returned: agent 3 was not given back: it fired move 1"))
+        self.assertTrue(str(caught.exception).endswith("returned: agent 3 was not returned: it fired move 1"))
         self.storage.agent(10).abandon()  # which may have fired it
         with self.assertRaises(MissingError) as caught:
             self.storage.close_journal()
-        self.assertTrue(str(caught.exception).endswith(": agent 3 was not given back (move 1)"))
+        self.assertTrue(str(caught.exception).endswith(": agent 3 was not returned (move 1)"))
         self.assertEqual(caught.exception.numbers, (1,))
 
-    def test_an_agent_that_nobody_holds_comes_back(self):
+    def test_an_agent_without_references_is_returned(self):
         put(self.storage.agent(0), 1)
         gc.collect()
         self.assertEqual(check(self.storage.close_journal()), (1, 1))
 
-    def test_a_with_that_a_collector_ends_in_a_call_gives_its_agent_back(self):
+    def test_a_with_that_a_collector_ends_in_a_call_returns_its_agent(self):
         def held() -> Iterator[Agent]:
             with self.storage.agent(0) as agent:
                 put(agent, 1)
@@ -141,7 +141,7 @@ class Scopes(unittest.TestCase):
         read_end, write_end = os.pipe()
         child = os.fork()
         if child == 0:
-            told = []
+            outcomes = []
             calls = [
                 lambda: put(agent, 1), agent.step, lambda: agent.peek(place), lambda: step.get([COUNT]), step.commit,
                 self.storage.moves, lambda: self.storage.agent(1), lambda: move.put(place, 1), self.storage.close_journal,
@@ -149,31 +149,31 @@ class Scopes(unittest.TestCase):
             for call in calls:
                 try:
                     call()
-                    told.append("done")
+                    outcomes.append("done")
                 except ForkedError:
-                    told.append("forked")
+                    outcomes.append("forked")
                 except BaseException as error:
-                    told.append(repr(error))
+                    outcomes.append(repr(error))
             with Storage([], 5) as own, own.agent(0) as new:
-                told.append(str(put(new, 1)))
-            os.write(write_end, json.dumps(told).encode())
+                outcomes.append(str(put(new, 1)))
+            os.write(write_end, json.dumps(outcomes).encode())
             os._exit(0)
         os.close(write_end)
         with open(read_end, "rb") as pipe:
-            told = json.loads(pipe.read())
+            outcomes = json.loads(pipe.read())
         os.waitpid(child, 0)
-        self.assertEqual(told, ["forked"] * 9 + ["1"])
+        self.assertEqual(outcomes, ["forked"] * 9 + ["1"])
         self.assertEqual(put(agent, 2), 1)
 
-    def test_an_agent_that_was_given_back_is_taken_again(self):
+    def test_an_agent_that_was_returned_is_checked_out_again(self):
         first = self.storage.agent(3)
         put(first, 1)
         first.give()
         self.storage.close_journal()
         again = self.storage.take(3)
         self.assertEqual((again.number, again.seen, again.won, put(again, 2)), (3, 1, 1, 2))
-        for number, said in [(3, "agent 3 was not given back"), (4, "agent 4 was not given back"), (256, "numbers are below 256")]:
-            with self.assertRaisesRegex(Error, said):
+        for number, message in [(3, "agent 3 was not returned"), (4, "agent 4 was not returned"), (256, "numbers are below 256")]:
+            with self.assertRaisesRegex(Error, message):
                 self.storage.take(number)
         with self.assertRaises(Error) as caught:
             self.storage.next()  # which needs another journal
@@ -183,12 +183,12 @@ class Scopes(unittest.TestCase):
             put(third, 3)
         self.assertEqual(check(self.storage.close_journal()), (3, 3))
 
-    def test_a_storage_goes_on_from_the_state_of_an_agent(self):
+    def test_a_storage_continues_from_the_state_of_an_agent(self):
         with Storage([[COUNT, 0]], 3) as storage:
             first, second = storage.agent(0), storage.agent(1)
             for value in (1, 2, 3):
                 put(first, value)
-            with self.assertRaisesRegex(Error, "stands at 0 moves") as caught:
+            with self.assertRaisesRegex(Error, "is at version 0") as caught:
                 second.go_on(5)
             self.assertEqual(caught.exception.code, folugben.Code.NOT_FULL)
             second.follow()
@@ -219,7 +219,7 @@ class Scopes(unittest.TestCase):
         with self.storage.next(5) as further:
             self.assertEqual(further.agent(0).read([COUNT]), (0, [2]))
 
-    def test_errors_say_what_is_wrong(self):
+    def test_errors_have_messages(self):
         agent = self.storage.agent(0)
         place, move = Location(COUNT), Move()
         elsewhere = Storage([], 5)
@@ -252,7 +252,7 @@ class Scopes(unittest.TestCase):
         self.assertEqual(len(move), 0)
         agent.give()
         for call in (lambda: put(agent, 1), agent.step, agent.follow, lambda: agent.peek(place), agent.state):
-            with self.assertRaisesRegex(Error, "the agent was given back"):
+            with self.assertRaisesRegex(Error, "the agent was returned"):
                 call()
         self.storage.free()
         with self.assertRaisesRegex(Error, "the storage was freed"):
@@ -267,7 +267,7 @@ class Scopes(unittest.TestCase):
         self.assertEqual(agent.peek([COUNT])[1], [{-1, 3}])
         self.assertTrue(Move())
 
-    def test_what_is_shown_says_what_it_is(self):
+    def test_each_object_has_a_repr(self):
         agent = self.storage.agent(4)
         with agent.step() as step:
             step.push([["put", COUNT, 1]])
@@ -279,7 +279,7 @@ class Scopes(unittest.TestCase):
         self.assertEqual(repr(self.storage), "<Storage, 1 moves>")
         self.assertEqual(repr(Move().put(Location(COUNT), 1)), "<Move of 1 instructions>")
         agent.give()
-        self.assertEqual(repr(agent), "<Agent 4, given back>")
+        self.assertEqual(repr(agent), "<Agent 4, returned>")
 
 
 if __name__ == "__main__":

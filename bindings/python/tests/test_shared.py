@@ -46,9 +46,9 @@ class Leads:
         def work(own):
             with run.agent(own) as agent:
                 for _ in range(20):
-                    told.append(agent.play(raised)[0])
+                    numbers.append(agent.play(raised)[0])
 
-        told = []
+        numbers = []
         with SharedRun(self.target, INIT, 25) as run:
             threads = [threading.Thread(target=work, args=(own,)) for own in range(3)]
             for thread in threads:
@@ -56,10 +56,10 @@ class Leads:
             work(3)
             for thread in threads:
                 thread.join()
-        self.assertEqual(sorted(told), list(range(1, 81)))
+        self.assertEqual(sorted(numbers), list(range(1, 81)))
         self.assert_is_run(80)
 
-    def test_a_signal_handler_that_raises_takes_no_call_back(self):
+    def test_a_signal_handler_that_raises_cancels_no_call(self):
         class Alarm(Exception):
             pass
 
@@ -68,7 +68,7 @@ class Leads:
 
         was = signal.signal(signal.SIGALRM, alarm)
         self.addCleanup(signal.signal, signal.SIGALRM, was)
-        told, raises = [], 0
+        numbers, raises = [], 0
         with SharedRun(self.target, INIT) as run, run.agent(0) as agent, run.agent(1) as other:
             thread = threading.Thread(target=lambda: [other.play(raised) for _ in range(40)])
             thread.start()
@@ -76,15 +76,15 @@ class Leads:
                 try:
                     # During its wait, and before and after it.
                     signal.setitimer(signal.ITIMER_REAL, 0.0002 * (number % 10 + 1))
-                    told.append(agent.play(raised)[0])
+                    numbers.append(agent.play(raised)[0])
                 except Alarm:
                     raises += 1
                 finally:
                     signal.setitimer(signal.ITIMER_REAL, 0)
             thread.join()
             moves = run.state()[0]
-        self.assertEqual(len(set(told)), len(told))
-        self.assertTrue(40 + len(told) <= moves <= 80, (moves, told, raises))
+        self.assertEqual(len(set(numbers)), len(numbers))
+        self.assertTrue(40 + len(numbers) <= moves <= 80, (moves, numbers, raises))
         self.assert_is_run(moves)
 
 
@@ -104,13 +104,13 @@ class OnSqlite(Leads, shared_plays.Plays):
         with self.assertRaisesRegex(DamagedError, "file is not a database: .*text"):
             SharedRun(self.room / "text")
 
-    def test_a_step_of_an_agent_that_was_given_back(self):
+    def test_a_step_of_an_agent_that_was_returned(self):
         with SharedRun(self.target, INIT) as run:
             agent = run.agent(0)
             with agent.step() as step:
                 step.push([["put", COUNT, 1]])
                 agent.give()
-                with self.assertRaisesRegex(Error, "the agent was given back"):
+                with self.assertRaisesRegex(Error, "the agent was returned"):
                     step.commit()
             self.assertEqual(run.state()[0], 0)
 
@@ -196,9 +196,9 @@ class OnPostgres(Leads, shared_plays.Plays):
         def work(own):
             with run.agent(own) as agent:
                 for _ in range(40):
-                    told.append(agent.play(raised)[0])
+                    numbers.append(agent.play(raised)[0])
 
-        stop, told = threading.Event(), []
+        stop, numbers = threading.Event(), []
         with SharedRun(self.target, INIT, 30) as run:
             cutter = threading.Thread(target=cut)
             cutter.start()
@@ -207,7 +207,7 @@ class OnPostgres(Leads, shared_plays.Plays):
             finally:
                 stop.set()
                 cutter.join()
-        self.assertEqual(sorted(told), list(range(1, 121)))
+        self.assertEqual(sorted(numbers), list(range(1, 121)))
         self.assert_is_run(120)
 
     def test_a_server_that_is_killed_and_started(self):

@@ -88,7 +88,7 @@ class Steps(unittest.TestCase):
         reads = [[["bag"], 0], [["count"], 0], [["f", 1], 0], [["f", 2], 0], [["none"], 0]]
         self.assertEqual(event["call"], {"fire": put(1), "reads": reads})
 
-    def test_a_rival_makes_it_stale_and_the_state_goes_on(self):
+    def test_a_rival_makes_it_stale_and_advances_the_state(self):
         step = self.agent.step()
         step.get([["f", 1], ["count"]])
         step.push(put(1))
@@ -110,7 +110,7 @@ class Steps(unittest.TestCase):
         step.free()
         self.assert_over(step)
 
-    def test_what_is_seen_is_not_rested_on(self):
+    def test_a_step_does_not_depend_on_what_it_sees(self):
         with self.agent.step() as step:
             self.assertEqual((step.see(COUNT), step.see(Location(["f", 1])), step.see([])), ([0], 1, []))
             step.push(put(1, "g"))
@@ -129,7 +129,7 @@ class Steps(unittest.TestCase):
                 step.see([["1"]])
             self.assertEqual(caught.exception.code, folugben.Code.SHAPE)
 
-    def test_an_offer_tells_what_would_be_fired(self):
+    def test_an_offer_lists_what_would_be_fired(self):
         with self.agent.step() as step:
             self.assertEqual(step.offer(), {"fire": (), "reads": ()})
             step.get([["f", 2]])
@@ -146,7 +146,7 @@ class Steps(unittest.TestCase):
         self.assertEqual(self.agent.fire(offer["fire"], offer["reads"]), 1)
         self.assertRaises(StaleError, self.agent.fire, offer["fire"], offer["reads"])
 
-    def test_a_fire_that_clashes_is_begun_anew(self):
+    def test_a_fire_that_clashes_is_begun_again(self):
         remove = [["bagremove", ["bag"], "e", 1]]
         with self.agent.step() as step:
             step.push(remove)
@@ -191,15 +191,15 @@ class Steps(unittest.TestCase):
 
     def test_refused_texts(self):
         with self.agent.step() as step:
-            for said, call, *arguments in [
+            for message, call, *arguments in [
                 ("location 2: a location can't hold a bag", step.get, [["x"], ["y", {"bag": []}]]),
                 ("instruction 2: a set can't hold a set", step.push, put(1) + put({"set": [{"set": []}]})),
                 ("4,097 instructions, at most 4,096", step.extend, put(1) * 4097),
                 ("instructions[0][2] is nan, which is no whole number: pass int(..) of it, or str(..)", step.push, put(float("nan"))),
             ]:
-                with self.subTest(said), self.assertRaises(Error) as caught:
+                with self.subTest(message), self.assertRaises(Error) as caught:
                     call(*arguments)
-                self.assertEqual(str(caught.exception), said)
+                self.assertEqual(str(caught.exception), message)
             self.assertRaises(Error, step.scan, "\ud800")
             self.assertEqual(step.depth, 0)
 
@@ -228,7 +228,7 @@ class Steps(unittest.TestCase):
         self.assertEqual(first.commit(), 2)
         self.assertEqual(self.rival.read([["count"], ["g"]]), (2, [1, 1]))
 
-    def test_an_agent_that_was_given_back_has_no_step(self):
+    def test_an_agent_that_was_returned_has_no_step(self):
         step = self.agent.step()
         self.agent.give()
         for call, *arguments in [(step.get, COUNT), (step.push, []), (step.commit,), (self.agent.step,)]:
@@ -256,7 +256,7 @@ class Steps(unittest.TestCase):
     def test_an_amount_that_is_too_large_has_a_location(self):
         # No step of the agent's own storage leads to it, so the library's answer is made up.
         with self.assertRaises(folugben.LargeError) as caught:
-            _refusals.pushed(folugben.Code.LARGE, b"[]", b'{"large":["bag"]}', self.agent.step())
+            _refusals.push(folugben.Code.LARGE, b"[]", b'{"large":["bag"]}', self.agent.step())
         self.assertEqual(caught.exception.at, ("bag",))
 
     def test_gets_take_no_memory(self):
@@ -315,7 +315,7 @@ class RecordedSteps(own.Recorded, Steps):
             check(journal.replace(b'"values":[2]', b'"values":[1]'))
         self.assertEqual(caught.exception.call, 0)
 
-    def test_a_get_that_returns_something_else_is_found(self):
+    def test_a_get_that_returns_another_value_is_found(self):
         with Storage({"x": 1}, record=True) as storage, storage.agent(0) as agent:
             agent.play(lambda step: step.put("x", step["x"]))
             with agent.step() as step:
@@ -324,7 +324,7 @@ class RecordedSteps(own.Recorded, Steps):
             with agent.step() as step:
                 step["y"], step["x"]
                 # As if 1 had been read as True.
-                self.watch.got(step, ["y"], [True])
+                self.watch.add_read(step, ["y"], [True])
                 step.commit()
             agent.give()
             storage.close_journal()
@@ -332,7 +332,7 @@ class RecordedSteps(own.Recorded, Steps):
         self.watch.faults.clear()
         self.assertRegex(fault, "call 4, counted from 0.*true")
 
-    def test_a_commit_whose_agent_has_gone_on_is_begun_again(self):
+    def test_a_commit_whose_agent_has_moved_on_is_begun_again(self):
         for limits in ({}, {"tries": 5}):
             tries = []
 
@@ -358,7 +358,7 @@ class RecordedSteps(own.Recorded, Steps):
         self.assertIsInstance(caught.exception, MovedError)
         self.assertEqual((first.try_commit(), first.depth, self.storage.moves()), (0, 1, moves))
 
-    def test_who_goes_on_records_too(self):
+    def test_a_storage_that_continues_records_too(self):
         with Storage({"x": 0}, 2, record=True) as first:
             self.assertTrue(first.record)
             with self.assertRaises(AttributeError):

@@ -26,7 +26,7 @@ class Traces(unittest.TestCase):
     def setUp(self):
         self.journal = journal_of_two()
 
-    def test_each_call_tells_what_it_did(self):
+    def test_each_call_reports_what_it_did(self):
         header, *events = trace(self.journal)
         self.assertEqual((header["trace"], header["events"], header["init"]), (1, 3, sorted(INIT)))
         fired = [event for event in events if "updates" in event]
@@ -43,8 +43,8 @@ class Traces(unittest.TestCase):
         self.assertEqual([event["right"] for event in events if "right" in event], [{"differs": [0], "number": 0}])
 
     def test_it_is_what_the_model_writes(self):
-        told = [json.dumps(line, separators=(",", ":")).encode() for line in trace(self.journal)]
-        self.assertEqual(told, tracing.write_trace(journals.read_journal(self.journal)).splitlines())
+        lines = [json.dumps(line, separators=(",", ":")).encode() for line in trace(self.journal)]
+        self.assertEqual(lines, tracing.write_trace(journals.read_journal(self.journal)).splitlines())
 
     def test_what_is_no_journal_is_refused_at_once(self):
         for bad, line in [(b"", ()), (b"[]\n", (1,)), (self.journal + b"[]\n", (5,))]:

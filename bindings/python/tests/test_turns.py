@@ -24,14 +24,14 @@ class Turns(unittest.TestCase):
         """Return the processor time, in seconds, of moves by agents by turns."""
         with Storage({"count": 0}, moves) as storage:
             agents = [storage.agent(own) for own in range(count)]
-            begun = time.process_time()
+            start = time.process_time()
             for number in range(moves):
                 agents[number % count].play(raised)
-            took = time.process_time() - begun
+            seconds = time.process_time() - start
             for agent in agents:
                 agent.give()
             self.assertEqual(check(storage.close_journal()), (moves, moves))
-        return took
+        return seconds
 
     def test_many_agents_cost_about_what_one_does(self):
         one, many = (min(self.cost(count) for _ in range(3)) for count in (1, 256))
@@ -53,7 +53,7 @@ class Turns(unittest.TestCase):
                 self.assertEqual(ben.read([COUNT.place]), (3, [3]))
                 self.assertEqual(step[COUNT], 3)
 
-    def test_its_own_state_goes_never_back(self):
+    def test_its_own_state_never_goes_back(self):
         rng = random.Random(3)
         for _ in range(60):
             with Storage({"count": 0}, 200) as storage:
@@ -115,8 +115,8 @@ class Turns(unittest.TestCase):
             self.assertEqual(in_threads(work, 4), ([], True))
             for agent in agents:
                 agent.give()
-            told = check(storage.close_journal())[1]
-        self.assertEqual(told, len(done))
+            moves = check(storage.close_journal())[1]
+        self.assertEqual(moves, len(done))
 
     def test_an_agent_that_was_freed_is_no_other_one(self):
         with Storage({"count": 0}, 300) as storage:
@@ -141,7 +141,7 @@ class United(unittest.TestCase):
                     getattr(move, word)(*words)
                 return move
 
-            def told(push):
+            def effect(push):
                 with Storage(random_moves.INIT) as storage, storage.agent(0) as agent, agent.step() as step:
                     try:
                         step.push(push)
@@ -155,28 +155,28 @@ class United(unittest.TestCase):
             both, third = first | second, gathered(one)
             self.assertIs(third.unite(second), third)
             self.assertEqual([len(it) for it in (first, second, both, third)], [len(one), len(two), *2 * [len(one) + len(two)]])
-            wanted = told([*one, *two])
-            self.assertEqual((told(both), told(third)), (wanted, wanted))
+            wanted = effect([*one, *two])
+            self.assertEqual((effect(both), effect(third)), (wanted, wanted))
             third = gathered(one)
             third |= second
-            self.assertEqual((told(third), told(first), told(second)), (wanted, told(one), told(two)))
+            self.assertEqual((effect(third), effect(first), effect(second)), (wanted, effect(one), effect(two)))
         self.assertEqual(seen, {0, 1})
 
     def test_limits_and_slots(self):
         half = Move()
         for number in range(2049):
             half.put(("x", number), number)
-        whole = Move().unite(half)
+        full = Move().unite(half)
         with self.assertRaisesRegex(ManyError, "2,049 instructions and 2,049 more: a move has at most 4,096"):
-            whole.unite(half)
-        self.assertEqual((len(whole), len(half)), (2049, 2049))
-        self.assertRaises(ManyError, lambda: whole | half)
-        self.assertRaises(TypeError, whole.unite, whole)
-        self.assertRaises(TypeError, whole.unite, [("put", "x", 1)])
-        self.assertRaises(TypeError, lambda: whole | 1)
+            full.unite(half)
+        self.assertEqual((len(full), len(half)), (2049, 2049))
+        self.assertRaises(ManyError, lambda: full | half)
+        self.assertRaises(TypeError, full.unite, full)
+        self.assertRaises(TypeError, full.unite, [("put", "x", 1)])
+        self.assertRaises(TypeError, lambda: full | 1)
         self.assertEqual(len(Move() | Move()), 0)
         half.free()
-        for call in (lambda: whole.unite(half), lambda: half.unite(whole), lambda: half | whole):
+        for call in (lambda: full.unite(half), lambda: half.unite(full), lambda: half | full):
             with self.assertRaisesRegex(Error, "the move was freed"):
                 call()
         with Storage() as storage, storage.agent(0) as agent, agent.step() as step:

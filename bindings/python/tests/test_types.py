@@ -24,7 +24,7 @@ def rule(step: Step) -> int:
     step.push(move)
     popped: Move = step.pop_move()
     step.extend(popped.put(Location(["x"]), {"set": [value]}).add(Location(["s"]), {"list": [value]}))
-    told: list[Value] = step.see([count])
+    result: list[Value] = step.see([count])
     step.push(Move().put(Location(["x"]), value))
     step.put("y", {1, "a"})
     step.put(("z", 1), (1, {"list": []}))
@@ -38,11 +38,11 @@ def rule(step: Step) -> int:
 
 
 with Storage([[["count"], 0], [["s"], {"set": []}], [["b", 1], {"bag": []}]]) as storage, storage.agent(0) as agent:
-    number, told = agent.play(rule, tries=3, timeout=1.5)
+    number, result = agent.play(rule, tries=3, timeout=1.5)
     played = agent.play(lambda step: step.depth)
     assert played.number + played.result + played.retries == 0
     both: tuple[int, list[tuple[tuple[object, ...], object]]] = agent.state()
-    agent.fire([["put", count, number + told]])
+    agent.fire([["put", count, number + result]])
 """
 WRONG = ["(1, 1.5)", "1.5", '{"set": [1.5]}', "object()", '{"bag": [["a", 1.5]]}', "[1.5]"]
 
@@ -67,7 +67,7 @@ class Types(unittest.TestCase):
         self.addCleanup(room.cleanup)
         self.room = pathlib.Path(room.name)
 
-    def told(self, *words: str | pathlib.Path) -> str:
+    def check(self, *words: str | pathlib.Path) -> str:
         package = pathlib.Path(folugben.__file__).resolve().parent
         (self.room / "folugben").exists() or (self.room / "folugben").symlink_to(package)
         ended = subprocess.run([*self.command, "--cache-dir", self.room / "cache", *words], cwd=self.room, text=True,
@@ -75,16 +75,16 @@ class Types(unittest.TestCase):
         return ended.stdout + ended.stderr
 
     def test_the_package_is_strict(self) -> None:
-        self.assertEqual(self.told("folugben"), "")
+        self.assertEqual(self.check("folugben"), "")
 
     def test_a_user_annotates_values_and_updates(self) -> None:
         (self.room / "user.py").write_text(USER)
-        self.assertEqual(self.told("user.py"), "")
+        self.assertEqual(self.check("user.py"), "")
         lines = [f"value{place}: Value = {wrong}\n" for place, wrong in enumerate(WRONG)]
         (self.room / "wrong.py").write_text("from folugben import Value\n" + "".join(lines))
-        told = self.told("wrong.py")
+        report = self.check("wrong.py")
         for line in range(2, len(WRONG) + 2):
-            self.assertIn(f"wrong.py:{line}: error", told)
+            self.assertIn(f"wrong.py:{line}: error", report)
 
     def test_a_user_runs(self) -> None:
         exec(compile(USER, "user.py", "exec"), {"__name__": "user"})

@@ -36,7 +36,7 @@ class Holds:
     def __init__(self, invariant: Invariant | None, at_end: Invariant | None) -> None:
         self._invariant, self._at_end = invariant, at_end
         # What is known of states, by their texts.
-        self._known: dict[str, str | None] = {}
+        self._verdicts: dict[str, str | None] = {}
 
     def breach(self, events: list[Event], errors: Mapping[int, BaseException], journal: bytes) -> Breach | None:
         """Return what doesn't hold in a schedule, or in an equivalent one.
@@ -49,39 +49,39 @@ class Holds:
         moves = [at for at, event in enumerate(events) if event.is_move]
         if self._invariant is not None:
             for count, values in enumerate(moments):
-                if (told := self._told(values)) is not None:
+                if (why := self._verdict(values)) is not None:
                     some = events[: moves[count - 1] + 1] if count else []
-                    return Breach(some, f"the invariant doesn't hold after move {count}{told}")
+                    return Breach(some, f"the invariant doesn't hold after move {count}{why}")
             for cut, values in _cuts(events, moves, moments):
-                if (told := self._told(values)) is not None:
-                    return Breach(_up_to(events, cut), f"the invariant doesn't hold after move {len(cut)}{told}")
-        if self._at_end is not None and (told := _refused(self._at_end, moments[-1])) is not None:
-            return Breach(events, f"at the end it doesn't hold{told}")
+                if (why := self._verdict(values)) is not None:
+                    return Breach(_up_to(events, cut), f"the invariant doesn't hold after move {len(cut)}{why}")
+        if self._at_end is not None and (why := _violation(self._at_end, moments[-1])) is not None:
+            return Breach(events, f"at the end it doesn't hold{why}")
         return None
 
     def is_broken(self, journal: bytes) -> bool:
         """Return whether something doesn't hold in this very schedule."""
         values: dict[str, Any] = {}
         for _, values in states_by_text(journal):
-            if self._invariant is not None and self._told(values) is not None:
+            if self._invariant is not None and self._verdict(values) is not None:
                 return True
-        return self._at_end is not None and _refused(self._at_end, values) is not None
+        return self._at_end is not None and _violation(self._at_end, values) is not None
 
-    def _told(self, values: dict[str, Any]) -> str | None:
+    def _verdict(self, values: dict[str, Any]) -> str | None:
         assert self._invariant is not None
         key = repr(sorted(values.items()))
-        if key not in self._known:
-            self._known[key] = _refused(self._invariant, values)
-        return self._known[key]
+        if key not in self._verdicts:
+            self._verdicts[key] = _violation(self._invariant, values)
+        return self._verdicts[key]
 
 
-def _refused(holds: Invariant, values: dict[str, Any]) -> str | None:
+def _violation(holds: Invariant, values: dict[str, Any]) -> str | None:
     """Return why something doesn't hold, or None if it does."""
     try:
-        told = holds(by_place(values))
+        why = holds(by_place(values))
     except AssertionError as error:
         return f": {error}" if str(error) else ""
-    return None if told is None or told else ""
+    return None if why is None or why else ""
 
 
 def _cuts(events: Sequence[Event], moves: list[int], moments: list[dict[str, Any]]) -> Iterator[tuple[list[int], dict[str, Any]]]:
@@ -91,12 +91,12 @@ def _cuts(events: Sequence[Event], moves: list[int], moments: list[dict[str, Any
 
     Schedules are equivalent if their dependent events have the same order.
     """
-    needed = [[it for it in moves if events[move].before >> it & 1] for move in moves]
+    predecessors = [[it for it in moves if events[move].before >> it & 1] for move in moves]
     seen, layer = {frozenset[int]()}, [frozenset[int]()]
     while layer:
         further = list[frozenset[int]]()
         for cut in layer:
-            for move, before in zip(moves, needed):
+            for move, before in zip(moves, predecessors):
                 more = cut | {move}
                 if move not in cut and more not in seen and cut.issuperset(before):
                     seen.add(more)
@@ -129,7 +129,7 @@ def _up_to(events: Sequence[Event], moves: list[int]) -> list[Event]:
     return [event for at, event in enumerate(events) if bits >> at & 1]
 
 
-def listed(some: list[Event], events: list[Event], begins: list[int]) -> list[int]:
+def turns_for(some: list[Event], events: list[Event], begins: list[int]) -> list[int]:
     """Return the turns by which some of the events of a schedule come first.
 
     They are in the form that `interleave` takes.

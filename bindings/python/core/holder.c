@@ -34,28 +34,28 @@ PyObject *refuse(Core *core, int32_t code, const char *how, const char *format, 
     PyObject *its = Py_VaBuildValue(format, words);
     va_end(words);
     PyObject *call = its ? PyObject_GetAttrString(core->refusals, how) : NULL;
-    PyObject *told = call ? PyObject_CallObject(call, its) : NULL;
-    if (told)
+    PyObject *result = call ? PyObject_CallObject(call, its) : NULL;
+    if (result)
         PyErr_Format(PyExc_SystemError, "folugben: code %d wasn't refused by %s", (int)code, how);
-    Py_XDECREF(told);
+    Py_XDECREF(result);
     Py_XDECREF(call);
     Py_XDECREF(its);
     return NULL;
 }
 
-int unready(Held *held)
+int unready(Holder *holder)
 {
-    if (held->born != forks) {
-        refuse(held->core, ASM_EMPTY, "forked", "()");
+    if (holder->born != forks) {
+        refuse(holder->core, ASM_EMPTY, "forked_object", "()");
         return -1;
     }
-    while (held->is_busy) {
-        held->waiters++;
+    while (holder->is_busy) {
+        holder->waiters++;
         PyThreadState *was = PyEval_SaveThread();
-        PyThread_acquire_lock(held->lock, WAIT_LOCK);
+        PyThread_acquire_lock(holder->lock, WAIT_LOCK);
         PyEval_RestoreThread(was);
-        PyThread_release_lock(held->lock);
-        held->waiters--;
+        PyThread_release_lock(holder->lock);
+        holder->waiters--;
     }
     return 0;
 }
@@ -64,24 +64,24 @@ int unready(Held *held)
  * such a call, or waits for the interpreter's: so nobody waits for a slot's lock while it holds the interpreter's. A lock that
  * is released and immediately acquired again would starve those that wait, so they come first. Without memory for the lock the
  * interpreter's is kept. */
-PyThreadState *let_go(Held *held)
+PyThreadState *begin_long_call(Holder *holder)
 {
-    if (!held->lock && !(held->lock = PyThread_allocate_lock()))
+    if (!holder->lock && !(holder->lock = PyThread_allocate_lock()))
         return NULL;
-    while (held->waiters || !PyThread_acquire_lock(held->lock, NOWAIT_LOCK)) {
+    while (holder->waiters || !PyThread_acquire_lock(holder->lock, NOWAIT_LOCK)) {
         PyThreadState *was = PyEval_SaveThread();
         sched_yield();
         PyEval_RestoreThread(was);
     }
-    held->is_busy = 1;
+    holder->is_busy = 1;
     return PyEval_SaveThread();
 }
 
-void come_back(Held *held, PyThreadState *was)
+void end_long_call(Holder *holder, PyThreadState *was)
 {
     PyEval_RestoreThread(was);
-    held->is_busy = 0;
-    PyThread_release_lock(held->lock);
+    holder->is_busy = 0;
+    PyThread_release_lock(holder->lock);
 }
 
 void room_begin(Room *room)
@@ -123,38 +123,38 @@ Core *core_of(PyTypeObject *type)
     return core;
 }
 
-void *held_new(PyTypeObject *type, Core *core)
+void *holder_new(PyTypeObject *type, Core *core)
 {
-    Held *held = (Held *)PyType_GenericAlloc(type, 0);
-    if (held) {
-        held->core = core;
-        held->born = forks;
+    Holder *holder = (Holder *)PyType_GenericAlloc(type, 0);
+    if (holder) {
+        holder->core = core;
+        holder->born = forks;
     }
-    return held;
+    return holder;
 }
 
-void held_gone(void *it)
+void holder_dealloc(void *it)
 {
-    Held *held = it;
-    PyTypeObject *type = Py_TYPE((PyObject *)held);
-    if (held->weak)
-        PyObject_ClearWeakRefs((PyObject *)held);
-    if (held->born == forks)
-        asm_free(&held->slot);
-    if (held->lock)
-        PyThread_free_lock(held->lock);
+    Holder *holder = it;
+    PyTypeObject *type = Py_TYPE((PyObject *)holder);
+    if (holder->weak)
+        PyObject_ClearWeakRefs((PyObject *)holder);
+    if (holder->born == forks)
+        asm_free(&holder->slot);
+    if (holder->lock)
+        PyThread_free_lock(holder->lock);
     freefunc release = (freefunc)PyType_GetSlot(type, Py_tp_free);
-    release(held);
+    release(holder);
     Py_DECREF(type);
 }
 
-PyObject *held_same(PyObject *self, PyObject *Py_UNUSED(none))
+PyObject *holder_self(PyObject *self, PyObject *Py_UNUSED(none))
 {
     return Py_NewRef(self);
 }
 
 /* A copy would have the same slot, and release it. */
-PyObject *held_copy(PyObject *self, PyObject *Py_UNUSED(none))
+PyObject *holder_reduce(PyObject *self, PyObject *Py_UNUSED(none))
 {
     PyObject *name = PyType_GetName(Py_TYPE(self));
     PyErr_Format(PyExc_TypeError, "cannot copy or pickle %R object", name);
@@ -162,7 +162,7 @@ PyObject *held_copy(PyObject *self, PyObject *Py_UNUSED(none))
     return NULL;
 }
 
-PyObject *held_free(Held *self, PyObject *Py_UNUSED(none))
+PyObject *holder_free(Holder *self, PyObject *Py_UNUSED(none))
 {
     if (UNREADY(self))
         return NULL;
@@ -170,18 +170,18 @@ PyObject *held_free(Held *self, PyObject *Py_UNUSED(none))
     return Py_NewRef(Py_None);
 }
 
-PyObject *held_exit(Held *self, PyObject *const *Py_UNUSED(words), Py_ssize_t Py_UNUSED(count))
+PyObject *holder_exit(Holder *self, PyObject *const *Py_UNUSED(words), Py_ssize_t Py_UNUSED(count))
 {
-    return held_free(self, NULL);
+    return holder_free(self, NULL);
 }
 
-static PyObject *held_full(Held *self, void *Py_UNUSED(none))
+static PyObject *holder_is_full(Holder *self, void *Py_UNUSED(none))
 {
     return PyBool_FromLong(self->slot.full);
 }
 
-PyGetSetDef held_gets[] = {{"_is_full", (getter)held_full, NULL, NULL, NULL}, {0}};
-PyMemberDef held_members[] = {{"__weaklistoffset__", T_PYSSIZET, offsetof(Held, weak), READONLY, NULL}, {0}};
+PyGetSetDef holder_getters[] = {{"_is_full", (getter)holder_is_full, NULL, NULL, NULL}, {0}};
+PyMemberDef holder_members[] = {{"__weaklistoffset__", T_PYSSIZET, offsetof(Holder, weak), READONLY, NULL}, {0}};
 
 /* An integer from the smallest to the largest allowed; `what` names it in the error about another one. */
 int number_of(Core *core, PyObject *value, const char *what, uint32_t least, uint32_t most, uint32_t *number)
@@ -190,11 +190,11 @@ int number_of(Core *core, PyObject *value, const char *what, uint32_t least, uin
     if (!whole)
         return -1;
     int is_over;
-    long long told = PyLong_AsLongLongAndOverflow(whole, &is_over);
-    if (is_over || told < least || told > most)
+    long long integer = PyLong_AsLongLongAndOverflow(whole, &is_over);
+    if (is_over || integer < least || integer > most)
         refuse(core, ASM_OPERAND, "out_of_range", "(sOII)", what, whole, (unsigned)least, (unsigned)most);
     else
-        *number = (uint32_t)told;
+        *number = (uint32_t)integer;
     Py_DECREF(whole);
     return PyErr_Occurred() ? -1 : 0;
 }

@@ -37,27 +37,27 @@ class _ForkedLock:
         pass
 
 
-class Locked:
+class LockHolder:
     """An object with a lock, by which its calls are stopped in the child of a fork."""
 
     _lock: AbstractContextManager[Any]
 
-    def _locked_by(self, lock: AbstractContextManager[Any]) -> None:
+    def _set_lock(self, lock: AbstractContextManager[Any]) -> None:
         self._lock = lock
-        _locked.add(self)
+        _lock_holders.add(self)
 
-    def _is_copied(self) -> None:
-        """Runs in the child."""
+    def _enter_child(self) -> None:
+        """Stop further calls, in the child of a fork."""
         self._lock = _ForkedLock()
 
 
-_locked: "weakref.WeakSet[Locked]" = weakref.WeakSet()
+_lock_holders: "weakref.WeakSet[LockHolder]" = weakref.WeakSet()
 
 
 def _stop_after_fork() -> None:
-    for locked in list(_locked):
-        locked._is_copied()
-    _locked.clear()
+    for holder in list(_lock_holders):
+        holder._enter_child()
+    _lock_holders.clear()
 
 
 os.register_at_fork(after_in_child=_stop_after_fork)
