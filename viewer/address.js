@@ -3,16 +3,16 @@ import { filter } from "./filter.js";
 import { shown } from "./run.js";
 import { conditionText } from "./watch.js";
 
-const REST = 200, TOGETHER = 100; // milliseconds
+const STEP_DELAY = 200, TOGETHER = 100; // milliseconds
 // Return what the address names, by its keys there.
 export function addressed(run) {
-  const told = new URLSearchParams(location.hash.slice(1)), number = name => told.has(name) ? Number.parseInt(told.get(name), 10) - run.from : NaN;
+  const keys = new URLSearchParams(location.hash.slice(1)), number = name => keys.has(name) ? Number.parseInt(keys.get(name), 10) - run.from : NaN;
   return {
-    count: number("event") + 1 || 0, mark: Number.isNaN(number("from")) ? null : number("from") + 1, at: told.get("at"), condition: told.get("if") ?? "",
-    filter: { kind: told.get("kind") ?? "all", agent: told.get("agent") ?? "all", place: told.get("of"), cause: told.get("cause"), text: told.get("find") ?? "" },
+    count: number("event") + 1 || 0, mark: Number.isNaN(number("from")) ? null : number("from") + 1, at: keys.get("at"), condition: keys.get("if") ?? "",
+    filter: { kind: keys.get("kind") ?? "all", agent: keys.get("agent") ?? "all", place: keys.get("of"), cause: keys.get("cause"), text: keys.get("find") ?? "" },
   };
 }
-function told() {
+function addressText() {
   const out = [`event=${shown.run.from + shown.count - 1}`], put = (name, value, usual = "") => value && value !== usual && out.push(`${name}=${encodeURIComponent(value)}`);
   put("at", shown.location?.key);
   if (shown.mark !== null) put("from", String(shown.run.from + shown.mark - 1));
@@ -25,13 +25,13 @@ function told() {
   return `#${out.join("&")}`;
 }
 
-let standing = "", due = 0, since = -Infinity;
+let shownAddress = "", due = 0, since = -Infinity;
 function write(way) {
   clearTimeout(due);
   due = 0;
-  const now = told();
-  if (now === standing) return;
-  standing = now;
+  const now = addressText();
+  if (now === shownAddress) return;
+  shownAddress = now;
   try {
     history[way](null, "", now);
   } catch {
@@ -48,17 +48,17 @@ export function changed(isJump, isNow = false) {
   else if (isJump || isNow) write("replaceState");
   else {
     clearTimeout(due);
-    due = setTimeout(() => shown.run && write("replaceState"), REST);
+    due = setTimeout(() => shown.run && write("replaceState"), STEP_DELAY);
   }
   if (isJump) since = performance.now();
 }
 // If something else changes the address, such as the Back button, follow it.
 export function onAddress(follow) {
   addEventListener("hashchange", () => {
-    if (!shown.run || location.hash === standing) return;
+    if (!shown.run || location.hash === shownAddress) return;
     clearTimeout(due);
     due = 0;
-    standing = location.hash;
+    shownAddress = location.hash;
     follow(addressed(shown.run));
   });
 }

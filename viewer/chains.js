@@ -81,7 +81,7 @@ export function staledBy(event) {
   return numbers.length ? run.writesSince(location, Math.min(...numbers), event)?.first ?? null : null;
 }
 // Return the fires that the event's move made stale.
-export function madeStale(event) {
+export function firesMadeStale(event) {
   const { run } = shown;
   if (!run.staled) {
     run.staled = new Map();

@@ -1,5 +1,5 @@
 // Nodes and texts for how a write changed its location.
-import { elementNode, itemNode, MORE, restNode, sizeNode, span, times, valueNode } from "./nodes.js";
+import { elementNode, itemNode, MORE, moreNode, sizeNode, span, times, valueNode } from "./nodes.js";
 import { itemsOf } from "./shape.js";
 import { byElement, grouped, isBag, isList, isNumber, isSame, isSet, itemKey, plural, sharedLength, shortText } from "./terms.js";
 
@@ -12,8 +12,8 @@ export function changeNode(write, most = Infinity, isInRow = false) {
   if (write.size + removed <= most) out.append(...allItems(write, isInRow).flatMap(it => changedNode(write, it)));
   else {
     out.append(...write.items.slice(0, most).flatMap(it => changedNode(write, it)));
-    if (write.items.length > most) out.append(restNode("value", `${grouped(write.items.length - most)} more changed`, more));
-    if (same) out.append(restNode("value", `${grouped(same)} unchanged`, more));
+    if (write.items.length > most) out.append(moreNode("value", `${grouped(write.items.length - most)} more changed`, more));
+    if (same) out.append(moreNode("value", `${grouped(same)} unchanged`, more));
     return out;
   }
   if (!write.items.length) out.append(span("same", " unchanged"));
@@ -35,18 +35,18 @@ function changedNode(write, [element, was, now]) {
 
 function replacedNode(old, value, most) {
   if (isSame(old, value)) return span("value", valueNode(value, most), span("same", " unchanged"));
-  const lists = listsApart(old, value);
+  const lists = differingParts(old, value);
   if (lists) return listChangeNode(lists, Math.min(most, MOST_PARTS));
   const both = isNumber(old) && isNumber(value), by = both ? BigInt(value) - BigInt(old) : 0n;
-  const apart = both ? span("apart", by > 0n ? ` (+${by})` : ` (\u2212${-by})`) : null;
+  const difference = both ? span("apart", by > 0n ? ` (+${by})` : ` (\u2212${-by})`) : null;
   const from = typeof old === "string" && typeof value === "string" ? sharedLength(old, value) : 0;
-  return span("value change", span(old === null ? "old none" : "old", valueNode(old, most, from)), span("arrow", " → "), span("new", valueNode(value, most, from)), apart);
+  return span("value change", span(old === null ? "old none" : "old", valueNode(old, most, from)), span("arrow", " → "), span("new", valueNode(value, most, from)), difference);
 }
 
 // ---- lists
 const FEW_ITEMS = 6, MOST_PARTS = 24;
 // Compare two long lists: how many items are the same at the front and at the back, and what is between in each.
-export function listsApart(old, value) {
+export function differingParts(old, value) {
   if (!isList(old) || !isList(value) || Math.max(old.list.length, value.list.length) <= FEW_ITEMS) return null;
   const a = old.list, b = value.list, least = Math.min(a.length, b.length);
   let before = 0, behind = 0;
@@ -81,14 +81,14 @@ export function changeText(write) {
   if (!write.items) return replacedText(write.old, write.value);
   const size = `${write.isBag ? "bag" : "set"} of ${grouped(write.size)}`, added = write.items.filter(it => it[1] === 0), removed = write.items.filter(it => it[2] === 0);
   if (!write.items.length) return `unchanged, ${size}`;
-  const told = (list, what) => list.length === 0 ? [] : [list.length === 1 ? `${shortText(list[0][0])} ${what}` : `${grouped(list.length)} ${what}`];
+  const listed = (list, what) => list.length === 0 ? [] : [list.length === 1 ? `${shortText(list[0][0])} ${what}` : `${grouped(list.length)} ${what}`];
   const counted = write.items.length - added.length - removed.length, [element, was, now] = write.items.find(it => it[1] && it[2]) ?? [];
   const recounted = counted === 0 ? [] : [counted === 1 ? `${shortText(element)} ×${was} → ×${now}` : `${grouped(counted)} counts changed`];
-  return [...told(added, "added"), ...told(removed, "removed"), ...recounted, size].join(", ");
+  return [...listed(added, "added"), ...listed(removed, "removed"), ...recounted, size].join(", ");
 }
 function replacedText(old, value) {
   if (isSame(old, value)) return `${shortText(value)} unchanged`;
-  const lists = listsApart(old, value);
+  const lists = differingParts(old, value);
   if (!lists) return `${shortText(old)} → ${shortText(value)}`;
   const place = `[${lists.before}]: `, size = `list of ${grouped(lists.size)}`;
   if (lists.old.length === 1 && lists.now.length === 1) return `${place}${replacedText(lists.old[0], lists.now[0])}, ${size}`;

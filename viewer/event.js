@@ -1,11 +1,11 @@
 // The chosen event: the call and its answer, what changed, what it depended on, which events it is related to, and why a move
 // didn't fire.
-import { chainOf, chainText, madeStale, nearFire, ownRead, ownReads, retryOf, staledBy, tryBefore } from "./chains.js";
+import { chainOf, chainText, firesMadeStale, nearFire, ownRead, ownReads, retryOf, staledBy, tryBefore } from "./chains.js";
 import { changeNode } from "./change.js";
 import { answerText, button, elementNode, glyph, locationNode, make, moveLink, runName, span, valueNode, writerNodes } from "./nodes.js";
 import { act, kindOf, shown } from "./run.js";
 import { afterMoves, grouped, keyOf, plural } from "./terms.js";
-import { apartNode, clashNodes, doubtNote, isOther, wrongNote } from "./why.js";
+import { differenceNode, clashNodes, doubtNote, isOther, wrongNote } from "./why.js";
 
 const MOST_ITEMS = 24, MOST_ROWS = 300, MOST_STALED = 12, MOST_PRINTED = 8;
 
@@ -68,7 +68,7 @@ function whyClash(event, location, cause) {
 
 // Return the tries of a fire, and what its move made stale.
 function chain(event) {
-  const before = tryBefore(event), next = retryOf(event), later = event.kind === "stale" && !next ? nearFire(event, 1) : null, staled = madeStale(event), left = staled.length - MOST_STALED;
+  const before = tryBefore(event), next = retryOf(event), later = event.kind === "stale" && !next ? nearFire(event, 1) : null, staled = firesMadeStale(event), left = staled.length - MOST_STALED;
   const outcome = it => it.kind === "fired" ? `fired as move ${it.move}` : answerText(it.reply);
   const tries = chainOf(event);
   const lines = [
@@ -91,7 +91,7 @@ function readings(event) {
   const heads = event.isWrong ? ["Location", "In the journal", "Right", "Last written by"] : ["Location", "Value", "Last written by"];
   return block("What was read", table("What was read", heads, event.read.map((location, i) => [
     locationNode(location),
-    ...(isOther(event, i) ? [span("told", apartNode(event.reply.values[i], event.right.values[i])), apartNode(event.right.values[i], event.reply.values[i])]
+    ...(isOther(event, i) ? [span("told", differenceNode(event.reply.values[i], event.right.values[i])), differenceNode(event.right.values[i], event.reply.values[i])]
       : event.isWrong ? [value(event.reply, i), "the same"] : [value(event.reply, i)]),
     writerNodes(run.lastWrite(location, event.number)),
   ])));
@@ -108,14 +108,14 @@ function grounds(event) {
   const { run } = shown, reads = ownReads(event);
   if (!event.named.length) return block("What it depends on", make("p", { class: "soft" }, "Nothing: the move names no read."));
   return block("What it depends on", table("What it depends on", ["Location", "As of", "Value read", "Since then"], event.named.map(it => {
-    const { location, number } = it, since = run.writesSince(location, number, event), isThere = number <= event.before && run.isTold(number), read = ownRead(reads, it);
+    const { location, number } = it, since = run.writesSince(location, number, event), isThere = number <= event.before && run.isKnownAfter(number), read = ownRead(reads, it);
     const isUnput = isThere && !location.isPutIn(run.eventsTo(number));
     return [
       locationNode(location),
       [number && isThere ? button("link", `Go to move ${number}`, () => act.choose(run.eventsTo(number)), `move ${number}`) : number ? `move ${number}, ${number <= event.before ? "before the window" : "which is still to come"}` : "opening state",
         make("div", { class: "faint" }, ...read ? ["read in ", eventLink(read)] : [mayBeBefore(number) ? "not read in the window" : "not read"])],
       (!isUnput || readValue(read, location) ? readNode(read, location) : null) ?? (isUnput ? span("unput", "nothing yet put") : isThere ? valueNode(run.valueAt(location, run.eventsTo(number)), 8) : "unknown"),
-      since ? span("since", moveLink(since.first), " wrote it") : run.isTold(number) ? "not written" : "unknown",
+      since ? span("since", moveLink(since.first), " wrote it") : run.isKnownAfter(number) ? "not written" : "unknown",
     ];
   })));
 }

@@ -7,13 +7,13 @@ import { $, glyph, make, span } from "./nodes.js";
 import { act, isBad, shown } from "./run.js";
 import { grouped, isSame, locationText, shortText } from "./terms.js";
 
-const MOST_TOLD = 4;
+const MOST_NAMED = 4;
 
 // Return what the event did, with values, for a row of the list.
 function whatNodes(event) {
-  const { run } = shown, told = (list, text) => list.slice(0, MOST_TOLD).flatMap((it, i) => [i ? ", " : " ", span("name", it.label), " ", text(it, i)]).concat(list.length > MOST_TOLD ? ", …" : "");
-  if (event.kind === "fired") return [make("b", {}, `move ${event.move}`), span("names", told(event.writes.map(it => it.location), (_, i) => changeText(event.writes[i])))];
-  if (event.kind === "read") return ["read", span("names", told(event.read, (_, i) => shortText(event.reply.values[i])))];
+  const { run } = shown, named = (list, text) => list.slice(0, MOST_NAMED).flatMap((it, i) => [i ? ", " : " ", span("name", it.label), " ", text(it, i)]).concat(list.length > MOST_NAMED ? ", …" : "");
+  if (event.kind === "fired") return [make("b", {}, `move ${event.move}`), span("names", named(event.writes.map(it => it.location), (_, i) => changeText(event.writes[i])))];
+  if (event.kind === "read") return ["read", span("names", named(event.read, (_, i) => shortText(event.reply.values[i])))];
   if (event.kind === "stale") return ["stale", span("names", staleNodes(event, run.location(event.reply.stale)))];
   return event.kind === "clash" ? [`clash ${event.reply.clash[1]}`, span("names", " ", span("name", locationText(event.reply.clash[0])))] : "full";
 }
@@ -22,7 +22,7 @@ function whatNodes(event) {
 function staleNodes(event, location) {
   const { run } = shown;
   if (run.lastWrite(location, event.number)?.items) return [" ", span("name", location.label)];
-  const numbers = event.named.filter(it => it.location === location && it.number <= event.before && run.isTold(it.number)).map(it => it.number);
+  const numbers = event.named.filter(it => it.location === location && it.number <= event.before && run.isKnownAfter(it.number)).map(it => it.number);
   const values = numbers.length ? [run.valueAt(location, run.eventsTo(Math.min(...numbers))), run.valueAt(location, event.number)] : [];
   return [" ", span("name", location.label), values.length && !isSame(...values) ? ` ${changeText({ old: values[0], value: values[1] })}` : ""];
 }
@@ -30,8 +30,8 @@ const labelOf = (event, what) => `Event ${event.ordinal}, agent ${event.agent}: 
 function eventRow(i) {
   const event = shown.run.events[listItem(i)], isChosen = event.number === shown.count - 1, what = span("what", whatNodes(event));
   what.title = what.textContent;
-  const told = { role: "option", "aria-selected": String(isChosen), "aria-posinset": i + 1, "aria-setsize": listLength(), "aria-label": labelOf(event, what.textContent) };
-  return make("div", { class: "row event", id: `event-${event.number}`, ...told, onclick: () => act.choose(event.number + 1, { isPressed: true }) },
+  const attributes = { role: "option", "aria-selected": String(isChosen), "aria-posinset": i + 1, "aria-setsize": listLength(), "aria-label": labelOf(event, what.textContent) };
+  return make("div", { class: "row event", id: `event-${event.number}`, ...attributes, onclick: () => act.choose(event.number + 1, { isPressed: true }) },
     span("number", String(event.ordinal)), glyph(event.kind, isBad(event)), span("agent", `a${event.agent}`), what, event.isWrong ? span("tag wrong", "wrong") : null, event.doubt ? span("tag wrong", "doesn't agree") : null);
 }
 export const events = new List($("events"), ROW, {
@@ -44,7 +44,7 @@ export const events = new List($("events"), ROW, {
 const eventIndex = () => Math.min(isFiltered() ? listIndex(shown.count - 1) : shown.count - 1, listLength() - 1);
 export function showEvents() {
   events.show(eventIndex());
-  events.tell(`event-${shown.count - 1}`);
+  events.setActive(`event-${shown.count - 1}`);
   $("events-off").hidden = !shown.count || isListed(shown.count - 1);
 }
 

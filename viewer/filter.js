@@ -95,14 +95,14 @@ function isAbout(event, place) {
 // Return the call, the answer and the changes in lower case; for one location, only its values.
 function searchText(event, place) {
   const parts = place ? [] : [event.kind, `agent ${event.agent}`], isOf = it => !place || it === place;
-  const tell = (location, ...values) => isOf(location) && parts.push(...place ? [] : [location.label], ...values);
+  const add = (location, ...values) => isOf(location) && parts.push(...place ? [] : [location.label], ...values);
   if (!place && event.move) parts.push("move");
   if (!place && event.isWrong) parts.push("wrong");
   if (!place && event.doubt) parts.push("doubtful");
   if (!place && (event.reply.clash || event.reply.stale)) parts.push(answerText(event.reply));
-  for (const it of event.named ?? []) tell(it.location);
-  event.read?.forEach((it, i) => tell(it, valueText(event.reply.values[i])));
-  event.fire?.forEach((it, i) => tell(event.targets[i], it[0], it[0] === "put" ? valueText(it[2]) : elementText(it[2])));
+  for (const it of event.named ?? []) add(it.location);
+  event.read?.forEach((it, i) => add(it, valueText(event.reply.values[i])));
+  event.fire?.forEach((it, i) => add(event.targets[i], it[0], it[0] === "put" ? valueText(it[2]) : elementText(it[2])));
   for (const it of event.writes ?? []) if (!it.items && isOf(it.location)) parts.push(valueText(it.value));
   return withoutIsolates(parts.join(" ")).toLowerCase();
 }

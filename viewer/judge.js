@@ -110,11 +110,11 @@ class Counts {
 }
 function ofSet(content, partials, put) {
   if (put ? !isSet(put[2]) : content.kind !== "set") return "Kind";
-  const counts = new Map(), held = put ? new Set(put[2].set.map(itemKey)) : content.items;
+  const counts = new Map(), members = put ? new Set(put[2].set.map(itemKey)) : content.items;
   for (const [word, , element] of partials) {
     const key = itemKey(element), now = word === "add" ? 1 : 0, it = counts.get(key);
     if (it && it.now !== now) return "Both";
-    if (!it) counts.set(key, { was: held.has(key) ? 1 : 0, now });
+    if (!it) counts.set(key, { was: members.has(key) ? 1 : 0, now });
   }
   const effect = new Counts(counts);
   return !put ? effect : effect.changed ? "Against" : new Put(put[2]);

@@ -1,5 +1,5 @@
 // The lanes: one for each agent, along the events.
-import { chainOf, madeStale } from "./chains.js";
+import { chainOf, firesMadeStale } from "./chains.js";
 import { isFiltered, isListed } from "./filter.js";
 import { $ } from "./nodes.js";
 import { chosen, isBad, shown } from "./run.js";
@@ -31,10 +31,10 @@ export function fit() {
   resized();
 }
 
-let asked = 0;
+let frame = 0;
 export function draw() {
-  asked ||= requestAnimationFrame(() => {
-    asked = 0;
+  frame ||= requestAnimationFrame(() => {
+    frame = 0;
     if (!shown.run) return;
     drawLanes();
     drawTrack();
@@ -219,7 +219,7 @@ function drawDense(pen, from, to, room) {
   const { run } = shown, count = Math.ceil(room / COLUMN) + 1, all = new Columns(count * run.agents), listed = isFiltered() ? new Columns(count * run.agents) : all;
   const high = Math.max(2, view.lane - Math.min(6, view.lane / 4));
   // columns begin at a multiple of their width, so that they don't change when the view moves
-  const shift = Math.floor(view.from * view.scale / COLUMN), apart = shift * COLUMN - view.from * view.scale;
+  const shift = Math.floor(view.from * view.scale / COLUMN), distance = shift * COLUMN - view.from * view.scale;
   for (let number = from; number < to; number++) {
     const column = Math.floor((number + 0.5) * view.scale / COLUMN) - shift, event = run.events[number];
     if (column < 0 || column >= count) continue;
@@ -227,7 +227,7 @@ function drawDense(pen, from, to, room) {
     if (listed !== all && isListed(number)) listed.put(event.agent * count + column, event);
   }
   const wide = view.scale >= COLUMN ? COLUMN - 0.5 : COLUMN;
-  for (let i = 0; i < count * run.agents; i++) drawShares(pen, all, listed, i, GUTTER + i % count * COLUMN + apart, yOf(Math.floor(i / count)) - high / 2, wide, high);
+  for (let i = 0; i < count * run.agents; i++) drawShares(pen, all, listed, i, GUTTER + i % count * COLUMN + distance, yOf(Math.floor(i / count)) - high / 2, wide, high);
 }
 // Return the arcs of an event: from the last writes of what it read or depends on, from those that made it stale, and to what it
 // made stale.
@@ -240,7 +240,7 @@ function arcsOf(event) {
     put(run.writesSince(location, number, event)?.first, true);
   }
   const grounds = [...out.values()].map(([write, to, isStale]) => [at(write), to, isStale]);
-  return [...grounds.slice(0, MOST_ARCS), ...madeStale(event).slice(0, MOST_ARCS).map(it => [event, it, true])];
+  return [...grounds.slice(0, MOST_ARCS), ...firesMadeStale(event).slice(0, MOST_ARCS).map(it => [event, it, true])];
 }
 function drawArc(pen, from, to, isStale) {
   const x1 = xOf(from.number), y1 = yOf(from.agent), x2 = xOf(to.number), y2 = yOf(to.agent);

@@ -7,7 +7,7 @@ export const ROW = 26; // the height of a row, in pixels
 // function.
 export class List {
   constructor(box, height, rows) {
-    Object.assign(this, { box, height, rows, made: new Map(), top: 0 });
+    Object.assign(this, { box, height, rows, nodes: new Map(), top: 0 });
     this.holder = box.querySelector(".rows");
     box.addEventListener("scroll", () => {
       if (Math.abs(box.scrollTop - this.top) >= 1) this.show();
@@ -15,37 +15,37 @@ export class List {
   }
   // Forget the rows of the previous run.
   clear() {
-    this.made.clear();
+    this.nodes.clear();
     this.holder.replaceChildren();
     this.box.scrollTop = this.top = 0;
   }
   // Show the visible rows; if an index is given, scroll to its row.
   show(index = -1) {
-    const whole = top => Math.ceil(top / this.height) * this.height; // so that no row is cut off at the top
+    const toRow = top => Math.ceil(top / this.height) * this.height; // so that no row is cut off at the top
     const { box, height } = this, room = box.clientHeight - this.holder.offsetTop, count = this.rows.count();
     let top = box.scrollTop;
-    if (index >= 0 && index * height < top) top = whole(index * height - (room - height) / 3);
-    else if (index >= 0 && (index + 1) * height > top + room) top = whole((index + 1) * height - room + (room - height) / 3);
+    if (index >= 0 && index * height < top) top = toRow(index * height - (room - height) / 3);
+    else if (index >= 0 && (index + 1) * height > top + room) top = toRow((index + 1) * height - room + (room - height) / 3);
     this.top = Math.max(0, Math.min(top, count * height - room));
     this.fill(Math.max(0, Math.floor(this.top / height) - 4), Math.min(count, Math.ceil((this.top + box.clientHeight) / height) + 4), count);
     if (Math.abs(box.scrollTop - this.top) >= 1) box.scrollTop = this.top;
   }
   fill(from, to, count) {
-    const kept = new Map();
+    const current = new Map();
     for (let i = from; i < to; i++) {
       const sign = `${i} ${this.rows.sign(i)}`;
-      let row = this.made.get(sign);
+      let row = this.nodes.get(sign);
       if (!row) {
         row = this.rows.make(i);
         row.style.top = `${i * this.height}px`;
         for (const it of row.querySelectorAll("button")) it.tabIndex = -1; // the list is one stop of the Tab key
       }
-      kept.set(sign, row);
+      current.set(sign, row);
     }
-    if (!count) kept.set("", make("div", { class: "empty" }, this.rows.empty()));
+    if (!count) current.set("", make("div", { class: "empty" }, this.rows.empty()));
     this.holder.style.height = count ? `${count * this.height}px` : "";
-    this.made = kept;
-    const wanted = new Set(kept.values());
+    this.nodes = current;
+    const wanted = new Set(current.values());
     for (const row of [...this.holder.children]) if (!wanted.has(row)) row.remove();
     let next = this.holder.firstChild;
     for (const row of wanted) {
@@ -54,7 +54,7 @@ export class List {
     }
   }
   // Report the current row to screen readers, if it exists. Each row has its own id.
-  tell(id) {
+  setActive(id) {
     if (id && document.getElementById(id)) this.box.setAttribute("aria-activedescendant", id);
     else this.box.removeAttribute("aria-activedescendant");
   }

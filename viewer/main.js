@@ -1,6 +1,6 @@
 // Put the page together: what is shown, what is chosen, and the change from one run to another.
 import { addressed, beforeChange, changed, onAddress } from "./address.js";
-import { goesOn, tellGrowth, whereItWas } from "./beside.js";
+import { isContinuation, retainedView, speakGrowth } from "./beside.js";
 import { eventNode, eventText } from "./event.js";
 import { events, relist, renewEvents, showEvents, showHere } from "./events.js";
 import { filter } from "./filter.js";
@@ -78,7 +78,7 @@ function bringBack() {
 }
 
 // ---- showing
-let painting = 0, resting = 0, saying = 0, spoken = "";
+let painting = 0, announcing = 0, hiding = 0, spoken = "";
 act.show = () => {
   painting ||= requestAnimationFrame(() => {
     painting = 0;
@@ -101,20 +101,20 @@ function showNow() {
   draw();
   if (text === spoken) return;
   spoken = text;
-  clearTimeout(resting);
-  resting = setTimeout(() => tell(text), 200);
+  clearTimeout(announcing);
+  announcing = setTimeout(() => announce(text), 200);
 }
-function tell(text) {
+function announce(text) {
   $("spoken").textContent = text;
 }
 // Announce what would otherwise go unnoticed: to screen readers, and for a moment on the page.
 act.speak = text => {
-  tell(text);
-  clearTimeout(resting);
-  clearTimeout(saying);
+  announce(text);
+  clearTimeout(announcing);
+  clearTimeout(hiding);
   $("said").textContent = text;
   $("said").hidden = false;
-  saying = setTimeout(() => {
+  hiding = setTimeout(() => {
     $("said").hidden = true;
   }, 2400);
 };
@@ -122,7 +122,7 @@ act.speak = text => {
 // ---- another run
 let isFirst = true;
 act.showRun = run => {
-  const { name } = run, old = shown.run, isGrown = old !== null && goesOn(run, old), was = isGrown ? whereItWas(old) : null;
+  const { name } = run, old = shown.run, isGrown = old !== null && isContinuation(run, old), was = isGrown ? retainedView(old) : null;
   const start = isFirst ? addressed(run) : { count: 0, mark: null, at: null, condition: "", filter: {} };
   isFirst = false;
   Object.assign(shown, { run, count: 0, location: null, mark: null, holds: [], onsets: [], onset: null, plot: null, range: null });
@@ -132,8 +132,8 @@ act.showRun = run => {
   $("refused").hidden = true;
   $("name").textContent = name;
   document.title = `${name} – Folugben`;
-  $("warning").hidden = run.events.length === run.told;
-  $("warning").textContent = `This trace is cut off: it has ${plural(run.events.length, "event")} of ${grouped(run.told)}. What is there is shown.`;
+  $("warning").hidden = run.events.length === run.announced;
+  $("warning").textContent = `This trace is cut off: it has ${plural(run.events.length, "event")} of ${grouped(run.announced)}. What is there is shown.`;
   $("fit").textContent = `Whole ${runName()}`;
   $("of").textContent = `of ${grouped(run.movesIn(run.events.length))}`;
   $("slider").max = run.events.length;
@@ -153,7 +153,7 @@ function goOn({ count, mark, at, range }, old) {
   goTo({ count, mark, at, condition: conditionText(), filter: { ...filter } });
   shown.range = range;
   showRange();
-  tellGrowth(shown.run, old);
+  speakGrowth(shown.run, old);
 }
 // Show what an address names.
 function goTo({ count, mark, at, condition, filter }) {
@@ -177,7 +177,7 @@ function verdict(run) {
   const to = (list, text, title) => make("button", { class: "fact illegal", type: "button", title, onclick: () => act.choose(list[0] + 1) }, `${text}, the first at event ${run.events[list[0]].ordinal}`);
   if (run.doubted.length) return [to(run.doubted, `doesn't agree with itself: ${plural(run.doubted.length, "event")}`, "Go to the first event that doesn't agree with the trace")];
   if (run.wrong.length) return [to(run.wrong, `not legal: ${plural(run.wrong.length, "wrong answer")}`, "Go to the first wrong answer")];
-  const by = CHECKERS.includes(run.by) ? run.by : null, word = run.events.length === run.told ? "legal" : "legal so far";
+  const by = CHECKERS.includes(run.by) ? run.by : null, word = run.events.length === run.announced ? "legal" : "legal so far";
   return by ? [make("span", { class: "fact legal", title: `The trace was made of a journal by ${by}, which has checked each answer.` }, `${word}, checked by ${by}`)]
     : [make("span", { class: "fact legal", title: "Each answer agrees with the state that the trace's changes leave. This page alone has checked that: a proved check reads the journal." }, `${word}, checked by this page`)];
 }

@@ -45,17 +45,17 @@ class Follower {
 
 // An operand along the run: the content of one location, or a number that is computed from several.
 class Operand {
-  constructor(told, places, contents) {
-    Object.assign(this, { told, places, contents, of: new Set(places), numbers: new Map(), held: new Set(), sum: 0n, end: null });
+  constructor(expression, places, contents) {
+    Object.assign(this, { expression, places, contents, of: new Set(places), numbers: new Map(), nonEmpty: new Set(), sum: 0n, end: null });
   }
   begin() {
-    if (this.told.total) for (const it of this.places) this.change(it);
+    if (this.expression.total) for (const it of this.places) this.change(it);
   }
   change(place) {
-    if (!this.told.total) return;
+    if (!this.expression.total) return;
     const { value, kind } = this.contents.get(place), old = this.numbers.get(place) ?? null, now = kind === "element" && isNumber(value) ? BigInt(value) : null;
-    if (kind !== "element" || value !== null) this.held.add(place);
-    else this.held.delete(place);
+    if (kind !== "element" || value !== null) this.nonEmpty.add(place);
+    else this.nonEmpty.delete(place);
     this.sum += (now ?? 0n) - (old ?? 0n);
     if (now === null) this.numbers.delete(place);
     else this.numbers.set(place, now);
@@ -63,33 +63,33 @@ class Operand {
     else if (now !== null && this.end !== null && this.isBeyond(now, this.end)) this.end = now;
   }
   isBeyond(a, b) {
-    return this.told.total === "min" ? a < b : a > b;
+    return this.expression.total === "min" ? a < b : a > b;
   }
   // Return a number, or null if there is none.
   total() {
-    const { total } = this.told;
+    const { total } = this.expression;
     if (total === "sum") return plainNumber(this.sum);
-    if (total === "count") return this.held.size;
+    if (total === "count") return this.nonEmpty.size;
     if (!this.numbers.size) return null;
     if (this.end === null) for (const it of this.numbers.values()) if (this.end === null || this.isBeyond(it, this.end)) this.end = it;
     return plainNumber(this.end);
   }
   // Return the present number of the operand, at `place` or else at its first location; null if there is none.
   numberAt(place) {
-    const { told } = this;
-    if ("value" in told) return isNumber(told.value) ? told.value : null;
-    if (told.total) return this.total();
+    const { expression } = this;
+    if ("value" in expression) return isNumber(expression.value) ? expression.value : null;
+    if (expression.total) return this.total();
     const content = this.contents.get(place ?? this.places[0]);
     if (!content) return null;
-    if (told.part === "size") return content.items?.size ?? null;
-    if (told.part === "count") return content.kind === "bag" ? content.countOf(told.element) : null;
+    if (expression.part === "size") return content.items?.size ?? null;
+    if (expression.part === "count") return content.kind === "bag" ? content.countOf(expression.element) : null;
     return content.kind === "element" && isNumber(content.value) ? content.value : null;
   }
   contentAt(place) {
     return this.contents.get(place ?? this.places[0]) ?? null;
   }
   get isContent() {
-    return !this.told.total && !this.told.part && !("value" in this.told);
+    return !this.expression.total && !this.expression.part && !("value" in this.expression);
   }
 }
 const plainNumber = big => big >= -9007199254740991n && big <= 9007199254740991n ? Number(big) : big;
@@ -108,10 +108,10 @@ function holdsAt({ left, order, right }, operands, place, changed) {
 }
 const isChange = write => write.items ? write.items.length > 0 : !isSame(write.old, write.value);
 function isEqual(a, b, place) {
-  if (!a.isContent) return b.isContent ? isNumberIn(b.contentAt(), a.numberAt(place)) : "value" in a.told ? isSame(a.told.value, b.told.value) : isSame(a.numberAt(place), b.numberAt());
+  if (!a.isContent) return b.isContent ? isNumberIn(b.contentAt(), a.numberAt(place)) : "value" in a.expression ? isSame(a.expression.value, b.expression.value) : isSame(a.numberAt(place), b.numberAt());
   const content = a.contentAt(place);
   if (!content) return false;
-  return "value" in b.told ? content.equals(b.told.value) : b.isContent ? !!b.contentAt() && content.equals(b.contentAt().whole()) : isNumberIn(content, b.numberAt());
+  return "value" in b.expression ? content.equals(b.expression.value) : b.isContent ? !!b.contentAt() && content.equals(b.contentAt().whole()) : isNumberIn(content, b.numberAt());
 }
 const isNumberIn = (content, number) => number !== null && content?.kind === "element" && content.value === number;
 

@@ -56,7 +56,7 @@ export function elementNode(x, from = 0, room = { left: MOST_LIST }) {
 }
 function longText(text, start, most) {
   const piece = cut(text, start, start + most), left = text.length - piece.length;
-  const rest = left ? restNode("long", `${grouped(left)} more letters`, () => longText(text, 0, start + most + MORE)) : null;
+  const rest = left ? moreNode("long", `${grouped(left)} more letters`, () => longText(text, 0, start + most + MORE)) : null;
   return span("long text", start ? "…" : "", elementText(piece), left ? [start + most < text.length ? "… " : " ", rest] : null);
 }
 // Return a node for a list with its inner lists. It shows as many elements as there is room for.
@@ -68,7 +68,7 @@ function listNode(list, room) {
     items.push(...items.length ? [span("mark", ", ")] : [], elementNode(it, 0, room));
   }
   const left = list.length - Math.ceil(items.length / 2);
-  return span("long", span("mark", "["), items, left > 0 ? [" ", restNode("long", `${grouped(left)} more`, () => listNode(list, { left: Math.max(0, most) + MORE }))] : null, span("mark", "]"));
+  return span("long", span("mark", "["), items, left > 0 ? [" ", moreNode("long", `${grouped(left)} more`, () => listNode(list, { left: Math.max(0, most) + MORE }))] : null, span("mark", "]"));
 }
 export function locationNode(location) {
   return button("location", `All writes of ${location.label}`, () => act.chooseLocation(location), location.label);
@@ -77,7 +77,7 @@ export const itemNode = (kind, element, count) => [span(`item ${kind}`, span("",
 export const times = n => span("count", ` ×${n}`);
 // A button for what is left out. A press replaces the node that contains it with one that shows more.
 export const MORE = 2000;
-export function restNode(kind, text, more) {
+export function moreNode(kind, text, more) {
   return button("item rest", "Show more", event => event.currentTarget.closest(`.${kind}`).replaceWith(more()), text);
 }
 // Return a tag that says what kind of set or bag it is, and how large.
@@ -96,7 +96,7 @@ export function valueNode(value, most = Infinity, from = 0) {
   out.append(sizeNode(isBags, items.length, isBags ? items.reduce((all, it) => all + it[1], 0) : 0), " ");
   if (!items.length) out.append(span("undef", "empty"));
   for (const [element, count] of left > 0 ? items.slice(0, most) : items) out.append(...itemNode("", element, isBags ? times(count) : null));
-  if (left > 0) out.append(restNode("value", `${grouped(left)} more`, () => valueNode(value, most + MORE)));
+  if (left > 0) out.append(moreNode("value", `${grouped(left)} more`, () => valueNode(value, most + MORE)));
   return out;
 }
 

@@ -12,9 +12,9 @@ function eventAt(pointer) {
   if (exact < view.from) return -1;
   let number = Math.floor(exact);
   if (view.scale < ENOUGH && run.byAgent[agent]?.length) { // the nearest event of the lane, if it is near
-    const list = run.byAgent[agent], i = firstFrom(list, exact), apart = it => Math.abs(it + 0.5 - exact);
-    const near = [list[i - 1], list[i]].filter(it => it !== undefined).sort((a, b) => apart(a) - apart(b))[0];
-    if (apart(near) * view.scale < 6) number = near;
+    const list = run.byAgent[agent], i = firstFrom(list, exact), distance = it => Math.abs(it + 0.5 - exact);
+    const near = [list[i - 1], list[i]].filter(it => it !== undefined).sort((a, b) => distance(a) - distance(b))[0];
+    if (distance(near) * view.scale < 6) number = near;
   }
   return number >= 0 && number < run.events.length ? number : -1;
 }

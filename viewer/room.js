@@ -2,14 +2,14 @@
 import { draw } from "./lanes.js";
 import { $ } from "./nodes.js";
 import { shown } from "./run.js";
-import { AXIS, LANES_REST, reveal, setHeight, USUAL_LANE } from "./sight.js";
+import { AXIS, LANES_MARGIN, reveal, setHeight, USUAL_LANE } from "./sight.js";
 import { showTrack } from "./strip.js";
 
-const LEAST_HIGH = AXIS + 24, MOST_HIGH = 640, STEP = 24, MOST_PART = 0.35, KEPT = "folugben-lanes";
+const LEAST_HIGH = AXIS + 24, MOST_HIGH = 640, STEP = 24, MOST_PART = 0.35, STORAGE_KEY = "folugben-lanes";
 // What the person chose: a height, 0 if the lanes are folded, or null for the usual height.
 let wanted = null, unfolded = null; // and the height after unfolding
 try {
-  const found = Number.parseInt(localStorage.getItem(KEPT) ?? "", 10);
+  const found = Number.parseInt(localStorage.getItem(STORAGE_KEY) ?? "", 10);
   if (found >= 0) wanted = Math.min(MOST_HIGH, found);
 } catch {
   // some browsers store nothing for a file
@@ -24,7 +24,7 @@ function left() {
   return $("lanes-box").offsetHeight + document.querySelector(".panes").offsetHeight - (shown.location ? LEAST_WITH_WRITES : LEAST_PANES);
 }
 // The usual height: each agent has a lane high enough for its name, up to a share of the window, if the panes still have room.
-const usual = () => Math.max(LANES_REST + 2 * USUAL_LANE, Math.min(Math.round(innerHeight * MOST_PART), LANES_REST + Math.max(3, shown.run.agents) * USUAL_LANE, left()));
+const usual = () => Math.max(LANES_MARGIN + 2 * USUAL_LANE, Math.min(Math.round(innerHeight * MOST_PART), LANES_MARGIN + Math.max(3, shown.run.agents) * USUAL_LANE, left()));
 // Set the height of the lanes; return whether it has changed.
 export function fitLanes() {
   const high = wanted ?? usual(), isFolded = high === 0, box = $("lanes-box"), before = `${box.hidden} ${box.style.maxHeight}`;
@@ -49,8 +49,8 @@ function setRoom(high) {
   if (wanted !== 0) unfolded = wanted;
   wanted = high === null ? null : high < LEAST_HIGH ? 0 : Math.min(MOST_HIGH, Math.round(high));
   try {
-    if (wanted === null) localStorage.removeItem(KEPT);
-    else localStorage.setItem(KEPT, wanted);
+    if (wanted === null) localStorage.removeItem(STORAGE_KEY);
+    else localStorage.setItem(STORAGE_KEY, wanted);
   } catch {
     // as above
   }

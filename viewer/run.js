@@ -12,10 +12,10 @@ export const isBad = event => event.isWrong || !!event.doubt;
 
 // Return the right answer to a read, with its values: if the trace lists positions that differ, those of the state.
 function rightValues({ read, reply }, { differs, number }) {
-  const values = [...reply.values], made = new Map();
+  const values = [...reply.values], complete = new Map();
   for (const i of differs) {
-    if (!made.has(read[i])) made.set(read[i], read[i].content.whole());
-    values[i] = made.get(read[i]);
+    if (!complete.has(read[i])) complete.set(read[i], read[i].content.whole());
+    values[i] = complete.get(read[i]);
   }
   return { number, values, differs };
 }
@@ -38,8 +38,8 @@ class Place {
     return this.text ??= locationText(this.at);
   }
   // Apply a change of the trace; return false if it isn't one of what the location holds.
-  take(write, told) {
-    const fits = told.length === 2 ? this.replace(write, told) : this.alter(write, told[0]);
+  take(write, change) {
+    const fits = change.length === 2 ? this.replace(write, change) : this.alter(write, change[0]);
     this.times.push(write.event);
     this.writes.push(write);
     return fits;
@@ -51,10 +51,10 @@ class Place {
     this.debt = 0;
     return fits;
   }
-  alter(write, told) {
-    const isBags = "counts" in told;
+  alter(write, change) {
+    const isBags = "counts" in change;
     write.isBag = isBags;
-    write.items = isBags ? told.counts : [...told.added.map(it => [it, 0, 1]), ...told.removed.map(it => [it, 1, 0])].sort((a, b) => byElement(a[0], b[0]));
+    write.items = isBags ? change.counts : [...change.added.map(it => [it, 0, 1]), ...change.removed.map(it => [it, 1, 0])].sort((a, b) => byElement(a[0], b[0]));
     const fits = this.content.kind === (isBags ? "bag" : "set") && write.items.every(([it, was, now]) => was !== now && this.content.countOf(it) === was);
     if (!fits) return false;
     this.content.follow(write.items);
@@ -62,7 +62,7 @@ class Place {
     // A complete value is stored after as many changes as it has items, so all these values take no more room than the changes.
     this.debt += write.items.length + 1;
     if (this.debt >= Math.max(FEW, write.size)) {
-      write.kept = this.content.whole();
+      write.snapshot = this.content.whole();
       this.debt = 0;
     }
     return true;
@@ -74,8 +74,8 @@ class Place {
     if (!write.items) return write.value;
     if (this.last.index === index) return this.last.value;
     let from = index;
-    while (from >= 0 && this.writes[from].items && !this.writes[from].kept) from--;
-    const base = from < 0 ? this.opening : this.writes[from].items ? this.writes[from].kept : this.writes[from].value;
+    while (from >= 0 && this.writes[from].items && !this.writes[from].snapshot) from--;
+    const base = from < 0 ? this.opening : this.writes[from].items ? this.writes[from].snapshot : this.writes[from].value;
     const content = new Content(base);
     for (let i = from + 1; i <= index; i++) content.follow(this.writes[i].items);
     this.last = { index, value: content.whole() };
@@ -109,7 +109,7 @@ export class Run {
     const { agents, capacity, events, part = null, from = 0, moves = 0 } = header;
     // In a window of a segment, `from` events with `moves` moves precede it, of which nothing is known. Its events count from 0
     // here, and are shown with their numbers in the segment; so are its moves.
-    Object.assign(this, { agents, capacity, told: events, part, from, movesBefore: moves });
+    Object.assign(this, { agents, capacity, announced: events, part, from, movesBefore: moves });
     this.events = [];
     this.locations = new Map();
     this.moves = []; // the events of the fired moves
@@ -128,7 +128,7 @@ export class Run {
   add(line) {
     const number = this.events.length;
     checkEvent(line, this.from + number, this.agents);
-    if (number === this.told) throw new Fault(`the header counts ${number} events, and this is one more`);
+    if (number === this.announced) throw new Fault(`the header counts ${number} events, and this is one more`);
     const { agent, call, reply } = line;
     const event = { number, ordinal: line.event, agent, kind: kindOf(reply), reply, right: line.right, isWrong: "right" in line, before: this.movesBefore + this.moves.length };
     if ("read" in call) {
@@ -156,9 +156,9 @@ export class Run {
   fire(event, updates) {
     this.moves.push(event.number);
     event.move = this.movesBefore + this.moves.length;
-    event.writes = updates.map(([at, ...told]) => {
+    event.writes = updates.map(([at, ...change]) => {
       const location = event.targets.find(it => isSame(it.at, at)) ?? this.location(at), write = { event: event.number, move: event.move, agent: event.agent, location, index: location.writes.length };
-      if (!location.take(write, told)) throw new Fault(`its change at ${location.label} doesn't fit the value there`);
+      if (!location.take(write, change)) throw new Fault(`its change at ${location.label} doesn't fit the value there`);
       return write;
     });
   }
@@ -187,7 +187,7 @@ export class Run {
     return index <= 0 ? 0 : index > this.moves.length ? this.events.length : this.moves[index - 1] + 1;
   }
   // Return whether the state after this many moves is known. Before a window it isn't.
-  isTold(moves) {
+  isKnownAfter(moves) {
     return moves >= this.movesBefore;
   }
   lastWrite(location, count) {
@@ -202,7 +202,7 @@ export class Run {
   }
   // Return the writes of the location by moves above that number, before the event. Those before a window are unknown.
   writesSince(location, number, event) {
-    if (!this.isTold(number)) return null;
+    if (!this.isKnownAfter(number)) return null;
     const from = firstFrom(location.writes, number + 1, it => it.move), to = firstFrom(location.times, event.number);
     return from < to ? { first: location.writes[from], count: to - from } : null;
   }
@@ -256,15 +256,15 @@ const MOST_LINE = 2 ** 27;
 class Lines {
   constructor(ends) {
     this.ends = ends;
-    this.rest = "";
+    this.unread = "";
     this.number = 0;
     this.run = null;
   }
   // Return the lines that end within the text. What is behind them begins the next line.
   of(text) {
-    const lines = (this.rest + text).split("\n");
-    this.rest = lines.pop();
-    if (this.rest.length > MOST_LINE) throw new Fault("This is no trace: one of its lines has no end.");
+    const lines = (this.unread + text).split("\n");
+    this.unread = lines.pop();
+    if (this.unread.length > MOST_LINE) throw new Fault("This is no trace: one of its lines has no end.");
     return lines;
   }
   take(line) {
@@ -285,16 +285,16 @@ class Lines {
   }
   // A trace that was cut off has fewer events than its header counts. Half a line at its end is left out.
   finish() {
-    if (!this.run && !this.rest) throw new Fault("This file is empty.");
-    if (!this.run) this.take(this.rest);
-    else if (this.rest) this.takeLast();
+    if (!this.run && !this.unread) throw new Fault("This file is empty.");
+    if (!this.run) this.take(this.unread);
+    else if (this.unread) this.takeLast();
     return this.run.finish();
   }
   takeLast() {
     try {
-      this.take(this.rest);
+      this.take(this.unread);
     } catch (fault) {
-      if (this.run.events.length === this.run.told) throw fault;
+      if (this.run.events.length === this.run.announced) throw fault;
     }
   }
 }

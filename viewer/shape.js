@@ -117,23 +117,23 @@ function checkInstruction(it) {
 }
 function checkChange(change) {
   need(Array.isArray(change) && (change.length === 2 || change.length === 3), "one of its `updates` is no change");
-  const [at, told] = change;
+  const [at, difference] = change;
   checkLocation(at);
   if (change.length === 3) return change.slice(1).forEach(checkValue);
-  need(isObject(told), "one of its `updates` is no change");
-  if ("counts" in told) {
-    members(told, ["counts"], "a change");
-    listOf(told.counts, Infinity, it => {
+  need(isObject(difference), "one of its `updates` is no change");
+  if ("counts" in difference) {
+    members(difference, ["counts"], "a change");
+    listOf(difference.counts, Infinity, it => {
       need(Array.isArray(it) && it.length === 3, "one of its `counts` isn't an element with two counts");
       checkElement(it[0]);
       checkCount(it[1], 0);
       checkCount(it[2], 0);
     }, "`counts`");
-    return told.counts.length > 1 ? ascending(told.counts.map(firstOf), byElement, "the elements of `counts`") : undefined;
+    return difference.counts.length > 1 ? ascending(difference.counts.map(firstOf), byElement, "the elements of `counts`") : undefined;
   }
-  members(told, ["added", "removed"], "a change");
-  checkElements(told.added, "`added`");
-  checkElements(told.removed, "`removed`");
+  members(difference, ["added", "removed"], "a change");
+  checkElements(difference.added, "`added`");
+  checkElements(difference.removed, "`removed`");
 }
 
 function checkPair(pair) {
@@ -218,7 +218,7 @@ export class Content {
 
 // Return what two sets or bags contain a different number of times, each with its count in both; null if they aren't two sets or
 // two bags.
-export function itemsApart(a, b) {
+export function differingItems(a, b) {
   if (formOf(a) === "element" || formOf(a) !== formOf(b)) return null;
   const was = new Content(a), now = new Content(b), out = [];
   for (const [element, count] of itemsOf(a)) if (now.countOf(element) !== count) out.push([element, count, now.countOf(element)]);

@@ -3,7 +3,7 @@ import { $ } from "./nodes.js";
 import { chosen, isBad, KINDS, shown } from "./run.js";
 
 // The axis has a row of events and one of moves.
-export const GUTTER = 72, AXIS_ROW = 16, AXIS = 2 * AXIS_ROW + 6, USUAL_LANE = 18, LANES_REST = AXIS + 8;
+export const GUTTER = 72, AXIS_ROW = 16, AXIS = 2 * AXIS_ROW + 6, USUAL_LANE = 18, LANES_MARGIN = AXIS + 8;
 const MOST_SCALE = 72, MOST_LANE = 30;
 const COLORS = ["fired", "read", "stale", "clash", "full", "wrong", "ink", "soft", "faint", "line", "accent", "wash", "place", "holds", "on-accent", "raised"];
 export const colors = {};
@@ -34,7 +34,7 @@ export function renewSight() {
 }
 // Share that height among the lanes, as far as possible.
 export function setHeight(high) {
-  view.lane = Math.max(USUAL_LANE, Math.min(MOST_LANE, Math.floor((high - LANES_REST) / Math.max(1, shown.run.agents))));
+  view.lane = Math.max(USUAL_LANE, Math.min(MOST_LANE, Math.floor((high - LANES_MARGIN) / Math.max(1, shown.run.agents))));
   $("lanes").style.height = `${lanesHigh()}px`; // at once, so that the lanes can be scrolled to the chosen event
 }
 export const lanesHigh = () => AXIS + Math.max(1, shown.run.agents) * view.lane + 6;

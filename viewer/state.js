@@ -4,7 +4,7 @@ import { hasAll, termsOf } from "./filter.js";
 import { List, ROW } from "./lists.js";
 import { $, beginningText, glyph, locationNode, make, moveLink, span, valueNode } from "./nodes.js";
 import { act, chosen, isBad, shown } from "./run.js";
-import { itemsApart } from "./shape.js";
+import { differingItems } from "./shape.js";
 import { firstFrom, grouped, keyOf, plural, valueText, withoutIsolates } from "./terms.js";
 
 let rows = []; // the locations in the list
@@ -39,7 +39,7 @@ function isDifferent(location) {
 }
 // Return how the location differs between both moments, in the form of a write.
 function differenceAt(location) {
-  const { run } = shown, [from, to] = ends(), old = run.valueAt(location, from), value = run.valueAt(location, to), items = itemsApart(old, value);
+  const { run } = shown, [from, to] = ends(), old = run.valueAt(location, from), value = run.valueAt(location, to), items = differingItems(old, value);
   if (!items) return { location, old, value };
   return { location, items, isBag: "bag" in value, size: (value.set ?? value.bag).length, index: location.indexBefore(to) };
 }
@@ -50,10 +50,10 @@ $("state-compare").addEventListener("click", () => act.mark(isComparing() ? null
 function stateRow(i) {
   const { run, count } = shown, location = rows[i], mark = marks.get(location), at = isComparing() ? ends()[1] : count, write = run.lastWrite(location, at), value = run.valueAt(location, at);
   const kind = mark ? mark.kind : value === null ? "nothing" : "", isChosen = location === shown.location;
-  const told = isComparing() ? changeNode(differenceAt(location), 4, true) : mark?.write ? changeNode(mark.write, 4, true) : valueNode(value, 8);
+  const content = isComparing() ? changeNode(differenceAt(location), 4, true) : mark?.write ? changeNode(mark.write, 4, true) : valueNode(value, 8);
   return make("div", { class: `row place ${kind} ${location === shown.onset ? "onset" : ""}`, id: `place-${i}`, role: "row", "aria-rowindex": i + 2, "aria-selected": String(isChosen), onclick: () => act.chooseLocation(location) },
     make("span", { role: "gridcell", title: location.label }, locationNode(location)),
-    make("span", { role: "gridcell", title: valueText(value).slice(0, 600) }, told),
+    make("span", { role: "gridcell", title: valueText(value).slice(0, 600) }, content),
     make("span", { role: "gridcell", class: "by" }, write ? [moveLink(write), ` a${write.agent}`] : value !== null || run.from ? beginningText().toLowerCase() : "not yet written"));
 }
 export const state = new List($("state"), ROW, {
@@ -80,7 +80,7 @@ export function showState() {
   countShown = shown.count;
   const isSeen = first < 0 || rows.some((it, i) => marks.has(it) && state.sees(i));
   state.show(isSeen ? -1 : first);
-  state.tell(location ? `place-${rows.indexOf(location)}` : null);
+  state.setActive(location ? `place-${rows.indexOf(location)}` : null);
 }
 // Bring a location into sight, if it is listed.
 export function revealAt(place) {
@@ -132,8 +132,8 @@ function findItems() {
 const itemIndex = () => firstFrom(items, shown.count, it => it.event);
 function writeRow(i) {
   const now = itemIndex(), item = items[i - 1], isNow = i === now, event = i ? shown.run.events[item.event] : null;
-  const kind = `row write ${isNow ? "now" : ""} ${i > now ? "later" : ""}`, told = { role: "option", "aria-selected": String(isNow), "aria-posinset": i + 1, "aria-setsize": items.length + 1 };
-  return make("div", { class: kind, id: `write-${i}`, ...told, onclick: () => act.choose(i ? item.event + 1 : 0, { isPressed: true }) },
+  const kind = `row write ${isNow ? "now" : ""} ${i > now ? "later" : ""}`, attributes = { role: "option", "aria-selected": String(isNow), "aria-posinset": i + 1, "aria-setsize": items.length + 1 };
+  return make("div", { class: kind, id: `write-${i}`, ...attributes, onclick: () => act.choose(i ? item.event + 1 : 0, { isPressed: true }) },
     span("", !i ? (shown.run.from ? "before" : "opening") : item.write ? `move ${item.write.move}` : `event ${event.ordinal}`), span("", i ? `agent ${event.agent}` : ""),
     span("", !i ? valueNode(shown.location.opening, 8) : item.write ? changeNode(item.write, 5, true) : [glyph(event.kind, isBad(event)), ` ${HOW[item.how]}`]));
 }
@@ -153,7 +153,7 @@ export function showWrites(isFresh = false) {
   itemsOfLocation = location;
   $("writes-title").replaceChildren(span("at", location.label), span("faint", plural(location.writes.length, "write")));
   writes.show(itemIndex());
-  writes.tell(`write-${itemIndex()}`);
+  writes.setActive(`write-${itemIndex()}`);
 }
 $("writes-reads").addEventListener("change", () => showWrites(true));
 $("writes").addEventListener("keydown", event => {

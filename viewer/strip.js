@@ -7,7 +7,7 @@ import { cut, firstFrom, grouped } from "./terms.js";
 
 export const STRIP = 28;
 const STRIP_COLUMN = 3, MOST_WIDE = 9;
-let kept = null; // the picture of the shares, until the run, the size, the list or the colors change
+let cached = null; // the picture of the shares, until the run, the size, the list or the colors change
 const stripX = (number, wide) => GUTTER + number / Math.max(1, shown.run.events.length) * (wide - GUTTER);
 
 function paintShares(pen, wide) {
@@ -26,12 +26,12 @@ function paintShares(pen, wide) {
 }
 function picture(wide) {
   const ratio = window.devicePixelRatio || 1, sign = `${wide} ${ratio} ${view.painted} ${listVersion()}`, { run } = shown;
-  if (kept?.run === run && kept.sign === sign) return kept.canvas;
+  if (cached?.run === run && cached.sign === sign) return cached.canvas;
   const canvas = document.createElement("canvas"), pen = canvas.getContext("2d");
   [canvas.width, canvas.height] = [Math.round(wide * ratio), Math.round(STRIP * ratio)];
   pen.setTransform(ratio, 0, 0, ratio, 0, 0);
   paintShares(pen, wide);
-  kept = { run, sign, canvas };
+  cached = { run, sign, canvas };
   return canvas;
 }
 export function drawStrip() {
@@ -176,14 +176,14 @@ function drawValue(pen, wide) {
   pen.fillStyle = pointed === null ? colors.accent : colors.soft;
   pen.fillRect(x - 0.5, 0, 1, TRACK);
   if (number === null) return;
-  const y = yOfNumber(number), told = grouped(number), isLeft = x > wide - 90;
+  const y = yOfNumber(number), label = grouped(number), isLeft = x > wide - 90;
   pen.beginPath();
   pen.arc(x, y, 3, 0, 7);
   pen.fill();
   pen.textAlign = isLeft ? "right" : "left";
   pen.font = `600 11px ${view.font}`;
   pen.fillStyle = colors.ink;
-  pen.fillText(told, x + (isLeft ? -7 : 7), Math.min(TRACK - EDGE, Math.max(EDGE + (y < TRACK / 2 ? 13 : 0), y)));
+  pen.fillText(label, x + (isLeft ? -7 : 7), Math.min(TRACK - EDGE, Math.max(EDGE + (y < TRACK / 2 ? 13 : 0), y)));
 }
 
 const countAt = pointer => Math.max(0, Math.min(shown.run.events.length, Math.floor(view.from + (pointer.clientX - $("track").getBoundingClientRect().left - GUTTER) / view.scale) + 1));

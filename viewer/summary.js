@@ -45,8 +45,8 @@ function blocksOf(run) {
   return run.counted.map(({ title, note, lines, all }) => linesBlock(title, lines, all, note));
 }
 function counted(run) {
-  const answered = kind => run.byKind[kind].map(it => run.events[it]), answer = it => it.right ?? it.reply;
-  const stale = answered("stale"), clashes = answered("clash"), unput = ofKind("unput").map(it => run.events[it]);
+  const eventsOf = kind => run.byKind[kind].map(it => run.events[it]), answer = it => it.right ?? it.reply;
+  const stale = eventsOf("stale"), clashes = eventsOf("clash"), unput = ofKind("unput").map(it => run.events[it]);
   const stales = { kind: "stale" }, clash = { kind: "clash" };
   return [
     { title: "Stale fires by location", all: stale.length, lines: byPlace(stale, it => [answer(it).stale], stales) },

@@ -43,8 +43,8 @@ function rankOf(x) {
   return x === null ? 0 : 5;
 }
 export function byElement(a, b) {
-  const rank = rankOf(a), apart = rank - rankOf(b);
-  if (apart || rank < 3) return apart;
+  const rank = rankOf(a), order = rank - rankOf(b);
+  if (order || rank < 3) return order;
   if (rank === 3) return a < b ? -1 : a > b ? 1 : 0;
   return rank === 4 ? byText(a, b) : byItems(a.list, b.list, 0);
 }
@@ -61,15 +61,15 @@ const lifted = unit => unit < 0xd800 ? unit : unit < 0xe000 ? unit + 0x2000 : un
 function byItems(a, b, from) {
   if (a.length !== b.length) return a.length - b.length;
   for (let i = from; i < a.length; i++) {
-    const apart = byElement(a[i], b[i]);
-    if (apart) return apart;
+    const order = byElement(a[i], b[i]);
+    if (order) return order;
   }
   return 0;
 }
 export const byLocation = (a, b) => byText(a[0], b[0]) || byItems(a, b, 1);
 
 // Characters that are invisible, look like a space, or change the direction of writing. They are written as JSON escapes them.
-const UNSEEN = /(?! )[\p{Cc}\p{Cf}\p{Cs}\p{Z}\p{Default_Ignorable_Code_Point}\u2800]/gu;
+const INVISIBLE = /(?! )[\p{Cc}\p{Cf}\p{Cs}\p{Z}\p{Default_Ignorable_Code_Point}\u2800]/gu;
 // Letters of scripts from right to left, with their digits and marks.
 const FROM_RIGHT = /[\u0590-\u08ff\ufb1d-\ufdff\ufe70-\ufeff\u{10800}-\u{10fff}\u{1e800}-\u{1efff}]/u;
 const escaped = it => Array.from({ length: it.length }, (_, i) => `\\u${it.charCodeAt(i).toString(16).padStart(4, "0")}`).join("");
@@ -78,11 +78,11 @@ const alone = text => FROM_RIGHT.test(text) ? `\u2068${text}\u2069` : text;
 export const withoutIsolates = text => text.replace(/[\u2068\u2069]/g, "");
 const PLAIN = /^[ -~]*$/;
 function quoted(text) {
-  const told = JSON.stringify(text);
-  return PLAIN.test(told) ? told : alone(told.replace(UNSEEN, escaped));
+  const json = JSON.stringify(text);
+  return PLAIN.test(json) ? json : alone(json.replace(INVISIBLE, escaped));
 }
 // A text from outside that is no value, such as a file's name.
-export const plainText = text => alone(text.replace(UNSEEN, escaped));
+export const plainText = text => alone(text.replace(INVISIBLE, escaped));
 export function elementText(x) {
   if (x === null) return "undef";
   if (typeof x === "string") return quoted(x);
@@ -116,11 +116,11 @@ export function sharedLength(a, b) {
 }
 
 // Return the word that is nearest to a text, if few of its letters differ.
-export function nearestOf(text, words) {
+export function nearestName(text, words) {
   const least = Math.max(2, Math.floor(text.length / 3)) + 1;
-  return [...words].map(it => [lettersApart(text.toLowerCase(), it.toLowerCase()), it]).filter(it => it[0] < least).sort((a, b) => a[0] - b[0])[0]?.[1] ?? null;
+  return [...words].map(it => [editDistance(text.toLowerCase(), it.toLowerCase()), it]).filter(it => it[0] < least).sort((a, b) => a[0] - b[0])[0]?.[1] ?? null;
 }
-function lettersApart(a, b) {
+function editDistance(a, b) {
   let row = Array.from({ length: b.length + 1 }, (_, i) => i);
   for (let i = 1; i <= a.length; i++) {
     const next = [i];

@@ -5,10 +5,10 @@ import { isByPlace, momentsOf, placesOf, plotted, rangeOf, seriesOf } from "./mo
 import { $, make } from "./nodes.js";
 import { act, shown } from "./run.js";
 import { revealAt } from "./state.js";
-import { firstFrom, grouped, isNumber, nearestOf, plural, shortText, withoutIsolates } from "./terms.js";
+import { firstFrom, grouped, isNumber, nearestName, plural, shortText, withoutIsolates } from "./terms.js";
 
 let condition = null; // the present condition, with its text and the location that was chosen then
-let fault = "", isTold = true; // what is wrong with it, and whether that is shown yet
+let fault = "", isFaultShown = true; // what is wrong with it, and whether that is shown yet
 let range = null, at = -1; // the smallest and greatest number of its first operand, and the moment of it that was visited
 
 export const conditionText = () => condition?.text ?? "";
@@ -18,7 +18,7 @@ export function watch(text) {
   fault = "";
   if (text.trim()) {
     try {
-      condition = { text: text.trim(), told: readCondition(text) };
+      condition = { text: text.trim(), tree: readCondition(text) };
     } catch (found) {
       if (!(found instanceof Fault)) throw found;
       fault = found.message;
@@ -33,18 +33,18 @@ function findMoments() {
   range = null;
   if (condition) {
     condition.of = location;
-    fault = lackOf(condition.told);
-    if (!fault) take(condition.told);
+    fault = lackOf(condition.tree);
+    if (!fault) take(condition.tree);
   }
   if (!shown.plot && location && (location.writes.some(it => isNumber(it.value)) || isNumber(location.opening))) plot({ pattern: null });
-  function take(told) {
-    const operand = plotted(told);
-    if (!isOperand(told)) {
-      const { stretches, onsets } = momentsOf(run, told, location);
+  function take(tree) {
+    const operand = plotted(tree);
+    if (!isOperand(tree)) {
+      const { stretches, onsets } = momentsOf(run, tree, location);
       Object.assign(shown, { holds: stretches, onsets });
     }
     if (operand) plot(operand);
-    range = isOperand(told) || operandsOf(told).length ? rangeOf(run, operandsOf(told)[0], location) : null;
+    range = isOperand(tree) || operandsOf(tree).length ? rangeOf(run, operandsOf(tree)[0], location) : null;
   }
 }
 function plot(operand) {
@@ -53,11 +53,11 @@ function plot(operand) {
 }
 const extremes = numbers => numbers.reduce(([least, most], it) => [Math.min(least, it), Math.max(most, it)], [Infinity, -Infinity]);
 // Return in words what a condition names that the run doesn't have.
-function lackOf(told) {
-  for (const operand of operandsOf(told)) {
+function lackOf(tree) {
+  for (const operand of operandsOf(tree)) {
     if ("value" in operand || placesOf(shown.run, operand.pattern, shown.location).length) continue;
     if (!operand.pattern) return "choose a location, or name one before it";
-    const near = nearestOf(operand.pattern[0], new Set(shown.run.sorted.map(it => it.at[0])));
+    const near = nearestName(operand.pattern[0], new Set(shown.run.sorted.map(it => it.at[0])));
     return `no location of this run is called ${patternText(operand.pattern)}${near && near !== operand.pattern[0] ? `; did you mean ${near}?` : ""}`;
   }
   return "";
@@ -69,26 +69,26 @@ export function followLocation() {
 
 // ---- texts
 export function showWatch() {
-  const told = fault && !isTold ? "" : toldText(), isWrong = !!fault && isTold;
-  $("watch-told").textContent = told;
-  $("watch-told").title = told;
+  const text = fault && !isFaultShown ? "" : watchText(), isWrong = !!fault && isFaultShown;
+  $("watch-told").textContent = text;
+  $("watch-told").title = text;
   $("watch-told").classList.toggle("wrong-words", isWrong);
   $("watch").setAttribute("aria-invalid", String(isWrong));
   for (const id of ["watch-back", "watch-on"]) $(id).disabled = !shown.onsets.length;
 }
-function toldText() {
+function watchText() {
   if (fault) return `${fault[0].toUpperCase()}${fault.slice(1)}${/[.?]$/.test(fault) ? "" : "."}`;
   if (!condition) return "";
   const { onsets, holds, count, run } = shown, i = firstFrom(holds, count + 1, it => it[0]) - 1, isNow = i >= 0 && count < holds[i][1];
   const was = range ? `it was ${String(range[0]) === String(range[1]) ? grouped(range[0]) : `${grouped(range[0])} to ${grouped(range[1])}`}` : "";
-  if (isOperand(condition.told)) return was ? `${was[0].toUpperCase()}${was.slice(1)}.` : "It was no number.";
+  if (isOperand(condition.tree)) return was ? `${was[0].toUpperCase()}${was.slice(1)}.` : "It was no number.";
   if (!holds.length) return was ? `Never: ${was}.` : "Never.";
   const here = hereText(), times = timesText();
   if (here) return `${here} (${times}).`;
   return isNow ? `Holds now (${times}), after ${grouped(lengthOf(holds))} of ${grouped(run.events.length)} events.` : `Doesn't hold now (${times}), after ${grouped(lengthOf(holds))} of ${grouped(run.events.length)} events.`;
   function timesText() {
     const places = new Set(onsets.map(it => it.place)).size, which = here ? `${grouped(at + 1)} of ${grouped(onsets.length)}` : plural(onsets.length, "time");
-    return isByPlace(condition.told) && places > 1 ? `${which}, at ${plural(places, "location")}` : which;
+    return isByPlace(condition.tree) && places > 1 ? `${which}, at ${plural(places, "location")}` : which;
   }
 }
 // Return what starts to hold at the chosen moment, if anything.
@@ -98,8 +98,8 @@ function hereText() {
   const here = onsets[at]?.count === count ? onsets[at] : null;
   shown.onset = here?.place ?? null;
   if (!here) return "";
-  if (!here.place || !isByPlace(condition.told)) return "Comes to hold here";
-  return `${here.place.label} ${condition.told.order === "changes" ? "changes to" : count ? "becomes" : "is"} ${shortText(shown.run.valueAt(here.place, count))}`;
+  if (!here.place || !isByPlace(condition.tree)) return "Comes to hold here";
+  return `${here.place.label} ${condition.tree.order === "changes" ? "changes to" : count ? "becomes" : "is"} ${shortText(shown.run.valueAt(here.place, count))}`;
 }
 // (The opening state is a moment, but no event.)
 const lengthOf = holds => holds.reduce((all, [from, to]) => all + to - Math.max(1, from), 0);
@@ -124,12 +124,12 @@ function takeText() {
   act.show();
   act.changed(false);
 }
-function tellFault() {
-  isTold = true;
+function showFault() {
+  isFaultShown = true;
   if (fault) showWatch();
 }
 $("watch").addEventListener("input", () => {
-  isTold = false;
+  isFaultShown = false;
   clearTimeout(waiting);
   waiting = setTimeout(() => shown.run && takeText(), 250);
 });
@@ -137,13 +137,13 @@ $("watch").addEventListener("keydown", event => {
   if (event.key !== "Enter" || event.defaultPrevented) return;
   event.preventDefault();
   takeText();
-  tellFault();
+  showFault();
   if (!fault && condition && shown.onsets.length) goToHold(event.shiftKey ? -1 : 1);
 });
 $("watch").addEventListener("blur", () => {
   if (!shown.run) return;
   takeText();
-  tellFault();
+  showFault();
 });
 $("watch-back").addEventListener("click", () => goToHold(-1));
 $("watch-on").addEventListener("click", () => goToHold(1));
@@ -152,7 +152,7 @@ $("watch-on").addEventListener("click", () => goToHold(1));
 export function renewWatch(text) {
   clearTimeout(waiting);
   $("watch").value = text;
-  isTold = true;
+  isFaultShown = true;
   watch(text);
 }
 
@@ -165,9 +165,9 @@ function namesOf(run) {
   return run.names ??= [...new Set([...run.sorted.map(({ at }) => at.length > 1 ? `${at[0]}(${at.slice(1).map(() => "*").join(", ")})` : at[0]), ...run.sorted.map(it => withoutIsolates(it.label)), ...KEYWORDS])];
 }
 function offer() {
-  const field = $("watch"), before = field.value.slice(0, field.selectionStart), begun = /[A-Za-z_][\w]*(?:\([^()]*)?$/.exec(before);
-  from = begun ? begun.index : before.length;
-  const text = begun ? begun[0] : "", isEnd = field.selectionStart === field.value.length;
+  const field = $("watch"), before = field.value.slice(0, field.selectionStart), started = /[A-Za-z_][\w]*(?:\([^()]*)?$/.exec(before);
+  from = started ? started.index : before.length;
+  const text = started ? started[0] : "", isEnd = field.selectionStart === field.value.length;
   offered = text && isEnd && shown.run ? namesOf(shown.run).filter(it => it.startsWith(text) && it !== text).slice(0, MOST_OFFERED) : [];
   choose(-1);
 }

@@ -1,9 +1,9 @@
 // Why the updates of a location have no result, in words.
-import { listsApart, ownPartNode } from "./change.js";
+import { differingParts, ownPartNode } from "./change.js";
 import { MOST_COUNT } from "./judge.js";
 import { answerText, elementNode, glyph, itemNode, locationNode, make, span, times, valueNode } from "./nodes.js";
 import { kindOf } from "./run.js";
-import { itemsApart } from "./shape.js";
+import { differingItems } from "./shape.js";
 import { afterMoves, byElement, isBag, isNumber, isSame, isSet, keyOf } from "./terms.js";
 
 const REASONS = {
@@ -18,10 +18,10 @@ const TOO_LARGE = { count: "the new count is above 4,294,967,295", number: "the 
 
 // Return the cause in words, and if possible what it is about: nodes and texts.
 export function clashNodes(cause, instructions, old) {
-  const tell = { Two: tellTwo, Both: tellBoth, Against: tellAgainst, Short: tellCounts, Large: isNumber(old) ? tellNumber : tellCounts }[cause];
-  const told = tell?.(new Group(instructions), old) ?? [];
+  const explain = { Two: explainTwo, Both: explainBoth, Against: explainAgainst, Short: explainCounts, Large: isNumber(old) ? explainNumber : explainCounts }[cause];
+  const details = explain?.(new Group(instructions), old) ?? [];
   const reason = cause === "Large" ? TOO_LARGE[isNumber(old) ? "number" : "count"] : REASONS[cause];
-  return [` ${reason}.`, ...(told.length ? [" ", ...told] : [])];
+  return [` ${reason}.`, ...(details.length ? [" ", ...details] : [])];
 }
 
 // The instructions of one location.
@@ -41,21 +41,21 @@ const without = (list, others) => {
   return list.filter(it => !keys.has(keyOf(it)));
 };
 
-const tellTwo = group => ["They are ", ...group.put.slice(0, 3).flatMap((it, i) => [i ? " and " : "", valueNode(it, 6)]), "."];
-function tellBoth(group) {
+const explainTwo = group => ["They are ", ...group.put.slice(0, 3).flatMap((it, i) => [i ? " and " : "", valueNode(it, 6)]), "."];
+function explainBoth(group) {
   const once = without(group.added, group.removed), both = without(group.added, once);
   return both.length ? ["It is ", elementNode(both.sort(byElement)[0]), "."] : [];
 }
-function tellAgainst(group) {
+function explainAgainst(group) {
   const [value] = group.put;
   if (isBag(value)) return ["A bag that is put agrees with no partial update."];
   if (!isSet(value)) return ["A number that is put agrees with no increment."];
-  const lacking = without(group.added, value.set), kept = without(group.removed, without(group.removed, value.set));
+  const lacking = without(group.added, value.set), contained = without(group.removed, without(group.removed, value.set));
   if (lacking.length) return ["The set that is put lacks ", elementNode(lacking[0]), ", which is added."];
-  return kept.length ? ["The set that is put has ", elementNode(kept[0]), ", which is removed."] : [];
+  return contained.length ? ["The set that is put has ", elementNode(contained[0]), ", which is removed."] : [];
 }
 // Return the first element of which the bag has too few for what is removed, or would get too many.
-function tellCounts(group, old) {
+function explainCounts(group, old) {
   if (!isBag(old)) return [];
   const counts = new Map();
   for (const [word, , element, amount] of group.bags) {
@@ -63,7 +63,7 @@ function tellCounts(group, old) {
     it[word === "bagadd" ? "added" : "removed"] += amount;
     counts.set(keyOf(element), it);
   }
-  const held = new Map(old.bag.map(it => [keyOf(it[0]), it[1]])), had = element => held.get(keyOf(element)) ?? 0;
+  const amounts = new Map(old.bag.map(it => [keyOf(it[0]), it[1]])), had = element => amounts.get(keyOf(element)) ?? 0;
   for (const { element, added, removed } of [...counts.values()].sort((a, b) => byElement(a.element, b.element))) {
     const count = had(element), now = count - removed + added;
     if (removed > count) return [`${removed} of `, elementNode(element), ` are removed, and the bag has ${count || "none"}.`];
@@ -71,14 +71,14 @@ function tellCounts(group, old) {
   }
   return [];
 }
-function tellNumber(group, old) {
+function explainNumber(group, old) {
   const sum = group.increments.reduce((all, it) => all + BigInt(it), BigInt(old));
   return [`It would be ${sum}.`];
 }
 
 // ---- a wrong answer beside the right one, and how they differ
 
-const MOST_APART = 12, MOST_PLACES = 8;
+const MOST_DIFFERING = 12, MOST_PLACES = 8;
 
 export function wrongNote(event) {
   const after = event.kind === "fired" ? "The state goes on as if the move had been fired, as the journal says."
@@ -94,7 +94,7 @@ function side(kind, title, event, answer, other) {
   const places = event.read.map((_, i) => i).filter(i => !isSame(answer.values[i], other.values[i])), left = places.length - MOST_PLACES;
   return make("div", { class: `side ${kind}` }, head,
     answer.number === other.number ? null : make("p", {}, glyph("read"), ` read ${afterMoves(answer.number)}`),
-    places.slice(0, MOST_PLACES).map(i => make("p", {}, locationNode(event.read[i]), " ", apartNode(answer.values[i], other.values[i]))),
+    places.slice(0, MOST_PLACES).map(i => make("p", {}, locationNode(event.read[i]), " ", differenceNode(answer.values[i], other.values[i]))),
     left > 0 ? make("p", { class: "soft" }, `and at ${left} more locations`) : null);
 }
 // Return a note on what in the event doesn't match the rest of the trace, whatever the trace says about it.
@@ -110,18 +110,18 @@ export function doubtNote(event) {
 export const isOther = (event, i) => event.isWrong && !isSame(event.reply.values[i], event.right.values[i]);
 
 // Return a node for what the first of two values has and the second hasn't: items of sets and bags, else the value.
-export function apartNode(value, other) {
-  const items = itemsApart(other, value);
-  const lists = listsApart(other, value);
+export function differenceNode(value, other) {
+  const items = differingItems(other, value);
+  const lists = differingParts(other, value);
   if (lists) return ownPartNode(lists);
-  if (!items) return valueNode(value, MOST_APART);
+  if (!items) return valueNode(value, MOST_DIFFERING);
   const out = span("value"), isBags = isBag(value), here = items.filter(it => it[2]), lacking = items.filter(it => !it[2]);
-  const tell = (word, kind, list, at) => {
+  const addItems = (word, kind, list, at) => {
     if (!list.length) return;
-    const nodes = list.slice(0, MOST_APART).flatMap(it => itemNode(kind, it[0], isBags ? times(it[at]) : null)), left = list.length - MOST_APART;
+    const nodes = list.slice(0, MOST_DIFFERING).flatMap(it => itemNode(kind, it[0], isBags ? times(it[at]) : null)), left = list.length - MOST_DIFFERING;
     out.append(`${out.hasChildNodes() ? ", " : ""}${word} `, ...nodes.slice(0, -1), left > 0 ? ` and ${left} more` : "");
   };
-  tell("has", "here", here, 2);
-  tell("lacks", "lacking", lacking, 1);
+  addItems("has", "here", here, 2);
+  addItems("lacks", "lacking", lacking, 1);
   return out;
 }

@@ -24,7 +24,7 @@ def key(place: Location) -> str:
     return json.dumps(location_json(place), separators=(",", ":"))
 
 
-KNOWN: dict[int, list[State]] = {}  # the moments of HISTORY and of BUSY, which are requested often
+MOMENTS: dict[int, list[State]] = {}  # the moments of HISTORY and of BUSY, which are requested often
 
 
 def moments(history: History) -> list[State]:
@@ -32,8 +32,8 @@ def moments(history: History) -> list[State]:
 
     The moments are before the first event, and after each.
     """
-    if id(history) in KNOWN:
-        return KNOWN[id(history)]
+    if id(history) in MOMENTS:
+        return MOMENTS[id(history)]
     storage = Storage(history.init, history.capacity)
     out = [{key(place): value_json(value) for place, value in storage.state.items()}]
     for event in history.events:
@@ -43,7 +43,7 @@ def moments(history: History) -> list[State]:
             state = state | {key(place): value_json(storage.state.get(place, UNDEF)) for place, _ in event.call.move}
         out.append({place: value for place, value in state.items() if value is not None})
     if history is HISTORY or history is BUSY:
-        KNOWN[id(history)] = out
+        MOMENTS[id(history)] = out
     return out
 
 
@@ -88,9 +88,9 @@ def try_conditions(tries: Tries, browser: Browser) -> None:
     states = moments(BUSY)
     changed = [it for it in range(1, len(states)) if states[it].get(RICE) != states[it - 1].get(RICE)]
     tries.same('stock("rice") changes where it does', browser.run("watch(arguments[0]); return shown.onsets.map(it => it.count)", 'stock("rice") changes'), changed)
-    for text, told in {'stock("rice" < 1': "is missing", "door <": "a value or a location is missing", 'door < "a"': "a number must follow <", "nosuch = 1": "no location of this run", "= 1": "choose a location", "door = 1 2": "the condition ends", "door ~ 1": "can't be read"}.items():
+    for text, words in {'stock("rice" < 1': "is missing", "door <": "a value or a location is missing", 'door < "a"': "a number must follow <", "nosuch = 1": "no location of this run", "= 1": "choose a location", "door = 1 2": "the condition ends", "door ~ 1": "can't be read"}.items():
         browser.run("renewWatch(arguments[0]); showWatch()", text)
-        tries.claim(f"what {text} lacks is said", told in browser.text("watch-told").lower() and browser.find("watch").get_attribute("aria-invalid") == "true", browser.text("watch-told"))
+        tries.claim(f"what {text} lacks is said", words in browser.text("watch-told").lower() and browser.find("watch").get_attribute("aria-invalid") == "true", browser.text("watch-told"))
     browser.load(tries.trace("strange", strange()))
     tries.same("numbers of 64 bits are exact there", [len(browser.run(holding, f"big = {2**53 + it}")) for it in (0, 1, 2)], [1, 1, 0])
 
@@ -122,7 +122,7 @@ def try_condition_ways(tries: Tries, browser: Browser) -> None:
     tries.same("a condition without a location is about the chosen one", browser.run("return shown.onsets.length"), browser.run("return shown.location.writes.length"))
 
 
-def told_of(place: str) -> list[tuple[int, str]]:
+def answers_at(place: str) -> list[tuple[int, str]]:
     """Return each event of HISTORY that concerns the location.
 
     Each has what its call and answer say of its values.
@@ -130,14 +130,14 @@ def told_of(place: str) -> list[tuple[int, str]]:
     out, states = [], moments(HISTORY)
     for number, event in enumerate(HISTORY.events):
         if isinstance(event.call, Read):
-            told = [value_json(value) for it, value in zip(event.call.places, event.reply.values) if key(it) == place]
-            is_there = bool(told)
+            words = [value_json(value) for it, value in zip(event.call.places, event.reply.values) if key(it) == place]
+            is_there = bool(words)
         else:
-            told = [instruction_json(it) for it in event.call.move if key(it[0]) == place]
-            is_there = bool(told) or any(key(it) == place for it, _ in event.call.reads)
-            told = [it[::2] for it in told] + ([states[number + 1][place]] if isinstance(event.reply, Fired) and told else [])
+            words = [instruction_json(it) for it in event.call.move if key(it[0]) == place]
+            is_there = bool(words) or any(key(it) == place for it, _ in event.call.reads)
+            words = [it[::2] for it in words] + ([states[number + 1][place]] if isinstance(event.reply, Fired) and words else [])
         if is_there:
-            out.append((number, json.dumps(told)))
+            out.append((number, json.dumps(words)))
     return out
 
 
@@ -146,7 +146,7 @@ def try_location_search(tries: Tries, browser: Browser) -> None:
     tries.has("the search can be limited to the chosen location", browser.text("events-here"), 'only stock("rice")')
     browser.click("events-here")
     listed = "return Array.from({ length: listLength() }, (_, i) => listItem(i))"
-    about = told_of(RICE)
+    about = answers_at(RICE)
     tries.same("then the events of that location are listed", browser.run(listed), [it for it, _ in about])
     value = str(moments(HISTORY)[-1][RICE])
     browser.write("events-find", value)
@@ -198,9 +198,9 @@ def try_summary(tries: Tries, browser: Browser) -> None:
     missed = []
     count = browser.run("return document.querySelectorAll('#detail .tally').length")
     for line in range(count):
-        told = browser.run("const it = document.querySelectorAll('#detail .tally')[arguments[0]]; it.click(); return [it.innerText, +it.querySelector('b').textContent.replaceAll(',', '')]", line)
-        if browser.run("return listLength()") != told[1]:
-            missed.append(told)
+        words = browser.run("const it = document.querySelectorAll('#detail .tally')[arguments[0]]; it.click(); return [it.innerText, +it.querySelector('b').textContent.replaceAll(',', '')]", line)
+        if browser.run("return listLength()") != words[1]:
+            missed.append(words)
     tries.claim(f"each line lists the events that it counts: {count} pressed", count > 15 and not missed, missed)
     tries.claim("and the summary stays to be seen", browser.all("#detail .summary"))
     browser.run("act.list({})")

@@ -22,7 +22,7 @@ PAGE = Path(tempfile.mkdtemp()) / "index.html"
 subprocess.run([ROOT / "viewer" / "join", PAGE], check=True)
 atexit.register(shutil.rmtree, PAGE.parent)
 # The live region is spoken, and the address is set, this long after a choice.
-REST = 0.3
+IDLE = 0.3
 
 
 class Browser:
@@ -70,9 +70,9 @@ class Browser:
         start = time.monotonic()
         self.find("file").send_keys(str(trace))
         self.until("return opening > 0 && document.getElementById('busy').hidden")
-        took = time.monotonic() - start
+        seconds = time.monotonic() - start
         self.frame()
-        return took
+        return seconds
 
     def until(self, script: str, seconds: float = 60) -> None:
         end = time.monotonic() + seconds
@@ -85,14 +85,14 @@ class Browser:
         """Wait until what was requested is drawn."""
         self.driver.execute_async_script("requestAnimationFrame(() => requestAnimationFrame(arguments[0]))")
 
-    def rest(self) -> None:
+    def wait_idle(self) -> None:
         """Wait until the address is stored, and what was chosen is spoken."""
-        time.sleep(REST)
+        time.sleep(IDLE)
 
     def go(self, by: int) -> None:
         """Move along the entries of the browser's history."""
         self.run("history.go(arguments[0])", by)
-        self.rest()
+        self.wait_idle()
         self.frame()
 
     def run(self, script: str, *arguments: Any) -> Any:
@@ -151,7 +151,7 @@ class Browser:
         return [it["message"] for it in self.driver.get_log("browser")]
 
     def shot(self, path: Path) -> None:
-        time.sleep(REST)
+        time.sleep(IDLE)
         self.driver.save_screenshot(str(path))
 
     def quit(self) -> None:

@@ -65,7 +65,7 @@ CONDITION = "watch(''); const start = performance.now(); watch(arguments[0]); re
 def model_of(history: History) -> dict[str, object]:
     """Return what the model has in the place of the page's answer."""
     storage = Storage(history.init, history.capacity)
-    moments, since = [told(storage)], []
+    moments, since = [summary_of(storage)], []
     writers: dict[Location, list[int]] = {}
     for event in history.events:
         named = event.call.reads if isinstance(event.call, Fire) else []
@@ -75,11 +75,11 @@ def model_of(history: History) -> dict[str, object]:
             for at, writer in storage.writers.items():
                 if writer == storage.number:
                     writers.setdefault(at, []).append(writer)
-        moments.append(told(storage))
+        moments.append(summary_of(storage))
     return {"states": moments, "since": since, "isSame": True}
 
 
-def told(storage: Storage) -> dict[str, tuple[str, int]]:
+def summary_of(storage: Storage) -> dict[str, tuple[str, int]]:
     """Return the value and the last writer of each location that has any.
 
     A location counts if it holds something or was written.
@@ -136,14 +136,14 @@ def try_long(tries: Tries, browser: Browser) -> None:
 
     for events in SIZES:
         path = tries.file("long.trace", large_trace(events))
-        took = first_quick(lambda: browser.load(path), lambda it: it < 15, 2)
-        tries.claim(f"{events:,} events ({path.stat().st_size / 2**20:.0f} MiB) are shown within 15 seconds: {took:.1f} s", took < 15, took)
+        seconds = first_quick(lambda: browser.load(path), lambda it: it < 15, 2)
+        tries.claim(f"{events:,} events ({path.stat().st_size / 2**20:.0f} MiB) are shown within 15 seconds: {seconds:.1f} s", seconds < 15, seconds)
         frames = first_quick(lambda: browser.driver.execute_async_script(SCROLL), lambda it: sum(it) < 50 * len(it))
         tries.claim(f"their list is scrolled at 20 frames a second and more: {1000 * len(frames) / sum(frames):.0f}", sum(frames) < 50 * len(frames), frames)
         jumps("in it")
     for text in ("set size > 5000", "bag has 7", "cell(*) > 99000", "cell(7) changes"):
-        took, count = first_quick(lambda: browser.run(CONDITION, text), lambda it: it[0] < 1000)
-        tries.claim(f"where {text} holds is found within a second, in {count:,} stretches: {took:.0f} ms", took < 1000 and count, (took, count))
+        seconds, count = first_quick(lambda: browser.run(CONDITION, text), lambda it: it[0] < 1000)
+        tries.claim(f"where {text} holds is found within a second, in {count:,} stretches: {seconds:.0f} ms", seconds < 1000 and count, (seconds, count))
     browser.run("watch(arguments[0])", "cell(*) changes")
     jumps("with a condition that 70,000 events meet")
     browser.run("watch('')")

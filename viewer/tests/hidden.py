@@ -10,7 +10,7 @@ from samples import journal_of
 from selenium.webdriver.common.keys import Keys
 from showing import HISTORY
 from tries import Tries
-from windows import END, START, WHOLE, window_of
+from windows import COMPLETE, END, START, window_of
 
 LISTED = "return Array.from({ length: listLength() }, (_, i) => listItem(i))"
 
@@ -73,9 +73,9 @@ def try_lists(tries: Tries, browser: Browser) -> None:
     history = journal_of(*events, (0, {"read": [["x"]]}, {"number": 3, "values": [{"list": old}]}), init=[[["x"], {"list": old}]])
     browser.load(tries.trace("lists", history), "#at=%5B%22x%22%5D")
     browser.press(Keys.ARROW_RIGHT)
-    told = "list of 100 60 same [60]: 60 → -1"
+    words = "list of 100 60 same [60]: 60 → -1"
     for where in ("#detail td:last-child", "#state .row [role=gridcell]:nth-child(2)", "#writes .row:nth-child(2)"):
-        tries.has(f"a change within a long list is shown in {where.split()[0]}", " ".join(browser.texts(where)), told)
+        tries.has(f"a change within a long list is shown in {where.split()[0]}", " ".join(browser.texts(where)), words)
     tries.has("and in the list of events", browser.texts("#events .event")[0], "[60]: 60 → -1, list of 100")
     browser.press(Keys.ARROW_RIGHT, Keys.ARROW_RIGHT)
     tries.has("so is an item that is put in", " ".join(browser.texts("#detail td:last-child")), 'list of 101 60 same [60]: "x" 40 same')
@@ -100,14 +100,14 @@ def try_spaces(tries: Tries, browser: Browser) -> None:
     tries.claim(f"a short old value keeps its room beside a long new one: {wide:.0f} px", wide > 12, wide)
 
 
-def try_told_windows(tries: Tries, browser: Browser) -> None:
-    late = next(it for it in range(START, END) if getattr(WHOLE.events[it].call, "reads", None))
-    browser.load(tries.file("late.trace", window_of(WHOLE, late, late + 1)), f"#event={late}")
+def try_window_labels(tries: Tries, browser: Browser) -> None:
+    late = next(it for it in range(START, END) if getattr(COMPLETE.events[it].call, "reads", None))
+    browser.load(tries.file("late.trace", window_of(COMPLETE, late, late + 1)), f"#event={late}")
     tries.same("a window isn't called the whole run", browser.text("fit"), "Whole window")
     tries.has("what was read before it isn't called not read", browser.text("detail"), "not read in the window")
 
 
-def try_kept(tries: Tries, browser: Browser) -> None:
+def try_retained(tries: Tries, browser: Browser) -> None:
     browser.load(tries.trace("warehouse", HISTORY), "#event=46")
     browser.choose_file(tries.file("refused", b"hello\n"))
     tries.same("a wrong file leaves the run that is shown", (browser.title()[:9], browser.text("name")), ("Event 46 ", "warehouse.trace"))

@@ -35,7 +35,7 @@ def try_words(tries: Tries, browser: Browser) -> None:
     }.items():
         tries.same(f"{text} holds where the model says so", browser.run("watch(arguments[0]); return [fault, shown.holds]", text), ["", stretches(BUSY, test)])
     low, high = (end(it[RICE] for it in moments(BUSY)) for end in (min, max))
-    for text, told in {
+    for text, words in {
         'stock("rice") < -9': f"Never: it was {low} to {high}.",
         'stock("rice")': f"It was {low} to {high}.",
         "stok(*) < 1": "No location of this run is called stok(*); did you mean stock?",
@@ -43,7 +43,7 @@ def try_words(tries: Tries, browser: Browser) -> None:
         "x = 1 and y": "And joins two conditions.",
     }.items():
         browser.run("renewWatch(arguments[0]); showWatch()", text)
-        tries.same(f"{text} is answered", browser.text("watch-told"), told)
+        tries.same(f"{text} is answered", browser.text("watch-told"), words)
 
 
 def try_writing(tries: Tries, browser: Browser) -> None:
@@ -55,13 +55,13 @@ def try_writing(tries: Tries, browser: Browser) -> None:
     browser.press(Keys.ARROW_DOWN, Keys.ENTER)
     tries.same("Enter takes the one that is chosen", (browser.find("watch").get_attribute("value"), offered()), ("stock(*)", []))
     browser.press(" <")
-    browser.rest()
+    browser.wait_idle()
     tries.same("nothing is called wrong while it is written", (browser.text("watch-told"), browser.find("watch").get_attribute("aria-invalid")), ("", "false"))
     browser.press(Keys.ENTER)
     tries.claim("but behind Enter it is", "missing" in browser.text("watch-told") and browser.find("watch").get_attribute("aria-invalid") == "true", browser.text("watch-told"))
     browser.write("watch", "stock(*) <")
     browser.leave()
-    browser.rest()
+    browser.wait_idle()
     tries.claim("and where the field is left", "missing" in browser.text("watch-told"), browser.text("watch-told"))
 
 

@@ -15,7 +15,7 @@ PUT = {"fire": [["put", ["x"], 2]], "reads": []}
 NAMES = {"fire": [["put", ["y"], 1]], "reads": [[["x"], 0]]}
 
 
-def try_named(tries: Tries, browser: Browser) -> None:
+def try_names_in_texts(tries: Tries, browser: Browser) -> None:
     init = [[["x"], 1]]
     browser.load(tries.trace("named", journal_of((0, PUT, {"fired": 1}), (1, NAMES, {"stale": ["x"]}), init=init)))
     browser.press(Keys.END)
@@ -28,11 +28,11 @@ def try_named(tries: Tries, browser: Browser) -> None:
     tries.has("what was read is, with the read", browser.text("detail"), "Stale: x was read in the opening state, in event 0.")
 
 
-def try_apart(tries: Tries, browser: Browser) -> None:
+def try_differences(tries: Tries, browser: Browser) -> None:
     init = [[["s"], {"set": [1, 2, *range(20, 60)]}], [["x"], 16], [["b"], {"bag": [["e", 2]]}]]
     read = {"read": [["s"], ["x"], ["b"]]}
-    told = [{"set": [1, 9, *range(20, 60)]}, -16, {"bag": [["e", 3]]}]
-    browser.load(tries.trace("apart", journal_of((0, read, {"number": 0, "values": told}), (0, {"read": [["x"]]}, {"number": 1, "values": [16]}), init=init)))
+    values = [{"set": [1, 9, *range(20, 60)]}, -16, {"bag": [["e", 3]]}]
+    browser.load(tries.trace("apart", journal_of((0, read, {"number": 0, "values": values}), (0, {"read": [["x"]]}, {"number": 1, "values": [16]}), init=init)))
     browser.press(Keys.ARROW_RIGHT)
     sides = ["In the journal s has 9, lacks 2 x -16 b has \"e\" ×3", "Right answer s has 2, lacks 9 x 16 b has \"e\" ×2"]
     tries.same("of a wrong read both sides show what differs, of a set its items", browser.texts("#detail .side"), sides)
@@ -61,8 +61,8 @@ def try_long_values(tries: Tries, browser: Browser) -> None:
     for where in ("#state .new", "#writes .new"):
         seen = browser.run(room, where)
         tries.claim(f"a long old value leaves the new one room in {where.split()[0]}", len(seen) == 1 and seen[0] > 50, seen)
-    told = browser.texts("#detail td .change")[0]
-    tries.claim("both are shortened, and what differs is shown", len(told) < 500 and "-old" in told and "-new" in told and "more letters" in told, told)
+    words = browser.texts("#detail td .change")[0]
+    tries.claim("both are shortened, and what differs is shown", len(words) < 500 and "-old" in words and "-new" in words and "more letters" in words, words)
     browser.run("document.querySelector('#detail .old .rest').click()")
     tries.claim("a press shows more", len(browser.texts("#detail td .change")[0]) > 2000)
 
@@ -72,11 +72,11 @@ def try_back(tries: Tries, browser: Browser) -> None:
     browser.load(path)
     clashes, stale = numbers(Clashed), numbers(Stale)
     browser.press("c")
-    browser.rest()
+    browser.wait_idle()
     browser.press("s")
-    browser.rest()
+    browser.wait_idle()
     browser.press(Keys.ARROW_RIGHT, Keys.ARROW_RIGHT)
-    browser.rest()
+    browser.wait_idle()
     tries.has("steps go on from a jump", browser.title(), f"Event {stale[0] + 2} ")
     browser.go(-1)
     tries.has("Back goes to the jump before, not along the steps", browser.title(), f"Event {clashes[0]} ")
@@ -96,7 +96,7 @@ def try_back(tries: Tries, browser: Browser) -> None:
     tries.same("and leads to them", found, [f"Event {stale[0] + 2}", "packed", "short", "packed size > 1", f"Move {HISTORY.events[8].reply.number} "[:7]])
     tries.same("the list is filtered by it", len(browser.all("#events .event")), sum(HISTORY.events[it].reply.cause == "Short" for it in clashes))
     browser.run("location.hash = '#event=5'")
-    browser.rest()
+    browser.wait_idle()
     tries.same("an address that is written there is followed", (browser.title()[:8], browser.find("writes-pane").is_displayed(), browser.text("events-count")), ("Event 5 ", False, ""))
     browser.go(-1)
     tries.has("and Back from it", browser.title(), f"Event {stale[0] + 2} ")
@@ -142,16 +142,16 @@ def try_filter_keys(tries: Tries, browser: Browser) -> None:
 def try_zoom(tries: Tries, browser: Browser) -> None:
     browser.load(tries.trace("busy", warehouse(4, 40, 9)), "#event=20")
     browser.press("0")
-    lost = []
+    hidden_events = []
     for key in "++++---+++0++":
         browser.press(key)
         x, wide = browser.run("return [xOf(shown.count - 1), lanes.clientWidth]")
         if not 72 <= x <= wide:
-            lost.append((key, x, wide))
-    tries.same("no zoom loses the chosen event", lost, [])
+            hidden_events.append((key, x, wide))
+    tries.same("no zoom loses the chosen event", hidden_events, [])
 
 
-def try_told(tries: Tries, browser: Browser) -> None:
+def try_messages(tries: Tries, browser: Browser) -> None:
     browser.load(tries.trace("warehouse", HISTORY), "#event=60")
     current = "const it = document.getElementById(document.getElementById(arguments[0]).getAttribute('aria-activedescendant')); return it && [it.getAttribute('role'), it.getAttribute('aria-selected'), it.innerText]"
     browser.run("document.getElementById('state').focus()")

@@ -106,10 +106,10 @@ def refused_texts(good: str) -> dict[str, tuple[str | bytes, str]]:
 def try_refusals(tries: Tries, browser: Browser) -> None:
     good = write_trace(wrong()).decode()
     browser.open()
-    for what, (text, told) in refused_texts(good).items():
+    for what, (text, words) in refused_texts(good).items():
         browser.choose_file(tries.file("refused", text if isinstance(text, bytes) else text.encode()))
         fault = browser.text("fault")
-        tries.claim(f"{what} is refused: {fault}", told in fault and not browser.find("main").is_displayed(), told)
+        tries.claim(f"{what} is refused: {fault}", words in fault and not browser.find("main").is_displayed(), words)
     tries.shot(browser, "refused")
     browser.choose_file(tries.file("cut.trace", good[: good.index('"event":7')].encode()))
     tries.same("a trace that was cut off is shown with a warning", browser.text("warning"), "This trace is cut off: it has 7 events of 10. What is there is shown.")
@@ -168,8 +168,8 @@ def try_view(tries: Tries, browser: Browser) -> None:
     (tries.room / f"{name}.html").write_text("no page")
     for words, text in (([f"{name}.journal"], b""), ([f"--{name}"], b""), (["--page", f"{name}/page.html"], write_trace(strange())), ([str(tries.file(f"{name}.trace", write_trace(strange())))], b"")):
         ran = view(*words, text=text)
-        said = ran.stdout + ran.stderr
-        tries.same("of a name nothing is printed that a terminal obeys", (ran.returncode != 0, b"\x1b" in said, "\u202e".encode() in said, b"\\x1b[31m\\u202eb" in said), (True, False, False, True))
+        output = ran.stdout + ran.stderr
+        tries.same("of a name nothing is printed that a terminal obeys", (ran.returncode != 0, b"\x1b" in output, "\u202e".encode() in output, b"\\x1b[31m\\u202eb" in output), (True, False, False, True))
 
 
 def try_follow(tries: Tries, browser: Browser) -> None:
@@ -223,8 +223,8 @@ def try_beside(tries: Tries, browser: Browser) -> None:
     tries.same("the same run is called so", browser.text("beside"), f"same.trace is the same run: all {len(history.events)} events are the same. Close")
     choose(tries.trace("short", other))
     moves = sum(isinstance(it.reply, Fired) for it in history.events[:60])
-    told = browser.text("beside")
-    tries.claim(f"where two runs part is said: {told}", f"short.trace differs from this run from event 60 on, after {moves} moves." in told and "There: no more event." in told and f"The states differ first after move {moves + 1}, at" in told)
+    words = browser.text("beside")
+    tries.claim(f"where two runs part is said: {words}", f"short.trace differs from this run from event 60 on, after {moves} moves." in words and "There: no more event." in words and f"The states differ first after move {moves + 1}, at" in words)
     tries.claim("the states' difference has each side", len(browser.all("#beside td")) >= 3)
     tries.shot(browser, "beside")
     browser.run("document.querySelector('#beside .link').click()")

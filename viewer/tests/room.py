@@ -15,7 +15,7 @@ from tries import Tries
 
 CARTS = '["carts"]'
 # How many rows of a list are completely in sight.
-SEEN = """
+VISIBLE_ROWS = """
 const box = document.getElementById(arguments[0]), rows = box.querySelector(".rows").getBoundingClientRect(), to = Math.min(innerHeight, box.getBoundingClientRect().bottom);
 const from = Math.max(box.getBoundingClientRect().top, box.querySelector(".heads")?.getBoundingClientRect().bottom ?? 0);
 return [...box.querySelectorAll(".row")].map(it => it.getBoundingClientRect()).filter(it => it.top >= from - 1 && it.bottom <= to + 1).length;
@@ -25,7 +25,7 @@ HIGH = "return document.getElementById('lanes-box').getBoundingClientRect().heig
 
 # The facts without a title, and those of two lines; at how many places the bars of one list begin; tables and regions, of which none may
 # lack a name or have that of another one in sight.
-FIRST_LOOK = """
+FIRST_SCREEN = """
 const facts = [...document.querySelectorAll("#facts .fact")], seen = it => it.checkVisibility();
 const named = [...document.querySelectorAll("table, [role=grid], section.card, [role=region], [role=listbox]")].filter(seen).map(it => it.getAttribute("aria-label"));
 return {
@@ -36,17 +36,17 @@ return {
 """
 
 
-def try_first_look(tries: Tries, browser: Browser) -> None:
+def try_first_screen(tries: Tries, browser: Browser) -> None:
     trace = write_trace(warehouse(8, 60, 3))
     browser.load(tries.file("packed.trace.gz", gzip.compress(trace)))
     tries.same("a trace that gzip has made smaller is opened", (browser.text("name"), browser.texts("#facts .fact")[1]), ("packed.trace.gz", "719 events"))
-    found = browser.run(FIRST_LOOK)
+    found = browser.run(FIRST_SCREEN)
     tries.same("each fact has a title and one line", (found["untitled"], found["tall"]), ([], 0))
     tries.claim("in each list of the summary the bars begin at one place", len(found["bars"]) >= 4 and set(found["bars"]) == {1}, found["bars"])
     tries.same("no two regions or tables have one name, and none has none", (found["twice"], found["unnamed"]), ([], 0))
     browser.resize(1920, 1080)
     browser.frame()
-    tries.claim("where there is room for words, the choices have them", browser.run(FIRST_LOOK)["words"] >= 4, browser.run(FIRST_LOOK)["words"])
+    tries.claim("where there is room for words, the choices have them", browser.run(FIRST_SCREEN)["words"] >= 4, browser.run(FIRST_SCREEN)["words"])
     browser.restore()
     browser.press("?")
     help_at = browser.run("const it = document.getElementById('help'), tops = [...it.querySelectorAll('dl > div')].map(row => row.getBoundingClientRect().left); return [it.scrollTop, new Set(tops).size]")
@@ -65,7 +65,7 @@ def try_rows(tries: Tries, browser: Browser) -> None:
     for name, history in {"5 agents": HISTORY, "16 agents": warehouse(16, 8, 4)}.items():
         for part in ("", "#event=60", "#event=60&at=%5B%22packed%22%5D", "#event=60&at=%5B%22packed%22%5D&kind=fired&agent=1&if=packed%20size%20%3E%201"):
             browser.load(tries.trace("room", history), part)
-            found = [browser.run(SEEN, it) for it in ("events", "state", "writes")]
+            found = [browser.run(VISIBLE_ROWS, it) for it in ("events", "state", "writes")]
             least = (5, 6, 4) if "if=" in part else (8, 7, 4) if "at=" in part else (8, 8, 0)
             tries.claim(f"at 1280x720 with {name} and {part or 'nothing chosen'}, rows of events, of state and of writes: {found}", all(a >= b for a, b in zip(found, least)), (found, least))
     tries.shot(browser, "room")
@@ -130,7 +130,7 @@ def try_values(tries: Tries, browser: Browser) -> None:
     tries.has("in the state what is new of it comes first", first or "", "added")
     browser.press(Keys.END)
     sizes = browser.run("return [...document.querySelectorAll('#state .row')].map(it => [it.children[0].innerText, it.querySelector('.kind')?.innerText])")
-    tries.same("the state shows the sizes of sets and bags", [told for name, told in sizes if name in ("carts", "open")][:2],
+    tries.same("the state shows the sizes of sets and bags", [words for name, words in sizes if name in ("carts", "open")][:2],
                [f"bag of {len(states[-1][CARTS]['bag'])}", f"set of {len(states[-1][OPEN]['set'])}"])
 
 

@@ -20,7 +20,7 @@ from tries import Tries
 Line = dict[str, Any]
 SECONDS = 20
 # Of each trace: the events that are doubted, or why it is refused.
-DOUBTED = """
+DOUBTS = """
 const [texts, done] = arguments;
 (async () => {
   const out = [];
@@ -31,7 +31,7 @@ const [texts, done] = arguments;
 
 
 def doubted(browser: Browser, texts: list[str]) -> list[Any]:
-    return browser.driver.execute_async_script(DOUBTED, texts)
+    return browser.driver.execute_async_script(DOUBTS, texts)
 
 
 # ---- files
@@ -55,18 +55,18 @@ def try_links(tries: Tries, browser: Browser) -> None:
     page.mkdir()
     refused("a page that is a folder")
     page.rmdir()
-    kept = view.room / "kept.html"
-    tries.same("a page is written where nothing is", (view("--page", str(kept), text=journal).returncode, kept.stat().st_mode & 0o777), (0, 0o666 & ~umask()))
-    page.symlink_to(kept)
+    existing = view.room / "kept.html"
+    tries.same("a page is written where nothing is", (view("--page", str(existing), text=journal).returncode, existing.stat().st_mode & 0o777), (0, 0o666 & ~umask()))
+    page.symlink_to(existing)
     refused("a link to a page of a run")
     page.unlink()
-    os.link(kept, page)
-    before = kept.read_bytes()
+    os.link(existing, page)
+    before = existing.read_bytes()
     view(text=write_journal(wrong()))
-    tries.same("a file with two names keeps what it has under the other", (kept.read_bytes() == before, page.read_bytes() == before), (True, False))
+    tries.same("a file with two names keeps what it has under the other", (existing.read_bytes() == before, page.read_bytes() == before), (True, False))
     tries.same("nothing else is left in the folder", sorted(it.name for it in view.room.iterdir()), ["kept.html", "root", "run.html"])
     os.mkfifo(view.room / "pipe.journal")
-    tries.same("a pipe into which nobody writes isn't waited for", view("--page", str(kept), str(view.room / "pipe.journal"), text=b"").returncode, 2)
+    tries.same("a pipe into which nobody writes isn't waited for", view("--page", str(existing), str(view.room / "pipe.journal"), text=b"").returncode, 2)
 
 
 def umask() -> int:
@@ -151,11 +151,11 @@ def try_forged(tries: Tries, browser: Browser) -> None:
     tries.same("what it has and what agrees are beside each other", browser.texts("#detail .side"), ["In the trace x 5", "By its own state x 1"])
     tries.has("so it is in the list", browser.texts("#events .event")[0], "doesn't agree")
     view, page = View(tries.room / "by"), tries.room / "by.html"
-    for text, told in ((write_journal(warehouse(3, 4, 1)), "legal, checked by asm_driver"), (write_trace(warehouse(3, 4, 1)), "legal, checked by this page")):
+    for text, words in ((write_journal(warehouse(3, 4, 1)), "legal, checked by asm_driver"), (write_trace(warehouse(3, 4, 1)), "legal, checked by this page")):
         view("--page", str(page), text=text)
         browser.open(page)
         browser.until("return !document.getElementById('main').hidden")
-        tries.same("the page names who has checked the run", browser.texts("#facts .legal"), [told])
+        tries.same("the page names who has checked the run", browser.texts("#facts .legal"), [words])
 
 
 def try_altered(tries: Tries, browser: Browser) -> None:
@@ -252,9 +252,9 @@ def try_unseen(tries: Tries, browser: Browser) -> None:
     history = journal_of((0, {"fire": [["put", ["x", f"a{it}b"], f"a{it}b"] for it in signs], "reads": []}, {"fired": 1}))
     browser.load(tries.trace("unseen", history))
     browser.press(Keys.END)
-    told = browser.run("return document.getElementById('detail').textContent + [...document.querySelectorAll('[title]')].map(it => it.title).join('')")
-    tries.same("no sign is shown that can't be seen or looks like a space", [hex(ord(it)) for it in signs if it in told], [])
-    tries.has("each is written as JSON escapes it", told, '"a\\u200bb"')
+    words = browser.run("return document.getElementById('detail').textContent + [...document.querySelectorAll('[title]')].map(it => it.title).join('')")
+    tries.same("no sign is shown that can't be seen or looks like a space", [hex(ord(it)) for it in signs if it in words], [])
+    tries.has("each is written as JSON escapes it", words, '"a\\u200bb"')
     browser.run("""const files = new DataTransfer(); files.items.add(new File([arguments[0]], "a\\u202eb.trace"));
       document.body.dispatchEvent(new DragEvent("drop", { bubbles: true, cancelable: true, dataTransfer: files }))""", write_trace(history).decode())
     browser.until("return document.getElementById('name').textContent !== 'unseen.trace' && !document.getElementById('main').hidden")
@@ -275,12 +275,12 @@ def try_times(tries: Tries, browser: Browser) -> None:
         "a list of 64,000 lists": journal_of((0, {"fire": [["put", ["x"], {"list": [tree] * 3}]], "reads": []}, {"fired": 1})),
         "a text of 8 MB with digits": journal_of((0, {"fire": [["put", ["x"], text]], "reads": []}, {"fired": 1})),
     }.items():
-        took = browser.load(tries.trace("heavy", history))
+        seconds = browser.load(tries.trace("heavy", history))
         browser.run("window.start = performance.now()")
         browser.press(Keys.END)
-        took = max(took, browser.run("return (performance.now() - start) / 1000"))
+        seconds = max(seconds, browser.run("return (performance.now() - start) / 1000"))
         nodes = browser.run("return document.querySelectorAll('*').length")
-        tries.claim(f"{what} is shown in a few seconds and {nodes} nodes: {took:.1f} s", took < 15 and nodes < 12000 and browser.title().startswith("Event 0 "), (took, nodes, browser.text("fault")))
+        tries.claim(f"{what} is shown in a few seconds and {nodes} nodes: {seconds:.1f} s", seconds < 15 and nodes < 12000 and browser.title().startswith("Event 0 "), (seconds, nodes, browser.text("fault")))
     path = tries.trace("small", strange())
     for part in ("(" * 20000, "not " * 20000, "x = " + "[" * 20000):
         browser.load(path, f"#if={part}")

@@ -66,13 +66,13 @@ CLASHES = [
 
 
 def try_clashes(tries: Tries, browser: Browser) -> None:
-    for cause, old, move, told in CLASHES:
+    for cause, old, move, words in CLASHES:
         init = [[["x"], old], [["y"], 1]]
         fire = {"fire": [["put", ["y"], 2], *move], "reads": []}
         browser.load(tries.trace("clash", journal_of((1, fire, {"clash": [["x"], cause]}), init=init)))
         browser.press(Keys.END)
         detail = browser.text("detail")
-        tries.claim(f"a clash {cause} says: {told}", browser.texts("#facts .legal") and f"Clash, {cause}: at x " in detail and told in detail, detail)
+        tries.claim(f"a clash {cause} says: {words}", browser.texts("#facts .legal") and f"Clash, {cause}: at x " in detail and words in detail, detail)
         tries.same("its instructions at that location are marked", len(browser.all("#detail .here")), len(move))
     tries.shot(browser, "clash")
     tries.same("each cause is tried", {it[0] for it in CLASHES}, set(CAUSES))
@@ -97,7 +97,7 @@ def try_wrong(tries: Tries, browser: Browser) -> None:
         ("fired as move 9", "fired as move 3"),
         ("fired as move 4", "clash Two at x"),
     ]
-    wanted = [(f"In the journal {told}", f"Right answer {right}") for told, right in wanted]
+    wanted = [(f"In the journal {words}", f"Right answer {right}") for words, right in wanted]
     tries.same("w goes along the wrong answers, each beside the right one", sides, wanted)
     tries.has("a clash that is reported as fired changes nothing", browser.text("detail"), "Nothing: the move clashes.")
     browser.press("w", shift=True)

@@ -88,9 +88,9 @@ def try_range(tries: Tries, browser: Browser) -> None:
     browser.frame()
     first, end = browser.run("return shown.range")
     part = BUSY.events[first:end]
-    told = browser.text("range")
+    words = browser.text("range")
     moves, stale = sum(isinstance(it.reply, Fired) for it in part), sum(isinstance(it.reply, Stale) for it in part)
-    tries.claim(f"a drag on the axis measures a range: {told}", abs(first - 20) < 2 and abs(end - 61) < 3 and f"Events {first} to {end - 1} {len(part)} events of {len({it.agent for it in part})} agents" in told and f" {moves} moves" in told and f"{stale} stale fire" in told, (first, end, told))
+    tries.claim(f"a drag on the axis measures a range: {words}", abs(first - 20) < 2 and abs(end - 61) < 3 and f"Events {first} to {end - 1} {len(part)} events of {len({it.agent for it in part})} agents" in words and f" {moves} moves" in words and f"{stale} stale fire" in words, (first, end, words))
     tries.shot(browser, "range")
     browser.run("document.querySelector('#range button').click()")
     browser.frame()

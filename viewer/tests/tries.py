@@ -17,14 +17,14 @@ class Tries:
         self.passed = self.failed = 0
         self.part = ""
 
-    def claim(self, what: str, holds: Any, told: Any = "") -> None:
+    def claim(self, what: str, holds: Any, details: Any = "") -> None:
         """Print whether something holds, and what was found if it doesn't."""
         if holds:
             self.passed += 1
             print(f"ok    {self.part}: {what}", flush=True)
         else:
             self.failed += 1
-            print(f"FAIL  {self.part}: {what}: {told}", flush=True)
+            print(f"FAIL  {self.part}: {what}: {details}", flush=True)
 
     def same(self, what: str, found: Any, wanted: Any) -> None:
         self.claim(what, found == wanted, f"{found!r} is not {wanted!r}")

@@ -9,7 +9,7 @@ from journal import Fired, History, write_journal
 from samples import warehouse
 from tries import Tries
 
-WHOLE = warehouse(5, 16, 3)
+COMPLETE = warehouse(5, 16, 3)
 START, END = 40, 70
 # The chosen event's moment: how many moves were fired up to it, and the state as the page shows it.
 MOMENT = """
@@ -23,7 +23,7 @@ def window_of(history: History, start: int, end: int) -> bytes:
 
 
 def try_window(tries: Tries, browser: Browser) -> None:
-    path = tries.file("window.trace", window_of(WHOLE, START, END))
+    path = tries.file("window.trace", window_of(COMPLETE, START, END))
     browser.load(path)
     facts = browser.texts("#facts .fact")
     tries.claim("the facts say how many events the window has", f"{END - START} events" in facts, facts)
@@ -32,9 +32,9 @@ def try_window(tries: Tries, browser: Browser) -> None:
     tries.same("what was before its first event is named so", browser.title(), f"Before event {START}")
     browser.slide(1)
     tries.claim("its first event has the number that it has in the part", browser.title().startswith(f"Event {START} "), browser.title())
-    fired = next(it for it in range(START, END) if isinstance(WHOLE.events[it].reply, Fired))
+    fired = next(it for it in range(START, END) if isinstance(COMPLETE.events[it].reply, Fired))
     browser.slide(fired + 1 - START)
-    tries.has("a move has its number in the part", browser.title(), f"move {WHOLE.events[fired].reply.number}")
+    tries.has("a move has its number in the part", browser.title(), f"move {COMPLETE.events[fired].reply.number}")
     browser.load(path, f"#event={END - 1}")
     tries.claim("an address leads to an event by its number in the part", browser.title().startswith(f"Event {END - 1} "), browser.title())
     tries.same("the console has no problem", browser.problems(), [])
@@ -43,7 +43,7 @@ def try_window(tries: Tries, browser: Browser) -> None:
 def try_moments(tries: Tries, browser: Browser) -> None:
     """A moment of the window is the part's own."""
     found = []
-    for name, text, start in (("whole", window_of(WHOLE, 0, len(WHOLE.events)), 0), ("window", window_of(WHOLE, START, END), START)):
+    for name, text, start in (("whole", window_of(COMPLETE, 0, len(COMPLETE.events)), 0), ("window", window_of(COMPLETE, START, END), START)):
         browser.load(tries.file(f"{name}.trace", text))
         moments = []
         for call in range(START, END + 1):
@@ -51,15 +51,15 @@ def try_moments(tries: Tries, browser: Browser) -> None:
             moves, state = browser.run(MOMENT)
             moments.append((moves, [it for it in state if it[1] != "null"]))
         found.append(moments)
-    wrong = [START + at for at, (whole, window) in enumerate(zip(*found, strict=True)) if whole != window]
+    wrong = [START + at for at, (complete, window) in enumerate(zip(*found, strict=True)) if complete != window]
     tries.claim("moves and states are those of the part", not wrong, wrong)
 
 
 def try_edges(tries: Tries, browser: Browser) -> None:
-    browser.load(tries.file("empty.trace", window_of(WHOLE, START, START)))
+    browser.load(tries.file("empty.trace", window_of(COMPLETE, START, START)))
     tries.has("a window without an event says so", browser.text("detail"), "The window has no event")
-    late = next(it for it in range(START, END) if isinstance(WHOLE.events[it].reply, Fired) and WHOLE.events[it].call.reads)
-    browser.load(tries.file("late.trace", window_of(WHOLE, late, late + 1)), f"#event={late}")
+    late = next(it for it in range(START, END) if isinstance(COMPLETE.events[it].reply, Fired) and COMPLETE.events[it].call.reads)
+    browser.load(tries.file("late.trace", window_of(COMPLETE, late, late + 1)), f"#event={late}")
     tries.has("of a read before the window it says that the window has none", browser.text("detail"), "not read")
     tries.same("the console has no problem", browser.problems(), [])
 

@@ -87,7 +87,7 @@ class Folders(Rooms):
     def replace_last(self, text, moves, events):
         """Replace the last segment by a text of these numbers, with a right digest."""
         segments(self.path)[4].unlink()
-        writer, _ = RunWriter.resumed(self.path)
+        writer, _ = RunWriter.resume(self.path)
         writer.save(memoryview(text), moves, events)
         writer.close()
 

@@ -97,17 +97,17 @@ class Interleaved(unittest.TestCase):
         self.assertEqual([it for it in lists[:31] if not counts_two(self.left([guarded, guarded], it)[-1])], [])
 
     def test_a_list_is_counted_round_those_at_work(self):
-        order = []
+        numbers = []
 
         def work(agent):
             for _ in range(2):
                 agent.step().free()
-                order.append(agent.number)
+                numbers.append(agent.number)
 
         def order(turns):
-            order.clear()
+            numbers.clear()
             self.left([work] * 3, turns)
-            return "".join(map(str, order))
+            return "".join(map(str, numbers))
 
         self.assertEqual(order([]), "001122")
         self.assertEqual(order([2, 2, 2]), "220011")

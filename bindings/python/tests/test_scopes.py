@@ -212,7 +212,7 @@ class Scopes(unittest.TestCase):
         late = self.storage.agent(1)
         self.storage.close_journal()
         put(late, 2)
-        with self.assertRaisesRegex(Error, "2 moves were fired, and the journal tells 1"):
+        with self.assertRaisesRegex(Error, "2 moves were fired, and the journal has 1"):
             self.storage.next()
         late.give()
         self.storage.close_journal()
