@@ -32,13 +32,13 @@ class Case:
         status, written = ended(program, self.words, self.given)
         if (status, written) == (self.status, self.wanted):
             return None
-        told = f"status {status}, where {self.status} is wanted"
+        message = f"status {status}, where {self.status} is wanted"
         at = next((k for k, (one, two) in enumerate(zip(written, self.wanted)) if one != two), None)
         if at is None:
             at = min(len(written), len(self.wanted))
         if written != self.wanted:
-            told += f"; from byte {at} on {shown(written, at)}, where {shown(self.wanted, at)} is wanted"
-        return told
+            message += f"; from byte {at} on {shown(written, at)}, where {shown(self.wanted, at)} is wanted"
+        return message
 
 
 def shown(text: bytes, at: int) -> str:
@@ -128,7 +128,7 @@ def run_all(program: str, cases: list[Case], jobs: int) -> int:
     works += [(f"{it.name}: its journal", journal_fault, (program, it)) for it in cases if is_played(it)]
     with ThreadPoolExecutor(jobs) as pool:
         faults = [(name, it) for (name, *_), it in zip(works, pool.map(lambda work: work[1](*work[2]), works)) if it]
-    for name, told in faults:
-        print(f"case {name}: {told}")
+    for name, message in faults:
+        print(f"case {name}: {message}")
     print(f"{len(works) - len(faults)} passed, {len(faults)} failed")
     return 1 if faults else 0

@@ -358,7 +358,7 @@ def table(name: str, journal: str, rows: dict[str | None, Iterable[str]]) -> Ite
                 yield rewritten(f"{name}_{at}", given)
 
 
-def kept() -> Iterator[Case]:
+def round_trips() -> Iterator[Case]:
     """Locations, values and instructions are written as they are read."""
     read = '{"agent":1,"call":{"read":[%s]},"reply":{"number":0,"values":[%s]}}'
     undef = ",".join(["null"] * len(LOCATIONS))
@@ -389,7 +389,7 @@ def listed() -> Iterator[Case]:
 
 
 def formed() -> list[Case]:
-    found = [*kept(), *listed()]
+    found = [*round_trips(), *listed()]
     for name, journal, rows in (
         ("header", UNDER_HEADER, HEADERS),
         ("number", OF_VERSION, VERSIONS),

@@ -17,8 +17,8 @@ def header(events: int, agents: int = 1, init: list | None = None, capacity: int
     return text(head) + "\n"
 
 
-def event(call: str, told: str) -> str:
-    return f'{{"agent":0,"call":{call},"reply":{told}}}\n'
+def event(call: str, reply: str) -> str:
+    return f'{{"agent":0,"call":{call},"reply":{reply}}}\n'
 
 
 def raises(n: int) -> Iterator[Case]:
@@ -94,10 +94,10 @@ def misread(n: int) -> Iterator[Case]:
     The trace doesn't repeat what it holds.
     """
     init = [[X, "x" * n]]
-    told = event(text({"read": [X] * 256}), text({"number": 1, "values": [None] * 256}))
+    wrong = event(text({"read": [X] * 256}), text({"number": 1, "values": [None] * 256}))
     head = text({"agents": 1, "capacity": 1048576, "events": 1, "init": init, "trace": 1}) + "\n"
-    line = told.replace(',"reply"', ',"event":0,"reply"')[:-2] + f',"right":{text({"differs": list(range(256)), "number": 0})}}}\n'
-    yield Case(f"trace_of_256_wrong_reads_of_{n}_bytes", ("trace",), (header(1, init=init) + told).encode(), (head + line).encode())
+    line = wrong.replace(',"reply"', ',"event":0,"reply"')[:-2] + f',"right":{text({"differs": list(range(256)), "number": 0})}}}\n'
+    yield Case(f"trace_of_256_wrong_reads_of_{n}_bytes", ("trace",), (header(1, init=init) + wrong).encode(), (head + line).encode())
 
 
 def calls_of(n: int) -> Iterator[Case]:
@@ -107,12 +107,12 @@ def calls_of(n: int) -> Iterator[Case]:
     """
     places, undef = ",".join(['["x"]'] * n), ",".join(["null"] * n)
     named, raised = ",".join(['[["n"],0]'] * n), ",".join(['["inc",["n"],1]'] * n)
-    for name, most, call, told in (
+    for name, most, call, reply in (
         ("locations", 256, f'{{"read":[{places}]}}', f'{{"number":0,"values":[{undef}]}}'),
         ("named_reads", 256, f'{{"fire":[],"reads":[{named}]}}', '"full"'),
         ("instructions", 4096, f'{{"fire":[{raised}],"reads":[]}}', '"full"'),
     ):
-        journal = (header(1) + event(call, told)).encode()
+        journal = (header(1) + event(call, reply)).encode()
         ends = (journal, 0) if n <= most else (SHAPE, 2)
         yield Case(f"rewrite_a_call_of_{n}_{name}", ("rewrite",), journal, *ends)
 
@@ -130,10 +130,10 @@ def parts(n: int) -> Iterator[Case]:
     """
     run, legal = run_of(n), f"legal {n} {n} {n}\n"
     yield Case(f"audit_{n}_parts", ("audit",), run.encode(), legal.encode())
-    told = "".join(f"so far {k} {k} {k}\n" for k in range(4096, n + 1, 4096))
-    yield Case(f"audit_every_4096_of_{n}_parts", ("audit", "--every", "4096"), run.encode(), (told + legal).encode())
-    apart = run + header(1, init=[[N, n - 1]]) + event('{"fire":[],"reads":[]}', '{"fired":1}')
-    yield Case(f"audit_{n}_parts_and_one_apart", ("audit",), apart.encode(), f"part {n} apart\n".encode(), 2)
+    progress = "".join(f"so far {k} {k} {k}\n" for k in range(4096, n + 1, 4096))
+    yield Case(f"audit_every_4096_of_{n}_parts", ("audit", "--every", "4096"), run.encode(), (progress + legal).encode())
+    mismatched = run + header(1, init=[[N, n - 1]]) + event('{"fire":[],"reads":[]}', '{"fired":1}')
+    yield Case(f"audit_{n}_parts_and_one_apart", ("audit",), mismatched.encode(), f"part {n} apart\n".encode(), 2)
     wrong = run + header(1, init=[[N, n]]) + event('{"read":[["n"]]}', f'{{"number":0,"values":[{n - 1}]}}')
     yield Case(f"audit_{n}_parts_and_a_wrong_one", ("audit",), wrong.encode(), f"illegal {n} 0\n".encode(), 1)
 
@@ -150,8 +150,8 @@ def window(n: int, before: int, calls: list[str], **part: int) -> str:
 def windows(n: int) -> Iterator[Case]:
     """The last of this many segments, and one after it, which doesn't exist."""
     call = event('{"fire":[["inc",["n"],1]],"reads":[]},"event":0', f'{{"fired":1}},"updates":[[["n"],{n - 1},{n}]]')
-    told = window(n - 1, 0, [call], **{"from": 0, "part": n - 1})
-    yield Case(f"trace_the_last_of_{n}_parts", ("trace", "--part", f"{n - 1}"), run_of(n).encode(), told.encode())
+    traced = window(n - 1, 0, [call], **{"from": 0, "part": n - 1})
+    yield Case(f"trace_the_last_of_{n}_parts", ("trace", "--part", f"{n - 1}"), run_of(n).encode(), traced.encode())
     few = f"the run has {n} parts\n".encode()
     yield Case(f"trace_a_part_behind_{n}_parts", ("trace", "--part", f"{n}"), run_of(n).encode(), few, 2)
 
@@ -180,8 +180,8 @@ def cut() -> Iterator[Case]:
         journal = header(2, init=[[S, {"set": []}]], capacity=4096, version=version) + lines
         for at in range(len(journal)):
             inside = journal[:at] and journal[at - 1] != "\n" and journal[at] != "\n"
-            told = f"journal line {1 + journal[:at].count(chr(10))}: not JSON\n" if inside else "journal cut\n"
-            yield Case(f"{word}_journal_cut_at_{at}", (word,), journal[:at].encode(), told.encode(), 2)
+            refusal = f"journal line {1 + journal[:at].count(chr(10))}: not JSON\n" if inside else "journal cut\n"
+            yield Case(f"{word}_journal_cut_at_{at}", (word,), journal[:at].encode(), refusal.encode(), 2)
 
 
 EMPTY_SET, EMPTY_BAG = [[["a"], {"set": []}]], [[["a"], {"bag": []}]]
@@ -216,9 +216,9 @@ def placed() -> Iterator[Case]:
     for name, opening in OPENINGS.items():
         head = '{"agents":0,"capacity":8,"events":0,"init":%s,"version":#}\n' % opening
         yield from judged(name, head, "legal 0 0\n", 1)
-    for name, (init, call, told, right) in PLACES.items():
-        journal = header(1, init=init, capacity=8).replace('"version":2', '"version":#') + event(call, told)
-        line = f"legal 1 {int(told == FIRED)}\n" if right else "illegal 0\n"
+    for name, (init, call, reply, right) in PLACES.items():
+        journal = header(1, init=init, capacity=8).replace('"version":2', '"version":#') + event(call, reply)
+        line = f"legal 1 {int(reply == FIRED)}\n" if right else "illegal 0\n"
         yield from judged(name, journal, line, 2)
 
 

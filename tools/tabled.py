@@ -9,7 +9,7 @@ from formed_scripts import scripts
 from judged_journals import judged
 
 
-def kept() -> list[Case]:
+def table_cases() -> list[Case]:
     found = [*cases_of(CASES), *examples(), *scripts(), *formed(), *judged()]
     assert len({it.name for it in found}) == len(found)
     return found

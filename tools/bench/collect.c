@@ -86,9 +86,9 @@ static double taken_back(const kind *k, unsigned times) {
         extend_by(k, i);
         take_back(k, i - 1);
     }
-    double took = now() - from;
+    double seconds = now() - from;
     end();
-    return took;
+    return seconds;
 }
 
 /* The milliseconds of this many extensions, over what is below or after a put. */
@@ -102,9 +102,9 @@ static double collected(const kind *k, unsigned times, bool is_put) {
     }
     for (unsigned i = 0; i < times; i++)
         extend_by(k, i);
-    double took = now() - from;
+    double seconds = now() - from;
     end();
-    return took;
+    return seconds;
 }
 
 /* The set or the bag of this many elements, below those that are added later. */
@@ -128,9 +128,9 @@ static double beside(const kind *k, unsigned elements) {
     double from = now();
     for (unsigned i = 2; i < LATER + 2; i++)
         extend_by(k, i);
-    double took = (now() - from) * 1e3 / LATER;
+    double seconds = (now() - from) * 1e3 / LATER;
     end();
-    return took;
+    return seconds;
 }
 
 /* The same of an addition and its removal, by turns. */
@@ -145,9 +145,9 @@ static double back_and_forth(const kind *k, unsigned elements) {
         extend_by(k, 0);
         take_back(k, 0);
     }
-    double took = (now() - from) * 1e3 / LATER;
+    double seconds = (now() - from) * 1e3 / LATER;
     end();
-    return took;
+    return seconds;
 }
 
 int main(void) {

@@ -22,7 +22,7 @@ static struct asm_agent agents[MOST_AGENTS];
 static struct asm_step step;
 static struct asm_move move;
 static struct asm_location at[LOCATIONS];
-static size_t kept;
+static size_t retained;
 
 static void require(bool holds, const char *what, int line) {
     if (!holds) {
@@ -63,7 +63,7 @@ static double time_of(size_t count, uint32_t moves) {
         add_one(&agents[0], &at[i]);
     }
     size_t last = 0;
-    size_t held = mallinfo2().uordblks;
+    size_t used_before = mallinfo2().uordblks;
     double begin = now();
     for (uint32_t i = 0; i < moves; i++) {
         size_t next = (last + 1) % count;
@@ -73,7 +73,7 @@ static double time_of(size_t count, uint32_t moves) {
         last = next;
     }
     double time = (now() - begin) / moves;
-    kept = mallinfo2().uordblks - held;
+    retained = mallinfo2().uordblks - used_before;
     for (size_t i = 0; i < count; i++)
         asm_free_agent(&agents[i]);
     for (size_t i = 0; i < LOCATIONS; i++)
@@ -102,7 +102,7 @@ int main(int count, char **words) {
     if (count > 2 && strcmp(words[1], "--kept") == 0) {
         uint32_t moves = (uint32_t)atoi(words[2]);
         time_of(1, moves);
-        printf("%zu\n", kept / moves);
+        printf("%zu\n", retained / moves);
         return 0;
     }
     for (size_t i = 0; i < sizeof crowds / sizeof *crowds; i++) {

@@ -33,9 +33,9 @@ double time_of(std::uint32_t count, std::uint32_t moves) {
     for (std::uint32_t i = 0; i < LOCATIONS; ++i) places.emplace_back("x", i);
     folugben::instructions move;
     for (const auto &at : places) add_one(agents[0], at, move);
-    const auto begun = std::chrono::steady_clock::now();
+    const auto start = std::chrono::steady_clock::now();
     for (std::uint32_t i = 0; i < moves; ++i) add_one(agents[(i + 1) % count], places[i % LOCATIONS], move);
-    const std::chrono::duration<double, std::nano> time = std::chrono::steady_clock::now() - begun;
+    const std::chrono::duration<double, std::nano> time = std::chrono::steady_clock::now() - start;
     for (auto &it : agents) it.abandon();
     return time.count() / moves;
 }

@@ -109,8 +109,8 @@ def changed(value: Any, random: Random) -> Any:
     return value[0]
 
 
-def _change_once(whole: list[Any], random: Random) -> None:
-    holder: Any = whole
+def _change_once(root: list[Any], random: Random) -> None:
+    holder: Any = root
     # Goes down to any depth, as a value inside a script shows more than one at its top.
     while True:
         key = random.randrange(len(holder)) if isinstance(holder, list) else random.choice(list(holder))
@@ -118,7 +118,7 @@ def _change_once(whole: list[Any], random: Random) -> None:
         if not isinstance(inner, (list, dict)) or not inner or random.random() < 0.12:
             break
         holder = inner
-    _change_at(holder, key, random, is_top=holder is whole)
+    _change_at(holder, key, random, is_top=holder is root)
 
 
 def _change_at(holder: Any, key: Any, random: Random, is_top: bool) -> None:

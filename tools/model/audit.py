@@ -19,9 +19,9 @@ WINDOW_VERSION = 2
 class Ended(Exception):
     """The audit ends with this status and this line."""
 
-    def __init__(self, status: int, told: str) -> None:
-        super().__init__(told)
-        self.status, self.told = status, told
+    def __init__(self, status: int, line: str) -> None:
+        super().__init__(line)
+        self.status, self.line = status, line
 
 
 class Audit:
@@ -32,7 +32,7 @@ class Audit:
 
     def __init__(self) -> None:
         self.calls = self.moves = self.parts = 0
-        self.begun = -1
+        self.current_part = -1
         self.header: Header | None = None
         self.storage = Storage({}, 0)
         self.lines = 0
@@ -49,7 +49,7 @@ class Audit:
 
         Only the last one may have none, and no event or header is that.
         """
-        number = self.begun + self.is_between()
+        number = self.current_part + self.is_between()
         if len(line) > MAX_LINE:
             raise Ended(2, "input too large")
         try:
@@ -75,9 +75,9 @@ class Audit:
     def _begin(self, value: Json) -> None:
         header = read_header(value)
         if self.header is not None and header.init != self.storage.state:
-            raise Ended(2, f"part {self.begun + 1} apart")
+            raise Ended(2, f"part {self.current_part + 1} apart")
         self.header, self.lines = header, 1
-        self.begun += 1
+        self.current_part += 1
         self.storage = Storage(header.init, header.capacity)
 
     def _judge(self, value: Json) -> None:
@@ -85,7 +85,7 @@ class Audit:
         event = read_event(value, self.header, self.lines + 1)
         right = self.storage.reply(event.call)
         if type(right) is not type(event.reply) or right != event.reply:
-            raise Ended(1, f"illegal {self.begun} {self.lines - 1}")
+            raise Ended(1, f"illegal {self.current_part} {self.lines - 1}")
         self.lines += 1
         self.calls += 1
         self.moves += isinstance(event.reply, Fired)
@@ -106,7 +106,7 @@ def lines_of(text: bytes, every: int | None) -> Iterator[str]:
     if last:
         audit.take(last, is_ended=False)
     if audit.header is None or not audit.is_between():
-        raise Ended(2, f"part {max(audit.begun, 0)} journal cut")
+        raise Ended(2, f"part {max(audit.current_part, 0)} journal cut")
     yield f"legal {audit.calls} {audit.moves} {audit.parts}"
 
 
@@ -115,15 +115,15 @@ def audit(text: bytes, every: int | None) -> tuple[int, str]:
 
     The output is how the audit ends, and its progress after every so many calls.
     """
-    told: list[str] = []
+    output: list[str] = []
     status = 0
     try:
         for line in lines_of(text, every):
-            told.append(line)
+            output.append(line)
     except Ended as ended:
         status = ended.status
-        told.append(ended.told)
-    return status, "".join(f"{it}\n" for it in told)
+        output.append(ended.line)
+    return status, "".join(f"{it}\n" for it in output)
 
 
 # ---- windows
@@ -157,9 +157,9 @@ class Opened:
         """Record the next event, if it is one of the window."""
         self.begin()
         event = read_event(jsontext.read(line), self.header, self.events + 2)
-        told = event_line(self.storage, self.events, event)
+        traced = event_line(self.storage, self.events, event)
         if self.events >= self.window.start:
-            self.lines.append(jsontext.write(told))
+            self.lines.append(jsontext.write(traced))
         self.events += 1
 
     def begin(self) -> None:
@@ -191,7 +191,7 @@ def shown(text: bytes, window: Window) -> str:
         audit.take(line)
         if opened is not None:
             opened.note(line)
-        elif audit.begun == window.part:
+        elif audit.current_part == window.part:
             assert audit.header is not None
             opened = Opened(window, audit.header)
         if opened is not None and opened.is_over():
@@ -199,7 +199,7 @@ def shown(text: bytes, window: Window) -> str:
     if last:
         audit.take(last, is_ended=False)
     if audit.header is None or not audit.is_between():
-        raise Ended(2, f"part {max(audit.begun, 0)} journal cut")
+        raise Ended(2, f"part {max(audit.current_part, 0)} journal cut")
     raise Ended(2, f"the run has {audit.parts} parts")
 
 
@@ -208,4 +208,4 @@ def trace_window(text: bytes, window: Window) -> tuple[int, str]:
     try:
         return 0, shown(text, window)
     except Ended as ended:
-        return ended.status, f"{ended.told}\n"
+        return ended.status, f"{ended.line}\n"

@@ -135,16 +135,16 @@ class CountFamily:
         """Accept increments: they have a result on some number, except for large sums."""
 
     def joined(self, first: list[Increment], second: list[Increment]) -> list[Increment]:
-        rest = _total([*first, *second])
-        if abs(rest) > MAX_SUM:
+        remaining = _total([*first, *second])
+        if abs(remaining) > MAX_SUM:
             raise TooLarge
-        if rest == 0:
+        if remaining == 0:
             return [] if first else [Increment(0)]
         both: list[Increment] = []
-        while rest:
-            part = max(I64[0], min(I64[-1], rest))
+        while remaining:
+            part = max(I64[0], min(I64[-1], remaining))
             both.append(Increment(part))
-            rest -= part
+            remaining -= part
         return both
 
 

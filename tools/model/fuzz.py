@@ -79,7 +79,7 @@ class Trial(NamedTuple):
 
 class Difference(NamedTuple):
     trial: Trial
-    told: str
+    details: str
 
 
 class Job(NamedTuple):
@@ -130,7 +130,7 @@ class Fuzz:
         elif self.kind == "long":
             yield Trial(random.choice([words, *READING, ["audit"]]), self.long_text())
         elif self.kind == "apart":
-            yield Trial(random.choice([["run"], ["run", "--terms"]]), self.text(maker.apart()))
+            yield Trial(random.choice([["run"], ["run", "--terms"]]), self.text(maker.independent()))
         elif self.kind == "sequence":
             yield Trial(either, self.text(maker.sequence()))
         elif self.kind == "blocks":
@@ -168,9 +168,9 @@ class Fuzz:
         Of each part there is one that has a call at least, if the part has some.
         """
         parts = self.parts()
-        whole = b"".join(parts)
+        run = b"".join(parts)
         for number, part in enumerate(parts):
-            yield Trial(self.window(number, part.count(b"\n") - 1), whole)
+            yield Trial(self.window(number, part.count(b"\n") - 1), run)
         for run in self.altered_runs(parts):
             number = self.random.randrange(len(parts) + 1)
             yield Trial(self.window(number, parts[number % len(parts)].count(b"\n") - 1), run)
@@ -203,15 +203,15 @@ class Fuzz:
         yield cut(b"".join(parts), self.random)
 
     def every(self) -> list[str]:
-        given = self.random.choice(["1", "1", "2", "3", "+5", "007", "4294967295"])
-        return self.random.choice([[], ["--every", given], [f"--every={given}"]])
+        every = self.random.choice(["1", "1", "2", "3", "+5", "007", "4294967295"])
+        return self.random.choice([[], ["--every", every], [f"--every={every}"]])
 
     def capacity(self) -> list[str]:
         pick = self.random.random()
         if pick < 0.7:
             return []
-        given = self.random.choice(CAPACITIES)
-        return ["--capacity", given] if pick < 0.95 else [f"--capacity={given}"]
+        capacity = self.random.choice(CAPACITIES)
+        return ["--capacity", capacity] if pick < 0.95 else [f"--capacity={capacity}"]
 
     def text(self, value: object, is_plain: bool = False) -> bytes:
         return spelled(value, self.random, is_plain or self.random.random() < 0.5).encode()
@@ -224,14 +224,14 @@ class Fuzz:
         """Return what the program did, and record where the model differs."""
         ran = self.ran(trial)
         try:
-            said = model.answer(trial.words, trial.text)
+            wanted = model.answer(trial.words, trial.text)
         except SeveralAgents:
             self.counts["left out, as the order of several agents may show"] += 1
             return ran
         self.counts["inputs"] += 1
         self.counts.update(sorts_of(ran))
-        if ran != said:
-            self.differences.append(Difference(trial, f"program {shown(ran)}\n  model   {shown(said)}"))
+        if ran != wanted:
+            self.differences.append(Difference(trial, f"program {shown(ran)}\n  model   {shown(wanted)}"))
         elif trial.words == ["trace"] and ran.status == 0:
             self.check_trace(trial, ran)
         return ran
@@ -322,7 +322,7 @@ def save(difference: Difference, number: int, folder: Path) -> None:
     name = folder / f"difference_{number}"
     name.write_bytes(difference.trial.text)
     name.with_suffix(".args").write_text("".join(f"{word}\n" for word in difference.trial.words))
-    print(f"{name} ({' '.join(difference.trial.words)}):\n  {difference.told}", flush=True)
+    print(f"{name} ({' '.join(difference.trial.words)}):\n  {difference.details}", flush=True)
 
 
 def read_arguments() -> argparse.Namespace:
@@ -338,27 +338,27 @@ def read_arguments() -> argparse.Namespace:
 
 
 def main() -> int:
-    given = read_arguments()
-    program = str(Path(given.program).resolve())
-    kinds = [given.only] if given.only else list(KINDS)
-    jobs = [Job(program, given.seed, number, kinds) for number in range(given.inputs)]
-    batch = 32 * given.jobs
+    options = read_arguments()
+    program = str(Path(options.program).resolve())
+    kinds = [options.only] if options.only else list(KINDS)
+    jobs = [Job(program, options.seed, number, kinds) for number in range(options.inputs)]
+    batch = 32 * options.jobs
     counts: Counter[str] = Counter()
     differences = 0
-    end = time.monotonic() + given.seconds
-    with multiprocessing.Pool(given.jobs) as pool:
-        for first in range(0, given.inputs, batch):
+    end = time.monotonic() + options.seconds
+    with multiprocessing.Pool(options.jobs) as pool:
+        for first in range(0, options.inputs, batch):
             if time.monotonic() > end:
                 break
             for done in pool.imap_unordered(work, jobs[first : first + batch]):
                 counts += done.counts
                 for difference in done.differences:
-                    given.save = given.save or Path(tempfile.mkdtemp(prefix="fuzz_"))
-                    save(difference, differences, given.save)
+                    options.save = options.save or Path(tempfile.mkdtemp(prefix="fuzz_"))
+                    save(difference, differences, options.save)
                     differences += 1
     for sort, count in sorted(counts.items()):
         print(f"{count:8} {sort}")
-    print(f"seed {given.seed}: {counts['inputs']} inputs, {differences} differences")
+    print(f"seed {options.seed}: {counts['inputs']} inputs, {differences} differences")
     return 1 if differences else 0
 
 

@@ -184,7 +184,7 @@ class Maker:
         others = [[undone[it[0]], *it[1:]] for it in block if it[0] in undone]
         return [*block, *([*it[:2], -it[2]] if it[0] == "inc" and it[2] != -(2**63) else it for it in others)]
 
-    def apart(self) -> Json:
+    def independent(self) -> Json:
         """Make a script of several agents, no two of which touch one location."""
         init: list[Json] = []
         agents: list[Json] = []

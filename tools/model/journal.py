@@ -7,7 +7,7 @@ from dataclasses import dataclass, field
 from typing import NamedTuple, Union
 
 import jsontext
-from jsontext import U32, U64, I64, Json, is_whole
+from jsontext import U32, U64, I64, Json, is_integer
 from moves import (
     MAX_INSTRUCTIONS,
     Clash,
@@ -34,7 +34,7 @@ from values import (
     read_state,
     read_value,
     value_json,
-    whole,
+    integer,
     write_to,
 )
 
@@ -209,7 +209,7 @@ def read_journal(text: bytes) -> History:
     history = History(header.init, header.capacity, header.agents)
     for number in range(2, header.events + 2):
         history.events.append(read_event(lines.next(), header, number))
-    if lines.is_left():
+    if lines.has_more():
         raise _no_shape(header.events + 2)
     return history
 
@@ -217,7 +217,7 @@ def read_journal(text: bytes) -> History:
 def read_header(value: Json) -> Header:
     """Read the first line of a journal, or raise its fault."""
     version = value.get("version") if isinstance(value, dict) else None
-    if (is_whole(version, I64) or is_whole(version, U64)) and version not in VERSIONS:
+    if (is_integer(version, I64) or is_integer(version, U64)) and version not in VERSIONS:
         raise BadJournal("journal version")
     try:
         return _header(_allowed(value, version))
@@ -257,7 +257,7 @@ class _Lines:
         *self.ended, self.last = text.split(b"\n")
         self.number = 0
 
-    def is_left(self) -> bool:
+    def has_more(self) -> bool:
         return self.number < len(self.ended) or bool(self.last)
 
     def next(self) -> Json:
@@ -265,7 +265,7 @@ class _Lines:
 
         The fault is the one that the line has whatever is expected there.
         """
-        if not self.is_left():
+        if not self.has_more():
             raise BadJournal("journal cut")
         has_feed = self.number < len(self.ended)
         line = self.ended[self.number] if has_feed else self.last
@@ -283,19 +283,19 @@ def _header(value: Json) -> Header:
     agents, capacity, events, init, version = entries(
         value, "agents", "capacity", "events", "init", "version"
     )
-    if not any(is_whole(version, range(it, it + 1)) for it in VERSIONS):
+    if not any(is_integer(version, range(it, it + 1)) for it in VERSIONS):
         raise WrongShape
     state, most = read_state(init), range(MAX_AGENTS + 1)
-    return Header(version, state, whole(capacity, CAPACITIES), whole(agents, most), whole(events, U32))
+    return Header(version, state, integer(capacity, CAPACITIES), integer(agents, most), integer(events, U32))
 
 
 def _event(value: Json, agents: int) -> Event:
     agent, call, reply = entries(value, "agent", "call", "reply")
-    number = whole(agent, range(agents))
+    number = integer(agent, range(agents))
     if has_key(call, "read"):
         places = read_all(call["read"], read_location, MAX_READS)
         at, values = entries(reply, "number", "values")
-        read = Values(whole(at, U32), [read_value(it) for it in members(values, len(places))])
+        read = Values(integer(at, U32), [read_value(it) for it in members(values, len(places))])
         return Event(number, Read(places), read)
     fire, reads = entries(call, "fire", "reads")
     move = read_all(fire, read_instruction, MAX_INSTRUCTIONS)
@@ -304,14 +304,14 @@ def _event(value: Json, agents: int) -> Event:
 
 def _read_named(value: Json) -> tuple[Location, int]:
     at, number = members(value, 2)
-    return read_location(at), whole(number, U32)
+    return read_location(at), integer(number, U32)
 
 
 def _read_reply(value: Json) -> Reply:
     if value == "full":
         return Full()
     if has_key(value, "fired"):
-        return Fired(whole(value["fired"], U32))
+        return Fired(integer(value["fired"], U32))
     if has_key(value, "stale"):
         return Stale(read_location(value["stale"]))
     if not has_key(value, "clash"):

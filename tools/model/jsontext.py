@@ -49,7 +49,7 @@ def write(value: Json) -> str:
     return json.dumps(value, ensure_ascii=False, separators=(",", ":"), sort_keys=True)
 
 
-def is_whole(value: Json, within: range) -> bool:
+def is_integer(value: Json, within: range) -> bool:
     """Return whether the value is an integer of the range.
 
     `True` is no number, though Python counts with it.
@@ -148,9 +148,9 @@ def _number(found: re.Match[bytes]) -> Json:
     text = found[0].decode("ascii")
     # (no number of more digits is in range, and Python refuses to read very long ones)
     if found[1] is None and found[2] is None and text != "-0" and len(text) <= 20:
-        whole = int(text)
-        if whole in I64 or whole in U64:
-            return whole
+        integer = int(text)
+        if integer in I64 or integer in U64:
+            return integer
     real = float(text)
     if real in (float("inf"), float("-inf")):
         raise NotJson("a number beyond every float")

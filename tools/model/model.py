@@ -37,7 +37,7 @@ class Answer(NamedTuple):
 class RunWords(NamedTuple):
     capacity: int
     is_journal: bool
-    is_told: bool
+    has_terms: bool
 
 
 class AuditWords(NamedTuple):
@@ -49,21 +49,21 @@ def answer(words: list[str], text: bytes) -> Answer:
 
     Its own name is not among the words.
     """
-    given = read_words(words)
-    if given is None:
+    request = read_words(words)
+    if request is None:
         return line(2, "bad words")
-    if isinstance(given, AuditWords):
-        status, told = audit(text, given.every)
-        return Answer(status, told.encode())
-    if isinstance(given, Window):
-        status, told = trace_window(text, given)
-        return Answer(status, told.encode())
+    if isinstance(request, AuditWords):
+        status, output = audit(text, request.every)
+        return Answer(status, output.encode())
+    if isinstance(request, Window):
+        status, output = trace_window(text, request)
+        return Answer(status, output.encode())
     if len(text) > MAX_INPUT:
         return line(2, "input too large")
     try:
-        if isinstance(given, RunWords):
-            return run(given, text)
-        return READING[given](text)
+        if isinstance(request, RunWords):
+            return run(request, text)
+        return READING[request](text)
     except BadScript as error:
         return line(2, f"bad script: {error}")
     except BadJournal as error:
@@ -74,9 +74,9 @@ def line(status: int, text: str) -> Answer:
     return Answer(status, f"{text}\n".encode())
 
 
-def run(given: RunWords, text: bytes) -> Answer:
-    played = play(read_script(text), given.capacity, given.is_journal)
-    return Answer(0, write_journal(played.history) if given.is_journal else report(played, given.is_told))
+def run(request: RunWords, text: bytes) -> Answer:
+    played = play(read_script(text), request.capacity, request.is_journal)
+    return Answer(0, write_journal(played.history) if request.is_journal else report(played, request.has_terms))
 
 
 def check(text: bytes) -> Answer:
@@ -112,40 +112,40 @@ def read_words(words: list[str]) -> RunWords | AuditWords | Window | str | None:
         return read_window_words(words[1:])
     if words[:1] != ["run"]:
         return None
-    capacity, is_journal, is_told = None, False, False
-    rest = iter(words[1:])
-    for word in rest:
+    capacity, is_journal, has_terms = None, False, False
+    remaining = iter(words[1:])
+    for word in remaining:
         name, equals, text = word.partition("=")
         if name == "--capacity" and capacity is None:
-            capacity = read_number(text if equals else next(rest, ""), CAPACITIES)
+            capacity = read_number(text if equals else next(remaining, ""), CAPACITIES)
             if capacity is None:
                 return None
         elif word == "--journal" and not is_journal:
             is_journal = True
-        elif word == "--terms" and not is_told:
-            is_told = True
+        elif word == "--terms" and not has_terms:
+            has_terms = True
         else:
             return None
-    return RunWords(DEFAULT_CAPACITY if capacity is None else capacity, is_journal, is_told)
+    return RunWords(DEFAULT_CAPACITY if capacity is None else capacity, is_journal, has_terms)
 
 
 def read_audit_words(words: list[str]) -> AuditWords | None:
     if not words:
         return AuditWords(None)
     name, equals, text = words[0].partition("=")
-    given = [text, *words[1:]] if equals else words[1:]
-    if name != "--every" or len(given) != 1:
+    values = [text, *words[1:]] if equals else words[1:]
+    if name != "--every" or len(values) != 1:
         return None
-    every = read_number(given[0], EVERY)
+    every = read_number(values[0], EVERY)
     return None if every is None else AuditWords(every)
 
 
 def read_window_words(words: list[str]) -> Window | None:
     numbers: dict[str, int] = {}
-    rest = iter(words)
-    for word in rest:
+    remaining = iter(words)
+    for word in remaining:
         name, equals, text = word.partition("=")
-        number = read_number(text if equals else next(rest, ""), NUMBERS)
+        number = read_number(text if equals else next(remaining, ""), NUMBERS)
         if name not in WINDOW_OPTIONS or name in numbers or number is None:
             return None
         numbers[name] = number
@@ -168,12 +168,12 @@ def main() -> int:
         # Except for an audit and a window, one byte more than the most is as good as all.
         is_long = sys.argv[1:2] == ["audit"] or sys.argv[1:2] == ["trace"] and sys.argv[2:]
         most = -1 if is_long else MAX_INPUT + 1
-        given = answer(sys.argv[1:], sys.stdin.buffer.read(most))
+        result = answer(sys.argv[1:], sys.stdin.buffer.read(most))
     except SeveralAgents:
         print("model: the output may depend on the order of the agents' moves", file=sys.stderr)
         return REFUSED
-    sys.stdout.buffer.write(given.output)
-    return given.status
+    sys.stdout.buffer.write(result.output)
+    return result.status
 
 
 if __name__ == "__main__":

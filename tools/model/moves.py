@@ -21,7 +21,7 @@ from values import (
     read_location,
     read_value,
     value_json,
-    whole,
+    integer,
 )
 
 
@@ -78,15 +78,15 @@ def read_with(
     listed = items(value, 4)
     if len(listed) < 3 or not isinstance(listed[0], str):
         raise WrongShape
-    word, at, content, *rest = listed
-    if word == "put" and not rest:
+    word, at, content, *operands = listed
+    if word == "put" and not operands:
         return read_location(at), Put(read_put(content))
-    if word == INCREMENT and not rest:
-        return read_location(at), Increment(whole(content, I64))
-    if word not in WORDS or len(rest) != WORDS[word][2]:
+    if word == INCREMENT and not operands:
+        return read_location(at), Increment(integer(content, I64))
+    if word not in WORDS or len(operands) != WORDS[word][2]:
         raise WrongShape
     family, adds, _ = WORDS[word]
-    amount = whole(rest[0], COUNTS) if rest else 1
+    amount = integer(operands[0], COUNTS) if operands else 1
     return read_location(at), Change(family, adds, read_part(content), amount)
 
 

@@ -18,18 +18,18 @@ class Played(NamedTuple):
     final: State
     # The lines of the steps that didn't fire, and where and why a term of one had no value.
     lines: list[str]
-    told: list[str]
+    term_lines: list[str]
 
 
 def play(script: Script, capacity: int, is_journal: bool) -> Played:
     """Play the script, if its output is the same in every order of the agents' moves."""
     playing = [steps for steps in script.agents if steps]
-    if len(playing) > 1 and (is_journal or not _is_apart(playing, capacity)):
+    if len(playing) > 1 and (is_journal or not _may_interleave(playing, capacity)):
         raise SeveralAgents
     storage = Storage(script.init, capacity)
     history = History(script.init, capacity, len(script.agents))
     lines: list[str] = []
-    told: list[str] = []
+    term_lines: list[str] = []
     for agent, steps in enumerate(script.agents):
         for number, step in enumerate(steps):
             name = f"agent {agent} step {number}"
@@ -37,14 +37,14 @@ def play(script: Script, capacity: int, is_journal: bool) -> Played:
             if outcome:
                 lines.append(f"{name} {outcome}")
             if why:
-                told.append(f"{name} {why}")
-    return Played(history, storage.state, lines, told)
+                term_lines.append(f"{name} {why}")
+    return Played(history, storage.state, lines, term_lines)
 
 
-def report(played: Played, is_told: bool) -> bytes:
+def report(played: Played, has_terms: bool) -> bytes:
     """Return the report, followed by the report on terms, if that is asked for."""
     pairs = [jsontext.write(pair) for pair in pairs_json(played.final)]
-    lines = [*pairs, f"moves {played.history.moves()}", *played.lines, *(played.told if is_told else [])]
+    lines = [*pairs, f"moves {played.history.moves()}", *played.lines, *(played.term_lines if has_terms else [])]
     return "".join(line + "\n" for line in lines).encode()
 
 
@@ -105,12 +105,12 @@ def _why(step: Step, reading: State) -> str:
     raise AssertionError
 
 
-def _is_apart(playing: list[list[Step]], capacity: int) -> bool:
+def _may_interleave(playing: list[list[Step]], capacity: int) -> bool:
     """Check that no two agents touch one location, and that each step has room."""
-    touched = [{at for step in steps for at in _touched(step)} for steps in playing]
+    touched = [{at for step in steps for at in _locations_of(step)} for steps in playing]
     is_disjoint = sum(map(len, touched)) == len(set().union(*touched))
     return is_disjoint and sum(map(len, playing)) <= capacity
 
 
-def _touched(step: Step) -> set[Location]:
+def _locations_of(step: Step) -> set[Location]:
     return {at for block in step for at, _ in block} | set(reads(step))

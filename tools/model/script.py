@@ -62,7 +62,7 @@ Term = Union[Known, Val, Sum]
 # An instruction with terms: what it puts, or the element of a partial update, is a term.
 Block = list[tuple[Location, Union[Put, Partial]]]
 Step = list[Block]
-LookUp = Callable[[Location], Value]
+Lookup = Callable[[Location], Value]
 
 
 class BadScript(Exception):
@@ -153,13 +153,13 @@ def step_move(step: Step, reading: State) -> Move:
     Each block is on what was read, as those before it overwrite it.
     """
     seen = dict(reading)
-    whole: Move = []
+    one_move: Move = []
     for number, block in enumerate(step):
         move = _block_move(number, block, seen)
         if number + 1 < len(step):
             seen.update(updates(lambda at: seen.get(at, UNDEF), move))
-        whole = composed(whole, move) if number else move
-    return whole
+        one_move = composed(one_move, move) if number else move
+    return one_move
 
 
 def _block_move(number: int, block: Block, seen: State) -> Move:

@@ -120,21 +120,21 @@ def check_trace(history: History, text: bytes) -> None:
 
 def _changed(state: State, change: Json, number: int) -> tuple[Location, Value]:
     """Return the value of a location after a change, which must have the old value."""
-    place, *told = change
+    place, *difference = change
     at = read_location(place)
     old = state.get(at, UNDEF)
-    if len(told) == 2:
-        _agree(read_value(told[0]) == old, number)
-        return at, read_value(told[1])
-    if "counts" in told[0]:
+    if len(difference) == 2:
+        _agree(read_value(difference[0]) == old, number)
+        return at, read_value(difference[1])
+    if "counts" in difference[0]:
         _agree(isinstance(old, BagValue), number)
         counts = dict(old.counts)
-        for element, was, now in told[0]["counts"]:
+        for element, was, now in difference[0]["counts"]:
             _agree(counts.pop(read_element(element), 0) == was != now, number)
             counts |= {read_element(element): now} if now else {}
         return at, BagValue(counts)
     _agree(isinstance(old, SetValue), number)
-    added, removed = (frozenset(map(read_element, told[0][side])) for side in ("added", "removed"))
+    added, removed = (frozenset(map(read_element, difference[0][side])) for side in ("added", "removed"))
     _agree(not added & old.members and removed <= old.members, number)
     return at, SetValue((old.members - removed) | added)
 

@@ -10,7 +10,7 @@ from collections.abc import Callable, Iterable
 from dataclasses import dataclass
 from typing import TypeVar, Union
 
-from jsontext import I64, U32, Json, is_whole
+from jsontext import I64, U32, Json, is_integer
 
 Listed = tuple[int, tuple["Element", ...]]
 Element = tuple[int, Union[int, str, Listed]]
@@ -65,8 +65,8 @@ def write_to(state: State, at: Location, value: Value) -> None:
         state[at] = value
 
 
-def whole(value: Json, within: range) -> int:
-    if not is_whole(value, within):
+def integer(value: Json, within: range) -> int:
+    if not is_integer(value, within):
         raise WrongShape
     return value
 
@@ -115,7 +115,7 @@ def read_element(value: Json, depth: int = 0) -> Element:
         return TRUE if value else FALSE
     if isinstance(value, str):
         return (TEXT, value)
-    return (NUMBER, whole(value, I64))
+    return (NUMBER, integer(value, I64))
 
 
 def element_json(element: Element) -> Json:
@@ -143,7 +143,7 @@ def read_value(value: Json) -> Value:
     if has_key(value, "bag"):
         counted = [members(it, 2) for it in items(value["bag"])]
         listed = distinct(read_element(element) for element, _ in counted)
-        return BagValue(dict(zip(listed, (whole(count, COUNTS) for _, count in counted))))
+        return BagValue(dict(zip(listed, (integer(count, COUNTS) for _, count in counted))))
     return read_element(value)
 
 

@@ -25,12 +25,12 @@ class Ended(NamedTuple):
 
     status: int
     output: bytes
-    held: int = 0
+    retained: int = 0
 
     def __str__(self) -> str:
         status = "it did not end" if self.status == DID_NOT_END else f"status {self.status}"
-        held = f", {self.held:,} blocks not freed" if self.held else ""
-        return f"{status}{held}, {self.output[-500:].decode(errors='backslashreplace')!r}"
+        retained = f", {self.retained:,} blocks not freed" if self.retained else ""
+        return f"{status}{retained}, {self.output[-500:].decode(errors='backslashreplace')!r}"
 
 
 class Sweep(NamedTuple):
@@ -38,7 +38,7 @@ class Sweep(NamedTuple):
 
     sorts: Counter[str]
     faults: dict[int, Ended]
-    is_whole: bool
+    is_complete: bool
 
 
 class Asked(NamedTuple):
@@ -67,8 +67,8 @@ class Refuser:
         Return also whether one was refused.
         """
         mark = Path(f"{self.folder.name}/mark_{number}")
-        given = {"FAIL_AT": str(number), "REFUSED_MARK": str(mark)}
-        ended, _ = self.ended(words, text, given, f"asked_{number}")
+        environment = {"FAIL_AT": str(number), "REFUSED_MARK": str(mark)}
+        ended, _ = self.ended(words, text, environment, f"asked_{number}")
         is_refused = mark.exists()
         mark.unlink(missing_ok=True)
         return ended, is_refused
@@ -81,21 +81,21 @@ class Refuser:
         return self.ended(words, text, {}, "asked")
 
     def ended(
-        self, words: list[str], text: bytes, given: dict[str, str], name: str
+        self, words: list[str], text: bytes, environment: dict[str, str], name: str
     ) -> tuple[Ended, Asked | None]:
         """Run the program over the library, with a file for what it asked for.
 
         The environment has these settings, and the file has this name.
         """
-        told = Path(f"{self.folder.name}/{name}")
-        ended = self.ran(words, text, {"ASKED_FOR": str(told), **given})
-        if not told.exists():
+        report = Path(f"{self.folder.name}/{name}")
+        ended = self.ran(words, text, {"ASKED_FOR": str(report), **environment})
+        if not report.exists():
             return ended, None
-        allocations, size, held = map(int, told.read_text(encoding="utf-8").split())
-        told.unlink()
-        return ended._replace(held=held), Asked(allocations, size)
+        allocations, size, retained = map(int, report.read_text(encoding="utf-8").split())
+        report.unlink()
+        return ended._replace(retained=retained), Asked(allocations, size)
 
-    def ran(self, words: list[str], text: bytes, given: dict[str, str]) -> Ended:
+    def ran(self, words: list[str], text: bytes, environment: dict[str, str]) -> Ended:
         """Run the program over the library, with this in its environment."""
         try:
             ran = subprocess.run(
@@ -103,7 +103,7 @@ class Refuser:
                 input=text,
                 stdout=subprocess.PIPE,
                 stderr=subprocess.STDOUT,
-                env={**os.environ, "LD_PRELOAD": self.library, **given},
+                env={**os.environ, "LD_PRELOAD": self.library, **environment},
                 timeout=TIME_LIMIT,
                 check=False,
             )

@@ -258,8 +258,8 @@ def _replay_finding(make: Make, programs: Sequence[Program], breach: Breach, pla
 
     The turns are those up to the finding, if all programs end after it.
     """
-    rest = [event for event in play.events if event not in breach.events]
-    for events in breach.events, breach.events + rest:
+    others = [event for event in play.events if event not in breach.events]
+    for events in breach.events, breach.events + others:
         turns, is_ended = turns_for(events, play.events, play.begins), True
         with make() as storage:
             agents = [storage.agent(number) for number in range(len(programs))]

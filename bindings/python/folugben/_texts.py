@@ -29,15 +29,15 @@ def not_a_value(value: object, path: str) -> NoReturn:
     """Raise why something at a path is no value."""
     if isinstance(value, str):
         expect_name(value, path)
-    whole = "is no whole number" if isinstance(value, numbers.Number) and not hasattr(value, "__index__") else ""
+    not_integer = "is no whole number" if isinstance(value, numbers.Number) and not hasattr(value, "__index__") else ""
     way = next((way for is_so, way in (
         (isinstance(value, Enum), "pass its .value or its .name"),
         (hasattr(value, "item") and hasattr(value, "dtype"), "pass .item() of it"),
         (isinstance(value, list), "pass a list as a tuple"),
-        (bool(whole), "pass int(..) of it, or str(..)"),
+        (bool(not_integer), "pass int(..) of it, or str(..)"),
         (hasattr(value, "__index__"), "pass int(..) of it"),
         (isinstance(value, (bytes, bytearray)), "pass .decode() or .hex() of it"),
     ) if is_so), "")
-    detail = f"{path} is {value!r:.60}, which {whole or 'is no value'}: " + (way or "values are None, True, False, whole numbers, "
+    detail = f"{path} is {value!r:.60}, which {not_integer or 'is no value'}: " + (way or "values are None, True, False, whole numbers, "
            "texts, tuples of these, and sets and Counters of all that")
     raise Error(Code.SHAPE, detail=detail) if isinstance(value, float) else TypeError(detail)

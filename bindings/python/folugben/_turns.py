@@ -242,12 +242,12 @@ def _by_list(turns: Sequence[int]) -> Callable[[list[int]], int]:
 
     Each number counts round those that haven't ended. After the end of the list the current work continues.
     """
-    rest, last = list(turns)[::-1], -1
+    remaining, last = list(turns)[::-1], -1
 
     def choose(alive: list[int]) -> int:
         nonlocal last
-        if rest:
-            last = alive[rest.pop() % len(alive)]
+        if remaining:
+            last = alive[remaining.pop() % len(alive)]
         elif last not in alive:
             last = alive[0]
         return last

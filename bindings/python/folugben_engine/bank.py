@@ -12,9 +12,9 @@ INIT = {("account", own): OPENING for own in range(CUSTOMERS)}
 
 def customer(own: int) -> Program:
     account, due = ("account", own), Location(("due", own))
-    collect = Let(lambda see: see(due), lambda rest: If(rest > 0, Choose(
+    collect = Let(lambda see: see(due), lambda missing: If(missing > 0, Choose(
         "account", lambda at, money: at != account and money > 0,
-        lambda at, money: Par(Update(at, max(money - rest, 0)), Update(due, max(rest - money, 0))),
+        lambda at, money: Par(Update(at, max(money - missing, 0)), Update(due, max(missing - money, 0))),
     )))
     rule = Seq(
         Update(due, NEED),

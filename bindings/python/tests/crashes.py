@@ -85,14 +85,14 @@ def _left(file, rng):
     It is what was flushed, and of the rest all, nothing, a beginning, or blocks of it.
     """
     style, text = rng.choice(("none", "all", "beginning", "blocks", "zeros")), file.durable
-    rest = b"".join(file.pending)
+    pending = b"".join(file.pending)
     if style == "all":
-        return text + rest
+        return text + pending
     if style == "beginning":
-        return text + rest[: rng.randint(0, len(rest))]
+        return text + pending[: rng.randint(0, len(pending))]
     if style == "blocks":
-        return text + b"".join(rest[at : at + 64] if rng.random() < 0.5 else bytes(len(rest[at : at + 64])) for at in range(0, len(rest), 64))
-    return text + bytes(len(rest)) if style == "zeros" else text
+        return text + b"".join(pending[at : at + 64] if rng.random() < 0.5 else bytes(len(pending[at : at + 64])) for at in range(0, len(pending), 64))
+    return text + bytes(len(pending)) if style == "zeros" else text
 
 
 def crashed(calls, rng):

@@ -65,9 +65,9 @@ static worker workers[THREADS];
 static pthread_barrier_t gate;
 
 /* What one call took, in nanoseconds. */
-typedef struct taken {
+typedef struct call_time {
     double clock, processor;
-} taken;
+} call_time;
 
 static double seconds_of(clockid_t clock) {
     struct timespec at;
@@ -105,7 +105,7 @@ static void *run_worker(void *argument) {
 }
 
 /* Makes this many calls, which the threads share out among them. */
-static taken timed(work_call *work, const crowd *crowd, unsigned calls) {
+static call_time timed(work_call *work, const crowd *crowd, unsigned calls) {
     double begin = 0, end = 0, used = seconds_of(CLOCK_PROCESS_CPUTIME_ID);
     REQUIRE(!pthread_barrier_init(&gate, NULL, crowd->threads));
     for (unsigned i = 0; i < crowd->threads; i++) {
@@ -122,13 +122,13 @@ static taken timed(work_call *work, const crowd *crowd, unsigned calls) {
     }
     REQUIRE(!pthread_barrier_destroy(&gate));
     used = seconds_of(CLOCK_PROCESS_CPUTIME_ID) - used;
-    return (taken){1e9 * (end - begin) / calls, 1e9 * used / calls};
+    return (call_time){1e9 * (end - begin) / calls, 1e9 * used / calls};
 }
 
 /* A round on a separate storage, whose locations must show each fire. */
-static taken round_of(const side *side, const row *row, const crowd *crowd, unsigned calls) {
+static call_time round_of(const side *side, const row *row, const crowd *crowd, unsigned calls) {
     side->open(calls);
-    taken time = timed(side->works[row->work], crowd, calls);
+    call_time time = timed(side->works[row->work], crowd, calls);
     REQUIRE(side->close() == (row->fires ? calls : 0));
     return time;
 }
@@ -148,8 +148,8 @@ static void measure(const row *row, const crowd *crowd) {
     unsigned calls = row->calls / part / THREADS * THREADS;
     size_t count = 0;
     while (count < LEAST || (count < MOST && now() - begin < seconds)) {
-        taken mine = round_of(&ours, row, crowd, calls);
-        taken its = round_of(&theirs, row, crowd, row->times * calls);
+        call_time mine = round_of(&ours, row, crowd, calls);
+        call_time its = round_of(&theirs, row, crowd, row->times * calls);
         times[0][count] = mine.clock;
         times[1][count] = its.clock;
         times[2][count] = mine.processor;

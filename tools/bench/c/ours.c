@@ -79,7 +79,7 @@ static void push_put(agent *a, struct asm_step *step, unsigned location, long va
 }
 
 /* The value that the step sees at the location. */
-static long got(agent *a, struct asm_step *step, unsigned location) {
+static long get(agent *a, struct asm_step *step, unsigned location) {
     char text[ROOM];
     size_t length;
     long value;
@@ -95,7 +95,7 @@ static bool whole_step(unsigned thread, unsigned location) {
     uint32_t number;
     asm_numbers numbers;
     REQUIRE(asm_begin(&a->handle, &a->step, &number) == ASM_DONE);
-    push_put(a, &a->step, location, got(a, &a->step, location) + 1);
+    push_put(a, &a->step, location, get(a, &a->step, location) + 1);
     return is_fired(asm_commit(&a->handle, &a->step, &numbers));
 }
 
@@ -147,7 +147,7 @@ static int64_t close_storage(void) {
     uint32_t number;
     REQUIRE(asm_begin(&agents[0].handle, &agents[0].step, &number) == ASM_DONE);
     for (unsigned i = 0; i < LOCATIONS; i++)
-        sum += got(&agents[0], &agents[0].step, i);
+        sum += get(&agents[0], &agents[0].step, i);
     for (unsigned i = 0; i < THREADS; i++) {
         asm_free_step(&agents[i].step);
         asm_free_step(&agents[i].idle);

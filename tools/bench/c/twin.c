@@ -87,11 +87,11 @@ int64_t twin_peek(twin *t, const char *key, uint32_t *number) {
 uint32_t twin_fire(twin *t, uint8_t agent, const twin_part *puts, uint16_t put_count,
                    const twin_part *named, uint16_t named_count) {
     twin_event event = {.agent = agent, .puts = put_count, .named = named_count};
-    bool stands = true;
+    bool is_valid = true;
     lock(t);
     for (size_t i = 0; i < named_count; i++)
-        stands = stands && place_of(t, named[i].key)->written <= named[i].value;
-    if (stands) {
+        is_valid = is_valid && place_of(t, named[i].key)->written <= named[i].value;
+    if (is_valid) {
         event.number = ++t->number;
         for (size_t i = 0; i < put_count; i++) {
             twin_place *at = place_of(t, puts[i].key);
@@ -108,7 +108,7 @@ void twin_begin(twin *t, twin_step *step) {
     lock(t);
     step->number = t->number;
     unlock(t);
-    step->got = step->pushed = 0;
+    step->read = step->pushed = 0;
 }
 
 bool twin_get(twin *t, twin_step *step, const char *key, int64_t *value) {
@@ -119,13 +119,13 @@ bool twin_get(twin *t, twin_step *step, const char *key, int64_t *value) {
         }
     lock(t);
     const twin_place *at = place_of(t, key);
-    bool stands = at->written <= step->number;
+    bool is_valid = at->written <= step->number;
     *value = at->value;
     unlock(t);
-    if (!stands || step->got == TWIN_PARTS)
+    if (!is_valid || step->read == TWIN_PARTS)
         return false;
-    set_key(step->gets[step->got].key, key);
-    step->gets[step->got++].value = step->number;
+    set_key(step->gets[step->read].key, key);
+    step->gets[step->read++].value = step->number;
     return true;
 }
 
@@ -145,5 +145,5 @@ bool twin_pop(twin_step *step) {
 }
 
 uint32_t twin_commit(twin *t, uint8_t agent, const twin_step *step) {
-    return twin_fire(t, agent, step->puts, step->pushed, step->gets, step->got);
+    return twin_fire(t, agent, step->puts, step->pushed, step->gets, step->read);
 }

@@ -48,7 +48,7 @@ typedef struct twin {
 /* The locations that were read and what was pushed, on the state after this many moves. */
 typedef struct twin_step {
     uint32_t number;
-    uint16_t got, pushed;
+    uint16_t read, pushed;
     twin_part gets[TWIN_PARTS], puts[TWIN_PARTS];
 } twin_step;
 

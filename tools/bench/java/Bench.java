@@ -37,7 +37,7 @@ final class Bench {
             (OperatingSystemMXBean) ManagementFactory.getOperatingSystemMXBean();
 
     /** What one step took, in nanoseconds. */
-    private record Taken(double clock, double processor) {}
+    private record CallTime(double clock, double processor) {}
 
     /**
      * Moves the thread to a processor of its own, if there are as many, and lets it go from there:
@@ -55,7 +55,7 @@ final class Bench {
     }
 
     /** Takes so many steps, which the threads share out among them. */
-    private static Taken timed(Side side, Crowd crowd, int steps) throws InterruptedException {
+    private static CallTime timed(Side side, Crowd crowd, int steps) throws InterruptedException {
         int own = steps / crowd.threads();
         Thread[] threads = new Thread[crowd.threads()];
         int[] fired = new int[crowd.threads()];
@@ -80,14 +80,14 @@ final class Bench {
         used = PROCESS.getProcessCpuTime() - used;
         if (Arrays.stream(fired).sum() != steps)
             throw new IllegalStateException("a thread ended early");
-        return new Taken((double) (end - begin) / steps, (double) used / steps);
+        return new CallTime((double) (end - begin) / steps, (double) used / steps);
     }
 
     /** A round on a storage of its own, whose locations have to tell each step. */
-    private static Taken round(Side side, Crowd crowd, int steps) throws InterruptedException {
+    private static CallTime round(Side side, Crowd crowd, int steps) throws InterruptedException {
         side.open(steps);
         System.gc();
-        Taken time = timed(side, crowd, steps);
+        CallTime time = timed(side, crowd, steps);
         if (side.close() != steps)
             throw new IllegalStateException("a step was lost");
         return time;
@@ -109,8 +109,8 @@ final class Bench {
         for (long begin = System.nanoTime(); count < LEAST
                 || count < MOST && System.nanoTime() - begin < 1e9 * seconds;
                 count++) {
-            Taken mine = round(ours, crowd, steps);
-            Taken its = round(theirs, crowd, TWIN_TIMES * steps);
+            CallTime mine = round(ours, crowd, steps);
+            CallTime its = round(theirs, crowd, TWIN_TIMES * steps);
             times[0][count] = mine.clock();
             times[1][count] = its.clock();
             times[2][count] = mine.processor();

@@ -17,7 +17,7 @@ final class Ours implements Side {
     }
 
     /** What the step sees at the location, of the text {"number":N,"values":[VALUE]}. */
-    private static long got(Step step, int location) {
+    private static long get(Step step, int location) {
         String text = step.get("[[\"x\"," + location + "]]");
         return Long.parseLong(text, text.lastIndexOf('[') + 1, text.length() - 2, 10);
     }
@@ -25,7 +25,7 @@ final class Ours implements Side {
     @Override
     public boolean step(int thread, int location) {
         try (Step step = agents[thread].step()) {
-            long value = got(step, location);
+            long value = get(step, location);
             step.push("[[\"put\",[\"x\"," + location + "]," + (value + 1) + "]]");
             Agent.Reply reply = step.tryCommit();
             if (!reply.isFired() && !reply.shouldRetry())
@@ -38,7 +38,7 @@ final class Ours implements Side {
     public long close() {
         long sum = 0;
         try (Step step = agents[0].step()) {
-            for (int i = 0; i < Bench.LOCATIONS; i++) sum += got(step, i);
+            for (int i = 0; i < Bench.LOCATIONS; i++) sum += get(step, i);
         }
         for (Agent agent : agents) agent.close();
         storage.close();

@@ -57,7 +57,7 @@ final class Twin {
     final class Step {
         private final int agent;
         private final int number;
-        private final List<Location> got = new ArrayList<>();
+        private final List<Location> reads = new ArrayList<>();
         private final Map<Location, Long> puts = new HashMap<>();
 
         private Step(int agent, int number) {
@@ -69,7 +69,7 @@ final class Twin {
             Long pushed = puts.get(location);
             if (pushed != null)
                 return pushed;
-            got.add(location);
+            reads.add(location);
             lock.lock();
             try {
                 Cell cell = state.getOrDefault(location, EMPTY);
@@ -89,16 +89,16 @@ final class Twin {
         boolean fire() {
             lock.lock();
             try {
-                boolean stands = true;
-                for (Location location : got)
-                    stands &= state.getOrDefault(location, EMPTY).written() <= number;
-                if (stands) {
+                boolean isValid = true;
+                for (Location location : reads)
+                    isValid &= state.getOrDefault(location, EMPTY).written() <= number;
+                if (isValid) {
                     Twin.this.number++;
                     for (Map.Entry<Location, Long> put : puts.entrySet())
                         state.put(put.getKey(), new Cell(put.getValue(), Twin.this.number));
                 }
-                history.add(new Event(agent, puts, got, number, stands ? Twin.this.number : 0));
-                return stands;
+                history.add(new Event(agent, puts, reads, number, isValid ? Twin.this.number : 0));
+                return isValid;
             } finally {
                 lock.unlock();
             }

@@ -117,14 +117,14 @@ def work(side: Side, thread: int, location: int, steps: int) -> None:
         steps -= side.step(thread, location)
 
 
-class Taken(NamedTuple):
+class CallTime(NamedTuple):
     """Return what one step took, in nanoseconds."""
 
     clock: float
     processor: float
 
 
-def timed(side: Side, crowd: Crowd, steps: int) -> Taken:
+def timed(side: Side, crowd: Crowd, steps: int) -> CallTime:
     """Run this many steps, which the threads share out among them."""
     threads = [
         threading.Thread(target=work, args=(side, k, 0 if crowd.shares else k, steps // crowd.threads))
@@ -135,27 +135,27 @@ def timed(side: Side, crowd: Crowd, steps: int) -> Taken:
         thread.start()
     for thread in threads:
         thread.join()
-    return Taken((time.perf_counter_ns() - begin) / steps, (time.process_time_ns() - used) / steps)
+    return CallTime((time.perf_counter_ns() - begin) / steps, (time.process_time_ns() - used) / steps)
 
 
-def round_of(kind: type[Ours] | type[Theirs], crowd: Crowd, steps: int) -> Taken:
+def round_of(kind: type[Ours] | type[Theirs], crowd: Crowd, steps: int) -> CallTime:
     """Run a round on a separate storage, whose locations must show each step."""
     side = kind(steps)
     gc.collect()
-    taken = timed(side, crowd, steps)
+    times = timed(side, crowd, steps)
     if (found := side.close()) != steps:
         raise SystemExit(f"{found} of {steps} steps are in the state")
-    return taken
+    return times
 
 
 def measure(name: str, ours: type[Ours], crowd: Crowd, steps: int, seconds: float) -> None:
-    mine: list[Taken] = []
-    its: list[Taken] = []
+    mine: list[CallTime] = []
+    its: list[CallTime] = []
     end = time.monotonic() + seconds
     while len(mine) < LEAST or len(mine) < MOST and time.monotonic() < end:
         mine.append(round_of(ours, crowd, steps))
         its.append(round_of(Theirs, crowd, TWIN_TIMES * steps))
-    columns = [[taken[k] for taken in side] for k in range(2) for side in (mine, its)]
+    columns = [[times[k] for times in side] for k in range(2) for side in (mine, its)]
     print(f"Python: {name}; {crowd.name}", *(f"{statistics.median(column):.0f}" for column in columns), sep="\t", flush=True)
 
 

@@ -67,13 +67,13 @@ def plain(moves):
 def main(what, *words):
     start, processor = time.perf_counter(), time.process_time()
     if what == "audit":
-        told = audit(words[0])
-        moves = told.calls
+        result = audit(words[0])
+        moves = result.calls
     else:
         moves = int(words[0])
-        told = run(moves, words[1]) if what == "run" else plain(moves)
-    taken, used = time.perf_counter() - start, time.process_time() - processor
-    print(f"{what}: {taken:.1f} s, {used:.1f} s of processors, {moves / taken:,.0f} a second; {peak():.0f} MB; {told}", flush=True)
+        result = run(moves, words[1]) if what == "run" else plain(moves)
+    seconds, used = time.perf_counter() - start, time.process_time() - processor
+    print(f"{what}: {seconds:.1f} s, {used:.1f} s of processors, {moves / seconds:,.0f} a second; {peak():.0f} MB; {result}", flush=True)
 
 
 main(*sys.argv[1:])

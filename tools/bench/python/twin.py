@@ -46,7 +46,7 @@ class Step:
 
     def __init__(self, twin: Twin, agent: int) -> None:
         self._twin, self._agent = twin, agent
-        self._got: list[Location] = []
+        self._reads: list[Location] = []
         self._puts: dict[Location, int] = {}
         with twin.lock:
             self._number = twin.number
@@ -57,7 +57,7 @@ class Step:
     def _get(self, place: Location) -> int:
         if place in self._puts:
             return self._puts[place]
-        self._got.append(place)
+        self._reads.append(place)
         with self._twin.lock:
             value, written = self._twin.state.get(place, (0, 0))
         if written > self._number:
@@ -71,9 +71,9 @@ class Step:
         """Fire; return False if something that was read was written since."""
         twin, at, number = self._twin, self._number, 0
         with twin.lock:
-            if all(twin.state.get(place, (0, 0))[1] <= at for place in self._got):
+            if all(twin.state.get(place, (0, 0))[1] <= at for place in self._reads):
                 number = twin.number = twin.number + 1
                 for place, value in self._puts.items():
                     twin.state[place] = value, number
-            twin.history.append(Event(self._agent, self._puts, self._got, at, number))
+            twin.history.append(Event(self._agent, self._puts, self._reads, at, number))
         return number != 0
