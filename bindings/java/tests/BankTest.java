@@ -33,6 +33,12 @@ class BankTest {
                 Instruction.put(there, theirs + 10)), List.of());
     }
 
+    @Test
+    void aBlindTransferIsFound() {
+        Explorer.Explored explored = exploring(BankTest::blind).explore();
+        assertEquals(List.of(0, 0, 1), explored.finding().orElseThrow().turns());
+    }
+
     private static Object guarded(Agent agent) {
         Location here = account(agent.number()), there = account(agent.number() + 1);
         return agent.play(step -> {
@@ -40,12 +46,6 @@ class BankTest {
             step.push(Instruction.put(here, mine - 10), Instruction.put(there, theirs + 10));
             return null;
         });
-    }
-
-    @Test
-    void aBlindTransferIsFound() {
-        Explorer.Explored explored = exploring(BankTest::blind).explore();
-        assertEquals(List.of(0, 0, 1), explored.finding().orElseThrow().turns());
     }
 
     @Test
