@@ -1,6 +1,6 @@
 """Cases of journals that are judged, for `tools/cases`.
 
-They are legal ones, and others with a wrong answer. Each is written as it was read; the check reports it as legal, or names the
+They are legal ones, and others with a wrong answer. Each is rewritten unchanged; the check reports it as legal, or names the
 first call with a wrong answer.
 """
 
@@ -9,7 +9,7 @@ from collections.abc import Iterator
 from casing import CASES, Case, cases_of
 from formed_journals import rewritten
 
-# Cases of legal journals, each of which is also written as it was read: moves of two agents; a read that is stale after a write
+# Cases of legal journals, each of which is also rewritten unchanged: moves of two agents; a read that is stale after a write
 # of the same value; increments, with each cause of a clash that they can have; lists in each place; and a clash of each cause,
 # before a move that fires, a stale one that would also clash, and one on the full storage.
 CHECKED = {it.name: it.given.decode() for it in cases_of(CASES)}

@@ -85,4 +85,4 @@ export function retainedView(old) {
   const { count, location, mark, range } = shown;
   return { count: count && count === old.events.length ? Infinity : count, mark, at: location?.key ?? null, range };
 }
-export const speakGrowth = (run, old) => act.speak(run.events.length > old.events.length ? `The run goes on: ${plural(run.events.length - old.events.length, "further event")}` : "The run is the same");
+export const speakGrowth = (run, old) => act.speak(run.events.length > old.events.length ? `The run continues: ${plural(run.events.length - old.events.length, "further event")}` : "The run is the same");

@@ -60,7 +60,7 @@ act.list = (filter, isStep = false) => {
 act.mark = count => {
   beforeChange();
   shown.mark = count;
-  act.speak(count === null ? "The state is shown as it is" : "This moment is kept; choose another one to see what differs");
+  act.speak(count === null ? "The state is shown without a comparison" : "This moment is marked; choose another one to see what differs");
   act.show();
   changed(true);
 };

@@ -81,7 +81,7 @@ function explainNumber(group, old) {
 const MOST_DIFFERING = 12, MOST_PLACES = 8;
 
 export function wrongNote(event) {
-  const after = event.kind === "fired" ? "The state goes on as if the move had been fired, as the journal says."
+  const after = event.kind === "fired" ? "The state is as if the move had been fired, as the journal says."
     : event.right.fired !== undefined ? "The journal doesn't say that the move was fired, so it changes nothing here." : null;
   return make("div", { class: "note wrong" },
     make("p", {}, make("b", {}, "This answer is wrong."), " A storage of one thread gives another one here."),

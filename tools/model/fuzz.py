@@ -295,7 +295,7 @@ def sorts_of(ran: model.Answer) -> set[str]:
     if ran.output[:1] == b"l":
         return {"status 0 legal"}
     if ran.output[:1] == b"s":
-        return {"status 0 legal, told meanwhile"}
+        return {"status 0 legal, with reports"}
     if ran.output[:1] == b"{":
         header, *lines = ran.output.split(b"\n")
         if header.endswith(b'"trace":2}'):

@@ -141,4 +141,4 @@ def _changed(state: State, change: Json, number: int) -> tuple[Location, Value]:
 
 def _agree(agrees: bool, number: int) -> None:
     if not agrees:
-        raise NoTrace(f"a change of event {number} isn't one of what stands before it")
+        raise NoTrace(f"a change of event {number} doesn't fit the value before it")

@@ -63,7 +63,7 @@ int unready(Holder *holder)
 /* Begins and ends a call without the interpreter's lock. A thread that holds a slot's lock has the interpreter's too, is in
  * such a call, or waits for the interpreter's: so nobody waits for a slot's lock while it holds the interpreter's. A lock that
  * is released and immediately acquired again would starve those that wait, so they come first. Without memory for the lock the
- * interpreter's is kept. */
+ * interpreter's isn't released. */
 PyThreadState *begin_long_call(Holder *holder)
 {
     if (!holder->lock && !(holder->lock = PyThread_allocate_lock()))
@@ -186,15 +186,15 @@ PyMemberDef holder_members[] = {{"__weaklistoffset__", T_PYSSIZET, offsetof(Hold
 /* An integer from the smallest to the largest allowed; `what` names it in the error about another one. */
 int number_of(Core *core, PyObject *value, const char *what, uint32_t least, uint32_t most, uint32_t *number)
 {
-    PyObject *whole = PyNumber_Index(value);
-    if (!whole)
+    PyObject *index = PyNumber_Index(value);
+    if (!index)
         return -1;
     int is_over;
-    long long integer = PyLong_AsLongLongAndOverflow(whole, &is_over);
+    long long integer = PyLong_AsLongLongAndOverflow(index, &is_over);
     if (is_over || integer < least || integer > most)
-        refuse(core, ASM_OPERAND, "out_of_range", "(sOII)", what, whole, (unsigned)least, (unsigned)most);
+        refuse(core, ASM_OPERAND, "out_of_range", "(sOII)", what, index, (unsigned)least, (unsigned)most);
     else
         *number = (uint32_t)integer;
-    Py_DECREF(whole);
+    Py_DECREF(index);
     return PyErr_Occurred() ? -1 : 0;
 }

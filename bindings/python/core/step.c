@@ -251,7 +251,7 @@ static PyMethodDef methods[] = {
         "Return what `get` returns, of any number of locations, but track nothing: the step doesn't depend on it."},
     {"scan", (PyCFunction)step_scan, METH_O,
         "scan($self, name, /)\n--\n\nReturn each location with this function name and its value, as a list of pairs, ascending.\n\n"
-        "The step then depends on the whole function: a write to any location of it makes the fire `StaleError`."},
+        "The step then depends on the complete function: a write to any location of it makes the fire `StaleError`."},
     {"push", (PyCFunction)step_push, METH_O,
         "push($self, instructions, /)\n--\n\n"
         "Push a move, which is fired with the others. A push that is refused, or popped, is a dry run.\n\n"

@@ -121,7 +121,7 @@ static PyObject *storage_give(Storage *self, PyObject *it)
 {
     Core *core = self->holder.core;
     if (!PyObject_TypeCheck(it, core->agent))
-        return refuse(core, ASM_EMPTY, "no_agent", "(sO)", "a storage takes back an agent", it);
+        return refuse(core, ASM_EMPTY, "no_agent", "(sO)", "a storage accepts an agent", it);
     Agent *agent = (Agent *)it;
     if (agent->storage != self)
         return refuse(core, ASM_OTHER, "expect", "(i)", ASM_OTHER);

@@ -1,4 +1,4 @@
-"""What a search looks for in a schedule: a broken invariant, or a program's error."""
+"""The findings of a search: a broken invariant, or a program's error."""
 from collections.abc import Callable, Iterator, Mapping, Sequence
 from typing import Any, NamedTuple, TypeAlias
 

@@ -323,7 +323,7 @@ class Postgres:
                 pass
             return list(self._cursor.fetchall()) if self._cursor.description else []
         except self._driver.Error as error:
-            # psycopg 2 may raise the base class for a server that is gone, before it marks its connection as closed.
+            # psycopg 2 may raise the base class for a server that has ended, before it marks its connection as closed.
             is_lost = isinstance(error, (self._driver.OperationalError, self._driver.InterfaceError))
             if is_lost or type(error) is self._driver.DatabaseError or self._db.closed:
                 raise ConnectionLost(str(error)) from error

@@ -102,7 +102,7 @@ class RunFolder:
         try:
             fd = os.open(segment.name, os.O_RDONLY | os.O_CLOEXEC | os.O_NOFOLLOW, dir_fd=self._fd)
         except FileNotFoundError:
-            raise DamagedError(segment.number, "its file is gone") from None
+            raise DamagedError(segment.number, "its file is missing") from None
         with open(fd, "rb", buffering=0) as file:
             length = os.fstat(fd).st_size
             digest = start_digest(segment, previous, length)
@@ -284,7 +284,7 @@ def _expect_empty(path: pathlib.Path) -> None:
         raise FileExistsError(errno.EEXIST, "there is a file", str(path))
     names = set(os.listdir(path)) - {_NEW, _LOCK}
     if any(name.endswith(_SUFFIX) for name in names):
-        raise FileExistsError(errno.EEXIST, "there is a run, with which Run.resume goes on", str(path))
+        raise FileExistsError(errno.EEXIST, "there is a run, which Run.resume continues", str(path))
     if names:
         raise FileExistsError(errno.EEXIST, "the folder isn't empty", str(path))
 

@@ -39,7 +39,7 @@ def _end_all(number: int, frame: FrameType | None) -> NoReturn:
 class Run:
     """A run without end, in a folder.
 
-    Its agents go on from part to part, and each part is saved as one text file, a segment.
+    Its agents pass from part to part, and each part is saved as one text file, a segment.
 
     Each part is a storage for the given number of moves, and opens with the state at the end of the part before it. A thread
     closes the parts, in their order, and saves each before its memory is released; at most three are in memory. A part ends

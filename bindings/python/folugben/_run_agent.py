@@ -22,7 +22,7 @@ _R = TypeVar("_R")
 class RunAgent:
     """An agent of a run, for one thread.
 
-    It goes on from part to part by itself. The end of a `with` returns it.
+    It passes from part to part by itself. The end of a `with` returns it.
 
     It works in steps as the agent of a storage does. If a part has ended, the next step begins in the newest part. A step that
     was begun before still sees its state, but fires no more: its `commit` raises `PastError`, which is a `ConflictError`,
@@ -46,7 +46,7 @@ class RunAgent:
                 try:
                     step = agent.begin()
                 except Error as error:
-                    # It was returned meanwhile, as it was at rest in a part that had ended.
+                    # It was returned meanwhile, as it was between two steps in a part that had ended.
                     self._raise_unless_withdrawn(agent, error)
                 else:
                     if step._own_number < agent.part.most:

@@ -87,7 +87,7 @@ class SharedStep(Step):
 
     def _raise_why_returned(self) -> None:
         if not self._shared._is_returned:
-            raise PastError(Code.EMPTY, detail="the agent has gone on to another segment, so begin another step")
+            raise PastError(Code.EMPTY, detail="the agent has moved to another segment, so begin another step")
 
     def _call(self) -> tuple[bytes, bytes]:
         """Return what the fire attempts to append, and the scans that it depends on."""

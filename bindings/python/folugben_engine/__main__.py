@@ -1,7 +1,7 @@
 """An engine of abstract state machines, and four machines.
 
     python3 -m folugben_engine                   runs them, and says what was checked
-    python3 -m folugben_engine FOLDER [SECONDS]  runs the bank for so many seconds (10), or goes on with the run in the folder
+    python3 -m folugben_engine FOLDER [SECONDS]  runs the bank for so many seconds (10), or continues the run in the folder
 """
 import sys
 

@@ -30,7 +30,7 @@ class Folders(Rooms):
             ran = called(code, self.path)
             self.assertIn("BlockingIOError", ran.stderr)
             agent.play(raised)
-        with self.assertRaisesRegex(FileExistsError, "Run.resume goes on"):
+        with self.assertRaisesRegex(FileExistsError, "which Run.resume continues"):
             Run(self.path, INIT)
         with self.assertRaises(FileNotFoundError):
             Run.resume(self.room / "absent")

@@ -242,7 +242,7 @@ class Scopes(unittest.TestCase):
             ("place is <Step", lambda: move.put(agent.step(), 8)),
             (r"value is \[1\], which is no value: pass a list as a tuple", lambda: move.put(place, [1])),
             ("learns from an agent", lambda: agent.learn(self.storage)),
-            ("takes back an agent", lambda: self.storage.give(None)),
+            ("accepts an agent", lambda: self.storage.give(None)),
             ("made before", lambda: self.storage.__init__([], 5)),
             ("no value: values are", lambda: put(agent, object())),
             ("a journal is bytes or a str", lambda: check(7)),

@@ -83,7 +83,7 @@ final class Bench {
         return new CallTime((double) (end - begin) / steps, (double) used / steps);
     }
 
-    /** A round on a storage of its own, whose locations have to tell each step. */
+    /** A round on a storage of its own, whose locations must show each step. */
     private static CallTime round(Side side, Crowd crowd, int steps) throws InterruptedException {
         side.open(steps);
         System.gc();

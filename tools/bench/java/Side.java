@@ -5,7 +5,7 @@ interface Side {
 
     /**
      * Begins a step of the thread's agent, gets the location with this number, pushes that 1 is
-     * added there, and fires; whether it fired: else it was stale, and is to be done again.
+     * added there, and fires; whether it fired: otherwise it was stale, and must be done again.
      */
     boolean step(int thread, int location);
 
