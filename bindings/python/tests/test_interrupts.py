@@ -139,6 +139,7 @@ class Interrupts(unittest.TestCase):
         What it calls is done before or after the call that it interrupts.
         """
         own, other, rival, done = Location(["own"]), Location(["other"]), self.storage.agent(1), [0, 0]
+        is_handling = False
 
         class Garbage:
             def __init__(self, step):
@@ -152,8 +153,12 @@ class Interrupts(unittest.TestCase):
                 done[0] += 1
 
         def handler():
-            rival.play(lambda step: step.push(mine.clear().inc(other, 1)))
-            done[1] += 1
+            nonlocal is_handling  # a slow handler is interrupted by itself, and would share its step and its move
+            if not is_handling:
+                is_handling = True
+                rival.play(lambda step: step.push(mine.clear().inc(other, 1)))
+                done[1] += 1
+                is_handling = False
 
         def work():
             with self.agent.step() as step:
