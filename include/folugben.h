@@ -269,7 +269,7 @@ typedef struct asm_numbers {
 FOLUGBEN_NODISCARD int32_t asm_try_fire(struct asm_agent *agent, const uint8_t *call, size_t len,
     asm_numbers *numbers);
 
-/* The same for a move that depends on whole functions too, those of the scans [SCAN, ..]: on all
+/* The same for a move that depends on complete functions too, those of the scans [SCAN, ..]: on all
  * locations with the name, those that have a value and those that have none, as they were at the
  * scan's number. If one of these was written since, including its first value, the answer is
  * ASM_STALE too, and the receipt names the smallest such location of one scan, behind the others;

@@ -7,8 +7,8 @@
 // copied is one storage, which two objects share.
 //
 // The calls whose name begins with `try_` are noexcept, and return a code, or an `outcome`; those beside them throw an error
-// instead. A `conflict` alone means: begin the step again. A step goes on with its agent wherever that moves, and is refused with
-// code::empty once that is returned.
+// instead. A `conflict` alone means: begin the step again. A step stays with its agent wherever that object is moved to, and is refused with
+// code::empty once the agent is returned.
 //
 // Each agent follows all moves in a state of its own. If one thread plays several agents of a storage by turns, the one that is
 // about to poll takes the state of the one that polled last there, if that has ended its step or fired since and is in no other
@@ -901,7 +901,7 @@ class step {
     std::string get_json(std::string_view locations);
     // Returns the same, and tracks nothing: a commit fires even if another agent has written there since.
     std::string see_json(std::string_view locations);
-    // Returns all locations of a function with their values, ascending. The step depends on the whole function.
+    // Returns all locations of a function with their values, ascending. The step depends on the complete function.
     std::vector<entry> scan(std::string_view name) { return detail::entries(scan_json(name)); }
     // Returns the same as [PAIR, ..].
     std::string scan_json(std::string_view name);
@@ -1095,8 +1095,7 @@ class agent {
     }
 
     // Return the answer to a read of [LOC, ..], and to a fire of {"fire":[INSTR, ..],"reads":[NAMED, ..]}, which may depend on
-    // the
-    // whole functions of [[NAME,NUMBER], ..] too.
+    // the complete functions of [[NAME,NUMBER], ..] too.
     std::string read_json(std::string_view locations) {
         begin_turn();
         const code it{asm_read(get(), detail::bytes(locations), locations.size())};
@@ -1143,10 +1142,9 @@ class agent {
         detail::done(asm_learn(get(), other.get()));
     }
 
-    // Opens a storage for 1 to 1,048,576 moves that goes on from the agent's own state, which is full; the agent has polled to
-    // its
-    // end, as `follow` does. It opens with the state after all moves, and its agents and numbers start again. No other agent
-    // waits. Otherwise it is code::not_full.
+    // Opens a storage for 1 to 1,048,576 moves with the agent's own state, after all moves of its storage: that is full, and the
+    // agent has polled to its end, as by `follow`; otherwise it is code::not_full. Agents and numbers start again. No other agent
+    // waits.
     storage go_on(std::uint32_t capacity);
 
     // Frees the agent without returning it: what it fired is missing in each journal.
@@ -1399,9 +1397,8 @@ class storage {
         return made(std::move(seat));
     }
 
-    // Checks out the agent with this number that was returned, to go on where it was; code::no_agent if none was, or it was
-    // checked
-    // out since. The journal of an earlier `close` is discarded.
+    // Checks out the agent with this number that was returned, with all that it had; code::no_agent if none was, or it was
+    // checked out since. The journal of an earlier `close` is discarded.
     agent take(std::uint32_t number) {
         auto seat = std::make_shared<detail::seat>(shared_);
         std::lock_guard<std::mutex> guard(own().lock);

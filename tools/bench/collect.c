@@ -160,7 +160,7 @@ int main(void) {
             puts("");
         }
     for (const kind *k = kinds; k < kinds + 2; k++) {
-        printf("%-8s taken back: ", k->name);
+        printf("%-8s and removals: ", k->name);
         for (unsigned times = MANY / 8; times <= MANY; times *= 2)
             printf(" %9.2f", taken_back(k, times));
         puts("");

@@ -356,7 +356,7 @@ with SharedRun(sys.argv[1], bank.INIT, 50) as run:
 
 
 class _Target:
-    """A stand-in for a run."""
+    """A substitute for a run."""
 
     def __init__(self, target):
         self.path = target

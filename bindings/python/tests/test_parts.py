@@ -1,6 +1,6 @@
 """Tests of runs without an end.
 
-Agents go on from part to part, by numbers of the run, and parts exceed the limit of receipts.
+Agents pass from part to part, by numbers of the run, and parts exceed the limit of receipts.
 """
 import contextlib
 import gc

@@ -185,7 +185,7 @@ class Ends(Rooms):
         self.assertEqual((saved, audit(self.path).moves), (5, 15))
 
     def test_a_full_disk(self):
-        """A limit of the process stands in for the disk."""
+        """A limit of the process takes the place of the disk."""
         code = """
 import resource, sys
 from folugben import BrokenError, Run
