@@ -29,7 +29,7 @@ class Case:
 
     def fault(self, program: str) -> str | None:
         """Return how the program's end differs from the case, or None."""
-        status, written = ended(program, self.words, self.given)
+        status, written = run_program(program, self.words, self.given)
         if (status, written) == (self.status, self.wanted):
             return None
         message = f"status {status}, where {self.status} is wanted"
@@ -37,15 +37,15 @@ class Case:
         if at is None:
             at = min(len(written), len(self.wanted))
         if written != self.wanted:
-            message += f"; from byte {at} on {shown(written, at)}, where {shown(self.wanted, at)} is wanted"
+            message += f"; from byte {at} on {excerpt(written, at)}, where {excerpt(self.wanted, at)} is wanted"
         return message
 
 
-def shown(text: bytes, at: int) -> str:
+def excerpt(text: bytes, at: int) -> str:
     return ascii(text[at : at + 60].decode(errors="replace"))
 
 
-def ended(program: str, words: tuple[str, ...], given: bytes) -> tuple[int, bytes]:
+def run_program(program: str, words: tuple[str, ...], given: bytes) -> tuple[int, bytes]:
     """Return the program's status, -1 if it doesn't end, and what it writes."""
     try:
         ran = subprocess.run([program, *words], input=given, stdout=subprocess.PIPE, stderr=subprocess.DEVNULL, timeout=LIMIT)
@@ -102,16 +102,16 @@ def journal_fault(program: str, case: Case) -> str | None:
 
     It must be legal and equal to its own rewriting, and its trace must have a line for each of its lines and no other answer.
     """
-    status, journal = ended(program, (*case.words, "--journal"), case.given)
+    status, journal = run_program(program, (*case.words, "--journal"), case.given)
     if status != 0:
         return f"no journal: status {status}"
     legal = b"legal %d %s\n" % (journal.count(b"\n") - 1, MOVES.findall(case.wanted)[-1])
-    checked = ended(program, ("check",), journal)
+    checked = run_program(program, ("check",), journal)
     if checked != (0, legal):
         return f"check answers {checked}, where {legal} is wanted"
-    if ended(program, ("rewrite",), journal) != (0, journal):
+    if run_program(program, ("rewrite",), journal) != (0, journal):
         return "it isn't its own rewriting"
-    status, trace = ended(program, ("trace",), journal)
+    status, trace = run_program(program, ("trace",), journal)
     if status != 0 or trace.count(b"\n") != journal.count(b"\n") or b',"right":' in trace:
         return f"its trace has status {status}, or not a line for each, or another answer"
     return None

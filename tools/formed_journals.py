@@ -327,7 +327,7 @@ LISTED_IN = {
 }
 
 
-def written(journal: str) -> str:
+def canonical(journal: str) -> str:
     """Return the journal as it is written.
 
     It is in version 2, with its keys in order, and without locations that hold nothing.
@@ -338,12 +338,12 @@ def written(journal: str) -> str:
     return "".join(f"{it}\n" for it in lines)
 
 
-def rewritten(name: str, journal: str, wanted: str | None = None) -> Case:
+def rewrite_case(name: str, journal: str, wanted: str | None = None) -> Case:
     """The journal is written as `wanted`, or else as `written` returns it."""
-    return Case(f"rewrite_{name}", ("rewrite",), journal.encode(), (wanted or written(journal)).encode())
+    return Case(f"rewrite_{name}", ("rewrite",), journal.encode(), (wanted or canonical(journal)).encode())
 
 
-def refused(name: str, journal: str, fault: str) -> Case:
+def refusal_case(name: str, journal: str, fault: str) -> Case:
     return Case(f"rewrite_{name}", ("rewrite",), journal.encode(), f"journal {fault}\n".encode(), 2)
 
 
@@ -353,9 +353,9 @@ def table(name: str, journal: str, rows: dict[str | None, Iterable[str]]) -> Ite
         for at, part in enumerate(parts):
             given = journal.replace("@", part)
             if fault:
-                yield refused(f"{name}_{fault.replace(':', '').replace(' ', '_')}_{at}", given, fault)
+                yield refusal_case(f"{name}_{fault.replace(':', '').replace(' ', '_')}_{at}", given, fault)
             else:
-                yield rewritten(f"{name}_{at}", given)
+                yield rewrite_case(f"{name}_{at}", given)
 
 
 def round_trips() -> Iterator[Case]:
@@ -373,23 +373,23 @@ def round_trips() -> Iterator[Case]:
         ("instructions_and_named_reads", ONE_EVENT.replace("@", fire)),
         ("values", of(VALUES)),
     ):
-        yield rewritten(name, journal, journal)
+        yield rewrite_case(name, journal, journal)
     given, wanted = map(of, zip(*TURNED_VALUES))
-    yield rewritten("values_in_another_order", given, wanted)
+    yield rewrite_case("values_in_another_order", given, wanted)
 
 
-def listed() -> Iterator[Case]:
+def list_cases() -> Iterator[Case]:
     """Only version 2 accepts a list, and the word of lists is none."""
     for version in "12":
-        yield rewritten(f"words_of_lists_in_version_{version}", WORDS.replace("#", version), WORDS.replace("#", "2"))
+        yield rewrite_case(f"words_of_lists_in_version_{version}", WORDS.replace("#", version), WORDS.replace("#", "2"))
     for name, (line, init, old, new) in LISTED_IN.items():
         journal = LISTED.replace("@", init).replace(old, new)
-        yield rewritten(f"list_in_{name}", journal.replace("#", "2"))
-        yield refused(f"list_in_{name}_of_version_1", journal.replace("#", "1"), shape(line))
+        yield rewrite_case(f"list_in_{name}", journal.replace("#", "2"))
+        yield refusal_case(f"list_in_{name}_of_version_1", journal.replace("#", "1"), shape(line))
 
 
 def formed() -> list[Case]:
-    found = [*round_trips(), *listed()]
+    found = [*round_trips(), *list_cases()]
     for name, journal, rows in (
         ("header", UNDER_HEADER, HEADERS),
         ("number", OF_VERSION, VERSIONS),
@@ -399,4 +399,4 @@ def formed() -> list[Case]:
         ("nested", NESTED, NESTS),
     ):
         found += table(name, journal, rows)
-    return found + [rewritten(f"keys_in_another_order_{at}", TURNED.replace(*it)) for at, it in enumerate(SPACES)]
+    return found + [rewrite_case(f"keys_in_another_order_{at}", TURNED.replace(*it)) for at, it in enumerate(SPACES)]

@@ -128,7 +128,7 @@ def compact(value) -> str:
     return json.dumps(value, separators=(",", ":"))
 
 
-def called(name: str, init: str, step: str, calls: list[tuple[str, str]]) -> Case:
+def calls_case(name: str, init: str, step: str, calls: list[tuple[str, str]]) -> Case:
     """The journal of a step has these calls."""
     state = compact(sorted(json.loads(init)))
     head = f'{{"agents":1,"capacity":4096,"events":{len(calls)},"init":{state},"version":2}}\n'
@@ -136,7 +136,7 @@ def called(name: str, init: str, step: str, calls: list[tuple[str, str]]) -> Cas
     return Case(f"journal_{name}", ("run", "--journal"), script(init, step), (head + "".join(events)).encode())
 
 
-def stopped(name: str, init: str, step: str, fault: str) -> Case:
+def fault_case(name: str, init: str, step: str, fault: str) -> Case:
     """A step fires nothing, and the report says why."""
     left = "".join(f"{compact(it)}\n" for it in json.loads(init))
     return Case(f"run_{name}", ("run",), script(init, step), f"{left}moves 0\nagent 0 step 0 {fault}\n".encode())
@@ -150,7 +150,7 @@ def fires(name: str, block: str, move: str, clash: str) -> Case:
     named = compact([[[it], 0] for it in places])
     read = ('{"read":%s}' % compact([[it] for it in places]), '{"number":0,"values":%s}' % compact(values))
     fire = (f'{{"fire":[{move}],"reads":{named}}}', f'{{"clash":[{clash}]}}' if clash else FIRED)
-    return called(name, STATE, f"[{block}]", [read, fire] if places else [fire])
+    return calls_case(name, STATE, f"[{block}]", [read, fire] if places else [fire])
 
 
 def behind(first: str, block: str) -> str:
@@ -162,9 +162,9 @@ def scripts() -> Iterator[Case]:
         yield fires(f"of_block_{at}", block, move or block, clash)
         yield fires(f"of_block_{at}_behind_a_term", behind(TERM, block), behind(PUT, move or block), clash)
     for at, block in enumerate(FAULTY):
-        yield stopped(f"faulty_block_{at}", STATE, f"[{block}]", "term")
-        yield stopped(f"faulty_block_{at}_behind_a_term", STATE, f"[{behind(TERM, block)}]", "term")
+        yield fault_case(f"faulty_block_{at}", STATE, f"[{block}]", "term")
+        yield fault_case(f"faulty_block_{at}_behind_a_term", STATE, f"[{behind(TERM, block)}]", "term")
     for at, (init, step, calls) in enumerate(STEPS):
-        yield called(f"of_step_{at}", init, step, calls)
+        yield calls_case(f"of_step_{at}", init, step, calls)
     for at, (init, step, fault) in enumerate(STOPPED):
-        yield stopped(f"stopped_step_{at}", init, step, fault)
+        yield fault_case(f"stopped_step_{at}", init, step, fault)

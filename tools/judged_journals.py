@@ -7,7 +7,7 @@ first call with a wrong answer.
 from collections.abc import Iterator
 
 from casing import CASES, Case, cases_of
-from formed_journals import rewritten
+from formed_journals import rewrite_case
 
 # Cases of legal journals, each of which is also rewritten unchanged: moves of two agents; a read that is stale after a write
 # of the same value; increments, with each cause of a clash that they can have; lists in each place; and a clash of each cause,
@@ -64,7 +64,7 @@ HISTORIES = (
 def both_ways(name: str, journal: str, line: str) -> Iterator[Case]:
     """The check reports this line for the journal, which is its own rewriting."""
     yield Case(f"check_{name}", ("check",), journal.encode(), f"{line}\n".encode(), int(line.startswith("illegal")))
-    yield rewritten(name, journal, journal)
+    yield rewrite_case(name, journal, journal)
 
 
 def event_of(name: str) -> str:
@@ -85,9 +85,9 @@ def legal() -> Iterator[Case]:
     It is also the rewriting of the same journal in version 1, if it has no list.
     """
     for name, journal in (("moves", AGENTS), ("a_stale_move", SAME), ("increments", INCREMENTS), ("clashes", CLASHES)):
-        yield rewritten(name, journal, journal)
-        yield rewritten(f"{name}_of_version_1", journal.replace('"version":2', '"version":1'), journal)
-    yield rewritten("lists", LISTS, LISTS)
+        yield rewrite_case(name, journal, journal)
+        yield rewrite_case(f"{name}_of_version_1", journal.replace('"version":2', '"version":1'), journal)
+    yield rewrite_case("lists", LISTS, LISTS)
 
 
 def wrong() -> Iterator[Case]:

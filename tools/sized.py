@@ -26,7 +26,7 @@ def report(pairs: list, moves: int, *faults: str) -> bytes:
     return "".join(f"{it}\n" for it in [*map(text, pairs), f"moves {moves}", *faults]).encode()
 
 
-def played(name: str, init: list, blocks: list, pairs: list, *faults: str) -> Case:
+def play_case(name: str, init: list, blocks: list, pairs: list, *faults: str) -> Case:
     """Play one step of one agent, with these blocks.
 
     It leaves the pairs, or ends with these faults.
@@ -34,7 +34,7 @@ def played(name: str, init: list, blocks: list, pairs: list, *faults: str) -> Ca
     return Case(name, ("run",), script(init, [blocks]), report(pairs, 0 if faults else 1, *faults))
 
 
-def refused(name: str, given: bytes, line: bytes) -> Case:
+def refusal_case(name: str, given: bytes, line: bytes) -> Case:
     return Case(name, ("run",), given, line, 2)
 
 
@@ -54,7 +54,7 @@ def bag_of(n: int, count: int = 1) -> dict:
     return {"bag": [[i, count] for i in range(n)]}
 
 
-def held(pairs: list) -> list:
+def without_undef(pairs: list) -> list:
     """Return the pairs without those that hold nothing."""
     return [it for it in pairs if it[1] is not None]
 
@@ -63,46 +63,46 @@ def groups(n: int) -> Iterator[Case]:
     """A move with a group of n partial updates at one location."""
     half = n // 2
     adds, removes = [["add", S, i] for i in range(n)], [["remove", S, i] for i in range(n)]
-    yield played(f"{n}_additions_to_a_set", [[S, set_of(0)]], [adds], [[S, set_of(n)]])
-    yield played(f"{n}_additions_of_what_a_set_has", [[S, set_of(n)]], [adds], [[S, set_of(n)]])
-    yield played(f"{n}_removals_from_a_set", [[S, set_of(n + 1)]], [removes], [[S, {"set": [n]}]])
+    yield play_case(f"{n}_additions_to_a_set", [[S, set_of(0)]], [adds], [[S, set_of(n)]])
+    yield play_case(f"{n}_additions_of_what_a_set_has", [[S, set_of(n)]], [adds], [[S, set_of(n)]])
+    yield play_case(f"{n}_removals_from_a_set", [[S, set_of(n + 1)]], [removes], [[S, {"set": [n]}]])
     mixed = adds[:half] + removes[half:]
-    yield played(f"{n}_updates_of_a_set", [[S, {"set": list(range(half, n))}]], [mixed], [[S, set_of(half)]])
+    yield play_case(f"{n}_updates_of_a_set", [[S, {"set": list(range(half, n))}]], [mixed], [[S, set_of(half)]])
     mine, other = [["bagadd", B, i, 2] for i in range(n)], [["bagremove", B, i, 1] for i in range(n)]
-    yield played(f"{n}_additions_to_a_bag", [[B, bag_of(0)]], [mine], [[B, bag_of(n, 2)]])
-    yield played(f"{n}_removals_from_a_bag", [[B, bag_of(n, 3)]], [other], [[B, bag_of(n, 2)]])
+    yield play_case(f"{n}_additions_to_a_bag", [[B, bag_of(0)]], [mine], [[B, bag_of(n, 2)]])
+    yield play_case(f"{n}_removals_from_a_bag", [[B, bag_of(n, 3)]], [other], [[B, bag_of(n, 2)]])
     both = [it for i in range(half) for it in (mine[i], other[i])]
-    yield played(f"{n}_updates_of_a_bag", [[B, bag_of(half)]], [both], [[B, bag_of(half, 2)]])
+    yield play_case(f"{n}_updates_of_a_bag", [[B, bag_of(half)]], [both], [[B, bag_of(half, 2)]])
     same = [["bagadd", B, "e", 1]] * n
-    yield played(f"{n}_additions_of_one_element", [[B, {"bag": [["e", 1]]}]], [same], [[B, {"bag": [["e", n + 1]]}]])
-    yield played(f"{n}_increments", [[N, 5]], [[["inc", N, 1]] * n], [[N, 5 + n]])
+    yield play_case(f"{n}_additions_of_one_element", [[B, {"bag": [["e", 1]]}]], [same], [[B, {"bag": [["e", n + 1]]}]])
+    yield play_case(f"{n}_increments", [[N, 5]], [[["inc", N, 1]] * n], [[N, 5 + n]])
 
 
 def moves_of(n: int) -> Iterator[Case]:
     """A move at n locations, and composed moves."""
     ones, twos = [[it, 1] for it in places(n)], [[it, 2] for it in places(n)]
-    yield played(f"puts_at_{n}_locations", [], [puts(n)], ones)
-    yield played(f"puts_of_undef_at_{n}_locations", ones, [puts(n, None)], [])
-    yield played(f"{n}_equal_puts_at_one_location", [], [[["put", X, 1]] * n], held([[X, 1 if n else None]]))
-    yield played(f"two_blocks_of_{n}_puts", [], [puts(n), puts(n, 2)], twos)
-    yield played(f"three_blocks_of_{n}_puts", [], [puts(n, 3), puts(n, None), puts(n, 2)], twos)
+    yield play_case(f"puts_at_{n}_locations", [], [puts(n)], ones)
+    yield play_case(f"puts_of_undef_at_{n}_locations", ones, [puts(n, None)], [])
+    yield play_case(f"{n}_equal_puts_at_one_location", [], [[["put", X, 1]] * n], without_undef([[X, 1 if n else None]]))
+    yield play_case(f"two_blocks_of_{n}_puts", [], [puts(n), puts(n, 2)], twos)
+    yield play_case(f"three_blocks_of_{n}_puts", [], [puts(n, 3), puts(n, None), puts(n, 2)], twos)
     adds, removes = [["add", S, i] for i in range(n)], [["remove", S, i] for i in range(n)]
-    yield played(f"two_blocks_of_{n}_updates_of_a_set", [[S, set_of(0)]], [adds, removes], [[S, set_of(0)]])
-    yield played(f"three_blocks_of_{n}_updates_of_a_set", [[S, set_of(0)]], [adds, removes, adds], [[S, set_of(n)]])
+    yield play_case(f"two_blocks_of_{n}_updates_of_a_set", [[S, set_of(0)]], [adds, removes], [[S, set_of(0)]])
+    yield play_case(f"three_blocks_of_{n}_updates_of_a_set", [[S, set_of(0)]], [adds, removes, adds], [[S, set_of(n)]])
     mine, other = [["bagadd", B, i, 3] for i in range(n)], [["bagremove", B, i, 1] for i in range(n)]
-    yield played(f"three_blocks_of_{n}_updates_of_a_bag", [[B, bag_of(0)]], [mine, other, other], [[B, bag_of(n)]])
+    yield play_case(f"three_blocks_of_{n}_updates_of_a_bag", [[B, bag_of(0)]], [mine, other, other], [[B, bag_of(n)]])
     raised = [["inc", it, 1] for it in places(n)]
-    twice = played(f"two_blocks_of_{n}_increments", ones, [raised, raised], [[it, 3] for it in places(n)])
-    yield twice if n < 257 else refused(twice.name, twice.given, b"bad script: reads\n")
+    twice = play_case(f"two_blocks_of_{n}_increments", ones, [raised, raised], [[it, 3] for it in places(n)])
+    yield twice if n < 257 else refusal_case(twice.name, twice.given, b"bad script: reads\n")
     if n:
         blocks = [puts(4096 - n), [["put", ["b", i], 1] for i in range(n)]]
         left = [[it, 1] for it in places(4096 - n)] + [[["b", i], 1] for i in range(n)]
-        yield played(f"{n}_of_4096_puts_in_a_second_block", [], blocks, left)
+        yield play_case(f"{n}_of_4096_puts_in_a_second_block", [], blocks, left)
         many = [puts(4097 - n), blocks[1]]
-        yield played(f"{n}_of_4097_puts_in_a_second_block", [], many, [], "agent 0 step 0 many")
+        yield play_case(f"{n}_of_4097_puts_in_a_second_block", [], many, [], "agent 0 step 0 many")
 
 
-def composed() -> Iterator[Case]:
+def compositions() -> Iterator[Case]:
     """Yield three blocks that compose to the largest number of instructions.
 
     It is as many as a move may have; others compose to one more.
@@ -110,8 +110,8 @@ def composed() -> Iterator[Case]:
     for last, faults in ((96, ()), (97, ("agent 0 step 0 many",))):
         blocks = [[["put", [name, i], 1] for i in range(count)] for name, count in zip("abc", (2000, 2000, last))]
         left = [[it[1], 1] for block in blocks for it in block]
-        yield played(f"three_blocks_of_{4000 + last}_puts_in_all", [], blocks, [] if faults else left, *faults)
-    yield refused("a_block_of_4097_instructions", script([], [[puts(4097)]]), b"bad script: instructions\n")
+        yield play_case(f"three_blocks_of_{4000 + last}_puts_in_all", [], blocks, [] if faults else left, *faults)
+    yield refusal_case("a_block_of_4097_instructions", script([], [[puts(4097)]]), b"bad script: instructions\n")
 
 
 def values(n: int) -> Iterator[Case]:
@@ -119,11 +119,11 @@ def values(n: int) -> Iterator[Case]:
     items = {"list": [None] * n}
     for name, value in (("set", set_of(n)), ("bag", bag_of(n, 7)), ("list", items)):
         step = [["put", X, value], ["put", ["y"], {"val": ["o"]}]]
-        yield played(f"a_{name}_of_{n}_is_put_and_read", [[["o"], value]], [step], [[["o"], value], [X, value], [["y"], value]])
-    yield played(f"a_list_of_{n}_in_a_set", [[S, set_of(0)]], [[["add", S, items]]], [[S, {"set": [items]}]])
-    yield played(f"a_list_of_{n}_as_an_argument", [], [[["put", ["x", items], 1]]], [[["x", items], 1]])
+        yield play_case(f"a_{name}_of_{n}_is_put_and_read", [[["o"], value]], [step], [[["o"], value], [X, value], [["y"], value]])
+    yield play_case(f"a_list_of_{n}_in_a_set", [[S, set_of(0)]], [[["add", S, items]]], [[S, {"set": [items]}]])
+    yield play_case(f"a_list_of_{n}_as_an_argument", [], [[["put", ["x", items], 1]]], [[["x", items], 1]])
     state = [[it, it[1]] for it in places(n)]
-    yield played(f"a_state_of_{n}_locations", state, [[]], state)
+    yield play_case(f"a_state_of_{n}_locations", state, [[]], state)
 
 
 def texts(n: int) -> Iterator[Case]:
@@ -131,7 +131,7 @@ def texts(n: int) -> Iterator[Case]:
     for name, it in ((f"{n}", "t" * n), (f"{n}_in_two_bytes_each", "é" * (n // 2))):
         wanted = [[S, {"set": [it]}], [["u", it], 1], [X, it]]
         step = [["put", X, it], ["add", S, it], ["put", ["u", it], 1]]
-        yield played(f"texts_of_bytes_{name}", [[S, set_of(0)]], [step], wanted)
+        yield play_case(f"texts_of_bytes_{name}", [[S, set_of(0)]], [step], wanted)
 
 
 def reads(n: int) -> Iterator[Case]:
@@ -143,29 +143,29 @@ def reads(n: int) -> Iterator[Case]:
     step = [["put", ["b", i], {"val": ["a", i]}] for i in range(n)] + [["put", ["b", 0], {"val": ["a", 0]}]] * min(n, 1)
     sets, adds = [[it, set_of(1)] for it in places(n)], [["add", it, 1] for it in places(n)]
     left = [[it, set_of(2)] for it in places(n)]
-    yield played(f"updates_at_{n}_locations_in_the_last_block", sets, [[], adds], left)
+    yield play_case(f"updates_at_{n}_locations_in_the_last_block", sets, [[], adds], left)
     cases = [
-        played(f"reads_of_{n}_locations", init, [step], init + [[["b", i], i] for i in range(n)]),
-        played(f"reads_of_{n}_locations_in_the_last_block", init, [[], step], init + [[["b", i], i] for i in range(n)]),
-        played(f"updates_at_{n}_locations_before_the_last_block", sets, [adds, []], left),
+        play_case(f"reads_of_{n}_locations", init, [step], init + [[["b", i], i] for i in range(n)]),
+        play_case(f"reads_of_{n}_locations_in_the_last_block", init, [[], step], init + [[["b", i], i] for i in range(n)]),
+        play_case(f"updates_at_{n}_locations_before_the_last_block", sets, [adds, []], left),
     ]
-    yield from cases if n < 257 else (refused(it.name, it.given, b"bad script: reads\n") for it in cases)
+    yield from cases if n < 257 else (refusal_case(it.name, it.given, b"bad script: reads\n") for it in cases)
 
 
 def terms(n: int) -> Iterator[Case]:
     """A block of n terms that read one location."""
     step = [["put", it, {"val": N}] for it in places(n)]
-    yield played(f"a_block_of_{n}_terms", [[N, 0]], [step], [[it, 0] for it in places(n)] + [[N, 0]])
+    yield play_case(f"a_block_of_{n}_terms", [[N, 0]], [step], [[it, 0] for it in places(n)] + [[N, 0]])
 
 
 def blocks_of(n: int) -> Iterator[Case]:
     """A step of n blocks, each of which sees the one before it, or is empty."""
     block = [["put", N, {"sum": [{"val": N}, 1]}], ["inc", ["m"], 2]]
     cases = [
-        played(f"a_step_of_{n}_blocks", [[["m"], 0], [N, 0]], [block] * n, [[["m"], 2 * n], [N, n]]),
-        played(f"a_step_of_{n}_empty_blocks", [], [[]] * n, []),
+        play_case(f"a_step_of_{n}_blocks", [[["m"], 0], [N, 0]], [block] * n, [[["m"], 2 * n], [N, n]]),
+        play_case(f"a_step_of_{n}_empty_blocks", [], [[]] * n, []),
     ]
-    yield from cases if 0 < n < 66 else (refused(it.name, it.given, b"bad script: blocks\n") for it in cases)
+    yield from cases if 0 < n < 66 else (refusal_case(it.name, it.given, b"bad script: blocks\n") for it in cases)
 
 
 def agents(n: int) -> Iterator[Case]:
@@ -178,9 +178,9 @@ def agents(n: int) -> Iterator[Case]:
         Case(f"{n}_agents", ("run",), given, report([[["a", i], i] for i in range(n)] + [[N, n]], n)),
         Case(f"{n}_agents_without_a_step", ("run",), script([], *[[]] * n), report([], 0)),
     ]
-    yield from cases if n < 257 else (refused(it.name, it.given, b"bad script: agents\n") for it in cases)
+    yield from cases if n < 257 else (refusal_case(it.name, it.given, b"bad script: agents\n") for it in cases)
     if n == 257:
-        yield refused(f"{n}_agents_with_a_step_without_blocks", script([], *[[[]]] * n), b"bad script: agents\n")
+        yield refusal_case(f"{n}_agents_with_a_step_without_blocks", script([], *[[[]]] * n), b"bad script: agents\n")
 
 
 def causes() -> Iterator[Case]:
@@ -198,18 +198,18 @@ def causes() -> Iterator[Case]:
         ("before_what_is_no_json", "[[[", "]]],1]", "not JSON"),
     ):
         given = '{"init":[],"agents":[' + before + block + behind + "]}"
-        yield refused(f"4097_instructions_{place}", given.encode(), f"bad script: {cause}\n".encode())
+        yield refusal_case(f"4097_instructions_{place}", given.encode(), f"bad script: {cause}\n".encode())
 
 
-def nested() -> Iterator[Case]:
+def nestings() -> Iterator[Case]:
     """Lists and sums that nest as deep as they may, and one level deeper."""
     for depth in range(1, 10):
         value = json.loads('{"list":[' * depth + "]}" * depth)
         if depth < 9:
-            yield played(f"a_list_of_depth_{depth}", [], [[["put", X, value]]], [[X, value]])
+            yield play_case(f"a_list_of_depth_{depth}", [], [[["put", X, value]]], [[X, value]])
         else:
-            yield refused(f"a_list_of_depth_{depth}", script([], [[[["put", X, value]]]]), SHAPE)
-    yield refused("a_list_of_4097_items", script([], [[[["put", X, {"list": [None] * 4097}]]]]), SHAPE)
+            yield refusal_case(f"a_list_of_depth_{depth}", script([], [[[["put", X, value]]]]), SHAPE)
+    yield refusal_case("a_list_of_4097_items", script([], [[[["put", X, {"list": [None] * 4097}]]]]), SHAPE)
     around = ('{"init":[],"agents":[[[[["put",["x"],', "]]]]]}")
     # The instruction is six arrays and objects deep, and each sum adds an object and an array.
     for depth in (1, 2, 3, 32, 59, 60):
@@ -219,7 +219,7 @@ def nested() -> Iterator[Case]:
     yield Case("a_bag_in_a_sum_of_depth_59", ("run",), bag.encode(), report([], 0, "agent 0 step 0 term"))
     for name, depth, term in (("a_sum_of_depth_61", 61, "0"), ("a_set_in_a_sum_of_depth_60", 60, '{"set":[]}')):
         deeper = around[0] + '{"sum":[1,' * depth + term + "]}" * depth + around[1]
-        yield refused(name, deeper.encode(), b"bad script: not JSON\n")
+        yield refusal_case(name, deeper.encode(), b"bad script: not JSON\n")
 
 
 def every() -> list[Case]:
@@ -229,6 +229,6 @@ def every() -> list[Case]:
     found += [it for n in (0, 1, 2, 3, 64, 65, 255, 256, 257) for make in (reads, agents) for it in make(n)]
     found += [it for n in (0, 1, 2, 3, 64, 65, 66) for it in blocks_of(n)]
     found += [it for n in (*SIZES, 65535, 65536) for it in texts(n)]
-    found += [*composed(), *causes(), *nested(), *journals()]
+    found += [*compositions(), *causes(), *nestings(), *journals()]
     assert len({it.name for it in found}) == len(found)
     return found

@@ -212,17 +212,17 @@ PLACES = {
 }
 
 
-def placed() -> Iterator[Case]:
+def list_places() -> Iterator[Case]:
     for name, opening in OPENINGS.items():
         head = '{"agents":0,"capacity":8,"events":0,"init":%s,"version":#}\n' % opening
-        yield from judged(name, head, "legal 0 0\n", 1)
+        yield from judge_case(name, head, "legal 0 0\n", 1)
     for name, (init, call, reply, right) in PLACES.items():
         journal = header(1, init=init, capacity=8).replace('"version":2', '"version":#') + event(call, reply)
         line = f"legal 1 {int(reply == FIRED)}\n" if right else "illegal 0\n"
-        yield from judged(name, journal, line, 2)
+        yield from judge_case(name, journal, line, 2)
 
 
-def judged(name: str, journal: str, line: str, at: int) -> Iterator[Case]:
+def judge_case(name: str, journal: str, line: str, at: int) -> Iterator[Case]:
     """A journal of version 2 may have a list in the place, as deep as a list may be.
 
     One of version 1 may have a number, but no list.
@@ -246,4 +246,4 @@ def judged(name: str, journal: str, line: str, at: int) -> Iterator[Case]:
 def journals() -> list[Case]:
     found = [it for n in (4097, 16385, 65537) for make in (raises, plain) for it in make(n)]
     found += [it for n in (255, 256, 257, 4095, 4096, 4097) for it in calls_of(n)]
-    return [*found, *default(), *long(35000), *growing(400), *misread(1_000_000), *parts(120000), *windows(1000), *windows(120000), *lines(), *cut(), *placed()]
+    return [*found, *default(), *long(35000), *growing(400), *misread(1_000_000), *parts(120000), *windows(1000), *windows(120000), *lines(), *cut(), *list_places()]

@@ -75,7 +75,7 @@ def raw(random: Random) -> Raw:
     return Raw(random.choice(RAWS if random.random() < 0.1 else GOOD_RAWS))
 
 
-def spelled(value: Any, random: Random, is_plain: bool) -> str:
+def spell(value: Any, random: Random, is_plain: bool) -> str:
     """Return a text of the value.
 
     It is the compact one, or one with spaces, escapes, and keys in any order or repeated.
@@ -84,11 +84,11 @@ def spelled(value: Any, random: Random, is_plain: bool) -> str:
         return value.text
     space = "" if is_plain else random.choice(["", "", "", " ", "\t", " \r "])
     if isinstance(value, list):
-        inner = f",{space}".join(spelled(it, random, is_plain) for it in value)
+        inner = f",{space}".join(spell(it, random, is_plain) for it in value)
         return f"[{space}{inner}{space}]"
     if isinstance(value, dict):
         parts = [
-            f"{spelled(key, random, is_plain)}{space}:{spelled(it, random, is_plain)}"
+            f"{spell(key, random, is_plain)}{space}:{spell(it, random, is_plain)}"
             for key, it in value.items()
         ]
         if not is_plain:
@@ -161,7 +161,7 @@ def cut(text: bytes, random: Random) -> bytes:
     return text
 
 
-def changed_journal(text: bytes, random: Random) -> bytes:
+def change_journal(text: bytes, random: Random) -> bytes:
     """Return a journal with a change in a line, in their order, or in its bytes."""
     kind = random.randrange(8)
     lines = text.split(b"\n")
@@ -178,11 +178,11 @@ def changed_journal(text: bytes, random: Random) -> bytes:
         other = random.randrange(len(lines))
         lines[at], lines[other] = lines[other], lines[at]
     else:
-        lines[at] = _changed_line(lines[at], random, is_header=at == 0)
+        lines[at] = _change_line(lines[at], random, is_header=at == 0)
     return b"\n".join(lines)
 
 
-def _changed_line(line: bytes, random: Random, is_header: bool) -> bytes:
+def _change_line(line: bytes, random: Random, is_header: bool) -> bytes:
     try:
         value: Any = read(line)
     except NotJson:
@@ -192,4 +192,4 @@ def _changed_line(line: bytes, random: Random, is_header: bool) -> bytes:
         value[key] = Raw(random.choice(HEADER_RAWS))
     elif random.random() < 0.9:
         value = changed(value, random)
-    return spelled(value, random, random.random() < 0.7).encode()
+    return spell(value, random, random.random() < 0.7).encode()

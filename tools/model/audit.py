@@ -16,7 +16,7 @@ MAX_LINE = 2**30
 WINDOW_VERSION = 2
 
 
-class Ended(Exception):
+class AuditEnd(Exception):
     """The audit ends with this status and this line."""
 
     def __init__(self, status: int, line: str) -> None:
@@ -51,11 +51,11 @@ class Audit:
         """
         number = self.current_part + self.is_between()
         if len(line) > MAX_LINE:
-            raise Ended(2, "input too large")
+            raise AuditEnd(2, "input too large")
         try:
             self._take(line, is_ended)
         except BadJournal as error:
-            raise Ended(2, f"part {number} {error}") from error
+            raise AuditEnd(2, f"part {number} {error}") from error
 
     def _take(self, line: bytes, is_ended: bool) -> None:
         number = 1 if self.is_between() else self.lines + 1
@@ -75,7 +75,7 @@ class Audit:
     def _begin(self, value: Json) -> None:
         header = read_header(value)
         if self.header is not None and header.init != self.storage.state:
-            raise Ended(2, f"part {self.current_part + 1} apart")
+            raise AuditEnd(2, f"part {self.current_part + 1} apart")
         self.header, self.lines = header, 1
         self.current_part += 1
         self.storage = Storage(header.init, header.capacity)
@@ -85,7 +85,7 @@ class Audit:
         event = read_event(value, self.header, self.lines + 1)
         right = self.storage.reply(event.call)
         if type(right) is not type(event.reply) or right != event.reply:
-            raise Ended(1, f"illegal {self.current_part} {self.lines - 1}")
+            raise AuditEnd(1, f"illegal {self.current_part} {self.lines - 1}")
         self.lines += 1
         self.calls += 1
         self.moves += isinstance(event.reply, Fired)
@@ -106,7 +106,7 @@ def lines_of(text: bytes, every: int | None) -> Iterator[str]:
     if last:
         audit.take(last, is_ended=False)
     if audit.header is None or not audit.is_between():
-        raise Ended(2, f"part {max(audit.current_part, 0)} journal cut")
+        raise AuditEnd(2, f"part {max(audit.current_part, 0)} journal cut")
     yield f"legal {audit.calls} {audit.moves} {audit.parts}"
 
 
@@ -120,7 +120,7 @@ def audit(text: bytes, every: int | None) -> tuple[int, str]:
     try:
         for line in lines_of(text, every):
             output.append(line)
-    except Ended as ended:
+    except AuditEnd as ended:
         status = ended.status
         output.append(ended.line)
     return status, "".join(f"{it}\n" for it in output)
@@ -138,14 +138,14 @@ class Window(NamedTuple):
     to: int | None
 
 
-class Opened:
+class WindowPart:
     """The window's part, of which the header was read and perhaps some events."""
 
     def __init__(self, window: Window, header: Header) -> None:
         self.window, self.header = window, header
         self.end = header.events if window.to is None else window.to
         if not window.start <= self.end <= header.events:
-            raise Ended(2, f"part {window.part} has {header.events} calls")
+            raise AuditEnd(2, f"part {window.part} has {header.events} calls")
         self.storage = Storage(header.init, header.capacity)
         self.events = 0
         self.lines: list[str] = []
@@ -182,10 +182,10 @@ class Opened:
         return "".join(f"{it}\n" for it in self.lines)
 
 
-def shown(text: bytes, window: Window) -> str:
+def trace_lines(text: bytes, window: Window) -> str:
     """Return what is written; raise how it ends otherwise."""
     audit = Audit()
-    opened: Opened | None = None
+    opened: WindowPart | None = None
     *ended, last = text.split(b"\n")
     for line in ended:
         audit.take(line)
@@ -193,19 +193,19 @@ def shown(text: bytes, window: Window) -> str:
             opened.note(line)
         elif audit.current_part == window.part:
             assert audit.header is not None
-            opened = Opened(window, audit.header)
+            opened = WindowPart(window, audit.header)
         if opened is not None and opened.is_over():
             return opened.text()
     if last:
         audit.take(last, is_ended=False)
     if audit.header is None or not audit.is_between():
-        raise Ended(2, f"part {max(audit.current_part, 0)} journal cut")
-    raise Ended(2, f"the run has {audit.parts} parts")
+        raise AuditEnd(2, f"part {max(audit.current_part, 0)} journal cut")
+    raise AuditEnd(2, f"the run has {audit.parts} parts")
 
 
 def trace_window(text: bytes, window: Window) -> tuple[int, str]:
     """Return the status, and the complete output."""
     try:
-        return 0, shown(text, window)
-    except Ended as ended:
+        return 0, trace_lines(text, window)
+    except AuditEnd as ended:
         return ended.status, f"{ended.line}\n"

@@ -48,7 +48,7 @@ class TooLarge(Exception):
 
 
 class Family(Protocol):
-    def applied(self, base: Value, is_regular: bool, partials: list[Any]) -> Value:
+    def apply(self, base: Value, is_regular: bool, partials: list[Any]) -> Value:
         """Return the result of the partial updates on the base.
 
         The base is the group's regular value or the old value.
@@ -57,12 +57,12 @@ class Family(Protocol):
     def check_alone(self, partials: list[Any]) -> None:
         """Raise the cause by which these alone have a result on no value."""
 
-    def joined(self, first: list[Any], second: list[Any]) -> list[Any]:
+    def join_updates(self, first: list[Any], second: list[Any]) -> list[Any]:
         """Return the list that does on each value what the first and then the second do."""
 
 
 class SetFamily:
-    def applied(self, base: Value, is_regular: bool, partials: list[Change]) -> Value:
+    def apply(self, base: Value, is_regular: bool, partials: list[Change]) -> Value:
         if not isinstance(base, SetValue):
             raise NoResult("Kind")
         self.check_alone(partials)
@@ -76,7 +76,7 @@ class SetFamily:
         if added & removed:
             raise NoResult("Both")
 
-    def joined(self, first: list[Change], second: list[Change]) -> list[Change]:
+    def join_updates(self, first: list[Change], second: list[Change]) -> list[Change]:
         added_1, removed_1 = _parts(first)
         added_2, removed_2 = _parts(second)
         added = (added_1 - removed_2) | added_2
@@ -88,7 +88,7 @@ class SetFamily:
 
 
 class BagFamily:
-    def applied(self, base: Value, is_regular: bool, partials: list[Change]) -> Value:
+    def apply(self, base: Value, is_regular: bool, partials: list[Change]) -> Value:
         if not isinstance(base, BagValue):
             raise NoResult("Kind")
         if is_regular:
@@ -106,7 +106,7 @@ class BagFamily:
     def check_alone(self, partials: list[Change]) -> None:
         """Accept each list: it has a result on some bag, except for large amounts."""
 
-    def joined(self, first: list[Change], second: list[Change]) -> list[Change]:
+    def join_updates(self, first: list[Change], second: list[Change]) -> list[Change]:
         added_1, removed_1 = _sums(first)
         added_2, removed_2 = _sums(second)
         every = sorted({*added_1, *removed_1, *added_2, *removed_2})
@@ -121,7 +121,7 @@ class BagFamily:
 
 
 class CountFamily:
-    def applied(self, base: Value, is_regular: bool, partials: list[Increment]) -> Value:
+    def apply(self, base: Value, is_regular: bool, partials: list[Increment]) -> Value:
         if not is_element(base) or base[0] != NUMBER:
             raise NoResult("Kind")
         if is_regular:
@@ -134,7 +134,7 @@ class CountFamily:
     def check_alone(self, partials: list[Increment]) -> None:
         """Accept increments: they have a result on some number, except for large sums."""
 
-    def joined(self, first: list[Increment], second: list[Increment]) -> list[Increment]:
+    def join_updates(self, first: list[Increment], second: list[Increment]) -> list[Increment]:
         remaining = _total([*first, *second])
         if abs(remaining) > MAX_SUM:
             raise TooLarge

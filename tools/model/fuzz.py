@@ -22,7 +22,7 @@ from random import Random
 from typing import NamedTuple
 
 import model
-from altered import changed, changed_journal, cut, spelled
+from altered import changed, change_journal, cut, spell
 from inputs import Maker
 from journal import BadJournal, read_journal, write_journal
 from play import SeveralAgents
@@ -89,7 +89,7 @@ class Job(NamedTuple):
     kinds: list[str]
 
 
-class Done(NamedTuple):
+class JobResult(NamedTuple):
     counts: Counter[str]
     differences: list[Difference]
 
@@ -106,13 +106,13 @@ class Fuzz:
         self.counts: Counter[str] = Counter()
         self.differences: list[Difference] = []
 
-    def done(self) -> Done:
+    def result(self) -> JobResult:
         if self.kind == "contending":
             self.contend()
         else:
             for trial in self.trials():
                 self.compare(trial)
-        return Done(self.counts, self.differences)
+        return JobResult(self.counts, self.differences)
 
     def trials(self) -> Iterator[Trial]:
         random, maker = self.random, self.maker
@@ -156,10 +156,10 @@ class Fuzz:
         for words in READING:
             yield from (Trial(words, version) for version in versions)
         for version in [*versions, self.random.choice(versions)]:
-            yield Trial(self.random.choice(READING), changed_journal(version, self.random))
+            yield Trial(self.random.choice(READING), change_journal(version, self.random))
 
     def audits(self) -> Iterator[Trial]:
-        for run in self.altered_runs(self.parts()):
+        for run in self.alter_runs(self.parts()):
             yield Trial(["audit", *self.every()], run)
 
     def windows(self) -> Iterator[Trial]:
@@ -171,7 +171,7 @@ class Fuzz:
         run = b"".join(parts)
         for number, part in enumerate(parts):
             yield Trial(self.window(number, part.count(b"\n") - 1), run)
-        for run in self.altered_runs(parts):
+        for run in self.alter_runs(parts):
             number = self.random.randrange(len(parts) + 1)
             yield Trial(self.window(number, parts[number % len(parts)].count(b"\n") - 1), run)
 
@@ -190,14 +190,14 @@ class Fuzz:
         parts = [write_journal(it) for it in self.maker.run()]
         return [in_version_1(it) if self.random.random() < 0.3 else it for it in parts]
 
-    def altered_runs(self, parts: list[bytes]) -> Iterator[bytes]:
+    def alter_runs(self, parts: list[bytes]) -> Iterator[bytes]:
         """Yield the run unchanged and altered.
 
         It is altered in a part or with its parts mixed, and cut.
         """
         mixed = self.random.choices(parts, k=len(parts))
         at = self.random.randrange(len(parts))
-        altered = [*parts[:at], changed_journal(parts[at], self.random), *parts[at + 1 :]]
+        altered = [*parts[:at], change_journal(parts[at], self.random), *parts[at + 1 :]]
         for chosen in (parts, mixed, altered):
             yield b"".join(chosen)
         yield cut(b"".join(parts), self.random)
@@ -214,7 +214,7 @@ class Fuzz:
         return ["--capacity", capacity] if pick < 0.95 else [f"--capacity={capacity}"]
 
     def text(self, value: object, is_plain: bool = False) -> bytes:
-        return spelled(value, self.random, is_plain or self.random.random() < 0.5).encode()
+        return spell(value, self.random, is_plain or self.random.random() < 0.5).encode()
 
     def long_text(self) -> bytes:
         script = self.text(self.maker.script(), is_plain=True)
@@ -231,7 +231,7 @@ class Fuzz:
         self.counts["inputs"] += 1
         self.counts.update(sorts_of(ran))
         if ran != wanted:
-            self.differences.append(Difference(trial, f"program {shown(ran)}\n  model   {shown(wanted)}"))
+            self.differences.append(Difference(trial, f"program {show(ran)}\n  model   {show(wanted)}"))
         elif trial.words == ["trace"] and ran.status == 0:
             self.check_trace(trial, ran)
         return ran
@@ -267,7 +267,7 @@ class Fuzz:
             history = read_journal(ran.output)
             check_run(read_script(trial.text), capacity, history)
         except (BadJournal, NoRun) as error:
-            self.differences.append(Difference(trial, f"program {shown(ran)}\n  model   {error}"))
+            self.differences.append(Difference(trial, f"program {show(ran)}\n  model   {error}"))
             return
         self.counts.update(f"there answered {type(it.reply).__name__}" for it in history.events)
         legal = f"legal {len(history.events)} {history.moves()}\n".encode()
@@ -308,12 +308,12 @@ def sorts_of(ran: model.Answer) -> set[str]:
     return {f"status 0 step {' '.join(it).strip()}" for it in steps} or {"status 0 all steps fired"}
 
 
-def shown(answer: model.Answer) -> str:
+def show(answer: model.Answer) -> str:
     return f"status {answer.status}: {answer.output[:300]!r}"
 
 
-def work(job: Job) -> Done:
-    return Fuzz(job).done()
+def work(job: Job) -> JobResult:
+    return Fuzz(job).result()
 
 
 def save(difference: Difference, number: int, folder: Path) -> None:
@@ -350,9 +350,9 @@ def main() -> int:
         for first in range(0, options.inputs, batch):
             if time.monotonic() > end:
                 break
-            for done in pool.imap_unordered(work, jobs[first : first + batch]):
-                counts += done.counts
-                for difference in done.differences:
+            for result in pool.imap_unordered(work, jobs[first : first + batch]):
+                counts += result.counts
+                for difference in result.differences:
                     options.save = options.save or Path(tempfile.mkdtemp(prefix="fuzz_"))
                     save(difference, differences, options.save)
                     differences += 1

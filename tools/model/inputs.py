@@ -167,10 +167,10 @@ class Maker:
         self.strange, self.heavy, self.lines = 0.0, 0.1, [0, 1, 1, 2]
         steps: list[Json] = []
         for _ in range(self.random.randint(1, 3)):
-            steps.append([self.repeated(self.block()) for _ in range(self.random.randint(1, 5))])
+            steps.append([self.repeat_or_undo(self.block()) for _ in range(self.random.randint(1, 5))])
         return {"init": self.init(), "agents": [steps]}
 
-    def repeated(self, block: list[Json]) -> list[Json]:
+    def repeat_or_undo(self, block: list[Json]) -> list[Json]:
         """Make the block unchanged, or with a repeated or undone instruction.
 
         It repeats an instruction as often as a move may have one, or adds what undoes it.
@@ -280,9 +280,9 @@ class Maker:
         return Fire(self.move(), named)
 
     def move(self) -> Move:
-        return [read_instruction(self.known(self.instruction())) for _ in range(self.random.randint(0, 4))]
+        return [read_instruction(self.with_constant(self.instruction())) for _ in range(self.random.randint(0, 4))]
 
-    def known(self, line: Json) -> Json:
+    def with_constant(self, line: Json) -> Json:
         """Put a value, or an element, in the place of an instruction's term."""
         if line[0] == "inc":
             return [*line[:2], self.random.choice(NUMBERS)]

@@ -114,13 +114,13 @@ class Storage:
 
     def reply(self, call: Call) -> Reply:
         """Return the answer to the call; a move with the answer Fired is fired."""
-        given = self.judged(call)
+        given = self.judge(call)
         if isinstance(given, Fired):
             assert isinstance(call, Fire)
             self.follow(call.move)
         return given
 
-    def judged(self, call: Call) -> Reply:
+    def judge(self, call: Call) -> Reply:
         """Return the answer to the call here, and fire nothing."""
         if isinstance(call, Read):
             return Values(self.number, [self.state.get(at, UNDEF) for at in call.places])
@@ -220,7 +220,7 @@ def read_header(value: Json) -> Header:
     if (is_integer(version, I64) or is_integer(version, U64)) and version not in VERSIONS:
         raise BadJournal("journal version")
     try:
-        return _header(_allowed(value, version))
+        return _header(_check_version(value, version))
     except WrongShape as error:
         raise _no_shape(1) from error
 
@@ -228,12 +228,12 @@ def read_header(value: Json) -> Header:
 def read_event(value: Json, header: Header, number: int) -> Event:
     """Read a line of a journal with this header, by its number, or raise its fault."""
     try:
-        return _event(_allowed(value, header.version), header.agents)
+        return _event(_check_version(value, header.version), header.agents)
     except WrongShape as error:
         raise _no_shape(number) from error
 
 
-def _allowed(value: Json, version: Json) -> Json:
+def _check_version(value: Json, version: Json) -> Json:
     """Return the line; a list anywhere in the first version is a wrong shape."""
     if version == WITHOUT_LISTS and _has_list(value):
         raise WrongShape

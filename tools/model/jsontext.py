@@ -99,7 +99,7 @@ class _Reader:
             text = self.match(STRING)[1].decode("utf-8")
         except UnicodeDecodeError as error:
             raise NotJson("no UTF-8") from error
-        return ESCAPE.sub(_escaped, text) if "\\" in text else text
+        return ESCAPE.sub(_unescape, text) if "\\" in text else text
 
     def enter(self, depth: int) -> None:
         if depth > MAX_DEPTH:
@@ -157,7 +157,7 @@ def _number(found: re.Match[bytes]) -> Json:
     return real
 
 
-def _escaped(found: re.Match[str]) -> str:
+def _unescape(found: re.Match[str]) -> str:
     if found[4]:
         return SHORT.get(found[4], found[4])
     if found[1]:

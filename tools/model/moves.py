@@ -103,7 +103,7 @@ def instruction_json(instruction: Instruction) -> Json:
     raise AssertionError(action)
 
 
-def grouped(move: Move) -> dict[Location, list[Action]]:
+def group_by_location(move: Move) -> dict[Location, list[Action]]:
     groups: dict[Location, list[Action]] = defaultdict(list)
     for at, action in move:
         groups[at].append(action)
@@ -129,7 +129,7 @@ def result(old: Value, group: list[Action]) -> Value:
     if not partials:
         return regular[0]
     base = regular[0] if regular else old
-    return family_of(partials).applied(base, bool(regular), partials)
+    return family_of(partials).apply(base, bool(regular), partials)
 
 
 def updates(look_up: Callable[[Location], Value], move: Move) -> dict[Location, Value]:
@@ -138,7 +138,7 @@ def updates(look_up: Callable[[Location], Value], move: Move) -> dict[Location, 
     The clash is at the smallest location that has no result.
     """
     written: dict[Location, Value] = {}
-    for at, group in sorted(grouped(move).items()):
+    for at, group in sorted(group_by_location(move).items()):
         try:
             written[at] = result(look_up(at), group)
         except NoResult as error:
@@ -150,13 +150,13 @@ def updates_on(state: State, move: Move) -> dict[Location, Value]:
     return updates(lambda at: state.get(at, UNDEF), move)
 
 
-def composed(first: Move, second: Move) -> Move:
+def compose_moves(first: Move, second: Move) -> Move:
     """Return the move that does what the two do in sequence."""
-    sides = grouped(first), grouped(second)
+    sides = group_by_location(first), group_by_location(second)
     both: Move = []
     for at in sorted({*sides[0], *sides[1]}):
         try:
-            actions = _composed_groups(sides[0].get(at, []), sides[1].get(at, []))
+            actions = _compose_groups(sides[0].get(at, []), sides[1].get(at, []))
         except NoResult as error:
             raise Clash(at, error.cause) from error
         except TooLarge as error:
@@ -180,7 +180,7 @@ def _alone(group: list[Action]) -> list[Value]:
     return []
 
 
-def _composed_groups(first: list[Action], second: list[Action]) -> list[Action]:
+def _compose_groups(first: list[Action], second: list[Action]) -> list[Action]:
     before = _alone(first)
     regular, partials = split(second)
     if regular:
@@ -192,5 +192,5 @@ def _composed_groups(first: list[Action], second: list[Action]) -> list[Action]:
     sides = [family_of(side) for side in (earlier, partials) if side]
     if sides[0] is not sides[-1]:
         raise NoResult("Kind")
-    return list(sides[0].joined(earlier, partials))
+    return list(sides[0].join_updates(earlier, partials))
 

@@ -10,7 +10,7 @@ from typing import NamedTuple, Union
 import jsontext
 from families import Increment, Partial
 from jsontext import I64, Json
-from moves import MAX_INSTRUCTIONS, Move, Put, composed, read_with, updates
+from moves import MAX_INSTRUCTIONS, Move, Put, compose_moves, read_with, updates
 from values import (
     NUMBER,
     UNDEF,
@@ -52,13 +52,13 @@ class Sum(NamedTuple):
     right: "Term"
 
 
-class Known(NamedTuple):
+class Constant(NamedTuple):
     """The term that is a value."""
 
     value: Value
 
 
-Term = Union[Known, Val, Sum]
+Term = Union[Constant, Val, Sum]
 # An instruction with terms: what it puts, or the element of a partial update, is a term.
 Block = list[tuple[Location, Union[Put, Partial]]]
 Step = list[Block]
@@ -109,7 +109,7 @@ def read_term(value: Json) -> Term:
         return Val(read_location(value["val"]))
     if has_key(value, "sum"):
         return Sum(*map(read_term, members(value["sum"], 2)))
-    return Known(read_value(value))
+    return Constant(read_value(value))
 
 
 def _check_step(step: Step) -> None:
@@ -158,7 +158,7 @@ def step_move(step: Step, reading: State) -> Move:
         move = _block_move(number, block, seen)
         if number + 1 < len(step):
             seen.update(updates(lambda at: seen.get(at, UNDEF), move))
-        one_move = composed(one_move, move) if number else move
+        one_move = compose_moves(one_move, move) if number else move
     return one_move
 
 
@@ -166,13 +166,13 @@ def _block_move(number: int, block: Block, seen: State) -> Move:
     move: Move = []
     for at, line in enumerate(block):
         try:
-            move.append(_evaluated(line, seen))
+            move.append(_evaluate(line, seen))
         except NoTerm as error:
             raise NoTerm(f"block {number} instruction {at}: {error}") from error
     return move
 
 
-def _evaluated(
+def _evaluate(
     line: tuple[Location, Union[Put, Partial]], seen: State
 ) -> tuple[Location, Union[Put, Partial]]:
     at, action = line
@@ -182,12 +182,12 @@ def _evaluated(
         return at, action
     element = _value(action.element, seen)
     if not is_element(element):
-        raise NoTerm(f"{_named(action.element, element)} is no element")
+        raise NoTerm(f"{_describe(action.element, element)} is no element")
     return at, action._replace(element=element)
 
 
 def _value(term: Term, seen: State) -> Value:
-    if isinstance(term, Known):
+    if isinstance(term, Constant):
         return term.value
     if isinstance(term, Val):
         return seen.get(term.at, UNDEF)
@@ -200,16 +200,16 @@ def _value(term: Term, seen: State) -> Value:
 def _number(term: Term, seen: State) -> int:
     value = _value(term, seen)
     if not is_element(value) or value[0] != NUMBER:
-        raise NoTerm(f"{_named(term, value)} is no number")
+        raise NoTerm(f"{_describe(term, value)} is no number")
     return value[1]
 
 
-def _named(term: Term, value: Value) -> str:
-    text = _shown(value_json(value))
-    return f"{_shown(location_json(term.at))} holds {text}, which" if isinstance(term, Val) else text
+def _describe(term: Term, value: Value) -> str:
+    text = _show(value_json(value))
+    return f"{_show(location_json(term.at))} holds {text}, which" if isinstance(term, Val) else text
 
 
-def _shown(value: Json) -> str:
+def _show(value: Json) -> str:
     """Return the JSON of the value as a message shows it.
 
     These are its first 200 bytes, and escaped what a terminal would obey.

@@ -46,7 +46,7 @@ def write_trace(history: History) -> bytes:
 def event_line(storage: Storage, number: int, event: Event) -> dict[str, Json]:
     """Return the line of an event; the storage follows the event, right or wrong."""
     line = event_json(event) | {"event": number}
-    right = storage.judged(event.call)
+    right = storage.judge(event.call)
     if type(right) is not type(event.reply) or right != event.reply:
         line["right"] = _right_json(event.reply, right)
     if isinstance(event.reply, Fired):
@@ -109,7 +109,7 @@ def check_trace(history: History, text: bytes) -> None:
     storage = Storage(history.init, history.capacity)
     for number, (line, event) in enumerate(zip(lines, history.events, strict=True)):
         for change in line.get("updates", []):
-            at, new = _changed(state, change, number)
+            at, new = _apply_change(state, change, number)
             write_to(state, at, new)
         if isinstance(event.reply, Fired):
             assert isinstance(event.call, Fire)
@@ -118,7 +118,7 @@ def check_trace(history: History, text: bytes) -> None:
         raise NoTrace("the changes leave another state than the moves")
 
 
-def _changed(state: State, change: Json, number: int) -> tuple[Location, Value]:
+def _apply_change(state: State, change: Json, number: int) -> tuple[Location, Value]:
     """Return the value of a location after a change, which must have the old value."""
     place, *difference = change
     at = read_location(place)

@@ -169,10 +169,10 @@ def read_state(value: Json) -> State:
 
 
 def pairs_json(state: State) -> list[Json]:
-    return [[location_json(at), value_json(value)] for at, value in sorted_entries(state)]
+    return [[location_json(at), value_json(value)] for at, value in sort_entries(state)]
 
 
-def sorted_entries(state: State) -> list[tuple[Location, Value]]:
+def sort_entries(state: State) -> list[tuple[Location, Value]]:
     return sorted(state.items(), key=lambda entry: entry[0])
 
 

@@ -17,7 +17,7 @@ TIME_LIMIT = 120
 DID_NOT_END = -1000
 
 
-class Ended(NamedTuple):
+class Outcome(NamedTuple):
     """How a run ended, and how many blocks of memory it hadn't freed then.
 
     A signal's number is negative.
@@ -37,11 +37,11 @@ class Sweep(NamedTuple):
     """The runs of one program: results of those that ended well, and the other ones."""
 
     sorts: Counter[str]
-    faults: dict[int, Ended]
+    faults: dict[int, Outcome]
     is_complete: bool
 
 
-class Asked(NamedTuple):
+class Requested(NamedTuple):
     """How often a run asked for memory, and for how many bytes in all."""
 
     allocations: int
@@ -61,7 +61,7 @@ class Refuser:
             [*compiler, "-O2", "-shared", "-fPIC", "-o", self.library, source], check=True
         )
 
-    def run(self, words: list[str], text: bytes, number: int = 0) -> tuple[Ended, bool]:
+    def run(self, words: list[str], text: bytes, number: int = 0) -> tuple[Outcome, bool]:
         """Run the program with the call of this number refused (of 0: none).
 
         Return also whether one was refused.
@@ -73,7 +73,7 @@ class Refuser:
         mark.unlink(missing_ok=True)
         return ended, is_refused
 
-    def asked(self, words: list[str], text: bytes = b"") -> tuple[Ended, Asked | None]:
+    def asked(self, words: list[str], text: bytes = b"") -> tuple[Outcome, Requested | None]:
         """Run the program with no call refused, and return what it asked for.
 
         Return nothing if it was stopped.
@@ -82,7 +82,7 @@ class Refuser:
 
     def ended(
         self, words: list[str], text: bytes, environment: dict[str, str], name: str
-    ) -> tuple[Ended, Asked | None]:
+    ) -> tuple[Outcome, Requested | None]:
         """Run the program over the library, with a file for what it asked for.
 
         The environment has these settings, and the file has this name.
@@ -93,9 +93,9 @@ class Refuser:
             return ended, None
         allocations, size, retained = map(int, report.read_text(encoding="utf-8").split())
         report.unlink()
-        return ended._replace(retained=retained), Asked(allocations, size)
+        return ended._replace(retained=retained), Requested(allocations, size)
 
-    def ran(self, words: list[str], text: bytes, environment: dict[str, str]) -> Ended:
+    def ran(self, words: list[str], text: bytes, environment: dict[str, str]) -> Outcome:
         """Run the program over the library, with this in its environment."""
         try:
             ran = subprocess.run(
@@ -107,15 +107,15 @@ class Refuser:
                 timeout=TIME_LIMIT,
                 check=False,
             )
-            return Ended(ran.returncode, ran.stdout)
+            return Outcome(ran.returncode, ran.stdout)
         except subprocess.TimeoutExpired as error:
-            return Ended(DID_NOT_END, error.stdout or b"")
+            return Outcome(DID_NOT_END, error.stdout or b"")
 
     def sweep(
         self,
         words: list[str],
         text: bytes,
-        sort_of: Callable[[Ended], str | None],
+        sort_of: Callable[[Outcome], str | None],
         most: int | None = None,
     ) -> Sweep:
         """Refuse each call in turn until none is refused, or as many as `most`.
@@ -123,7 +123,7 @@ class Refuser:
         `sort_of` is None for a bad end.
         """
         sorts: Counter[str] = Counter()
-        faults: dict[int, Ended] = {}
+        faults: dict[int, Outcome] = {}
         for number, (ended, is_refused) in enumerate(self.runs(words, text), 1):
             if not is_refused or (most is not None and number > most):
                 return Sweep(sorts, faults, not is_refused)
@@ -134,7 +134,7 @@ class Refuser:
                 sorts[sort] += 1
         raise AssertionError("the runs have no end of their own")
 
-    def runs(self, words: list[str], text: bytes) -> Iterator[tuple[Ended, bool]]:
+    def runs(self, words: list[str], text: bytes) -> Iterator[tuple[Outcome, bool]]:
         """Yield the runs in the order of the calls that they refuse.
 
         Some of them run in parallel.

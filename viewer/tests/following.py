@@ -17,7 +17,7 @@ def of_agent(history: History, number: int, kind: type, by: int) -> int | None:
     return None
 
 
-def staled(history: History) -> dict[int, list[int]]:
+def stale_fires_of_moves(history: History) -> dict[int, list[int]]:
     """Return the stale fires caused by each fired move, by their event numbers."""
     out: dict[int, list[int]] = {}
     for number, event in enumerate(history.events):
@@ -50,7 +50,7 @@ def try_chains(tries: Tries, browser: Browser) -> None:
     tries.has("the event names its retry", browser.text("detail"), f"Tried again in event {retry}: ")
     browser.slide(retry + 1)
     tries.has("which says what it tries again", browser.text("detail"), f"Tries event {stale[0]} again, which was stale at ")
-    made = staled(BUSY)
+    made = stale_fires_of_moves(BUSY)
     pairs = browser.run("return shown.run.events.filter(it => it.writes).map(it => [it.number, firesMadeStale(it).map(at => at.number)]).filter(it => it[1].length)")
     tries.same("each move leads to all that it made stale", {number: them for number, them in pairs}, made)
     number, them = max(made.items(), key=lambda it: len(it[1]))

@@ -2,7 +2,7 @@
 
 import time
 
-from browser import REST, Browser
+from browser import IDLE, Browser
 from journal import Clashed, Fired, Stale
 from samples import warehouse
 from selenium.webdriver.common.action_chains import ActionChains
@@ -187,5 +187,5 @@ def try_search(tries: Tries, browser: Browser) -> None:
     tries.has("down goes along the list", browser.title(), "Event 1 ")
     row = browser.find("events").get_attribute("aria-activedescendant")
     tries.same("a reader of the screen hears the row", row, "event-1")
-    time.sleep(REST)
+    time.sleep(IDLE)
     tries.has("and the choice is spoken", browser.find("spoken").get_attribute("textContent"), "Event 1, agent")

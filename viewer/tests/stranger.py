@@ -9,7 +9,7 @@ import subprocess
 from random import Random
 from typing import Any
 
-from audit import Window, shown
+from audit import Window, trace_lines
 from browser import Browser
 from inputs import Maker
 from opening import View
@@ -30,7 +30,7 @@ const [texts, done] = arguments;
 """
 
 
-def doubted(browser: Browser, texts: list[str]) -> list[Any]:
+def find_doubts(browser: Browser, texts: list[str]) -> list[Any]:
     return browser.driver.execute_async_script(DOUBTS, texts)
 
 
@@ -101,7 +101,7 @@ def try_lines(tries: Tries, browser: Browser) -> None:
 
 
 # ---- forged traces
-def forged() -> dict[str, tuple[str, str, int]]:
+def forgeries() -> dict[str, tuple[str, str, int]]:
     """Changes of a legal trace: an old text, a new one, and the event that disagrees."""
     return {
         "a read of 1 answered 5": ('"values":[1]', '"values":[5]', 0),
@@ -140,9 +140,9 @@ def try_forged(tries: Tries, browser: Browser) -> None:
     good = fair()
     browser.load(tries.file("fair.trace", good.encode()))
     tries.same("a trace that agrees is legal as far as the page has checked", browser.texts("#facts .legal"), ["legal, checked by this page"])
-    for what, (old, new, number) in forged().items():
+    for what, (old, new, number) in forgeries().items():
         assert good.count(old) == 1, (what, old, good)
-        tries.same(f"{what} is doubted", doubted(browser, [good.replace(old, new).replace('[["x"],2,5]', '[["x"],999,1002]' if "999" in new else '[["x"],2,5]')])[0][:1], [number])
+        tries.same(f"{what} is doubted", find_doubts(browser, [good.replace(old, new).replace('[["x"],2,5]', '[["x"],999,1002]' if "999" in new else '[["x"],2,5]')])[0][:1], [number])
     browser.load(tries.file("forged.trace", good.replace('"values":[1]', '"values":[5]').encode()))
     tries.same("a forged trace isn't called legal", browser.texts("#facts .illegal, #facts .legal"), ["doesn't agree with itself: 1 event, the first at event 0"])
     browser.click("first")
@@ -173,10 +173,10 @@ def try_altered(tries: Tries, browser: Browser) -> None:
                 altered_ones.append(text)
     history = warehouse(4, 30, 2)
     for start in range(0, len(history.events), 7):
-        fair_ones.append(shown(write_journal(history), Window(0, start, min(start + 12, len(history.events)))))
-    found = doubted(browser, fair_ones)
+        fair_ones.append(trace_lines(write_journal(history), Window(0, start, min(start + 12, len(history.events)))))
+    found = find_doubts(browser, fair_ones)
     tries.claim(f"of {len(fair_ones)} fair traces, legal and illegal, none is doubted", all(it == [] for it in found), [(i, it) for i, it in enumerate(found) if it != []][:3])
-    found = doubted(browser, altered_ones)
+    found = find_doubts(browser, altered_ones)
     missed = [altered_ones[i] for i, it in enumerate(found) if it == [] or it not in ("refused",) and not isinstance(it, list)]
     tries.claim(f"each of {len(altered_ones)} altered ones is doubted or refused, {found.count('refused')} of them refused", len(altered_ones) > 400 and not missed, missed[:1])
 
@@ -262,14 +262,14 @@ def try_unseen(tries: Tries, browser: Browser) -> None:
 
 
 # ---- time
-def nested(depth: int, width: int) -> Any:
-    return {"list": [nested(depth - 1, width) for _ in range(width)]} if depth else 7
+def nested_value(depth: int, width: int) -> Any:
+    return {"list": [nested_value(depth - 1, width) for _ in range(width)]} if depth else 7
 
 
 def try_times(tries: Tries, browser: Browser) -> None:
     bag = {"bag": [[it, 1] for it in range(200_000)]}
     moves = [["bagremove", ["b"], it, 1] for it in range(4000)] + [["bagremove", ["b"], 200_001, 1]]
-    tree, text = nested(3, 40), "12345678901234567 " * (2**23 // 18)
+    tree, text = nested_value(3, 40), "12345678901234567 " * (2**23 // 18)
     for what, history in {
         "a clash on a bag of 200,000 elements": journal_of((0, {"fire": moves, "reads": []}, {"clash": [["b"], "Short"]}), init=[[["b"], bag]]),
         "a list of 64,000 lists": journal_of((0, {"fire": [["put", ["x"], {"list": [tree] * 3}]], "reads": []}, {"fired": 1})),
@@ -287,7 +287,7 @@ def try_times(tries: Tries, browser: Browser) -> None:
         tries.same("an address with a long condition opens the run", (browser.find("main").is_displayed(), browser.problems()), (True, []))
     good = write_trace(wrong()).decode()
     words = [{"toString": 1}, ["put"], None, 7, {"__proto__": None}, True]
-    found = doubted(browser, [good.replace('["put",', f"[{json.dumps(it)},", 1).replace("-0", "0") for it in words])
+    found = find_doubts(browser, [good.replace('["put",', f"[{json.dumps(it)},", 1).replace("-0", "0") for it in words])
     tries.same("an instruction whose word is no text is refused", found, ["refused"] * len(words))
 
 

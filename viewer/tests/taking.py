@@ -14,7 +14,7 @@ from tries import Tries
 from values import location_json, value_json
 
 
-def copied(browser: Browser, name: str) -> str:
+def read_clipboard(browser: Browser, name: str) -> str:
     browser.click(name)
     browser.until("return !document.getElementById('said').hidden", 5)
     return browser.driver.execute_async_script("navigator.clipboard.readText().then(arguments[0], it => arguments[0](String(it)))")
@@ -25,18 +25,18 @@ def try_copying(tries: Tries, browser: Browser) -> None:
     path = tries.trace("warehouse", HISTORY)
     browser.load(path, "#event=60&at=%5B%22packed%22%5D&kind=fired")
     state = moments(HISTORY)[61]
-    link = copied(browser, "link")
+    link = read_clipboard(browser, "link")
     tries.claim("a link to what is shown is copied", link.startswith("file://") and link.endswith("#event=60&at=%5B%22packed%22%5D&kind=fired"), link)
     tries.has("that is said", browser.text("said"), "Copied: a link")
     browser.load(path, link[link.index("#"):])
     tries.has("and the link leads there", browser.title(), "Event 60 ")
-    tries.same("a value is copied as JSON", json.loads(copied(browser, "writes-copy")), state['["packed"]'])
-    init = copied(browser, "state-copy")
+    tries.same("a value is copied as JSON", json.loads(read_clipboard(browser, "writes-copy")), state['["packed"]'])
+    init = read_clipboard(browser, "state-copy")
     script = read_script(f'{{"init":{init},"agents":[]}}'.encode())
     held = {json.dumps(location_json(place), separators=(",", ":")): value_json(value) for place, value in script.init.items()}
     tries.same("the state is copied as the init of a script, which is read as that state", held, state)
     browser.run("navigator.clipboard.writeText = () => Promise.reject(new Error('none'))")
-    tries.same("where a page has no clipboard of its own it is copied still", json.loads(copied(browser, "writes-copy")), state['["packed"]'])
+    tries.same("where a page has no clipboard of its own it is copied still", json.loads(read_clipboard(browser, "writes-copy")), state['["packed"]'])
 
 
 def large_move() -> History:

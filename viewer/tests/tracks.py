@@ -25,7 +25,7 @@ return count;
 """
 
 
-def contended(tries: int) -> list[tuple[int, object, object]]:
+def contention(tries: int) -> list[tuple[int, object, object]]:
     """Agent 1 attempts to raise x this often; agent 0 is faster except the last time."""
     out: list[tuple[int, object, object]] = []
     for number in range(tries):
@@ -60,8 +60,8 @@ def try_dimming(tries: Tries, browser: Browser) -> None:
 
 
 def try_tries(tries: Tries, browser: Browser) -> None:
-    browser.load(tries.trace("contended", journal_of(*contended(58), init=[[["x"], 0]])))
-    events = contended(58)
+    browser.load(tries.trace("contended", journal_of(*contention(58), init=[[["x"], 0]])))
+    events = contention(58)
     fires = [it for it, (agent, call, _) in enumerate(events) if agent == 1 and "fire" in call]
     tries.has("the summary leads to the longest chain", browser.text("detail"), f"58 tries of agent 1 from event {fires[0]} on, fired in event {fires[-1]}.")
     browser.run("[...document.querySelectorAll('#detail .link')].find(it => it.textContent === '58 tries of agent 1').click()")

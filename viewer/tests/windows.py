@@ -3,7 +3,7 @@
 Its events and moves have the numbers of the part, and nothing is made up of what was before.
 """
 
-from audit import Window, shown
+from audit import Window, trace_lines
 from browser import Browser
 from journal import Fired, History, write_journal
 from samples import warehouse
@@ -19,7 +19,7 @@ return [run.movesIn(count), [...run.locations.values()].map(it => [it.key, JSON.
 
 
 def window_of(history: History, start: int, end: int) -> bytes:
-    return shown(write_journal(history), Window(0, start, end)).encode()
+    return trace_lines(write_journal(history), Window(0, start, end)).encode()
 
 
 def try_window(tries: Tries, browser: Browser) -> None:

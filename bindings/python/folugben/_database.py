@@ -170,7 +170,7 @@ class Sqlite:
         if stat.S_ISDIR(self._file.st_mode):
             raise IsADirectoryError(errno.EISDIR, "a shared run is a file or a server, and a folder may be a Run", str(path))
         with reaching(path):
-            self._db = self._connected()
+            self._db = self._open_connection()
             if self.has_run() or makes:
                 self._set_log()
             self._db.execute("pragma synchronous = full")
@@ -180,7 +180,7 @@ class Sqlite:
             flags = os.O_RDWR | os.O_CREAT | os.O_CLOEXEC | os.O_NOFOLLOW
             self._agents = os.open(path.with_name(path.name + "-agents"), flags, 0o600)
 
-    def _connected(self) -> sqlite3.Connection:
+    def _open_connection(self) -> sqlite3.Connection:
         uri = f"{self._path.as_uri()}?mode=rw"
         return sqlite3.connect(uri, _SECONDS, isolation_level=None, check_same_thread=False, uri=True)
 

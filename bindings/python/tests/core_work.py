@@ -26,7 +26,7 @@ class _Memory(ctypes.Structure):
     _fields_ = [(name, ctypes.c_size_t) for name in _SIZES.split()]
 
 
-def used() -> int:
+def used_bytes() -> int:
     """Return the number of bytes that malloc has handed out."""
     call = ctypes.CDLL(None).mallinfo2
     call.restype = _Memory
@@ -71,7 +71,7 @@ class World:
         step.get(self.at)
         self.other.play(lambda it: it.push(Move().put(self.at, 7)))
         step.push(self.move.clear().put(self.at, 8))
-        refused(step.commit)
+        expect_refusal(step.commit)
         step.try_commit()
 
     def write(self, step: folugben.Step) -> None:
@@ -80,8 +80,8 @@ class World:
             step[at]
         step.inc("w", 1), step.add(("w", 2), "b"), step.remove(("w", 2), 1), step.bag_add(("w", 3), "c", 2), step.bag_remove(("w", 3), "c")
         step["w", 2], step["w", 3], step.scan("w"), step.offer(), step.get([("w", 2), ("w", 3)])
-        refused(lambda: step["1"]), refused(lambda: step.put("1", 1)), refused(lambda: step.put("w", [1])), refused(lambda: step.inc("w", "a"))
-        refused(lambda: step.add("w", 1)), refused(lambda: step.bag_add("w", 1, 0)), refused(lambda: step.put("w")), refused(lambda: step.scan("1"))
+        expect_refusal(lambda: step["1"]), expect_refusal(lambda: step.put("1", 1)), expect_refusal(lambda: step.put("w", [1])), expect_refusal(lambda: step.inc("w", "a"))
+        expect_refusal(lambda: step.add("w", 1)), expect_refusal(lambda: step.bag_add("w", 1, 0)), expect_refusal(lambda: step.put("w")), expect_refusal(lambda: step.scan("1"))
 
     def play_by_turns(self) -> None:
         with Storage({("x", 3): 0}, 9) as storage:
@@ -95,7 +95,7 @@ class World:
         one.unite(two).unite(Move())
         one |= two
         both = one | two
-        refused(lambda: both.unite(both)), refused(lambda: both | 1), refused(lambda: both.unite([]))
+        expect_refusal(lambda: both.unite(both)), expect_refusal(lambda: both | 1), expect_refusal(lambda: both.unite([]))
         with self.agent.step() as step:
             step.push(both), step.extend(both | step.pop_move()), step.pop()
 
@@ -106,7 +106,7 @@ class World:
             with storage.agent(1), storage.agent(2) as it:
                 it.fire([["put", ["x"], 1]])
             one.fire([["put", ["x"], 2]])
-            refused(storage.close_journal)
+            expect_refusal(storage.close_journal)
             one.give()
             journal = storage.close_journal()
             with storage.next(10) as following, Auditor() as auditor:
@@ -121,36 +121,36 @@ class World:
             "get": lambda: step(lambda it: (it.get(at), it.get(self.text), it.get(self.set), it.see(at), it.scan("x"))),
             "texts": lambda: step(lambda it: (it.get([["x", 3], ["t"], ["s"], ["b"]]), it.see([["t"]]), it.offer())),
             "push": lambda: step(lambda it: (it.push([["put", ["x", 1], "t" * 600]]), it.extend([["put", ["x", 2], {1, 2}]]))),
-            "pop": lambda: step(lambda it: (it.push([["inc", ["x", 1], 1]]), it.pop_move(), it.push([]), it.pop(), refused(it.pop))),
-            "clash": lambda: step(lambda it: refused(lambda: it.push([["put", ["x", 1], 1], ["put", ["x", 1], 2]]))),
-            "wrong texts": lambda: [refused(lambda: agent.fire([["put", ["x", 1], it]])) for it in wrong],
-            "wrong shapes": lambda: [refused(lambda: it(["x"])) for it in (agent.peek, agent.read, agent.step().get, agent.stands)],
+            "pop": lambda: step(lambda it: (it.push([["inc", ["x", 1], 1]]), it.pop_move(), it.push([]), it.pop(), expect_refusal(it.pop))),
+            "clash": lambda: step(lambda it: expect_refusal(lambda: it.push([["put", ["x", 1], 1], ["put", ["x", 1], 2]]))),
+            "wrong texts": lambda: [expect_refusal(lambda: agent.fire([["put", ["x", 1], it]])) for it in wrong],
+            "wrong shapes": lambda: [expect_refusal(lambda: it(["x"])) for it in (agent.peek, agent.read, agent.step().get, agent.stands)],
             "play": lambda: agent.play(lambda it: it.push(move.clear().put(at, 1))),
-            "play that raises": lambda: refused(lambda: agent.play(lambda it: it.get(1.5j))),
+            "play that raises": lambda: expect_refusal(lambda: agent.play(lambda it: it.get(1.5j))),
             "writes": lambda: step(self.write), "unite": self.unite,
             "idle plays": lambda: (self.other.play(lambda it: None), agent.play(lambda it: it[at], tries=2, timeout=9.0)),
             "plays by turns": self.play_by_turns,
-            "wrong rules": lambda: [refused(lambda: agent.play(waits)), refused(lambda: agent.play(waits, tries=2))],
+            "wrong rules": lambda: [expect_refusal(lambda: agent.play(waits)), expect_refusal(lambda: agent.play(waits, tries=2))],
             "own values": lambda: (folugben.replay(JOURNAL), list(folugben.states(JOURNAL)), folugben._core.to_python(b'{"set":[true,1]}')),
             "peek": lambda: (agent.peek(at), agent.peek([["x", 1], ["t"]]), agent.state(), agent.scan("x"), agent.follow()),
             "read": lambda: (agent.read([["x", 1]]), agent.answer(), agent.stands([[["x", 1], agent.seen]]), agent.learn(self.other)),
             "agent's fire": lambda: agent.fire([["put", ["x", 1], ["a"][0]]], [[["x", 2], agent.seen]], [("t", agent.seen)]),
-            "stale fire": lambda: (self.other.fire([["put", ["x", 1], 1]]), refused(lambda: agent.fire([], [[["x", 1], 0]]))),
+            "stale fire": lambda: (self.other.fire([["put", ["x", 1], 1]]), expect_refusal(lambda: agent.fire([], [[["x", 1], 0]]))),
             "move": lambda: Move().put(at, 1).put(at, None).put(at, True).put(at, "t").put(at, {1}).inc(at, -1).bagadd(at, 1, 2),
-            "location": lambda: (Location(["x", 1]).place, repr(at), repr(move)), "no location": lambda: refused(lambda: Location(1)),
-            "wrong values": lambda: [refused(lambda: move.put(at, it)) for it in wrong],
-            "wrong words": lambda: [refused(it) for it in (lambda: move.put(at), lambda: move.put(1, 2), lambda: move.bagadd(at, 1, -1))],
-            "freed": lambda: [refused(it) for it in (lambda: step(lambda it: it.get(self.freed)), lambda: move.put(self.freed, 1))],
-            "over": lambda: refused(lambda: [it.free() or it.get(at) for it in [agent.step()]]), "open": self.open,
-            "no agent": lambda: [refused(lambda: self.storage.agent(it)) for it in (0, 2**40, -1, "a")],
+            "location": lambda: (Location(["x", 1]).place, repr(at), repr(move)), "no location": lambda: expect_refusal(lambda: Location(1)),
+            "wrong values": lambda: [expect_refusal(lambda: move.put(at, it)) for it in wrong],
+            "wrong words": lambda: [expect_refusal(it) for it in (lambda: move.put(at), lambda: move.put(1, 2), lambda: move.bagadd(at, 1, -1))],
+            "freed": lambda: [expect_refusal(it) for it in (lambda: step(lambda it: it.get(self.freed)), lambda: move.put(self.freed, 1))],
+            "over": lambda: expect_refusal(lambda: [it.free() or it.get(at) for it in [agent.step()]]), "open": self.open,
+            "no agent": lambda: [expect_refusal(lambda: self.storage.agent(it)) for it in (0, 2**40, -1, "a")],
             "reprs": lambda: (repr(agent), repr(self.storage), repr(agent.step()), agent.seen, agent.won, self.storage.moves()),
-            "close": lambda: (agent.fire([]), refused(self.storage.close_journal)), "copy": lambda: refused(agent.__reduce__),
+            "close": lambda: (agent.fire([]), expect_refusal(self.storage.close_journal)), "copy": lambda: expect_refusal(agent.__reduce__),
             "forgotten": lambda: step(lambda it: it.push(move.clear().put(at, 1))),
             "functions": lambda: (folugben.aggregate([], [["put", ["x"], 1]]), folugben.compose([], []), folugben.explain(0, "[")),
         }
 
 
-def refused(call: Callable[[], object]) -> None:
+def expect_refusal(call: Callable[[], object]) -> None:
     try:
         call()
     except (Error, TypeError, ValueError, MemoryError):
@@ -172,11 +172,11 @@ def leaks(times: int = 1000) -> None:
         for _ in range(20):
             call()
         gc.collect()
-        before = used()
+        before = used_bytes()
         for _ in range(times):
             call()
         gc.collect()
-        grown = used() - before
+        grown = used_bytes() - before
         # The smallest leak of a call is a chunk of malloc, of 32 bytes; the rest is what the heap itself needs.
         if grown > (2_000 if name in keeps else 24) * times:
             left[name] = grown

@@ -24,24 +24,24 @@ class Log:
         """Log what this process does."""
         real = {name: getattr(os, name) for name in ("open", "close", "write", "fsync", "rename", "unlink", "mkdir")}
 
-        def opened(path, flags, mode=0o777, *, dir_fd=None):
+        def record_open(path, flags, mode=0o777, *, dir_fd=None):
             fd = real["open"](path, flags, mode, dir_fd=dir_fd)
             self._names[fd] = path if dir_fd is not None else None
             if dir_fd is not None and flags & os.O_EXCL:
                 self.calls.append(("create", path))
             return fd
 
-        def closed(fd):
+        def record_close(fd):
             self._names.pop(fd, None)
             real["close"](fd)
 
-        def written(fd, data):
+        def record_write(fd, data):
             count = real["write"](fd, data)
             if self._names.get(fd) is not None:
                 self.calls.append(("write", self._names[fd], bytes(data[:count])))
             return count
 
-        def flushed(fd):
+        def record_flush(fd):
             real["fsync"](fd)
             if not stat.S_ISDIR(os.fstat(fd).st_mode):
                 self.calls.append(("flush", self._names[fd]))
@@ -50,27 +50,27 @@ class Log:
             else:
                 self.calls.append(("flush parent",))
 
-        def renamed(old, new, **folders):
+        def record_rename(old, new, **folders):
             real["rename"](old, new, **folders)
             self.calls.append(("rename", old, new))
 
-        def unlinked(path, **folder):
+        def record_unlink(path, **folder):
             real["unlink"](path, **folder)
             self.calls.append(("unlink", path))
 
-        def made(path, *mode):
+        def record_mkdir(path, *mode):
             real["mkdir"](path, *mode)
             self.calls.append(("mkdir",))
 
-        def saved(writer, *words):
+        def record_save(writer, *words):
             save(writer, *words)
             self.calls.append(("saved", writer.last.number + 1))
 
-        save, own = _folder.RunWriter.save, (opened, closed, written, flushed, renamed, unlinked, made)
+        save, own = _folder.RunWriter.save, (record_open, record_close, record_write, record_flush, record_rename, record_unlink, record_mkdir)
         with contextlib.ExitStack() as stack:
             for name, call in zip(real, own):
                 stack.enter_context(mock.patch.object(os, name, call))
-            stack.enter_context(mock.patch.object(_folder.RunWriter, "save", saved))
+            stack.enter_context(mock.patch.object(_folder.RunWriter, "save", record_save))
             yield
 
 
@@ -79,7 +79,7 @@ class _File:
         self.durable, self.pending = b"", []
 
 
-def _left(file, rng):
+def _content_after(file, rng):
     """Return a possible content of a file after the failure.
 
     It is what was flushed, and of the rest all, nothing, a beginning, or blocks of it.
@@ -95,12 +95,12 @@ def _left(file, rng):
     return text + bytes(len(pending)) if style == "zeros" else text
 
 
-def crashed(calls, rng):
+def crash_state(calls, rng):
     """Return a state that these calls may leave, and how many segments were saved.
 
     The state is the files by their names, or None without the folder.
     """
-    now, names, pending, saved, is_there, is_made = {}, {}, [], 0, False, False
+    now, names, pending, record_save, is_there, is_made = {}, {}, [], 0, False, False
     for call, *words in calls:
         if call == "create":
             now[words[0]] = _File()
@@ -119,15 +119,15 @@ def crashed(calls, rng):
             _apply(names, pending)
             pending = []
         elif call == "saved":
-            saved = words[0]
+            record_save = words[0]
         elif call == "mkdir":
             is_made = True
         else:
             is_there = is_made
     if not is_there and rng.random() < 0.5:
-        return None, saved
+        return None, record_save
     _apply(names, pending[: rng.choice((0, len(pending), rng.randint(0, len(pending))))])
-    return {name: _left(file, rng) for name, file in names.items()}, saved
+    return {name: _content_after(file, rng) for name, file in names.items()}, record_save
 
 
 def _apply(names, changes):

@@ -91,7 +91,7 @@ class Watch:
                 reply["values"][at] = json.loads(encode(values_read[name], "value"))
         return json.dumps(event, separators=(",", ":")).encode() + b"\n"
 
-    def counted(self, counts, its):
+    def without_recorded(self, counts, its):
         """Return the counts of `check` or `audit` without the reads that commits recorded.
 
         The argument is a journal or a run.
@@ -122,7 +122,7 @@ class Recorded(unittest.TestCase):
             self.patch(kind, name, lambda make: lambda *words, **named: make(*words, **{"record": True} | named))
         for module in sys.modules[type(self).__module__], folugben:
             for name in {"audit", "check"} & vars(module).keys():
-                self.patch(module, name, lambda counts: lambda its: self.watch.counted(counts(its), its))
+                self.patch(module, name, lambda counts: lambda its: self.watch.without_recorded(counts(its), its))
         super().setUp()
 
     def patch(self, owner, name, make):

@@ -54,7 +54,7 @@ def environment():
     return os.environ | {"PYTHONPATH": os.pathsep.join(map(str, folders))}
 
 
-def called(code, *words):
+def run_python(code, *words):
     """Run a Python program in a separate process; return what it does."""
     command = [sys.executable, "-c", code, *map(str, words)]
     return subprocess.run(command, capture_output=True, text=True, env=environment(), timeout=60)

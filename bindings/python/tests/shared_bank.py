@@ -38,14 +38,14 @@ def live(target, first, agents, times):
                 with lock:
                     print(json.dumps([number, mark]), flush=True)
 
-    def opened():
+    def open_run():
         while True:
             try:
                 return SharedRun(target, BANK, 50)
             except ConnectionError:
                 time.sleep(0.1)  # the server is started again
 
-    with opened() as run:
+    with open_run() as run:
         threads = [threading.Thread(target=work, args=(first + own,)) for own in range(agents)]
         for thread in threads:
             thread.start()

@@ -43,7 +43,7 @@ def threads(seconds):
         return audited
 
 
-def tried(case, name, method, *words):
+def run_method(case, name, method, *words):
     """Return the result of a test case's method, in a room of its own."""
     it = case(name)
     it.setUp()
@@ -56,19 +56,19 @@ def tried(case, name, method, *words):
 def servers(kills):
     OnPostgres.setUpClass()
     try:
-        return tried(OnPostgres, "test_processes_that_are_killed", "kill_many", kills)
+        return run_method(OnPostgres, "test_processes_that_are_killed", "kill_many", kills)
     finally:
         OnPostgres.tearDownClass()
 
 
 WORKS = {
     "threads": threads,
-    "kills": lambda times: tried(Killed, "test_what_is_killed_is_resumed", "assert_resumed", times),
-    "failures": lambda times: tried(PowerFailures, "test_nothing_is_lost", "fail", times),
-    "processes": lambda kills: tried(OnSqlite, "test_processes_that_are_killed", "kill_many", kills),
+    "kills": lambda times: run_method(Killed, "test_what_is_killed_is_resumed", "assert_resumed", times),
+    "failures": lambda times: run_method(PowerFailures, "test_nothing_is_lost", "fail", times),
+    "processes": lambda kills: run_method(OnSqlite, "test_processes_that_are_killed", "kill_many", kills),
     "servers": servers,
-    "day": lambda gap: tried(Days, "test_a_day_of_a_slow_run", "live_a_day", [gap] * (86_400 // gap), gap / 2),
-    "flips": lambda times: tried(Folders, "test_flipped_bits_and_cut_files_are_found", "flip", times),
+    "day": lambda gap: run_method(Days, "test_a_day_of_a_slow_run", "live_a_day", [gap] * (86_400 // gap), gap / 2),
+    "flips": lambda times: run_method(Folders, "test_flipped_bits_and_cut_files_are_found", "flip", times),
 }
 
 if __name__ == "__main__":

@@ -46,7 +46,7 @@ def parts_of_a_run(seed: int, count: int = 4) -> list[bytes]:
     return journals
 
 
-def fed(text: bytes, size: int) -> tuple[object, ...]:
+def audit_in_chunks(text: bytes, size: int) -> tuple[object, ...]:
     """Return the result of an audit of the bytes in chunks of this size."""
     auditor = Auditor()
     try:
@@ -57,7 +57,7 @@ def fed(text: bytes, size: int) -> tuple[object, ...]:
         return bad.code, bad.part, bad.numbers, bad.call, bad.line, str(bad)
 
 
-def altered(text: bytes, line: int, change) -> bytes:
+def alter_line(text: bytes, line: int, change) -> bytes:
     lines = text.splitlines(keepends=True)
     lines[line] = json.dumps(change(json.loads(lines[line])), separators=(",", ":")).encode() + b"\n"
     return b"".join(lines)
@@ -71,7 +71,7 @@ class Audits(unittest.TestCase):
 
     def assert_counts(self, text: bytes, *wanted: object) -> None:
         """Check the same in chunks of each size; the report of a fault begins so."""
-        results = [fed(text, size) for size in (1, 61, 4096, 1 << 20)]
+        results = [audit_in_chunks(text, size) for size in (1, 61, 4096, 1 << 20)]
         self.assertEqual(results, results[:1] * 4)
         self.assertEqual(results[0][: len(wanted)], wanted)
 
@@ -96,17 +96,17 @@ class Audits(unittest.TestCase):
             (first + second[:30], NOT_JSON, 1, (1,), None, 1),
             (first + b"".join(second.splitlines(keepends=True)[:3]), CUT, 1, ()),
             (first + b"{\n", NOT_JSON, 1, (1,), None, 1),
-            (first + altered(second, 2, lambda event: event["call"]), SHAPE, 1, (3,), None, 3),
-            (first + altered(second, 0, lambda header: header | {"version": 9}), VERSION, 1, ()),
-            (first + altered(second, 3, wrong) + self.journals[2], ILLEGAL, 1, (2,), 2, None),
-            (altered(first, number - 1, wrong) + second, ILLEGAL, 0, (number - 2,), number - 2, None),
-            (first + altered(second, 0, lambda header: header | {"init": []}), APART, 1, ()),
+            (first + alter_line(second, 2, lambda event: event["call"]), SHAPE, 1, (3,), None, 3),
+            (first + alter_line(second, 0, lambda header: header | {"version": 9}), VERSION, 1, ()),
+            (first + alter_line(second, 3, wrong) + self.journals[2], ILLEGAL, 1, (2,), 2, None),
+            (alter_line(first, number - 1, wrong) + second, ILLEGAL, 0, (number - 2,), number - 2, None),
+            (first + alter_line(second, 0, lambda header: header | {"init": []}), APART, 1, ()),
             (first + self.journals[2] + second, APART, 1, ()),
             (second + first, APART, 1, ()),
         ]:
             with self.subTest(wanted):
                 self.assert_counts(text, *wanted)
-        bad = fed(first + altered(second, 3, wrong), 100)
+        bad = audit_in_chunks(first + alter_line(second, 3, wrong), 100)
         self.assertEqual(bad[-1], f"part 1: {folugben.error_text(ILLEGAL)} (call 2, counted from 0)")
 
     def test_a_line_may_be_longer_than_a_complete_journal_that_is_checked(self):
@@ -129,7 +129,7 @@ class Audits(unittest.TestCase):
         self.assertIn("1,073,741,824 bytes", str(caught.exception))
 
     def test_a_fault_is_reported_at_its_line_and_from_then_on(self):
-        lines = altered(self.text, 4, lambda event: event | {"reply": "full", "call": {"fire": [], "reads": []}}).splitlines(True)
+        lines = alter_line(self.text, 4, lambda event: event | {"reply": "full", "call": {"fire": [], "reads": []}}).splitlines(True)
         auditor = Auditor()
         for line in lines[:4]:
             auditor.feed(line.decode())
@@ -174,7 +174,7 @@ class Audits(unittest.TestCase):
 
     def test_audits_run_beside_each_other(self):
         def work(own):
-            self.assertEqual(fed(self.text, 100 + own)[2], 4)
+            self.assertEqual(audit_in_chunks(self.text, 100 + own)[2], 4)
 
         self.assertEqual(in_threads(work, 8), ([], True))
 
@@ -228,7 +228,7 @@ class Files(unittest.TestCase):
         self.assertEqual(terminal.getvalue(), f"\r{self.run_file}: 100 % of {size} bytes \r\033[K")
         self.assertEqual(output.getvalue(), "legal {} {} {}\n".format(*self.numbers))
 
-    def called(self, *words: str, **more) -> subprocess.CompletedProcess:
+    def run_folugben(self, *words: str, **more) -> subprocess.CompletedProcess:
         # The package that is tested, wherever this is run.
         package = pathlib.Path(folugben.__file__).resolve().parents[1]
         environment = os.environ | {"PYTHONPATH": str(package)}
@@ -236,19 +236,19 @@ class Files(unittest.TestCase):
 
     def test_the_command_line_takes_runs(self):
         legal = "legal {} {} {}\n".format(*self.numbers).encode()
-        ran = self.called("audit", str(self.run_file))
+        ran = self.run_folugben("audit", str(self.run_file))
         self.assertEqual((ran.returncode, ran.stdout, ran.stderr), (0, legal, b""))
-        self.assertEqual(self.called("audit", "-", input=self.run_file.read_bytes()).stdout, legal)
+        self.assertEqual(self.run_folugben("audit", "-", input=self.run_file.read_bytes()).stdout, legal)
         cut, absent = self.room / "cut", self.room / "absent"
         cut.write_bytes(self.run_file.read_bytes()[:-1])
-        ran = self.called("audit", str(self.run_file), str(cut))
+        ran = self.run_folugben("audit", str(self.run_file), str(cut))
         self.assertEqual(ran.returncode, 1)
         self.assertEqual(ran.stdout.decode(), f"{self.run_file}: {legal.decode()}{cut}: part 3: {folugben.error_text(CUT)}\n")
-        self.assertEqual(self.called("audit", str(absent)).returncode, 2)
-        self.assertEqual(self.called("part", "-p", "2", str(self.run_file)).stdout, self.journals[2])
-        ran = self.called("check", "-p", "1", str(self.run_file))
+        self.assertEqual(self.run_folugben("audit", str(absent)).returncode, 2)
+        self.assertEqual(self.run_folugben("part", "-p", "2", str(self.run_file)).stdout, self.journals[2])
+        ran = self.run_folugben("check", "-p", "1", str(self.run_file))
         self.assertEqual(ran.stdout.decode(), "legal {} {}\n".format(*check(self.journals[1])))
-        ran = self.called("part", "-p", "4", str(self.run_file))
+        ran = self.run_folugben("part", "-p", "4", str(self.run_file))
         self.assertEqual((ran.returncode, ran.stdout), (1, b""))
         self.assertIn(b"there is no part 4", ran.stderr)
 

@@ -163,7 +163,7 @@ class PowerFailures(Rooms):
             saves = [place for place, call in enumerate(log.calls) if call[0] == "saved"]
             for _ in range(min(times, 60)):
                 end = rng.choice((rng.randint(0, len(log.calls)), min(len(log.calls), rng.choice(saves) + rng.randint(0, 4))))
-                failures += not self.continues(*crashes.crashed(log.calls[:end], rng), rng)
+                failures += not self.continues(*crashes.crash_state(log.calls[:end], rng), rng)
         return failures
 
     def write(self, rng):

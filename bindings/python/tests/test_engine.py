@@ -28,7 +28,7 @@ def count(see):
     return see(COUNT)
 
 
-def raised(by=1):
+def raise_by(by=1):
     return Update(COUNT, lambda see: see(COUNT) + by)
 
 
@@ -38,7 +38,7 @@ class Rules(unittest.TestCase):
         self.addCleanup(self.storage.free)
         self.agent, self.rival = self.storage.agent(0), self.storage.agent(1)
 
-    def played(self, rule, *places):
+    def play_rule(self, rule, *places):
         """Return the values at the locations once the rule has fired."""
         with self.agent.step() as step:
             rule.play(step)
@@ -48,12 +48,12 @@ class Rules(unittest.TestCase):
 
     def test_par_sees_one_state(self):
         swap = Par(Update(["f", 1], lambda see: see(["f", 2])), Update(["f", 2], lambda see: see(["f", 1])))
-        self.assertEqual(self.played(Par(swap, Add(["s"], count), Remove(["s"], 1)), ["f", 1], ["f", 2], ["s"]),
+        self.assertEqual(self.play_rule(Par(swap, Add(["s"], count), Remove(["s"], 1)), ["f", 1], ["f", 2], ["s"]),
                          ["b", "a", {3}])
 
     def test_seq_sees_what_was_done(self):
-        rule = Seq(raised(), raised(), Update(["g"], count))
-        self.assertEqual(self.played(rule, COUNT, ["g"]), [5, 5])
+        rule = Seq(raise_by(), raise_by(), Update(["g"], count))
+        self.assertEqual(self.play_rule(rule, COUNT, ["g"]), [5, 5])
 
     def test_if_and_let(self):
         rule = Par(
@@ -61,24 +61,24 @@ class Rules(unittest.TestCase):
             If(False, Update(["no"], 1)),
             Let(count, lambda three: Update(["let"], three + 1)),
         )
-        self.assertEqual(self.played(rule, ["yes"], ["no"], ["let"]), [1, None, 4])
+        self.assertEqual(self.play_rule(rule, ["yes"], ["no"], ["let"]), [1, None, 4])
 
     def test_iterate_ends_without_updates(self):
         rule = Seq(Update(["sum"], 0), Iterate(Let(count, lambda rest: If(rest > 0, Par(
-            raised(-1), Update(["sum"], lambda see: see(["sum"]) + rest),
+            raise_by(-1), Update(["sum"], lambda see: see(["sum"]) + rest),
         )))))
-        self.assertEqual(self.played(rule, COUNT, ["sum"]), [0, 6])
+        self.assertEqual(self.play_rule(rule, COUNT, ["sum"]), [0, 6])
 
     def test_a_while_of_thousands_of_rounds(self):
         rule = Seq(Update(["sum"], 0), While(lambda see: see(COUNT) < 4_003, Par(
-            raised(), Update(["sum"], lambda see: see(["sum"]) + see(COUNT)),
+            raise_by(), Update(["sum"], lambda see: see(["sum"]) + see(COUNT)),
         )))
-        self.assertEqual(self.played(rule, COUNT, ["sum"]), [4_003, sum(range(3, 4_003))])
-        self.assertEqual(self.played(While(False, raised()), COUNT), [4_003])
+        self.assertEqual(self.play_rule(rule, COUNT, ["sum"]), [4_003, sum(range(3, 4_003))])
+        self.assertEqual(self.play_rule(While(False, raise_by()), COUNT), [4_003])
 
     def test_a_universe_grows_under_forall(self):
         grow = Forall("f", lambda *_: True, lambda at, value: Update(["f", at[1] + 10], value + value))
-        self.played(Seq(grow, Forall("f", lambda at, _: at[1] > 10, lambda at, _: Update(["f", at[1] + 10], "new"))))
+        self.play_rule(Seq(grow, Forall("f", lambda at, _: at[1] > 10, lambda at, _: Update(["f", at[1] + 10], "new"))))
         self.assertEqual([at[1] for at, _ in self.agent.scan("f")[1]], [1, 2, 3, 11, 12, 13, 21, 22, 23])
         self.assertEqual(self.agent.peek([["f", 11], ["f", 21]])[1], ["aa", "new"])
 
@@ -94,19 +94,19 @@ class Rules(unittest.TestCase):
             Choose("f", lambda *_: False, mark("none"), otherwise=Update(["otherwise"], 1)),
             Choose("f", lambda *_: False, mark("none")),
         )
-        self.assertEqual(self.played(rule, ["all", 1], ["all", 2], ["all", 3], ["otherwise"]), [True, None, True, 1])
+        self.assertEqual(self.play_rule(rule, ["all", 1], ["all", 2], ["all", 3], ["otherwise"]), [True, None, True, 1])
         self.assertEqual(self.agent.scan("none")[1], [])
         ((chosen, _),) = self.agent.scan("chosen")[1]
         self.assertIn(chosen, [("chosen", 1), ("chosen", 3)])
 
     def test_rules_in_sequence_beside_others_are_dry_runs(self):
-        inner = Seq(raised(), Iterate(If(lambda see: see(COUNT) < 9, raised(2))), Update(["inner"], count))
-        rule = Par(inner, Update(["beside"], count), Seq(raised(0), Update(["beside", 2], count)))
+        inner = Seq(raise_by(), Iterate(If(lambda see: see(COUNT) < 9, raise_by(2))), Update(["inner"], count))
+        rule = Par(inner, Update(["beside"], count), Seq(raise_by(0), Update(["beside", 2], count)))
         with self.assertRaises(ClashError) as caught, self.agent.step() as step:
             rule.play(step)
         self.assertEqual((caught.exception.at, caught.exception.cause), (COUNT, "Two"))
         rule = Par(inner, Update(["beside"], count))
-        self.assertEqual(self.played(rule, COUNT, ["inner"], ["beside"]), [10, 10, 3])
+        self.assertEqual(self.play_rule(rule, COUNT, ["inner"], ["beside"]), [10, 10, 3])
 
     def test_a_step_depends_on_its_dry_runs(self):
         # In sequence these come to nothing, except on a number.
@@ -145,7 +145,7 @@ class Rules(unittest.TestCase):
         self.assertEqual(replies, [{"clash": [list(COUNT), "Kind"]}] * 2 + [{"fired": 6}])
 
     def test_a_clash_in_a_sequence_is_reported(self):
-        for rule in (Seq(Par(raised(), Update(COUNT, 9)), raised()), Par(Seq(Update(["s"], 1), Add(["s"], 2)))):
+        for rule in (Seq(Par(raise_by(), Update(COUNT, 9)), raise_by()), Par(Seq(Update(["s"], 1), Add(["s"], 2)))):
             with self.assertRaises(ClashError), self.agent.step() as step:
                 rule.play(step)
 
@@ -173,12 +173,12 @@ class Machines(unittest.TestCase):
                 self.assertFalse(machine.holds(agent), state)
 
     def test_each_state_is_visited(self):
-        journal = run([[COUNT, 0]], [(raised(), lambda agent: agent.won == 20)] * 4)
+        journal = run([[COUNT, 0]], [(raise_by(), lambda agent: agent.won == 20)] * 4)
         self.assertEqual([agent.peek([COUNT])[1] for agent in states(journal)], [[k] for k in range(81)])
 
     def test_an_error_of_one_program_ends_all(self):
         def work(_):
-            waits = If(False, raised()), lambda agent: False
+            waits = If(False, raise_by()), lambda agent: False
             with self.assertRaises(ClashError):
                 run([], [waits, (Par(Update(COUNT, 1), Update(COUNT, 2)), lambda agent: False), waits])
 
@@ -207,7 +207,7 @@ class Endless(Rooms):
     def test_an_error_of_one_program_ends_the_run(self):
         wrong = Par(Update(COUNT, 1), Update(COUNT, 2)), None
         with self.assertRaises(ClashError):
-            run_on(self.path, INIT, [(raised(), None), wrong, (raised(), None)], 60)
+            run_on(self.path, INIT, [(raise_by(), None), wrong, (raise_by(), None)], 60)
         self.assertEqual(self.last_state()[0], (COUNT, 3 + audit(self.path).moves))
 
     def test_the_command_line(self):

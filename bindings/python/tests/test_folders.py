@@ -15,7 +15,7 @@ import unittest
 from checkout import ROOT
 from folugben import Error, Run, audit, states
 from folugben._reading import verify
-from rooms import ACCOUNTS, AT, COUNT, INIT, MONEY, Rooms, called, environment, raised, segments, transfer
+from rooms import ACCOUNTS, AT, COUNT, INIT, MONEY, Rooms, run_python, environment, raised, segments, transfer
 
 
 class Folders(Rooms):
@@ -27,7 +27,7 @@ class Folders(Rooms):
             with self.assertRaisesRegex(BlockingIOError, "another run is at work"):
                 Run.resume(self.path)
             code = "import sys, folugben; folugben.Run.resume(sys.argv[1])"
-            ran = called(code, self.path)
+            ran = run_python(code, self.path)
             self.assertIn("BlockingIOError", ran.stderr)
             agent.play(raised)
         with self.assertRaisesRegex(FileExistsError, "which Run.resume continues"):

@@ -26,7 +26,7 @@ class Interrupts(unittest.TestCase):
         self.addCleanup(self.storage.free)
         self.addCleanup(self.agent.free)
 
-    def interrupted(self, handler: Callable[[], object], work: Callable[[], bool]) -> None:
+    def interrupt(self, handler: Callable[[], object], work: Callable[[], bool]) -> None:
         """Repeat the work until it is done, while a timer calls the handler repeatedly."""
         was = signal.signal(signal.SIGALRM, lambda *_: handler())
         self.addCleanup(signal.signal, signal.SIGALRM, was)
@@ -52,7 +52,7 @@ class Interrupts(unittest.TestCase):
             self.assertEqual(self.agent.read([["own"]]), (0, [1]))
             return len(answered) > 100
 
-        self.interrupted(handler, work)
+        self.interrupt(handler, work)
         self.assertEqual(answered, [(0, [2])] * len(answered))
         self.assert_fit()
 
@@ -77,7 +77,7 @@ class Interrupts(unittest.TestCase):
             return raised > 300
 
         other = self.storage.agent(1)
-        self.interrupted(handler, work)
+        self.interrupt(handler, work)
         self.assert_fit()
         self.assertEqual(in_threads(lambda _: other.learn(self.agent), 1), ([], True))
 
@@ -111,7 +111,7 @@ class Interrupts(unittest.TestCase):
 
         storage, at, move = Storage([[["own"], 1]], 1), Location(["own"]), Move()
         agent = storage.agent(0)
-        self.interrupted(handler, work)
+        self.interrupt(handler, work)
         self.assertEqual(in_threads(step, 1), ([], True))
         self.assertEqual((step(0), len(move), agent.seen), (1, 2, 1))
         self.assert_fit()
@@ -129,7 +129,7 @@ class Interrupts(unittest.TestCase):
             self.assertEqual(self.agent.peek(own), (0, 1))
             return len(answered) > 300
 
-        self.interrupted(handler, work)
+        self.interrupt(handler, work)
         self.assertLessEqual(set(answered), {1, 2})
         self.assert_fit()
 
@@ -171,7 +171,7 @@ class Interrupts(unittest.TestCase):
         storage, move, mine, y = self.storage, Move(), Move(), Location(["y"])
         self.addCleanup(gc.set_threshold, *gc.get_threshold())
         gc.set_threshold(1)
-        self.interrupted(handler, work)
+        self.interrupt(handler, work)
         gc.collect()
         values = self.agent.follow() and self.agent.peek([["own"], ["other"]])[1]
         self.assertEqual(values, [1 + self.agent.won, 2 + rival.won])

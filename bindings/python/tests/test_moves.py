@@ -38,8 +38,8 @@ class Moves(unittest.TestCase):
             except (LargeError, moves.LargeAmount) as large:
                 return "large", large.at if isinstance(large, LargeError) else own.place(values.location_json(large.at))
 
-        def composed(*two):
-            move = moves.composed(*(list(map(moves.read_instruction, it)) for it in two))
+        def model_compose(*two):
+            move = moves.compose_moves(*(list(map(moves.read_instruction, it)) for it in two))
             return list(own.call({"fire": map(moves.instruction_json, move), "reads": []})["fire"])
 
         def updates(state, move):
@@ -50,7 +50,7 @@ class Moves(unittest.TestCase):
             first, second = random_moves.move(rng), random_moves.move(rng)
             state = rng.choice([random_moves.INIT, [[at, random_moves.value(rng)] for at in random_moves.PLACES]])
             one = outcome(compose, first, second)
-            self.assertEqual(repr(one), repr(outcome(composed, first, second)), (first, second))
+            self.assertEqual(repr(one), repr(outcome(model_compose, first, second)), (first, second))
             self.assertEqual(repr(outcome(aggregate, state, first)), repr(outcome(updates, state, first)), (state, first))
             seen.add(one[0] if isinstance(one, tuple) else bool(one))
         self.assertEqual(seen, {"clash", "large", True, False})

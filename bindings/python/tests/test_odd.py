@@ -46,7 +46,7 @@ class Odd(unittest.TestCase):
         self.addCleanup(self.storage.free)
         self.addCleanup(self.agent.free)
 
-    def refused(self, kind: type[Exception], message: str, call: Callable[..., object], *arguments: object) -> None:
+    def assert_refused(self, kind: type[Exception], message: str, call: Callable[..., object], *arguments: object) -> None:
         with self.subTest(message), self.assertRaises(kind) as caught:
             call(*arguments)
         self.assertIn(message, str(caught.exception))
@@ -55,16 +55,16 @@ class Odd(unittest.TestCase):
         self.assertEqual(explain(folugben.TextForm.LOCATIONS, Short(b"[]")), "")
         self.assertEqual(explain(folugben.TextForm.LOCATIONS, "[]"), "")
         self.assertEqual(explain(folugben.TextForm.LOCATIONS, bytearray(b"[nul]")), "not JSON at byte 2")
-        self.refused(TypeError, "a text is bytes or a str, and not 'int'", explain, folugben.TextForm.LOCATIONS, 7)
+        self.assert_refused(TypeError, "a text is bytes or a str, and not 'int'", explain, folugben.TextForm.LOCATIONS, 7)
         for form in (Cunning(2**40), Cunning(-1)):
-            self.refused(Error, "a form is one of", explain, form, b"")
+            self.assert_refused(Error, "a form is one of", explain, form, b"")
         for call in (Storage, ) * 2 + (self.storage.next, ):
             arguments = [[], Cunning(2**32 + 1)] if call is Storage else [Cunning(2**32 + 1)]
-            self.refused(Error, "", call, *arguments)
+            self.assert_refused(Error, "", call, *arguments)
         count, move = Location(["n"]), Move()
-        self.refused(Error, "an amount is 1 to", move.bagadd, count, 1, Cunning(2**32 + 1))
-        self.refused(Error, "a number is", move.put, count, Cunning(2**64))
-        self.refused(TypeError, "float", move.bagadd, count, 1, 1.0)
+        self.assert_refused(Error, "an amount is 1 to", move.bagadd, count, 1, Cunning(2**32 + 1))
+        self.assert_refused(Error, "a number is", move.put, count, Cunning(2**64))
+        self.assert_refused(TypeError, "float", move.bagadd, count, 1, 1.0)
         self.agent.fire([["put", ["n"], Cunning(7)], ["put", [Mute("m")], Mute("x")]])
         self.agent.follow()
         self.assertEqual(self.agent.peek([["n"], ["m"]]), (1, [7, "x"]))
@@ -80,7 +80,7 @@ class Odd(unittest.TestCase):
             self.assertEqual(replay(text), [(("n",), 2)])
             self.assertEqual(len(list(trace(text))), 2)
             self.assertEqual([values for _, values in states(text)][-1], {("n",): 2})
-        self.refused(TypeError, "a journal is bytes or a str, and not 'list'", check, [journal])
+        self.assert_refused(TypeError, "a journal is bytes or a str, and not 'list'", check, [journal])
 
     def test_a_counter_is_a_bag(self) -> None:
         words = Counter("abba")
@@ -97,21 +97,21 @@ class Odd(unittest.TestCase):
             self.agent.fire([["put", ["b"], Counter([word])]])
             self.agent.follow()
             self.assertEqual(self.agent.peek([["b"]])[1], [Counter([word])])
-        self.refused(Error, "a count", self.agent.fire, [["put", ["b"], Counter({"a": -1})]])
+        self.assert_refused(Error, "a count", self.agent.fire, [["put", ["b"], Counter({"a": -1})]])
 
     def test_a_refused_value_is_reported_with_its_path(self) -> None:
         nan, infinite = float("nan"), float("inf")
         put, move = self.agent.fire, Move()
-        self.refused(Error, 'instructions[2]["set"][1] is nan', put, ["put", ["x"], {"set": [1, nan]}])
-        self.refused(Error, "instructions[1][2] is -inf", put, [["inc", ["x"], 1], ["put", ["x"], -infinite]])
-        self.refused(Error, "and reads[0][1] is 1.5", put, [], [[["x"], 1.5]])
-        self.refused(Error, 'and instructions[0][2]["set"][1] is 1.5', put, [["put", ["x"], {"set": [1, 1.5]}]])
-        self.refused(Error, "and [0][1] is 18446744073709551616", self.agent.peek, [["x", 2**64]])
-        self.refused(Error, "places[0][1] has '\\ud800' at 1", self.agent.read, [["x", "a\ud800"]])
-        self.refused(TypeError, "which is no value: values are", put, [["put", ["x"], object()]])
-        self.refused(TypeError, "value is [1], which is no value: pass a list as a tuple", move.put, "x", [1])
-        self.refused(TypeError, "init[0][1] is 1j, which is no whole number: pass int(..)", Storage, [[["x"], 1j]])
-        self.refused(Error, "place[1] is nan", Location, ["x", nan])
+        self.assert_refused(Error, 'instructions[2]["set"][1] is nan', put, ["put", ["x"], {"set": [1, nan]}])
+        self.assert_refused(Error, "instructions[1][2] is -inf", put, [["inc", ["x"], 1], ["put", ["x"], -infinite]])
+        self.assert_refused(Error, "and reads[0][1] is 1.5", put, [], [[["x"], 1.5]])
+        self.assert_refused(Error, 'and instructions[0][2]["set"][1] is 1.5', put, [["put", ["x"], {"set": [1, 1.5]}]])
+        self.assert_refused(Error, "and [0][1] is 18446744073709551616", self.agent.peek, [["x", 2**64]])
+        self.assert_refused(Error, "places[0][1] has '\\ud800' at 1", self.agent.read, [["x", "a\ud800"]])
+        self.assert_refused(TypeError, "which is no value: values are", put, [["put", ["x"], object()]])
+        self.assert_refused(TypeError, "value is [1], which is no value: pass a list as a tuple", move.put, "x", [1])
+        self.assert_refused(TypeError, "init[0][1] is 1j, which is no whole number: pass int(..)", Storage, [[["x"], 1j]])
+        self.assert_refused(Error, "place[1] is nan", Location, ["x", nan])
 
     def test_a_text_with_braces_is_a_text(self) -> None:
         self.agent.fire([["put", ["n"], '{"a":{']])
@@ -159,12 +159,12 @@ class Signals(unittest.TestCase):
             # The exception of the handler comes before or after the call.
             self.assertIn(len(move) - before, (0, 1))
             if len(move) > 2000:
-                self.assertEqual(self.pushed(move), len(move))
+                self.assertEqual(self.push_move(move), len(move))
                 move.clear()
         signal.setitimer(signal.ITIMER_REAL, 0)
-        self.assertEqual(self.pushed(move), len(move))
+        self.assertEqual(self.push_move(move), len(move))
 
-    def pushed(self, move: Move) -> int:
+    def push_move(self, move: Move) -> int:
         """Return the count after the move."""
         with self.agent.step() as step:
             step.push(move)

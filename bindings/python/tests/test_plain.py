@@ -332,14 +332,14 @@ class Plain(unittest.TestCase):
             self.assertEqual((step.try_commit(), self.agent.answer()), (0, {"stale": ("count",)}))
             self.assertRaises(self.again, step.commit)
         move.inc(count, 1)
-        while (fired := self.increased(move)) < 50:
+        while (fired := self.count_after(move)) < 50:
             pass
         self.assertEqual(fired, 50)
         with self.agent.step() as step:
             self.assertEqual(step.get(count), 54)
             self.assertRaises(FullError, step.try_commit)
 
-    def increased(self, move):
+    def count_after(self, move):
         with self.agent.step() as step:
             step.push(move)
             return step.try_commit()

@@ -101,7 +101,7 @@ class Plays(Rooms):
             interleave([anna, ben], [work, work], 1)
 
 
-class Said(unittest.TestCase):
+class Messages(unittest.TestCase):
     def setUp(self):
         self.storage = Storage({"count": 0, "set": {1}}, 100)
         self.addCleanup(self.storage.free)

@@ -65,13 +65,13 @@ class RandomSteps(unittest.TestCase):
             getattr(step, word)(move)
         except ClashError as clash:
             self.assertEqual(repr((clash.at, clash.cause)), repr(expected))
-            self.assertEqual(repr(self.fired_in_turn(twin, move)), repr(expected))
+            self.assertEqual(repr(self.fire_in_turn(twin, move)), repr(expected))
             return False
         getattr(twin, word)(move)
         self.assertEqual(repr(twin.after()), repr(expected))
         return True
 
-    def fired_in_turn(self, twin, *further):
+    def fire_in_turn(self, twin, *further):
         """Return the state after the moves on a copy, or the clash of the last one.
 
         The moves are fired one after the other.
@@ -113,7 +113,7 @@ class RandomSteps(unittest.TestCase):
         state = repr(twin.after())
         self.assertEqual(agent.follow(), number)
         self.assertEqual(repr(agent.state()), f"({number}, {state})")
-        self.assertEqual(repr(self.fired_in_turn(twin)), state)
+        self.assertEqual(repr(self.fire_in_turn(twin)), state)
 
     def test_random_steps(self):
         self.done, rng = Counter(), random.Random(7)

@@ -14,7 +14,7 @@ import unittest
 from unittest import mock
 
 from folugben import Agent, BrokenError, Error, ForkedError, MissingError, NestedError, Run, Storage, audit
-from rooms import AT, COUNT, INIT, Rooms, called, raised, until
+from rooms import AT, COUNT, INIT, Rooms, run_python, raised, until
 from threads import in_threads
 
 
@@ -198,7 +198,7 @@ try:
 except BrokenError as broken:
     print(broken.part, broken.__cause__.errno, broken)
 """
-        ran = called(code, self.path)
+        ran = run_python(code, self.path)
         number, error, message = ran.stdout.split(" ", 2)
         counts = audit(self.path)
         self.assertEqual((int(number), int(error), ran.stderr), (counts.parts, errno.EFBIG, ""))
@@ -223,7 +223,7 @@ for _ in range(7):
     agent.play(lambda step: step.push([["inc", ["count"], 1]]))
 """
         other = self.room / "other"
-        ran = called(code, other)
+        ran = run_python(code, other)
         self.assertEqual((ran.returncode, ran.stderr, audit(other)), (0, "", (7, 7, 3)))
 
 
@@ -286,7 +286,7 @@ with Run(sys.argv[1], [[["count"], 0]], 5) as run, run.agent(0) as agent:
     os.wait()
     agent.play(lambda step: step.push([["inc", ["count"], 1]]))
 """
-        ran = called(code, self.path)
+        ran = run_python(code, self.path)
         self.assertEqual(ran.returncode, 0, ran.stderr)
         self.assertEqual(audit(self.path), (8, 8, 3))
 

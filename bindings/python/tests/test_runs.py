@@ -117,13 +117,13 @@ class Exports(unittest.TestCase):
     def setUp(self):
         self.journal = next(journal for journal in (run(seed)[0] for seed in range(50)) if b'"stale"' in journal)
 
-    def written(self, write):
+    def text_written(self, write):
         out = io.StringIO()
         write(self.journal, out)
         return out.getvalue()
 
     def test_a_table_has_each_change(self):
-        rows = list(csv.DictReader(io.StringIO(self.written(_exports.write_csv))))
+        rows = list(csv.DictReader(io.StringIO(self.text_written(_exports.write_csv))))
         self.assertEqual(rows[0], {"move": "0", "agent": "", "function": "account", "arguments": "[0]", "old": "null", "new": "50"})
         values = {row["arguments"]: int(row["new"]) for row in rows}
         last = dict(enumerate(states(self.journal)))
@@ -170,7 +170,7 @@ class Exports(unittest.TestCase):
             self.assertEqual(found, {at[0]: [[{"#tup": []}, _exports._itf(json.loads(encode(value, "value")))]] for at, value in values.items()})
 
     def test_the_informal_trace_format_has_a_state_for_each_move(self):
-        itf = json.loads(self.written(_exports.write_itf))
+        itf = json.loads(self.text_written(_exports.write_itf))
         self.assertEqual((itf["#meta"]["format"], itf["vars"]), ("ITF", ["account"]))
         self.assertEqual(len(itf["states"]), check(self.journal)[1] + 1)
         for index, ((_, values), state) in enumerate(zip(states(self.journal), itf["states"], strict=True)):
@@ -179,13 +179,13 @@ class Exports(unittest.TestCase):
             self.assertEqual(found, values)
 
     def test_the_informal_trace_format_is_bounded(self):
-        complete = json.loads(self.written(_exports.write_itf))["states"]
+        complete = json.loads(self.text_written(_exports.write_itf))["states"]
         out = io.StringIO()
         _exports.write_itf(self.journal, out, first=3, last=5)
         self.assertEqual(json.loads(out.getvalue())["states"], complete[3:6])
         with mock.patch.object(_exports, "ITF_LIMIT", 1000):
             with self.assertRaisesRegex(TooLongError, "moves 0 to [0-9]+ have more than 1,000 characters: take fewer by --from and --to"):
-                self.written(_exports.write_itf)
+                self.text_written(_exports.write_itf)
 
     def test_the_informal_trace_format_has_each_kind_of_value(self):
         for value, wanted in [
@@ -195,7 +195,7 @@ class Exports(unittest.TestCase):
             self.assertEqual(_exports._itf(value), wanted)
 
     def test_trace_events_have_a_slice_for_each_call_and_an_arrow_for_each_stale_fire(self):
-        events = json.loads(self.written(_exports.write_perfetto))["traceEvents"]
+        events = json.loads(self.text_written(_exports.write_perfetto))["traceEvents"]
         slices = [event for event in events if event["ph"] == "X"]
         self.assertEqual(len(slices), check(self.journal)[0])
         stale = [event for event in slices if event["cat"] == "stale"]

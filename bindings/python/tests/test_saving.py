@@ -16,8 +16,8 @@ import unittest
 from unittest import mock
 
 from folugben import BadJournalError, Error, PastError, Run, Storage, __main__, _part, _parts, audit, check, import_run, interleave, states
-from core_work import used
-from rooms import AT, BANK, COUNT, INIT, Rooms, called, environment, raised, segments, text_of, transfer, until
+from core_work import used_bytes
+from rooms import AT, BANK, COUNT, INIT, Rooms, run_python, environment, raised, segments, text_of, transfer, until
 from threads import in_threads
 
 
@@ -72,10 +72,10 @@ class Days(Rooms):
                     ends = clock.now + every
                     wanted.append(0)
                 wanted[-1] += 1
-                before = before or used() * (at > 43_200)
+                before = before or used_bytes() * (at > 43_200)
             clock.now = ends
             self.end_part(run, agent, wanted)
-            grown = used() - before
+            grown = used_bytes() - before
             self.assertEqual(run.state(), (len(times), [(COUNT, len(times))]))
         self.assertEqual([check(file.read_bytes())[1] for file in segments(self.path)], wanted)
         self.assertEqual(audit(self.path), (len(times), len(times), len(wanted)))
@@ -344,7 +344,7 @@ class Imports(Rooms):
             self.assertEqual(agent.play(raised), (11, None))
         self.assertRaises(FileExistsError, import_run, self.file, self.path)
         self.assertEqual(self.file.read_bytes(), self.complete)
-        ran = called("import sys; from folugben.__main__ import main; sys.exit(main(['import', *sys.argv[1:]]))", self.file, self.room / "2")
+        ran = run_python("import sys; from folugben.__main__ import main; sys.exit(main(['import', *sys.argv[1:]]))", self.file, self.room / "2")
         self.assertEqual((ran.stdout, ran.stderr, ran.returncode), ("10 moves in 4 parts\n", "", 0))
 
     def test_an_incomplete_last_part_is_left_out(self):

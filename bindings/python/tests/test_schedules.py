@@ -80,7 +80,7 @@ def has_all(values):
 
 
 class Interleaved(unittest.TestCase):
-    def left(self, works, turns, **more):
+    def states_by(self, works, turns, **more):
         """Return the states after works by these turns."""
         with counting() as storage:
             agents = [storage.agent(number) for number in range(len(works))]
@@ -92,9 +92,9 @@ class Interleaved(unittest.TestCase):
     def test_each_call_takes_a_turn(self):
         lists = [list(it) for size in range(8) for it in itertools.product(range(2), repeat=size)]
         self.assertEqual(len(lists), 255)
-        broken = [it for it in lists if not counts_two(self.left([count_blindly, count_blindly], it)[-1])]
+        broken = [it for it in lists if not counts_two(self.states_by([count_blindly, count_blindly], it)[-1])]
         self.assertIn([0, 0, 1], broken)
-        self.assertEqual([it for it in lists[:31] if not counts_two(self.left([guarded, guarded], it)[-1])], [])
+        self.assertEqual([it for it in lists[:31] if not counts_two(self.states_by([guarded, guarded], it)[-1])], [])
 
     def test_a_list_is_counted_round_those_at_work(self):
         numbers = []
@@ -106,7 +106,7 @@ class Interleaved(unittest.TestCase):
 
         def order(turns):
             numbers.clear()
-            self.left([work] * 3, turns)
+            self.states_by([work] * 3, turns)
             return "".join(map(str, numbers))
 
         self.assertEqual(order([]), "001122")
@@ -136,9 +136,9 @@ class Interleaved(unittest.TestCase):
             while agent.follow() == 0:
                 pass
 
-        self.left([waits, count_blindly], 1)
+        self.states_by([waits, count_blindly], 1)
         with self.assertRaisesRegex(EndlessError, "agents 0, 1 are still at work after 500 turns"):
-            self.left([waits, count_blindly], [], most=500)
+            self.states_by([waits, count_blindly], [], most=500)
         with self.assertRaisesRegex(EndlessError, "agent 0 is still at work after 300 turns"):
             explore(counting, [waits], turns=300)
 

@@ -129,13 +129,13 @@ class Turns(unittest.TestCase):
             threading.Thread(target=lambda: storage.agent(200).play(raised)).start()
 
 
-class United(unittest.TestCase):
+class UnitedMoves(unittest.TestCase):
     def test_random_moves_do_both_at_once(self):
         rng, seen = random.Random(5), set()
         for _ in range(600):
             one, two = random_moves.move(rng), random_moves.move(rng)
 
-            def gathered(instructions):
+            def gather(instructions):
                 move = Move()
                 for word, *words in instructions:
                     getattr(move, word)(*words)
@@ -151,13 +151,13 @@ class United(unittest.TestCase):
                         seen.add(step.depth)
                     return repr(sorted(map(repr, step.offer()["fire"])))
 
-            first, second = gathered(one), gathered(two)
-            both, third = first | second, gathered(one)
+            first, second = gather(one), gather(two)
+            both, third = first | second, gather(one)
             self.assertIs(third.unite(second), third)
             self.assertEqual([len(it) for it in (first, second, both, third)], [len(one), len(two), *2 * [len(one) + len(two)]])
             wanted = effect([*one, *two])
             self.assertEqual((effect(both), effect(third)), (wanted, wanted))
-            third = gathered(one)
+            third = gather(one)
             third |= second
             self.assertEqual((effect(third), effect(first), effect(second)), (wanted, effect(one), effect(two)))
         self.assertEqual(seen, {0, 1})

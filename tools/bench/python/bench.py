@@ -124,7 +124,7 @@ class CallTime(NamedTuple):
     processor: float
 
 
-def timed(side: Side, crowd: Crowd, steps: int) -> CallTime:
+def time_steps(side: Side, crowd: Crowd, steps: int) -> CallTime:
     """Run this many steps, which the threads share out among them."""
     threads = [
         threading.Thread(target=work, args=(side, k, 0 if crowd.shares else k, steps // crowd.threads))
@@ -142,7 +142,7 @@ def round_of(kind: type[Ours] | type[Theirs], crowd: Crowd, steps: int) -> CallT
     """Run a round on a separate storage, whose locations must show each step."""
     side = kind(steps)
     gc.collect()
-    times = timed(side, crowd, steps)
+    times = time_steps(side, crowd, steps)
     if (found := side.close()) != steps:
         raise SystemExit(f"{found} of {steps} steps are in the state")
     return times

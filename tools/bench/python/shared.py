@@ -34,7 +34,7 @@ def bare(database, size, seconds):
     return count / seconds
 
 
-def shared(run, agents, seconds):
+def shared_rate(run, agents, seconds):
     """Return how many moves a second the agents fire, each at a separate location."""
     counts, end = [0] * agents, time.perf_counter() + seconds
 
@@ -63,7 +63,7 @@ def main(target, seconds=2.0):
         database.run(f"create table if not exists bare(place bigint primary key, token {blob} not null unique, segment bigint, "
                      "agent integer, call text, scans text)")
         for agents in 1, 4, 16:
-            rates = [(bare(database, agents, seconds), shared(run, agents, seconds)) for _ in range(ROUNDS)]
+            rates = [(bare(database, agents, seconds), shared_rate(run, agents, seconds)) for _ in range(ROUNDS)]
             most, reached = (sum(it) / ROUNDS for it in zip(*rates))
             print(f"{agents:2} agents: {reached:,.0f} moves a second, bare {most:,.0f}, ratio {reached / most:.2f}", flush=True)
     print(audit(target))
