@@ -25,7 +25,6 @@ from values import (
     WrongShape,
     entries,
     has_key,
-    items,
     location_json,
     members,
     pairs_json,

@@ -9,7 +9,6 @@ from jsontext import I64, Json
 from values import (
     COUNTS,
     UNDEF,
-    Element,
     Location,
     State,
     Value,

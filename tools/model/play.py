@@ -3,7 +3,7 @@
 from typing import NamedTuple
 
 import jsontext
-from journal import Clashed, Event, Fire, Fired, Full, History, Read, Stale, Storage, Values
+from journal import Clashed, Event, Fire, Full, History, Read, Stale, Storage, Values
 from moves import Clash, LargeAmount, ManyInstructions
 from script import NoTerm, Script, Step, reads, step_move
 from values import Location, State, location_json, pairs_json

@@ -1,7 +1,5 @@
 """Tests of storages, agents and journals: python3 test.py runs all tests."""
 import copy
-import os
-import pathlib
 import pickle
 import unittest
 from unittest import mock

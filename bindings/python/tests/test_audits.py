@@ -18,7 +18,6 @@ import folugben
 import own
 from folugben import Auditor, BadJournalError, ClashError, Code, Counts, Error, StaleError, Storage, audit, check, part, replay
 from folugben import __main__ as main
-from folugben import _auditor
 from random_moves import INIT, move
 from threads import in_threads
 

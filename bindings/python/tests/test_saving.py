@@ -17,7 +17,7 @@ from unittest import mock
 
 from folugben import BadJournalError, Error, PastError, Run, Storage, __main__, _part, _parts, audit, check, import_run, interleave, states
 from core_work import used_bytes
-from rooms import AT, BANK, COUNT, INIT, Rooms, run_python, environment, raised, segments, text_of, transfer, until
+from rooms import BANK, COUNT, INIT, Rooms, environment, raised, run_python, segments, text_of, transfer, until
 from threads import in_threads
 
 

@@ -5,7 +5,6 @@ Schedules are agents played by turns. `explore` searches for the schedule that b
 import functools
 import importlib.util
 import itertools
-import json
 import math
 import random
 import re

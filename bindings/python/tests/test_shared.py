@@ -13,7 +13,7 @@ from unittest import mock
 
 import servers
 import shared_plays
-from folugben import BrokenError, DamagedError, Error, NestedError, SharedRun, _log, audit
+from folugben import BrokenError, DamagedError, Error, NestedError, SharedRun, audit
 from rooms import COUNT, INIT, raised
 from threads import in_threads
 

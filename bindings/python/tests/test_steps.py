@@ -8,7 +8,7 @@ from collections import Counter
 
 import folugben
 import own
-from folugben import ClashError, CommitMovedError, ConflictError, DeepError, Error, FullError, Location, ManyError, MovedError, OverError
+from folugben import ClashError, CommitMovedError, ConflictError, DeepError, Error, Location, ManyError, MovedError, OverError
 from folugben import StaleError, Storage, _refusals, check
 
 COUNT = [["count"]]

@@ -14,7 +14,7 @@ COUNT = [["count"]]
 STATE = [[["count"], 0], [["f", 1], "one"], [["f", True], {"set": [1, True]}], [["g"], "ü"]]
 
 
-class Looks(unittest.TestCase):
+class OwnState(unittest.TestCase):
     def setUp(self):
         self.storage = Storage(STATE, 100)
         self.addCleanup(self.storage.free)
