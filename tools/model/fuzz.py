@@ -22,7 +22,7 @@ from random import Random
 from typing import NamedTuple
 
 import model
-from altered import changed, change_journal, cut, spell
+from altered import change_journal, changed, cut, spell
 from inputs import Maker
 from journal import BadJournal, read_journal, write_journal
 from play import SeveralAgents

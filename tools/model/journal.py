@@ -7,7 +7,7 @@ from dataclasses import dataclass, field
 from typing import NamedTuple, Union
 
 import jsontext
-from jsontext import U32, U64, I64, Json, is_integer
+from jsontext import I64, U32, U64, Json, is_integer
 from moves import (
     MAX_INSTRUCTIONS,
     Clash,

@@ -9,7 +9,7 @@ from typing import Any
 
 from ._errors import ClashError, Error, FullError
 from ._texts import encode
-from ._turns import WRITES, TurnProxy, Player, Turns
+from ._turns import WRITES, Player, TurnProxy, Turns
 
 # The calls that see what other agents did, or write. All others depend only on what their agent has seen.
 _COMMITS = frozenset({"commit", "try_commit", "fire", "try_fire"})

@@ -15,7 +15,7 @@ import unittest
 from checkout import ROOT
 from folugben import Error, Run, audit, states
 from folugben._reading import verify
-from rooms import ACCOUNTS, AT, COUNT, INIT, MONEY, Rooms, run_python, environment, raised, segments, transfer
+from rooms import ACCOUNTS, AT, COUNT, INIT, MONEY, Rooms, environment, raised, run_python, segments, transfer
 
 
 class Folders(Rooms):

@@ -14,7 +14,7 @@ import unittest
 from unittest import mock
 
 from folugben import Agent, BrokenError, Error, ForkedError, MissingError, NestedError, Run, Storage, audit
-from rooms import AT, COUNT, INIT, Rooms, run_python, raised, until
+from rooms import AT, COUNT, INIT, Rooms, raised, run_python, until
 from threads import in_threads
 
 
