@@ -132,7 +132,7 @@ def is_database(path: str | os.PathLike[str]) -> bool:
 
 
 @contextlib.contextmanager
-def reaching(target: object) -> Iterator[None]:
+def database_errors(target: object) -> Iterator[None]:
     """Convert errors of the database.
 
     Raises:
@@ -147,7 +147,7 @@ def reaching(target: object) -> Iterator[None]:
         raise _as_os_error(error, target) from error
 
 
-def _keep(connection: object) -> None:
+def _leak(connection: object) -> None:
     """Prevent an object from ever being finalized."""
     ctypes.pythonapi.Py_IncRef(ctypes.py_object(connection))
 
@@ -169,7 +169,7 @@ class Sqlite:
         self._file = os.stat(path)
         if stat.S_ISDIR(self._file.st_mode):
             raise IsADirectoryError(errno.EISDIR, "a shared run is a file or a server, and a folder may be a Run", str(path))
-        with reaching(path):
+        with database_errors(path):
             self._db = self._open_connection()
             if self.has_run() or makes:
                 self._set_log()
@@ -274,7 +274,7 @@ class Sqlite:
             self._agents = -1
 
     def leave(self) -> None:
-        _keep(self._db)
+        _leak(self._db)
         if self._agents >= 0:
             os.close(self._agents)
             self._agents = -1
@@ -302,7 +302,7 @@ class Postgres:
         server, _, schema = target.partition("#")
         self._schema = schema or "folugben"
         self._driver = driver = _driver()
-        with reaching(target):
+        with database_errors(target):
             try:
                 self._db = driver.connect(server)
             except driver.OperationalError as error:
@@ -381,7 +381,7 @@ class Postgres:
             self._db.close()
 
     def leave(self) -> None:
-        _keep(self._db)
+        _leak(self._db)
 
 
 def _driver() -> Any:

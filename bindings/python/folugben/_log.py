@@ -8,7 +8,7 @@ import zlib
 from collections.abc import Callable, Iterator
 from typing import NamedTuple
 
-from ._database import Database, connect, reaching
+from ._database import Database, connect, database_errors
 from ._errors import DamagedError, MismatchError
 from ._folder import START, Segment, start_digest
 
@@ -77,7 +77,7 @@ class Log:
         """
         log = cls(target, connect(target, makes=opening is not None))
         try:
-            with reaching(log.target):
+            with database_errors(log.target):
                 log._join(opening, moves)
         except BaseException:
             log.database.close()

@@ -95,7 +95,7 @@ class PartAgent(Agent):
             self.part.chain.count(self.part, tries)
 
     def _raise_why_returned(self) -> None:
-        self.part.chain.expect_going()
+        self.part.chain.expect_active()
         if self._is_withdrawn or self.part.has_ended():
             raise PastError(Code.EMPTY, detail="the part of the run has ended, so begin another step")
         raise Error(Code.EMPTY, detail="the agent was returned")

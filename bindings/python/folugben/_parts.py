@@ -78,7 +78,7 @@ class Chain(LockHolder):
         self._folder.leave()
         _chains.discard(self)
 
-    def expect_going(self) -> None:
+    def expect_active(self) -> None:
         """Raise an error if the run has ended."""
         if self._fault is not None:
             raise BrokenError(*self._fault)
@@ -110,7 +110,7 @@ class Chain(LockHolder):
 
     def _enter_at_once(self, own: int, before: PartAgent | None) -> PartAgent | None:
         """Do the same; return None if another thread must act before."""
-        self.expect_going()
+        self.expect_active()
         newest = self.newest()
         if before is not None and before.part is newest and before._is_full:
             if self._has_seen_all(before):
@@ -200,7 +200,7 @@ class Chain(LockHolder):
     def state(self) -> tuple[int, bytes]:
         """Return the number of moves of the run by now, and the text of their state."""
         with self._lock:
-            self.expect_going()
+            self.expect_active()
             part = self.newest()
             number, text = self._last_state(part)
             return part.base + number, text
@@ -263,7 +263,7 @@ class Chain(LockHolder):
     def flush(self) -> None:
         """End the newest part if it has moves, and wait until it is on the disk."""
         with self._lock:
-            self.expect_going()
+            self.expect_active()
             part = self.newest()
             is_empty = part.moves() == 0
             if not is_empty and not part.has_ended():

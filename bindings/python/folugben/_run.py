@@ -143,7 +143,7 @@ class Run:
         """
         own = own_number(number)
         with self._chain._lock:
-            self._chain.expect_going()
+            self._chain.expect_active()
             one = self._agents.get(own)
             if one is not None and not one._is_returned:
                 raise Error(Code.NUMBER, detail=f"agent {own}")

@@ -144,7 +144,7 @@ class SharedRun:
             Error: the number is in use, here or in another process that lives; the code is NUMBER.
         """
         own = own_number(number)
-        self._worker.expect_going()
+        self._worker.expect_active()
         one = self._agents.get(own)
         if one is not None and not one._is_returned:
             raise Error(Code.NUMBER, detail=f"agent {own}")
@@ -270,7 +270,7 @@ class SharedAgent:
         """Return the newest segment, and its agent there."""
         if self._is_returned:
             raise Error(Code.EMPTY, detail="the agent was returned")
-        self._worker.expect_going()
+        self._worker.expect_active()
         if self._in is None or self._in[0] is not self._worker.replica.era:
             self._leave()
             self._in = self._worker.enter()

@@ -18,7 +18,7 @@ from collections.abc import Callable, Iterable, Iterator
 from typing import TypeVar
 
 from ._core import Agent
-from ._database import ConnectionLost, reaching
+from ._database import ConnectionLost, database_errors
 from ._errors import BrokenError, Error, UnknownError
 from ._guards import LockHolder, NestedError
 from ._library import Code
@@ -46,7 +46,7 @@ class Worker(LockHolder):
     def __init__(self, log: Log) -> None:
         self._log = log
         try:
-            with reaching(log.target):
+            with database_errors(log.target):
                 self.replica = Replica(log)
         except BaseException:
             log.close()
@@ -81,7 +81,7 @@ class Worker(LockHolder):
         super()._enter_child()
         self._log.database.leave()
 
-    def expect_going(self) -> None:
+    def expect_active(self) -> None:
         """Check that the run is active."""
         if self._fault is not None:
             raise BrokenError(self.replica.era.number, self._fault)
@@ -96,7 +96,7 @@ class Worker(LockHolder):
         waiter = Waiter(Call(token, segment, agent, call.decode(), scans.decode()), me != threading.main_thread().ident)
         self._expect_no_turn()
         with self._lock:
-            self.expect_going()
+            self.expect_active()
             self._waiting.append(waiter)
             # The last to come leads, so nobody has to be woken for that.
             if self._leader is None or self._is_gathering and self._is_due():
@@ -121,12 +121,12 @@ class Worker(LockHolder):
         """Wait until all is applied that is in the log now."""
         self._expect_no_turn()
         with self._lock:
-            self.expect_going()
+            self.expect_active()
             self._requests += 1
             request = self._requests
             self._changed.notify_all()
             while self._requests_done < request:
-                self.expect_going()
+                self.expect_active()
                 self._changed.wait()
 
     def enter(self) -> tuple[Era, Agent]:

@@ -67,13 +67,13 @@ class Iterate(Rule):
 
 @dataclass
 class Derived(Rule):
-    comes_to: Callable[[Step], Rule]  # by what is seen
+    rule_for: Callable[[Step], Rule]  # by what is seen
 
     def updates(self, step: Step) -> Move:
-        return self.comes_to(step).updates(step)
+        return self.rule_for(step).updates(step)
 
     def play(self, step: Step) -> bool:
-        return self.comes_to(step).play(step)
+        return self.rule_for(step).play(step)
 
 
 def If(condition: Any, then: Rule, otherwise: Rule = Par()) -> Rule:
