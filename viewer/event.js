@@ -91,7 +91,7 @@ function readings(event) {
   const heads = event.isWrong ? ["Location", "In the journal", "Right", "Last written by"] : ["Location", "Value", "Last written by"];
   return block("What was read", table("What was read", heads, event.read.map((location, i) => [
     locationNode(location),
-    ...(isOther(event, i) ? [span("told", differenceNode(event.reply.values[i], event.right.values[i])), differenceNode(event.right.values[i], event.reply.values[i])]
+    ...(isOther(event, i) ? [span("recorded", differenceNode(event.reply.values[i], event.right.values[i])), differenceNode(event.right.values[i], event.reply.values[i])]
       : event.isWrong ? [value(event.reply, i), "the same"] : [value(event.reply, i)]),
     writerNodes(run.lastWrite(location, event.number)),
   ])));

@@ -112,10 +112,10 @@ act.speak = text => {
   announce(text);
   clearTimeout(announcing);
   clearTimeout(hiding);
-  $("said").textContent = text;
-  $("said").hidden = false;
+  $("toast").textContent = text;
+  $("toast").hidden = false;
   hiding = setTimeout(() => {
-    $("said").hidden = true;
+    $("toast").hidden = true;
   }, 2400);
 };
 

@@ -28,7 +28,7 @@ export async function openTrace(source, fileName, by = "", ends = []) {
 function refuse(text, name) {
   $("fault").hidden = $("refused").hidden = false;
   $("fault").textContent = text;
-  $("refused-told").textContent = `${name} isn't shown. ${text}`;
+  $("refused-reason").textContent = `${name} isn't shown. ${text}`;
   $("hint").textContent = `${name} isn't shown. Drop another file here, or choose one.`;
 }
 $("refused-close").addEventListener("click", () => {

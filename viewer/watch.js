@@ -70,9 +70,9 @@ export function followLocation() {
 // ---- texts
 export function showWatch() {
   const text = fault && !isFaultShown ? "" : watchText(), isWrong = !!fault && isFaultShown;
-  $("watch-told").textContent = text;
-  $("watch-told").title = text;
-  $("watch-told").classList.toggle("wrong-words", isWrong);
+  $("watch-result").textContent = text;
+  $("watch-result").title = text;
+  $("watch-result").classList.toggle("wrong-words", isWrong);
   $("watch").setAttribute("aria-invalid", String(isWrong));
   for (const id of ["watch-back", "watch-on"]) $(id).disabled = !shown.onsets.length;
 }

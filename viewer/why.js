@@ -85,7 +85,7 @@ export function wrongNote(event) {
     : event.right.fired !== undefined ? "The journal doesn't say that the move was fired, so it changes nothing here." : null;
   return make("div", { class: "note wrong" },
     make("p", {}, make("b", {}, "This answer is wrong."), " A storage of one thread gives another one here."),
-    make("div", { class: "sides" }, side("told", "In the journal", event, event.reply, event.right), side("right", "Right answer", event, event.right, event.reply)),
+    make("div", { class: "sides" }, side("recorded", "In the journal", event, event.reply, event.right), side("right", "Right answer", event, event.right, event.reply)),
     after ? make("p", {}, after) : null);
 }
 function side(kind, title, event, answer, other) {
@@ -104,7 +104,7 @@ export function doubtNote(event) {
     : right === undefined ? "The changes that the trace has here aren't those of the instructions." : null;
   return make("div", { class: "note wrong" },
     make("p", {}, make("b", {}, "This event doesn't agree with the trace that it is in."), " The trace is made up or damaged, so nothing behind this event can be relied on."),
-    why ? make("p", {}, why) : make("div", { class: "sides" }, side("told", "In the trace", event, event.right ?? event.reply, right), side("right", "By its own state", event, right, event.right ?? event.reply)));
+    why ? make("p", {}, why) : make("div", { class: "sides" }, side("recorded", "In the trace", event, event.right ?? event.reply, right), side("right", "By its own state", event, right, event.right ?? event.reply)));
 }
 // Whether the right value of the location with this index differs from the journal's.
 export const isOther = (event, i) => event.isWrong && !isSame(event.reply.values[i], event.right.values[i]);

@@ -90,7 +90,7 @@ def try_conditions(tries: Tries, browser: Browser) -> None:
     tries.same('stock("rice") changes where it does', browser.run("watch(arguments[0]); return shown.onsets.map(it => it.count)", 'stock("rice") changes'), changed)
     for text, words in {'stock("rice" < 1': "is missing", "door <": "a value or a location is missing", 'door < "a"': "a number must follow <", "nosuch = 1": "no location of this run", "= 1": "choose a location", "door = 1 2": "the condition ends", "door ~ 1": "can't be read"}.items():
         browser.run("renewWatch(arguments[0]); showWatch()", text)
-        tries.claim(f"what {text} lacks is said", words in browser.text("watch-told").lower() and browser.find("watch").get_attribute("aria-invalid") == "true", browser.text("watch-told"))
+        tries.claim(f"what {text} lacks is said", words in browser.text("watch-result").lower() and browser.find("watch").get_attribute("aria-invalid") == "true", browser.text("watch-result"))
     browser.load(tries.trace("strange", strange()))
     tries.same("numbers of 64 bits are exact there", [len(browser.run(holding, f"big = {2**53 + it}")) for it in (0, 1, 2)], [1, 1, 0])
 
@@ -103,7 +103,7 @@ def try_condition_ways(tries: Tries, browser: Browser) -> None:
     browser.press("v")
     browser.press(f"open size = {size}", Keys.ENTER)
     tries.has("Enter goes to where it comes to hold", browser.title(), f"Event {starts[0] - 1} ")
-    tries.has("that is said", browser.text("watch-told"), "open becomes {")
+    tries.has("that is said", browser.text("watch-result"), "open becomes {")
     browser.press(Keys.ENTER)
     tries.has("and on", browser.title(), f"Event {starts[1] - 1} ")
     browser.press(Keys.ENTER, shift=True)

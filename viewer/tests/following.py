@@ -72,11 +72,11 @@ def try_chains(tries: Tries, browser: Browser) -> None:
     browser.press("z", shift=True)
     tries.has("with Shift to its first", browser.title(), f"Event {mine[0]} ")
     browser.press(Keys.HOME, "a")
-    tries.same("where no event is chosen that is said", browser.text("said"), "No event is chosen")
+    tries.same("where no event is chosen that is said", browser.text("toast"), "No event is chosen")
     clash = next(it for it, event in enumerate(BUSY.events) if isinstance(event.reply, Clashed))
     browser.slide(clash + 1)
     browser.press("t")
-    tries.same("so it is where there is no such event", browser.text("said"), "The event has no later try")
+    tries.same("so it is where there is no such event", browser.text("toast"), "The event has no later try")
 
 
 def try_between(tries: Tries, browser: Browser) -> None:

@@ -36,15 +36,15 @@ def try_onsets(tries: Tries, browser: Browser) -> None:
         if number == 0:
             label = browser.run("return shown.onset.label")
             value = moments(BUSY)[visited[0][0]][visited[0][1]]
-            tries.same("the location is named with its value", browser.text("watch-told"), f"{label} becomes {value} (1 of {len(wanted)}, at {len({it for _, it in wanted})} locations).")
+            tries.same("the location is named with its value", browser.text("watch-result"), f"{label} becomes {value} (1 of {len(wanted)}, at {len({it for _, it in wanted})} locations).")
             tries.same("its row is marked and in sight", browser.run("const it = document.querySelector('#state .row.onset'), box = document.getElementById('state').getBoundingClientRect(), row = it.getBoundingClientRect(); return row.top >= box.top && row.bottom <= box.bottom && it.innerText.split(/\\s/)[0]"), label)
     tries.same("n visits each of them", sorted(visited), wanted)
     both = journal_of((0, {"fire": [["put", ["s", 1], -1], ["put", ["s", 2], -2]], "reads": []}, {"fired": 1}), init=[[["s", 1], 1], [["s", 2], 2]])
     browser.load(tries.trace("both", both), "#if=s(*) < 0")
     browser.press("n")
-    first = browser.text("watch-told")
+    first = browser.text("watch-result")
     browser.press("n")
-    tries.same("two moments of one event are two", (first, browser.text("watch-told")), ("s(1) becomes -1 (1 of 2, at 2 locations).", "s(2) becomes -2 (2 of 2, at 2 locations)."))
+    tries.same("two moments of one event are two", (first, browser.text("watch-result")), ("s(1) becomes -1 (1 of 2, at 2 locations).", "s(2) becomes -2 (2 of 2, at 2 locations)."))
 
 
 def try_terms(tries: Tries, browser: Browser) -> None:
@@ -111,7 +111,7 @@ def try_retained(tries: Tries, browser: Browser) -> None:
     browser.load(tries.trace("warehouse", HISTORY), "#event=46")
     browser.choose_file(tries.file("refused", b"hello\n"))
     tries.same("a wrong file leaves the run that is shown", (browser.title()[:9], browser.text("name")), ("Event 46 ", "warehouse.trace"))
-    tries.has("and that is said", browser.text("refused-told"), "refused isn't shown. This is no trace")
+    tries.has("and that is said", browser.text("refused-reason"), "refused isn't shown. This is no trace")
     browser.click("refused-close")
     tries.claim("until that is closed", not browser.find("refused").is_displayed())
     browser.write("watch", 'stock("rice") < 199')
@@ -119,7 +119,7 @@ def try_retained(tries: Tries, browser: Browser) -> None:
     tries.same("Esc leaves the condition as it is", (browser.find("watch").get_attribute("value"), browser.run("return document.activeElement.id")), ('stock("rice") < 199', ""))
     browser.press("g")
     browser.press("99999", Keys.ENTER)
-    tries.same("a move above the last goes nowhere, and that is said", (browser.title()[:9], browser.text("said")), ("Event 46 ", f"The last move is move {HISTORY.moves()}"))
+    tries.same("a move above the last goes nowhere, and that is said", (browser.title()[:9], browser.text("toast")), ("Event 46 ", f"The last move is move {HISTORY.moves()}"))
 
 
 PARTS = {name[4:].replace("_", " "): run for name, run in list(globals().items()) if name.startswith("try_")}

@@ -43,7 +43,7 @@ def try_words(tries: Tries, browser: Browser) -> None:
         "x = 1 and y": "And joins two conditions.",
     }.items():
         browser.run("renewWatch(arguments[0]); showWatch()", text)
-        tries.same(f"{text} is answered", browser.text("watch-told"), words)
+        tries.same(f"{text} is answered", browser.text("watch-result"), words)
 
 
 def try_writing(tries: Tries, browser: Browser) -> None:
@@ -56,13 +56,13 @@ def try_writing(tries: Tries, browser: Browser) -> None:
     tries.same("Enter takes the one that is chosen", (browser.find("watch").get_attribute("value"), offered()), ("stock(*)", []))
     browser.press(" <")
     browser.wait_idle()
-    tries.same("nothing is called wrong while it is written", (browser.text("watch-told"), browser.find("watch").get_attribute("aria-invalid")), ("", "false"))
+    tries.same("nothing is called wrong while it is written", (browser.text("watch-result"), browser.find("watch").get_attribute("aria-invalid")), ("", "false"))
     browser.press(Keys.ENTER)
-    tries.claim("but behind Enter it is", "missing" in browser.text("watch-told") and browser.find("watch").get_attribute("aria-invalid") == "true", browser.text("watch-told"))
+    tries.claim("but behind Enter it is", "missing" in browser.text("watch-result") and browser.find("watch").get_attribute("aria-invalid") == "true", browser.text("watch-result"))
     browser.write("watch", "stock(*) <")
     browser.leave()
     browser.wait_idle()
-    tries.claim("and where the field is left", "missing" in browser.text("watch-told"), browser.text("watch-told"))
+    tries.claim("and where the field is left", "missing" in browser.text("watch-result"), browser.text("watch-result"))
 
 
 def try_track(tries: Tries, browser: Browser) -> None:

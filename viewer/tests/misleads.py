@@ -129,7 +129,7 @@ def try_filter_keys(tries: Tries, browser: Browser) -> None:
     tries.has("with a filter the next event is the next that is listed", browser.title(), f"Event {clashes[1]} ")
     browser.press("s")
     tries.has("a key for what isn't listed stays", browser.title(), f"Event {clashes[1]} ")
-    tries.same("and says so to all", (browser.text("said"), browser.find("spoken").get_attribute("textContent")), ("No later stale fire among those listed",) * 2)
+    tries.same("and says so to all", (browser.text("toast"), browser.find("spoken").get_attribute("textContent")), ("No later stale fire among those listed",) * 2)
     browser.press(Keys.END)
     tries.has("End goes to the last that is listed", browser.title(), f"Event {clashes[-1]} ")
     tries.same("there is no next one", (browser.find("on").is_enabled(), browser.find("back").is_enabled()), (False, True))

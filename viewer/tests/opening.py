@@ -232,7 +232,7 @@ def try_beside(tries: Tries, browser: Browser) -> None:
     tries.has("and the way there", browser.title(), "Event 60 ")
     browser.load(tries.trace("short", other), "#event=46")
     browser.choose_file(tries.trace("whole", history))
-    tries.same("a further file of the same run is shown where the one before was", (browser.title()[:9], browser.text("said")), ("Event 46 ", f"The run continues: {len(history.events) - 60} further events"))
+    tries.same("a further file of the same run is shown where the one before was", (browser.title()[:9], browser.text("toast")), ("Event 46 ", f"The run continues: {len(history.events) - 60} further events"))
 
 
 def call_of(event: Event) -> object:

@@ -55,7 +55,7 @@ def try_first_screen(tries: Tries, browser: Browser) -> None:
     browser.click("link")
     if browser.size[0] < 800:  # if the page is longer than the window, what is said covers the end of it
         return
-    covered = browser.run("""const box = document.getElementById("said").getBoundingClientRect(), below = document.elementsFromPoint(box.left + box.width / 2, box.top + box.height / 2).filter(it => !it.contains(document.getElementById("said")) && it.id !== "said");
+    covered = browser.run("""const box = document.getElementById("toast").getBoundingClientRect(), below = document.elementsFromPoint(box.left + box.width / 2, box.top + box.height / 2).filter(it => !it.contains(document.getElementById("toast")) && it.id !== "toast");
       return [box.width > 0, below.filter(it => !it.matches("html, body")).map(it => it.id || it.className)]""")
     tries.same("what is said covers nothing", covered, [True, []])
 

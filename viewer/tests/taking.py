@@ -16,7 +16,7 @@ from values import location_json, value_json
 
 def read_clipboard(browser: Browser, name: str) -> str:
     browser.click(name)
-    browser.until("return !document.getElementById('said').hidden", 5)
+    browser.until("return !document.getElementById('toast').hidden", 5)
     return browser.driver.execute_async_script("navigator.clipboard.readText().then(arguments[0], it => arguments[0](String(it)))")
 
 
@@ -27,7 +27,7 @@ def try_copying(tries: Tries, browser: Browser) -> None:
     state = moments(HISTORY)[61]
     link = read_clipboard(browser, "link")
     tries.claim("a link to what is shown is copied", link.startswith("file://") and link.endswith("#event=60&at=%5B%22packed%22%5D&kind=fired"), link)
-    tries.has("that is said", browser.text("said"), "Copied: a link")
+    tries.has("that is said", browser.text("toast"), "Copied: a link")
     browser.load(path, link[link.index("#"):])
     tries.has("and the link leads there", browser.title(), "Event 60 ")
     tries.same("a value is copied as JSON", json.loads(read_clipboard(browser, "writes-copy")), state['["packed"]'])

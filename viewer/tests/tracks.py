@@ -108,7 +108,7 @@ def try_pictures(tries: Tries, browser: Browser) -> None:
     size = browser.run("const it = pngCanvas(); return [it.width, it.height, new Set(new Uint32Array(it.getContext('2d').getImageData(0, 0, it.width, it.height).data.buffer)).size]")
     tries.claim("and as dots", size[0] > 500 and size[1] > 200 and size[2] > 20, size)
     browser.click("save-svg")
-    tries.has("that is said", browser.text("said"), "Saved: busy.trace.svg")
+    tries.has("that is said", browser.text("toast"), "Saved: busy.trace.svg")
     tries.same("the policy lets it be saved", [it for it in browser.problems() if "Security" in it], [])
 
 
