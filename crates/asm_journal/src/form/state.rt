@@ -24,6 +24,7 @@ pub(crate) struct StatePair(pub(crate) Location, pub(crate) Value);
 impl FromJson for StatePair {
     ghost is_form = { λ p. IsPairForm (p.0, p.1) };
 
+    #[tactic(auto, using(crate::proofs::Carried::carried_ok, crate::proofs::Carried::carried_err, crate::proofs::Carried::refused))]
     fn from_json(alloc: Global, json: &Json) -> Result<StatePair, FormError> {
         let Some((at, value)) = pair_items(json) else {
             return Err(FormError::of(alloc, FormCause::Pair));
