@@ -19,3 +19,9 @@ carried_err F d (Err e) f read is = λ fault. read (is fault)
 pub refused : {X J : Type 0} (F : X → J → Type 0) (d : J) (r : Result X FormError) (e : FormError) → IsErrAnd r (λ f. f ≡ e) → (IsFault e → (x : X) → F x d → ⊥) → IsRead F d r
 refused F d (Ok x) e is none = absurd is
 refused F d (Err f) e is none = subst (λ g. IsFault g → (x : _) → F x d → ⊥) (sym is) none
+
+-- what was read of a part is read with the longer path, too
+pub carried : {X J : Type 0} (F : X → J → Type 0) (d : J) (r s : Result X FormError) → IsRead F d r → IsCarried r s → IsRead F d s
+carried F d (Ok y) s read is = subst (λ q. IsRead F d q) (sym is) read
+carried F d (Err e) (Ok x) read is = absurd is
+carried F d (Err e) (Err f) read is = λ fault. read (is fault)

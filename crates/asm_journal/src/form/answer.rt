@@ -62,10 +62,10 @@ impl FromJson for Clash {
 
     fn from_json(alloc: Global, json: &Json) -> Result<Clash, FormError> {
         let Some((at, cause)) = pair_items(json) else {
-            return Err(FormError::of(alloc, FormCause::Clash));
+            return Err(FormError::of(alloc, FormCause::Reply));
         };
         let Some(cause) = read_cause(cause) else {
-            return Err(FormError::of(alloc, FormCause::Clash));
+            return Err(FormError::of(alloc, FormCause::Reply));
         };
         let at = Location::from_json(alloc, at).within(0)?;
         Ok(Clash { at, cause })
@@ -99,7 +99,7 @@ impl FromJson for Reply {
         if let Some(number) = one_member(json, "fired") {
             return match read_number(number) {
                 Some(number) => Ok(Reply::Fired(number)),
-                None => Err(FormError::of(alloc, FormCause::Number)),
+                None => Err(FormError::of(alloc, FormCause::Reply)),
             };
         }
         if let Some(at) = one_member(json, "stale") {
@@ -142,7 +142,7 @@ fn read_values(alloc: Global, number: &Json, values: &Json) -> Result<Answer, Fo
         (two_of (codes "number") (view number.now) (codes "values") (view values.now)) result }
 {
     let Some(number) = read_number(number) else {
-        return Err(FormError::of(alloc, FormCause::Number));
+        return Err(FormError::of(alloc, FormCause::Reply));
     };
     let values = Listed::<Value>::from_json(alloc, values).at("values")?;
     Ok(Answer::Read {

@@ -73,15 +73,19 @@ impl<T: FromJson> FromJson for Listed<T> {
 ///
 /// # Errors
 ///
-/// - `Form` if there are fewer or more operands, or the operand has another form.
+/// - `Form` if there are fewer or more operands, with this cause, or if the operand has another form.
 /// - `Memory` only if memory is refused.
-pub fn read_one<T: FromJson>(alloc: Global, items: &[Json]) -> Result<T, FormError>
+pub fn read_one<T: FromJson>(
+    alloc: Global,
+    items: &[Json],
+    cause: FormCause,
+) -> Result<T, FormError>
     ensures { IsRead (IsOnly T.is_form) (items_view items.now) result }
 {
     let mut items = items.iter();
     match (items.next(), items.next()) {
         (Some(item), None) => T::from_json(alloc, item).within(2),
-        _ => Err(FormError::of(alloc, FormCause::Operand)),
+        _ => Err(FormError::of(alloc, cause)),
     }
 }
 

@@ -33,7 +33,7 @@ impl FromJson for Named {
             return Err(FormError::of(alloc, FormCause::Read));
         };
         let Some(number) = read_number(number) else {
-            return Err(FormError::of(alloc, FormCause::Number));
+            return Err(FormError::of(alloc, FormCause::ReadNumber));
         };
         let at = Location::from_json(alloc, at).within(0)?;
         Ok(Named { at, number })
@@ -66,10 +66,12 @@ impl FromJson for Instructions {
     ghost is_form = { IsMoveForm };
 
     fn from_json(alloc: Global, json: &Json) -> Result<Instructions, FormError> {
-        let list = Listed::<Instruction>::from_json(alloc, json)?;
-        match instructions_of(alloc, list.into_vec())? {
+        let read = Listed::<Instruction>::from_json(alloc, json)?;
+        let list = read.into_vec();
+        let count = list.len();
+        match instructions_of(alloc, list)? {
             Some(instrs) => Ok(instrs),
-            None => Err(FormError::of(alloc, FormCause::Many)),
+            None => Err(FormError::of(alloc, FormCause::Many(count))),
         }
     }
 }
@@ -155,7 +157,7 @@ impl FromJson for Event {
             return Err(FormError::of(alloc, FormCause::Event));
         };
         let Some(agent) = read_number(agent) else {
-            return Err(FormError::of(alloc, FormCause::Number));
+            return Err(FormError::of(alloc, FormCause::Agent));
         };
         let call = Call::from_json(alloc, call).at("call")?;
         let answer = Answer::from_json(alloc, reply).at("reply")?;

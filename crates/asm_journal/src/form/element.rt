@@ -10,7 +10,7 @@ use crate::form::array::{array_of, push_items, read_items};
 use crate::form::fault::{FormCause, FormError, OfPart};
 use crate::form::object::{object_of, one_member};
 use crate::form::{FromJson, ToJson, read_form};
-use asm_element::{ElemList, ElemText, Element, Location};
+use asm_element::{ElemList, ElemText, Element, ListError, Location, LocationError};
 use serde_json::Value as Json;
 use std::alloc::{AllocError, Global};
 
@@ -86,7 +86,29 @@ fn read_element(alloc: Global, json: &Json) -> Result<Element, FormError>
         Json::Bool(truth) => Ok(Element::Bool(*truth)),
         Json::Number(_) => Ok(Element::Num(i64::from_json(alloc, json)?)),
         Json::String(text) => Ok(Element::Text(ElemText::new(text.clone()?))),
-        Json::Array(_) | Json::Object(_) => Err(FormError::of(alloc, FormCause::Element)),
+        Json::Array(_) | Json::Object(_) => Err(FormError::of(alloc, cause_of(json))),
+    }
+}
+
+/// Return why an array or an object is no element.
+fn cause_of(json: &Json) -> FormCause {
+    if one_member(json, "set").is_some() {
+        return FormCause::HeldSet;
+    }
+    if one_member(json, "bag").is_some() {
+        return FormCause::HeldBag;
+    }
+    if json.is_object() && one_member(json, "list").is_none() {
+        return FormCause::Object;
+    }
+    FormCause::List
+}
+
+/// Return why items are no list.
+fn list_cause(error: ListError) -> FormCause {
+    match error {
+        ListError::ManyItems => FormCause::LongList,
+        ListError::TooDeep => FormCause::DeepList,
     }
 }
 
@@ -101,7 +123,7 @@ fn read_list(alloc: Global, items: &[Json]) -> Result<Element, FormError>
     }
     match ElemList::new(found) {
         Ok(list) => Ok(Element::List(list)),
-        Err(_) => Err(FormError::of(alloc, FormCause::List)),
+        Err(error) => Err(FormError::of(alloc, list_cause(error))),
     }
 }
 
@@ -121,6 +143,14 @@ impl ToJson for Location {
         list.push(Json::try_from_str(alloc, self.name())?)?;
         push_items(alloc, &mut list, self.args())?;
         Ok(Json::Array(list))
+    }
+}
+
+/// Return why a name with arguments is no location.
+fn location_cause(error: LocationError) -> FormCause {
+    match error {
+        LocationError::BadName => FormCause::Name,
+        LocationError::ManyArgs => FormCause::Location,
     }
 }
 

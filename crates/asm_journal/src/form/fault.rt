@@ -24,26 +24,44 @@ pub enum FormCause {
     /// A whole number in the range of i64 is wanted.
     #[error("a number is whole, from -9,223,372,036,854,775,808 to 9,223,372,036,854,775,807")]
     Whole,
-    /// An element is wanted.
-    #[error("an element is null, true, false, a whole number, a text or {{\"list\":[..]}}")]
-    Element,
-    /// A list is too long or nests too deep.
-    #[error("a list has at most 4,096 items, and lists nest at most 8 deep")]
+    /// An array isn't an element, and a list's member isn't an array.
+    #[error("a list is written {{\"list\":[..]}}")]
     List,
+    /// A list has too many items.
+    #[error("a list has at most 4,096 items")]
+    LongList,
+    /// Lists nest too deep.
+    #[error("lists nest at most 8 deep")]
+    DeepList,
+    /// A set isn't an element.
+    #[error("it can't hold a set")]
+    HeldSet,
+    /// A bag isn't an element.
+    #[error("it can't hold a bag")]
+    HeldBag,
+    /// An object has other members than a value.
+    #[error("an object is a list, a set or a bag, and has one member")]
+    Object,
     /// A location is wanted.
     #[error("a location is an array of a name and at most 8 arguments")]
     Location,
+    /// The name of a location is wanted.
+    #[error("a name has 1 to 64 letters, digits and _, and begins with no digit")]
+    Name,
     /// An element is in the set twice.
-    #[error("an element is in a set twice")]
+    #[error("an element stands twice in a set")]
     SetTwice,
+    /// The counts of a bag are wanted.
+    #[error("a bag is written {{\"bag\":[[ELEMENT,COUNT],..]}}")]
+    Bag,
     /// An element and its amount or count are wanted.
-    #[error("an element and its amount or count are a pair")]
+    #[error("an element and its amount or count stand in pairs")]
     Counted,
     /// An amount or a count is wanted.
     #[error("an amount or a count is a whole number, from 1 to 4,294,967,295")]
     Amount,
     /// An element is in the bag twice.
-    #[error("an element is in a bag twice")]
+    #[error("an element stands twice in a bag")]
     BagTwice,
     /// An instruction is wanted.
     #[error("an instruction is an array of a word, a location and operands")]
@@ -51,39 +69,54 @@ pub enum FormCause {
     /// The word is none of an action.
     #[error("an instruction is put, add, remove, bagadd, bagremove or inc")]
     Word,
-    /// One operand is wanted.
-    #[error("put, add, remove and inc have one operand behind their location")]
-    Operand,
+    /// The operand of `put` is wanted.
+    #[error("put has a value behind its location")]
+    PutOperand,
+    /// The operand of `add` and `remove` is wanted.
+    #[error("add and remove have an element behind their location")]
+    SetOperand,
+    /// The operands of `bagadd` and `bagremove` are wanted.
+    #[error("bagadd and bagremove have an element and its amount behind their location")]
+    BagOperands,
+    /// The operand of `inc` is wanted.
+    #[error("inc has a number behind its location")]
+    IncOperand,
     /// A location and its value are wanted.
     #[error("a pair is an array of a location and its value")]
     Pair,
     /// A location is in the state twice.
-    #[error("a location is in a state twice")]
+    #[error("a location stands twice")]
     StateTwice,
     /// A declared read is wanted.
     #[error("a read is an array of a location and a number")]
     Read,
-    /// A number in the range of u32 is wanted.
-    #[error("a number is whole, from 0 to 4,294,967,295")]
-    Number,
-    /// A move has too many instructions.
+    /// The number of a declared read is wanted.
+    #[error("the number of a read is whole, from 0 to 4,294,967,295")]
+    ReadNumber,
+    /// A move has so many instructions, which are too many.
     #[error("a move has at most 4,096 instructions")]
-    Many,
+    Many(usize),
     /// A call is wanted.
-    #[error("a call is an object with the member read, or with fire and reads")]
+    #[error("a move is an object with the members fire and reads")]
     Call,
     /// An event is wanted.
     #[error("an event is an object with the members agent, call and reply")]
     Event,
-    /// A clash is wanted.
-    #[error("a clash is an array of a location and a cause")]
-    Clash,
-    /// Scans are wanted.
-    #[error("a scan is an array of a name and a number")]
-    Scan,
+    /// The number of an event's agent is wanted.
+    #[error("the agent is a whole number, from 0 to 4,294,967,295")]
+    Agent,
     /// A reply is wanted.
     #[error("the reply is none of a call")]
     Reply,
+    /// A scan is wanted.
+    #[error("a scan is an array of a name and a number")]
+    Scan,
+    /// A term is wanted.
+    #[error("a term is a value, {{\"val\":LOC}} or {{\"sum\":[TERM,TERM]}}, and a value is no object but a list, a set or a bag")]
+    Term,
+    /// The terms of a sum are wanted.
+    #[error("a sum is written {{\"sum\":[TERM,TERM]}}")]
+    Sum,
 }
 
 /// Where JSON has another form than its reader wants, and why.
@@ -92,6 +125,18 @@ pub struct FormFault {
     // from the part at fault up to the whole value
     path: Vec<Part>,
     cause: FormCause,
+}
+
+impl FormFault {
+    /// Return the steps to the part at fault, the innermost one first.
+    pub fn path(&self) -> &[Part] {
+        self.path.as_slice()
+    }
+
+    /// Return why the part has another form.
+    pub fn cause(&self) -> FormCause {
+        self.cause
+    }
 }
 
 /// Why JSON wasn't read.

@@ -91,18 +91,28 @@ fn read_action(alloc: Global, word: &str, operands: &[Json]) -> Result<Action, F
     ensures { IsRead (IsActionForm word.now) (items_view operands.now) result }
 {
     match word {
-        "put" => Ok(Action::Regular(read_one(alloc, operands)?)),
-        "add" => Ok(Action::SetAdd(read_one(alloc, operands)?)),
-        "remove" => Ok(Action::SetRemove(read_one(alloc, operands)?)),
+        "put" => Ok(Action::Regular(read_one(alloc, operands, FormCause::PutOperand)?)),
+        "add" => Ok(Action::SetAdd(read_one(alloc, operands, FormCause::SetOperand)?)),
+        "remove" => Ok(Action::SetRemove(read_one(alloc, operands, FormCause::SetOperand)?)),
         "bagadd" => {
-            let Counted(element, amount) = read_counted(alloc, operands, 2)?;
+            let Counted(element, amount) = read_counted(
+                alloc,
+                operands,
+                2,
+                FormCause::BagOperands,
+            )?;
             Ok(Action::BagAdd(element, amount))
         }
         "bagremove" => {
-            let Counted(element, amount) = read_counted(alloc, operands, 2)?;
+            let Counted(element, amount) = read_counted(
+                alloc,
+                operands,
+                2,
+                FormCause::BagOperands,
+            )?;
             Ok(Action::BagRemove(element, amount))
         }
-        "inc" => Ok(Action::Increment(read_one(alloc, operands)?)),
+        "inc" => Ok(Action::Increment(read_one(alloc, operands, FormCause::IncOperand)?)),
         _ => Err(FormError::of(alloc, FormCause::Word)),
     }
 }

@@ -86,15 +86,17 @@ pub fn read_amount(json: &Json) -> Option<Amount>
 pub(crate) struct Counted(pub(crate) Element, pub(crate) Amount);
 
 /// Read an element and its count, or its amount, from a list of two items. The first has this index in its array.
+/// Fewer or more items are refused for this cause.
 pub(crate) fn read_counted(
     alloc: Global,
     items: &[Json],
     first: usize,
+    cause: FormCause,
 ) -> Result<Counted, FormError>
     ensures { IsRead (λ c. IsCounted (c.0, c.1)) (items_view items.now) result }
 {
     let Some((element, amount)) = two_items(items) else {
-        return Err(FormError::of(alloc, FormCause::Counted));
+        return Err(FormError::of(alloc, cause));
     };
     let element = Element::from_json(alloc, element).within(first)?;
     match read_amount(amount) {
@@ -108,8 +110,8 @@ impl FromJson for Counted {
 
     fn from_json(alloc: Global, json: &Json) -> Result<Counted, FormError> {
         match json.as_array() {
-            Some(items) => read_counted(alloc, items, 0),
-            None => Err(FormError::of(alloc, FormCause::Counted)),
+            Some(items) => read_counted(alloc, items, 0, FormCause::Counted),
+            None => Err(FormError::of(alloc, FormCause::Bag)),
         }
     }
 }
