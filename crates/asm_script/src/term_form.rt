@@ -9,8 +9,8 @@ use crate::block::{TermAction, TermInstruction};
 use crate::term::Term;
 use asm_element::{Location, Value};
 use asm_journal::{
-    FormCause, FormError, FromJson, OfPart, instruction_parts, one_member, read_amount, read_one,
-    two_items,
+    FormCause, FormError, FormFault, FromJson, OfPart, instruction_parts, one_member, read_amount,
+    read_one, two_items,
 };
 use asm_update::Amount;
 use serde_json::Value as Json;
@@ -22,6 +22,17 @@ fn terms_of(json: &Json) -> Option<(&Json, &Json)>
     ensures none { IfNone result ((a b : Data) → view json.now ≢ sum_json_of a b) }
 {
     two_items(one_member(json, "sum")?.as_array()?)
+}
+
+/// Return why JSON is no term, where it is no value for this fault, and no location's.
+fn no_term(alloc: Global, json: &Json, fault: FormFault) -> FormError {
+    if one_member(json, "sum").is_some() {
+        return FormError::of(alloc, FormCause::Sum);
+    }
+    if fault.cause() == FormCause::Object && fault.path().is_empty() {
+        return FormError::of(alloc, FormCause::Term);
+    }
+    FormError::Form(fault)
 }
 
 /// Return the term that the JSON writes, if it writes one.
@@ -40,7 +51,7 @@ fn read_term(alloc: Global, json: &Json) -> Result<Term, FormError>
         return Ok(Term::Val(at));
     }
     let Some((first, second)) = terms_of(json) else {
-        return Err(FormError::Form(fault));
+        return Err(no_term(alloc, json, fault));
     };
     let first = read_term(alloc, first).within(0).at("sum")?;
     let second = read_term(alloc, second).within(1).at("sum")?;
@@ -60,7 +71,7 @@ fn read_counted(alloc: Global, items: &[Json]) -> Result<(Term, Amount), FormErr
     ensures { IsRead (λ p. IsCounted p.0 p.1) (items_view items.now) result }
 {
     let Some((term, amount)) = two_items(items) else {
-        return Err(FormError::of(alloc, FormCause::Counted));
+        return Err(FormError::of(alloc, FormCause::BagOperands));
     };
     let term = read_term(alloc, term).within(2)?;
     match read_amount(amount) {
@@ -74,9 +85,9 @@ fn read_action(alloc: Global, word: &str, operands: &[Json]) -> Result<TermActio
     ensures { IsRead (IsActionForm word.now) (items_view operands.now) result }
 {
     match word {
-        "put" => Ok(TermAction::Put(read_one(alloc, operands)?)),
-        "add" => Ok(TermAction::Add(read_one(alloc, operands)?)),
-        "remove" => Ok(TermAction::Remove(read_one(alloc, operands)?)),
+        "put" => Ok(TermAction::Put(read_one(alloc, operands, FormCause::PutOperand)?)),
+        "add" => Ok(TermAction::Add(read_one(alloc, operands, FormCause::SetOperand)?)),
+        "remove" => Ok(TermAction::Remove(read_one(alloc, operands, FormCause::SetOperand)?)),
         "bagadd" => {
             let (term, amount) = read_counted(alloc, operands)?;
             Ok(TermAction::BagAdd(term, amount))
@@ -85,7 +96,7 @@ fn read_action(alloc: Global, word: &str, operands: &[Json]) -> Result<TermActio
             let (term, amount) = read_counted(alloc, operands)?;
             Ok(TermAction::BagRemove(term, amount))
         }
-        "inc" => Ok(TermAction::Increment(read_one(alloc, operands)?)),
+        "inc" => Ok(TermAction::Increment(read_one(alloc, operands, FormCause::IncOperand)?)),
         _ => Err(FormError::of(alloc, FormCause::Word)),
     }
 }
