@@ -2,10 +2,10 @@
 use Rattle.std.proofs.Common.{◌≡◌, ◌↔◌, ℕ, Bool, true, List, ◌++◌, Result, Ok, Err, IfOk, IfErr, string_bytes, refl, sym, subst, inl, inr}
 use Rattle.std.proofs.KnownBytes.{Appends-trans}
 use Rattle.std.specs.Io.KnownBytes.{Appends}
-use Rattle.asm_audit.specs.declared.reading.Verdict.{Verdict}
+use Rattle.asm_audit.specs.declared.progress.Counts.{Counts}
 use Rattle.asm_driver.specs.Ports.{Known}
 use Rattle.asm_driver.specs.Refusal.{refusal_line, refusal_status}
-use Rattle.asm_driver.specs.Run.{Input, Output, output_of, input_of, IsUnread, IsAnswer, IsNoAnswer, IsAnswerTo, Writes, Refuses, TellsVerdict, Watches, Runs, HasFailed, Takes}
+use Rattle.asm_driver.specs.Run.{Input, Output, output_of, input_of, IsUnread, IsAnswer, IsNoAnswer, IsAnswerTo, Writes, Refuses, WritesLegal, Watches, Runs, HasFailed, Takes}
 use Rattle.asm_driver.specs.Watch.{IsWatchEnd}
 use Rattle.asm_driver.specs.Window.{IsWindow}
 use Rattle.asm_driver.specs.Words.{Words, AsksFor, IsRefusal}
@@ -104,11 +104,11 @@ module _ (every : ℕ) (had left held mid holds : Known) (read failed flushed : 
   abbrev o : Output
   o = output_of held holds failed flushed
 
-  pub watched_verdict : (v : Verdict) → IsWatchEnd every had left read held mid (Ok v) →
-      TellsVerdict v (output_of mid holds failed flushed) result → Watches every i o result
-  watched_verdict v (reported, before, is) (inl writes) =
+  pub watched_legal : (v : Counts) → IsWatchEnd every had left read held mid (Ok v) →
+      WritesLegal v (output_of mid holds failed flushed) result → Watches every i o result
+  watched_legal v (reported, before, is) (inl writes) =
       inl (Ok v, reported, _, _, is, (refl, refl), writes_behind held mid holds failed flushed reported _ _ result before writes)
-  watched_verdict v (reported, before, is) (inr writes) = inl (
+  watched_legal v (reported, before, is) (inr writes) = inl (
     Err refusal.Memory,
     reported,
     _,

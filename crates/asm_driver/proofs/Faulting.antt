@@ -12,9 +12,8 @@ use Rattle.asm_driver.specs.declared.program.refusal.Refusal.{Refusal}
 use Rattle.asm_driver.specs.declared.program.refusal.Refusal.TheVariants as refusal
 use Rattle.asm_driver.specs.declared.program.words.Request.{Request}
 use Rattle.asm_driver.specs.declared.program.words.Request.TheVariants.{Run, Terms, Check, Show, Audit, Explain}
-use Rattle.asm_audit.specs.declared.reading.Verdict.{Verdict}
-use Rattle.asm_audit.specs.declared.reading.Verdict.TheVariants as verdict
-use Rattle.asm_driver.specs.Audit.{verdict_status, is_failed_read}
+use Rattle.asm_audit.specs.declared.progress.Counts.{Counts}
+use Rattle.asm_driver.specs.Audit.{is_failed_read}
 
 -- it has failed, and it hasn't
 both : true ≡ false → ⊥
@@ -34,11 +33,6 @@ done_works bytes (Audit every) status text done e = absurd done
 done_works bytes (Explain t) status text (inl done) e = omega (arith, done.0, e)
 done_works bytes (Explain t) status text (inr done) e = omega (arith, done.0, e)
 done_works bytes request status text done e = omega (arith, done.0, e)
-
--- and so has a verdict
-verdict_works : (v : Verdict) → verdict_status v ≡ 4 → ⊥
-verdict_works (verdict.Legal w) e = cc (e)
-verdict_works (verdict.Illegal part call) e = cc (e)
 
 answer_works : (words : Words) (i : Input) (status : ℕ) (text : List ℕ) → IsAnswer words i status text → status ≡ 4 → ⊥
 answer_works words i status text (inl (bytes, request, whole, asks, done)) e = done_works bytes request status text
@@ -132,13 +126,13 @@ faults_refused given i o r result none (shown, is, writes) = (there writes, back
       subst (λ x. result ≡ refusal_status x) fault same
 
 -- a watched audit has the status of a fault if a read failed
-ends_four : (r : Result Verdict Refusal) (status : ℕ) (text : List ℕ) → EndsAs r status text → status ≡ 4 →
+ends_four : (r : Result Counts Refusal) (status : ℕ) (text : List ℕ) → EndsAs r status text → status ≡ 4 →
     is_failed_read r ≡ true
-ends_four (Ok v) status text ends e = absurd (verdict_works v (sym ends.0 ∙ e))
+ends_four (Ok v) status text ends e = absurd (omega (arith, ends.0, e))
 ends_four (Err r) status text (shown, is, same, written) e =
     ap (λ (x : Refusal). is_failed_read (Err x)) (shown_fault r shown is (four shown (sym same ∙ e)))
 
-read_four : (r : Result Verdict Refusal) (status : ℕ) (text : List ℕ) → EndsAs r status text → is_failed_read r ≡ true →
+read_four : (r : Result Counts Refusal) (status : ℕ) (text : List ℕ) → EndsAs r status text → is_failed_read r ≡ true →
     status ≡ 4
 read_four (Ok v) status text ends e = absurd (both (sym e))
 read_four (Err r) status text (shown, is, same, written) e =

@@ -38,10 +38,10 @@ any_taken had old new text before at (more, consumed) =
 
 -- ---- what is reported at a line
 
-module _ (had left : Known) (failed : Bool) (text : List ℕ) (Told : List ℕ → Refusal → Type 0) where
+module _ (had left : Known) (failed : Bool) (text : List ℕ) (Report : List ℕ → Refusal → Type 0) where
   -- what is reported of any text
   pub reported_anywhere : (r : Refusal) (behind : List ℕ) → Consumes had left (text ++ behind) →
-      failed ≡ is_failed_read (Err r) → ((all : List ℕ) → Told all r) → IsToldBehind had left failed text Told r
+      failed ≡ is_failed_read (Err r) → ((all : List ℕ) → Report all r) → IsToldBehind had left failed text Report r
   reported_anywhere r behind consumed noted any = record {
     line = [];
     behind = behind;
@@ -53,8 +53,8 @@ module _ (had left : Known) (failed : Bool) (text : List ℕ) (Told : List ℕ �
 
   -- what is reported at a line, whatever follows it
   pub reported_at : (r : Refusal) (line behind : List ℕ) → IsAt had left (text ++ line) behind → IsLineAt left behind line →
-      failed ≡ is_failed_read (Err r) → ((rest : List ℕ) → IsLineOf line rest → Told (text ++ (line ++ rest)) r) →
-      IsToldBehind had left failed text Told r
+      failed ≡ is_failed_read (Err r) → ((rest : List ℕ) → IsLineOf line rest → Report (text ++ (line ++ rest)) r) →
+      IsToldBehind had left failed text Report r
   reported_at r line behind at (inl (body, ends)) noted is = record {
     line = line;
     behind = behind;
@@ -68,7 +68,7 @@ module _ (had left : Known) (failed : Bool) (text : List ℕ) (Told : List ℕ �
     behind = behind;
     consumed = subst (Consumes had left) (append_assoc text line behind) at;
     one = inl none;
-    reported = inl (end, nothing, subst (λ (l : List ℕ). Told (text ++ l) r) (append-nil line) (is [] (last line none)));
+    reported = inl (end, nothing, subst (λ (l : List ℕ). Report (text ++ l) r) (append-nil line) (is [] (last line none)));
     noted = noted;
   } where
     last : (l : List ℕ) → HasNoLineFeed l → IsLineOf l []
@@ -78,12 +78,12 @@ module _ (had left : Known) (failed : Bool) (text : List ℕ) (Told : List ℕ �
 -- ---- a line that wasn't read
 
 pub unread_reported : (had old new : Known) (failed : Bool) (text before behind line : List ℕ)
-    (Told : List ℕ → Refusal → Type 0) (e : InputError) → IsAt had old text before →
-    IsLineRead old new failed before behind line (Err e) → ((all : List ℕ) → Told all refusal.InputFault) →
-    ((all : List ℕ) → Told all refusal.Memory) →
-    ((long more : List ℕ) → IsLongLine long → Told (text ++ (long ++ more)) refusal.TooLarge) →
-    IsToldBehind had new failed text Told (refusal_of_input e)
-unread_reported had old new failed text before behind line Told TooLarge at (long, taken, is, noted) fault memory large = record {
+    (Report : List ℕ → Refusal → Type 0) (e : InputError) → IsAt had old text before →
+    IsLineRead old new failed before behind line (Err e) → ((all : List ℕ) → Report all refusal.InputFault) →
+    ((all : List ℕ) → Report all refusal.Memory) →
+    ((long more : List ℕ) → IsLongLine long → Report (text ++ (long ++ more)) refusal.TooLarge) →
+    IsToldBehind had new failed text Report (refusal_of_input e)
+unread_reported had old new failed text before behind line Report TooLarge at (long, taken, is, noted) fault memory large = record {
   line = long;
   behind = behind;
   consumed = subst (Consumes had new) (append_assoc text long behind) (taken_on had old new text before behind long at taken);
@@ -91,11 +91,11 @@ unread_reported had old new failed text before behind line Told TooLarge at (lon
   reported = inr (λ more. large long more is);
   noted = noted;
 }
-unread_reported had old new failed text before behind line Told Fault at (taken, noted) fault memory large =
-    reported_anywhere had new failed text Told refusal.InputFault (before ++ taken.0) (any_taken had old new text before at taken)
+unread_reported had old new failed text before behind line Report Fault at (taken, noted) fault memory large =
+    reported_anywhere had new failed text Report refusal.InputFault (before ++ taken.0) (any_taken had old new text before at taken)
     noted fault
-unread_reported had old new failed text before behind line Told Memory at (taken, noted) fault memory large =
-    reported_anywhere had new failed text Told refusal.Memory (before ++ taken.0) (any_taken had old new text before at taken) noted
+unread_reported had old new failed text before behind line Report Memory at (taken, noted) fault memory large =
+    reported_anywhere had new failed text Report refusal.Memory (before ++ taken.0) (any_taken had old new text before at taken) noted
     memory
 
 -- ---- lines

@@ -1,25 +1,21 @@
 -- What is written while an audit runs.
 use Rattle.std.proofs.Common.{◌≡◌, ◌≢◌, ◌+◌, ℕ, Bool, true, false, List, [], ◌∷◌, ◌++◌, take, length, Result, Ok, Err}
-use Rattle.std.proofs.Common.{refl, sym, ap, subst, ◌∙◌, inl, inr, append-nil, append_assoc, drop, take-append-drop}
+use Rattle.std.proofs.Common.{refl, sym, ap, subst, ◌∙◌, inl, inr, append-nil, append_assoc}
 use Rattle.std.proofs.KnownBytes.{Consumes-trans, Consumes-nil, Consumes-kept, Appends-nil, Appends-trans}
 use Rattle.std.proofs.lemmas.List.Elements.{All-nil}
 use Rattle.std.proofs.Math.Seq.{take-append-add}
 use Rattle.std.specs.Io.KnownBytes.{Keeps, Consumes, Appends, IsAtEnd}
 use Rattle.asm_journal.specs.Reading.{HasNoLineFeed}
 use Rattle.asm_audit.specs.Audited.{IsVerdict}
-use Rattle.asm_audit.specs.Fed.{IsFed, HasTakenLine, IsFedEnd}
+use Rattle.asm_audit.specs.Fed.{IsFed, FeedsLine, IsFedEnd}
 use Rattle.asm_audit.proofs.Fed.{some_first}
 use Rattle.asm_audit.specs.SoFar.{AreFedSoFar}
 use Rattle.asm_audit.specs.declared.error.AuditError.{AuditError}
-use Rattle.asm_audit.specs.declared.error.AuditError.TheVariants.{Journal, Apart, LongLine, Memory}
+use Rattle.asm_audit.specs.declared.error.AuditError.TheVariants.{Journal, Apart, Illegal, LongLine, Memory}
 use Rattle.asm_audit.specs.declared.progress.Counts.{Counts}
 use Rattle.asm_audit.specs.declared.progress.Progress.{Progress}
-use Rattle.asm_audit.specs.declared.progress.Told.{Told}
-use Rattle.asm_audit.specs.declared.progress.Told.TheVariants as reports
-use Rattle.asm_audit.specs.declared.reading.Verdict.{Verdict}
-use Rattle.asm_audit.specs.declared.reading.Verdict.TheVariants.{Legal, Illegal}
 use Rattle.asm_aggregate.specs.Standard.{standard_part}
-use Rattle.asm_driver.specs.Audit.{IsAuditOf, IsBadRun, is_failed_read, refusal_of_audit}
+use Rattle.asm_driver.specs.Audit.{IsBadRun, is_failed_read, refusal_of_audit}
 use Rattle.asm_driver.specs.Ports.{Known, AppendsSome}
 use Rattle.asm_driver.specs.Watch.{IsToldOf, IsToldBehind, IsWatchTold, IsWatched, IsStopped, IsWatchAnswer, AddsDue}
 use Rattle.asm_driver.specs.Watch.{IsWrittenAnswer, IsWatchEnd}
@@ -33,12 +29,14 @@ use Rattle.asm_driver.proofs.Lines.{reported_bytes, reported_more}
 pub bad_run : (text : List ℕ) (e : AuditError) → IsVerdict standard_part text (Err e) → IsBadRun text (refusal_of_audit e)
 bad_run text (Journal part fault) is = is
 bad_run text (Apart part) is = is
+bad_run text (Illegal part call) is = is
 bad_run text LongLine is = is
 bad_run text Memory is = tt
 
 pub no_read : (e : AuditError) → is_failed_read (Err (refusal_of_audit e)) ≡ false
 no_read (Journal part fault) = refl
 no_read (Apart part) = refl
+no_read (Illegal part call) = refl
 no_read LongLine = refl
 no_read Memory = refl
 
@@ -47,9 +45,9 @@ no_read Memory = refl
 -- the audit ends behind these bytes
 module _ (every : ℕ) (text reported rest : List ℕ) (p q : Progress) (line left : List ℕ) (n : ℕ) (w : IsWatched every text p line reported)
   where
-    stopped_at : (front behind : List ℕ) (b : ℕ) (more : List ℕ) (r : Result Verdict Refusal) → front ++ behind ≡ rest →
-        behind ≡ b ∷ more → HasNoLineFeed front → is_failed_read r ≡ false →
-        ((after : List ℕ) → IsAuditOf ((text ++ front) ++ b ∷ after) r) → IsStopped every text rest reported r
+    stopped_at : (front behind : List ℕ) (b : ℕ) (more : List ℕ) (r : Refusal) → front ++ behind ≡ rest →
+        behind ≡ b ∷ more → HasNoLineFeed front → is_failed_read (Err r) ≡ false →
+        ((after : List ℕ) → IsBadRun ((text ++ front) ++ b ∷ after) r) → IsStopped every text rest reported r
     stopped_at front behind b more r all is none noted ends = record {
       front = front;
       next = b;
@@ -60,29 +58,22 @@ module _ (every : ℕ) (text reported rest : List ℕ) (p q : Progress) (line le
       ends = ends;
     }
 
-    pub stopped_wrong : (j c : ℕ) → HasTakenLine standard_part rest p line q left n (Ok (reports.Illegal j c)) →
-        IsStopped every text rest reported (Ok (Illegal j c))
-    stopped_wrong j c t =
-        let (none, (b, more, is, answer)) = t.ends in
-        stopped_at t.front t.behind b more (Ok (Illegal j c)) t.all is none refl
-        (λ after. answer (text ++ t.front) after (t.taken text w.fed))
-
-    pub stopped_fault : (e : AuditError) → HasTakenLine standard_part rest p line q left n (Err e) →
-        IsStopped every text rest reported (Err (refusal_of_audit e))
+    pub stopped_fault : (e : AuditError) → FeedsLine standard_part rest p line q left n (Err e) →
+        IsStopped every text rest reported (refusal_of_audit e)
     stopped_fault e t =
         let (none, (b, more, is, answer)) = t.ends in
-        stopped_at t.front t.behind b more (Err (refusal_of_audit e)) t.all is none (no_read e)
+        stopped_at t.front t.behind b more (refusal_of_audit e) t.all is none (no_read e)
         (λ after. bad_run ((text ++ t.front) ++ b ∷ after) e (answer (text ++ t.front) after (t.taken text w.fed)))
 
     -- there is no memory for the line that is due
-    pub stopped_memory : rest ≢ [] → IsStopped every text rest reported (Err refusal.Memory)
+    pub stopped_memory : rest ≢ [] → IsStopped every text rest reported refusal.Memory
     stopped_memory some =
         let (b, more, is) = some_first rest some in
-        stopped_at [] rest b more (Err refusal.Memory) refl is (All-nil (λ b. b ≢ 10)) refl (λ after. tt)
+        stopped_at [] rest b more refusal.Memory refl is (All-nil (λ b. b ≢ 10)) refl (λ after. tt)
 
 -- a line was consumed, or what is left of one
 pub line_taken : (every : ℕ) (text before old new rest : List ℕ) (p q : Progress) (line left : List ℕ) (n : ℕ) (x y : Counts) →
-    IsWatched every text p line (before ++ old) → (t : HasTakenLine standard_part rest p line q left n (Ok reports.Legal)) →
+    IsWatched every text p line (before ++ old) → (t : FeedsLine standard_part rest p line q left n (Ok tt)) →
     AreFedSoFar standard_part p line x → AreFedSoFar standard_part q left y → AddsDue every x y old new →
     IsWatched every (text ++ t.front) q left (before ++ new)
 line_taken every text before old new rest p q line left n x y w t here there (first, due, added) =
@@ -96,7 +87,7 @@ line_taken every text before old new rest p q line left n x y w t here there (fi
     }
 
 -- if the audit ends within the rest of some bytes, it ends within all of them
-pub stopped_more : (every : ℕ) (text done rest whole reported : List ℕ) (r : Result Verdict Refusal) → done ++ rest ≡ whole →
+pub stopped_more : (every : ℕ) (text done rest whole reported : List ℕ) (r : Refusal) → done ++ rest ≡ whole →
     IsStopped every (text ++ done) rest reported r → IsStopped every text whole reported r
 stopped_more every text done rest whole reported r all s =
     let here : (text ++ done) ++ s.front ≡ text ++ (done ++ s.front) = append_assoc text done s.front in
@@ -107,31 +98,24 @@ stopped_more every text done rest whole reported r all s =
       all = append_assoc done s.front (s.next ∷ s.behind) ∙ ap (λ t. done ++ t) s.all ∙ all;
       watched = subst (λ (t : List ℕ). IsToldOf every t reported) here s.watched;
       noted = s.noted;
-      ends = λ more. subst (λ (t : List ℕ). IsAuditOf (t ++ s.next ∷ more) r) here (s.ends more);
+      ends = λ more. subst (λ (t : List ℕ). IsBadRun (t ++ s.next ∷ more) r) here (s.ends more);
     }
 
 -- ---- what is written for some bytes
 
 -- the text that was due, if the output failed
-cut_within : (every : ℕ) (text bytes : List ℕ) (q : Progress) (left reported : List ℕ) (r : Result Told AuditError) →
+cut_within : (every : ℕ) (text bytes : List ℕ) (q : Progress) (left reported : List ℕ) (r : Result (Unit {0}) AuditError) →
     IsWatchAnswer every text bytes q left reported r →
     (front behind : List ℕ) × (front ++ behind ≡ bytes) × IsToldOf every (text ++ front) reported
-cut_within every text bytes q left reported (Ok reports.Legal) w = (bytes, [], append-nil bytes, w.watched)
-cut_within every text bytes q left reported (Ok (reports.Illegal j c)) s = (s.front, s.next ∷ s.behind, s.all, s.watched)
+cut_within every text bytes q left reported (Ok u) w = (bytes, [], append-nil bytes, w.watched)
 cut_within every text bytes q left reported (Err e) s = (s.front, s.next ∷ s.behind, s.all, s.watched)
 
 pub written_cut : (every : ℕ) (text bytes before lines : List ℕ) (q : Progress) (left : List ℕ) (held holds : Known)
-    (r : Result Told AuditError) → AppendsSome held holds lines → IsWatchAnswer every text bytes q left (before ++ lines) r →
+    (r : Result (Unit {0}) AuditError) → AppendsSome held holds lines → IsWatchAnswer every text bytes q left (before ++ lines) r →
     IsWrittenAnswer every text bytes q left before held holds (Err Unwritten)
 written_cut every text bytes before lines q left held holds r some answer =
     let parts = cut_within every text bytes q left (before ++ lines) r answer in
     (lines, parts.0, parts.1, some, parts.2, parts.3)
-
-pub written_all : (every : ℕ) (text bytes before lines : List ℕ) (q : Progress) (left : List ℕ) (held holds : Known)
-    (t : Told) → Appends held holds lines → IsWatchAnswer every text bytes q left (before ++ lines) (Ok t) →
-    IsWrittenAnswer every text bytes q left before held holds (Ok t)
-written_all every text bytes before lines q left held holds reports.Legal all answer = (lines, all, answer)
-written_all every text bytes before lines q left held holds (reports.Illegal j c) all answer = (lines, all, answer)
 
 pub no_lines : (every : ℕ) (text before lines : List ℕ) (p : Progress) (line : List ℕ) → lines ≡ [] →
     IsWatched every text p line before → IsWatched every text p line (before ++ lines)
@@ -206,7 +190,7 @@ module _ (every : ℕ) (had mid held wrote : Known) (p : Progress) (line : List 
 
     -- no byte was left
     pub end_all : (c : Counts) → IsFedEnd standard_part p line (Ok c) →
-        IsWatchEnd every had left failed held wrote (Ok (Legal c))
+        IsWatchEnd every had left failed held wrote (Ok c)
     end_all c is = (
       w.reported,
       w.appended,
@@ -241,8 +225,8 @@ module _ (every : ℕ) (had mid held wrote : Known) (p : Progress) (line : List 
     all_consumed : Consumes had left (w.bytes ++ bytes)
     all_consumed = Consumes-trans had mid left w.bytes bytes w.consumed taken
 
-    stopped_to : (reported : List ℕ) (r : Result Verdict Refusal) → IsStopped every w.bytes bytes reported r →
-        IsWatchTold every had left failed r reported
+    stopped_to : (reported : List ℕ) (r : Refusal) → IsStopped every w.bytes bytes reported r →
+        IsWatchTold every had left failed (Err r) reported
     stopped_to reported r s = record {
       taken = w.bytes ++ s.front;
       behind = s.next ∷ s.behind;
@@ -253,7 +237,7 @@ module _ (every : ℕ) (had mid held wrote : Known) (p : Progress) (line : List 
       noted = noted ∙ sym s.noted;
     }
 
-    pub chunk_on : IsWrittenAnswer every w.bytes bytes q next w.reported wrote holds (Ok reports.Legal) →
+    pub chunk_on : IsWrittenAnswer every w.bytes bytes q next w.reported wrote holds (Ok tt) →
         IsWatchedTo every had left held holds q next
     chunk_on (more, appended, watched) = record {
       bytes = w.bytes ++ bytes;
@@ -263,20 +247,12 @@ module _ (every : ℕ) (had mid held wrote : Known) (p : Progress) (line : List 
       watched = watched;
     }
 
-    pub chunk_wrong : (j c : ℕ) → IsWrittenAnswer every w.bytes bytes q next w.reported wrote holds (Ok (reports.Illegal j c)) →
-        IsWatchEnd every had left failed held holds (Ok (Illegal j c))
-    chunk_wrong j c (more, appended, s) = (
-      w.reported ++ more,
-      Appends-trans held wrote holds w.reported more w.appended appended,
-      stopped_to (w.reported ++ more) (Ok (Illegal j c)) s,
-    )
-
     pub chunk_stopped : (stop : Stop) → IsWrittenAnswer every w.bytes bytes q next w.reported wrote holds (Err stop) →
         IsWatchEnd every had left failed held holds (Err stop)
     chunk_stopped (Refused r) (more, appended, s) = (
       w.reported ++ more,
       Appends-trans held wrote holds w.reported more w.appended appended,
-      stopped_to (w.reported ++ more) (Err r) s,
+      stopped_to (w.reported ++ more) r s,
     )
     chunk_stopped Unwritten (more, front, behind, some, all, watched) = (
       w.reported ++ more,
@@ -291,8 +267,8 @@ module _ (every : ℕ) (had mid held wrote : Known) (p : Progress) (line : List 
       noted,
     )
 
--- there is no memory for the line of a verdict
-pub memory_instead : (every : ℕ) (had left : Known) (failed : Bool) (v : Verdict) (reported : List ℕ) →
+-- there is no memory for the line of a legal run
+pub memory_instead : (every : ℕ) (had left : Known) (failed : Bool) (v : Counts) (reported : List ℕ) →
     IsWatchTold every had left failed (Ok v) reported → IsWatchTold every had left failed (Err refusal.Memory) reported
 memory_instead every had left failed v reported w = record {
   taken = w.taken;

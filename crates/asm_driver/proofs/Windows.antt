@@ -12,15 +12,16 @@ use Rattle.asm_storage.specs.declared.history.Event.{Event}
 use Rattle.asm_storage.proofs.Legal.{fired_moves-append}
 use Rattle.asm_journal.specs.Check.{machine}
 use Rattle.asm_journal.specs.Text.{line}
-use Rattle.asm_audit.specs.declared.opened.Opened as audit
-use Rattle.asm_audit.specs.Opened.{history_of}
+use Rattle.asm_audit.specs.declared.part_auditor.PartAuditor.{PartAuditor}
+use Rattle.asm_audit.specs.PartAuditor.{history_of}
 use Rattle.asm_audit.proofs.Extended.{begun_more}
 use Rattle.asm_audit.proofs.Steps.{legal_more}
 use Rattle.asm_trace.specs.Note.{Note, IsNoteOf, AreNotesOf}
-use Rattle.asm_trace.specs.Text.{notes_text, note_json_of, IsNoted}
+use Rattle.asm_trace.specs.Text.{notes_text, note_json_of, IsNoteAppended}
 use Rattle.asm_trace.proofs.Noted.{notes_more, text_more, few_moves}
+use Rattle.asm_driver.specs.Audit.{IsBadRun}
 use Rattle.asm_driver.specs.Ports.{Known}
-use Rattle.asm_driver.specs.Parts.{IsPartRead, AreParts, IsAt, IsOneLine, IsRefusedRun, IsToldBehind}
+use Rattle.asm_driver.specs.Parts.{IsPartRead, AreParts, IsAt, IsOneLine, IsToldBehind}
 use Rattle.std.specs.FinMap as finite
 use Rattle.serde_json.specs.Data.{Data}
 use Rattle.serde_json.specs.Written.{has_float}
@@ -29,7 +30,6 @@ use Rattle.asm_journal.specs.Value.{IsStateForm, pair_json_of}
 use Rattle.asm_journal.proofs.Floats.{list_no_float, pair_no_float}
 use Rattle.asm_audit.specs.Step.{HasValues}
 use Rattle.asm_audit.proofs.SameState.{IsHeld, proper_held, written_held, left_held, same_values}
-use Rattle.asm_driver.specs.declared.program.parts.Opened.{Opened}
 use Rattle.asm_driver.specs.Window.{end_in, LiesIn, window_header, window_header_with, IsShown, HasFewCalls, IsBadWindow, IsInside, IsWindow, IsNoWindow, IsUpTo}
 use Rattle.asm_driver.specs.declared.program.refusal.Refusal.{Refusal}
 use Rattle.asm_driver.specs.declared.program.refusal.Refusal.TheVariants as refusal
@@ -39,13 +39,13 @@ use Rattle.asm_driver.proofs.LinesTaken.{reported_anywhere}
 -- ---- refusals
 
 -- why a run is refused is also why it has no such window
-pub bad_window : (w : Window) (text : List ℕ) (r : Refusal) → IsRefusedRun text r → IsBadWindow w text r
+pub bad_window : (w : Window) (text : List ℕ) (r : Refusal) → IsBadRun text r → IsBadWindow w text r
 bad_window w text (refusal.FewCalls part calls) is = absurd is
 bad_window w text (refusal.FewParts parts) is = absurd is
 bad_window w text r is = is
 
 pub refused_window : (w : Window) (had left : Known) (failed : Bool) (text : List ℕ) (r : Refusal) → IsInside w text →
-    IsToldBehind had left failed text IsRefusedRun r → IsNoWindow w had left failed r
+    IsToldBehind had left failed text IsBadRun r → IsNoWindow w had left failed r
 refused_window w had left failed text r inside reported = (
   text,
   inside,
@@ -58,8 +58,8 @@ refused_window w had left failed text r inside reported = (
     noted = reported.noted;
   },
 ) where
-  by_end : (IsAtEnd left × (reported.behind ≡ []) × IsRefusedRun (text ++ reported.line) r)
-      ⊎ ((more : List ℕ) → IsRefusedRun (text ++ (reported.line ++ more)) r) →
+  by_end : (IsAtEnd left × (reported.behind ≡ []) × IsBadRun (text ++ reported.line) r)
+      ⊎ ((more : List ℕ) → IsBadRun (text ++ (reported.line ++ more)) r) →
       (IsAtEnd left × (reported.behind ≡ []) × IsBadWindow w (text ++ reported.line) r)
       ⊎ ((more : List ℕ) → IsBadWindow w (text ++ (reported.line ++ more)) r)
   by_end (inl (end, nothing, is)) = inl (end, nothing, bad_window w (text ++ reported.line) r is)
@@ -73,7 +73,7 @@ pub no_parts : AreParts 0 []
 no_parts = record { first = plain.empty; parts = []; has = record { journals = refl; legal = tt }; numbered = refl }
 
 -- and events of a further one
-pub inside_part : (w : Window) (number calls : ℕ) (text : List ℕ) (o : audit.Opened) (A : State) (es : List Event) →
+pub inside_part : (w : Window) (number calls : ℕ) (text : List ℕ) (o : PartAuditor) (A : State) (es : List Event) →
     IsPartRead number text o A es → IsUpTo w number calls o.limits.events → length es < calls → IsInside w text
 inside_part w number calls text o A es read up_to less = inr (number, o, A, es, read, few up_to, fewer up_to) where
   few : IsUpTo w number calls o.limits.events → number ≤ w.part
@@ -94,7 +94,7 @@ memory_window w had left failed bytes consumed noted = (
 )
 
 -- the window goes beyond its segment
-pub few_calls : (w : Window) (had left : Known) (failed : Bool) (text l behind : List ℕ) (number : ℕ) (o : audit.Opened)
+pub few_calls : (w : Window) (had left : Known) (failed : Bool) (text l behind : List ℕ) (number : ℕ) (o : PartAuditor)
     (A : State) → number ≡ w.part → AreParts number text → IsOneLine l → IsPartRead number (text ++ l) o A [] →
     IsAt had left (text ++ l) behind → failed ≡ false → ¬ LiesIn w o.limits.events →
     IsNoWindow w had left failed (refusal.FewCalls w.part o.limits.events)
@@ -131,7 +131,7 @@ few_calls w had left failed text l behind number o A same are one read at noted 
 
 -- ---- the window
 
-pub window_shown : (w : Window) (had left : Known) (failed : Bool) (text behind : List ℕ) (o : audit.Opened) (A : State)
+pub window_shown : (w : Window) (had left : Known) (failed : Bool) (text behind : List ℕ) (o : PartAuditor) (A : State)
     (es shown : List Event) (notes : List Note) (reported : List ℕ) → IsAt had left text behind → failed ≡ false →
     IsPartRead w.part text o A (es ++ shown) → LiesIn w o.limits.events → length es ≡ w.from →
     length (es ++ shown) ≡ end_in w o.limits.events →
@@ -189,7 +189,7 @@ noted_none capacity A es s old stands = record {
 
 pub noted_more : (capacity : ℕ) (A : State) (es shown : List Event) (e : Event) (n : ℕ) (s t : StateView)
     (old mid new : List ℕ) → AreNotedTo capacity A es shown s old mid → n ≡ length (es ++ shown) →
-    IsNoted standard_part capacity n e s t mid new → AreNotedTo capacity A es (shown ++ e ∷ []) t old new
+    IsNoteAppended standard_part capacity n e s t mid new → AreNotedTo capacity A es (shown ++ e ∷ []) t old new
 noted_more capacity A es shown e n s t old mid new so_far number step =
     let m = machine standard_part A capacity in
     let q = fired_moves (es ++ shown) in
@@ -210,7 +210,7 @@ noted_more capacity A es shown e n s t old mid new so_far number step =
     }
 
 -- the state has followed fewer moves than can be counted
-pub few_followed : (number n count : ℕ) (text : List ℕ) (o : audit.Opened) (A : State) (es : List Event) (s : StateView) →
+pub few_followed : (number n count : ℕ) (text : List ℕ) (o : PartAuditor) (A : State) (es : List Event) (s : StateView) →
     IsPartRead number text o A es → FollowsFrom standard_part A s (fired_moves es) → length es < count → count ≤ events_limit →
     s.number < events_limit
 few_followed number n count text o A es s read stands less few =
@@ -221,13 +221,13 @@ few_followed number n count text o A es s read stands less few =
 -- ---- the header
 
 -- the opening state of a segment holds no undef
-pub part_held : (number : ℕ) (text : List ℕ) (o : audit.Opened) (A : State) (es : List Event) → IsPartRead number text o A es →
+pub part_held : (number : ℕ) (text : List ℕ) (o : PartAuditor) (A : State) (es : List Event) → IsPartRead number text o A es →
     IsHeld A
 part_held number text o A es read = form_held A read.going.begun.header.3 read.going.begun.header.7 where
   form_held : (B : State) (pairs : Data) → IsStateForm B pairs → IsHeld B
   form_held B pairs form = subst IsHeld (sym form.2.1) (written_held form.0)
 
-pub header_is : (o : Opened) (init A : State) (es all : List Event) (count : ℕ) (d : Data) → HasValues o.state init → IsHeld A →
+pub header_is : (o : PartAuditor) (init A : State) (es all : List Event) (count : ℕ) (d : Data) → HasValues o.state init → IsHeld A →
     o.taken ≡ length es → FollowsFrom standard_part A o.state (fired_moves es) →
     d ≡ window_header_with o.limits.agents o.limits.capacity count o.taken init o.state.number o.number →
     d ≡ window_header o.number (history_of o.limits A all) es count

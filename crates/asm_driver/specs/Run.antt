@@ -7,8 +7,8 @@ use Rattle.asm_driver.specs.Ports.{Known, ReadsAll, TakesTooMany, TakesSome, Tak
 use Rattle.asm_driver.specs.Ports.{AppendsSome}
 use Rattle.asm_driver.specs.Words.{Words, AsksFor, AsksForHelp, AsksForVersion, HasMistake}
 use Rattle.asm_driver.specs.Report.{line}
-use Rattle.asm_audit.specs.declared.reading.Verdict.{Verdict}
-use Rattle.asm_driver.specs.Audit.{verdict_line, verdict_status}
+use Rattle.asm_audit.specs.declared.progress.Counts.{Counts}
+use Rattle.asm_driver.specs.Audit.{legal_line}
 use Rattle.asm_driver.specs.Watch.{IsWatchTold, IsWatchCut}
 use Rattle.asm_driver.specs.Window.{IsWindow, IsNoWindow}
 use Rattle.asm_driver.specs.Commands.{IsDone, IsNotDone}
@@ -168,22 +168,22 @@ Ends words i status text =
     IsAnswer words i status text
     ⊎ ((r : Refusal) × IsNoAnswer words i r × (status ≡ refusal_status r) × (text ≡ refusal_line r))
 
--- what an audit reports at its end, with its status: a verdict, or a refusal that is shown
-abbrev pub EndsAs : Result Verdict Refusal → ℕ → List ℕ → Type 0
-EndsAs (Ok v) status text = (status ≡ verdict_status v) × (text ≡ verdict_line v)
+-- how an audit ends, with its status: the line of a legal run, or a refusal that is shown
+abbrev pub EndsAs : Result Counts Refusal → ℕ → List ℕ → Type 0
+EndsAs (Ok w) status text = (status ≡ 0) × (text ≡ legal_line w)
 EndsAs (Err r) status text =
     (shown : Refusal) × IsShown r shown × (status ≡ refusal_status shown) × (text ≡ refusal_line shown)
 
--- the line of a verdict goes out with its status, or that of an allocation failure
-abbrev pub TellsVerdict : Verdict → Output → ℕ → Type 0
-TellsVerdict v o result =
-    Writes o (verdict_status v) (verdict_line v) result
+-- the line of a legal run goes out with its status, or that of an allocation failure
+abbrev pub WritesLegal : Counts → Output → ℕ → Type 0
+WritesLegal w o result =
+    Writes o 0 (legal_line w) result
     ⊎ Writes o (refusal_status refusal.Memory) (refusal_line refusal.Memory) result
 
 -- an audit, which writes its progress after each so many calls, and then how it ends
 abbrev pub TellsAll : ℕ → Input → Output → ℕ → Type 0
 TellsAll every i o result =
-    (r : Result Verdict Refusal) × (reported text : List ℕ) × (status : ℕ) × IsWatchTold every i.had i.left i.failed r reported
+    (r : Result Counts Refusal) × (reported text : List ℕ) × (status : ℕ) × IsWatchTold every i.had i.left i.failed r reported
     × EndsAs r status text × Writes o status (reported ++ text) result
 
 -- such an audit, or one whose output failed before its end

@@ -10,11 +10,7 @@ use Rattle.asm_journal.specs.Reading.{HasNoLineFeed}
 use Rattle.asm_audit.specs.declared.error.AuditError.{AuditError}
 use Rattle.asm_audit.specs.declared.progress.Counts.{Counts}
 use Rattle.asm_audit.specs.declared.progress.Progress.{Progress}
-use Rattle.asm_audit.specs.declared.progress.Told.{Told}
-use Rattle.asm_audit.specs.declared.progress.Told.TheVariants as reports
-use Rattle.asm_audit.specs.declared.reading.Verdict.{Verdict}
-use Rattle.asm_audit.specs.declared.reading.Verdict.TheVariants.{Illegal}
-use Rattle.asm_driver.specs.Audit.{IsAuditOf, is_failed_read, refusal_of_audit}
+use Rattle.asm_driver.specs.Audit.{IsAuditOf, IsBadRun, is_failed_read, refusal_of_audit}
 use Rattle.asm_driver.specs.Ports.{Known}
 use Rattle.asm_driver.specs.Ports.{AppendsSome}
 use Rattle.asm_driver.specs.Report.{line as with_feed}
@@ -63,13 +59,13 @@ pub record IsToldOf (every : ℕ) (taken reported : List ℕ) : Type 0 where
 
 -- how the audit ends behind the bytes that were consumed: there is no further one, or a read failed, or the audit
 -- reports it at the next one, whatever follows that
-abbrev pub IsToldBehind : Known → List ℕ → List ℕ → Result Verdict Refusal → Type 0
+abbrev pub IsToldBehind : Known → List ℕ → List ℕ → Result Counts Refusal → Type 0
 IsToldBehind left taken [] r = (IsAtEnd left × IsAuditOf taken r) ⊎ (r ≡ Err refusal.InputFault)
 IsToldBehind left taken (b ∷ bs) r = (is_failed_read r ≡ false) × ((more : List ℕ) → IsAuditOf (taken ++ b ∷ more) r)
 
 -- an audit of the input, with the text that is written meanwhile: some bytes of it were read, and the first of these
 -- were consumed
-pub record IsWatchTold (every : ℕ) (had left : Known) (failed : Bool) (r : Result Verdict Refusal) (reported : List ℕ) : Type 0
+pub record IsWatchTold (every : ℕ) (had left : Known) (failed : Bool) (r : Result Counts Refusal) (reported : List ℕ) : Type 0
   where
     pub taken : List ℕ
     pub behind : List ℕ
@@ -94,20 +90,19 @@ pub record IsWatched (every : ℕ) (text : List ℕ) (p : Progress) (line report
 
 -- of the bytes behind a text the first were consumed, this text was due, and the audit ends in this way at the next
 -- one
-pub record IsStopped (every : ℕ) (text bytes reported : List ℕ) (r : Result Verdict Refusal) : Type 0 where
+pub record IsStopped (every : ℕ) (text bytes reported : List ℕ) (r : Refusal) : Type 0 where
   pub front : List ℕ
   pub next : ℕ
   pub behind : List ℕ
   pub all : front ++ next ∷ behind ≡ bytes
   pub watched : IsToldOf every (text ++ front) reported
-  pub noted : is_failed_read r ≡ false
-  pub ends : (more : List ℕ) → IsAuditOf ((text ++ front) ++ next ∷ more) r
+  pub noted : is_failed_read (Err r) ≡ false
+  pub ends : (more : List ℕ) → IsBadRun ((text ++ front) ++ next ∷ more) r
 
 -- what an audit reports behind further bytes
-abbrev pub IsWatchAnswer : ℕ → List ℕ → List ℕ → Progress → List ℕ → List ℕ → Result Told AuditError → Type 0
-IsWatchAnswer every text bytes q left reported (Ok reports.Legal) = IsWatched every (text ++ bytes) q left reported
-IsWatchAnswer every text bytes q left reported (Ok (reports.Illegal j c)) = IsStopped every text bytes reported (Ok (Illegal j c))
-IsWatchAnswer every text bytes q left reported (Err e) = IsStopped every text bytes reported (Err (refusal_of_audit e))
+abbrev pub IsWatchAnswer : ℕ → List ℕ → List ℕ → Progress → List ℕ → List ℕ → Result (Unit {0}) AuditError → Type 0
+IsWatchAnswer every text bytes q left reported (Ok u) = IsWatched every (text ++ bytes) q left reported
+IsWatchAnswer every text bytes q left reported (Err e) = IsStopped every text bytes reported (refusal_of_audit e)
 
 -- the bytes are the previous ones with the text that is due
 abbrev pub AddsDue : ℕ → Counts → Counts → List ℕ → List ℕ → Type 0
@@ -120,21 +115,19 @@ is_unwritten _ = false
 
 -- the answer to further bytes, with the text that went out behind this one; if the output failed, these are the first
 -- bytes of that text, any number of them
-abbrev pub IsWrittenAnswer : ℕ → List ℕ → List ℕ → Progress → List ℕ → List ℕ → Known → Known → Result Told Stop → Type 0
-IsWrittenAnswer every text bytes q left before held holds (Ok reports.Legal) =
+abbrev pub IsWrittenAnswer : ℕ → List ℕ → List ℕ → Progress → List ℕ → List ℕ → Known → Known → Result (Unit {0}) Stop → Type 0
+IsWrittenAnswer every text bytes q left before held holds (Ok u) =
     (more : List ℕ) × Appends held holds more × IsWatched every (text ++ bytes) q left (before ++ more)
-IsWrittenAnswer every text bytes q left before held holds (Ok (reports.Illegal j c)) =
-    (more : List ℕ) × Appends held holds more × IsStopped every text bytes (before ++ more) (Ok (Illegal j c))
 IsWrittenAnswer every text bytes q left before held holds (Err (Refused r)) =
-    (more : List ℕ) × Appends held holds more × IsStopped every text bytes (before ++ more) (Err r)
+    (more : List ℕ) × Appends held holds more × IsStopped every text bytes (before ++ more) r
 IsWrittenAnswer every text bytes q left before held holds (Err Unwritten) =
     (more front behind : List ℕ) × AppendsSome held holds more × (front ++ behind ≡ bytes)
     × IsToldOf every (text ++ front) (before ++ more)
 
 -- how a watched audit of the input ends, with what went out meanwhile
-abbrev pub IsWatchEnd : ℕ → Known → Known → Bool → Known → Known → Result Verdict Stop → Type 0
-IsWatchEnd every had left failed held holds (Ok v) =
-    (reported : List ℕ) × Appends held holds reported × IsWatchTold every had left failed (Ok v) reported
+abbrev pub IsWatchEnd : ℕ → Known → Known → Bool → Known → Known → Result Counts Stop → Type 0
+IsWatchEnd every had left failed held holds (Ok w) =
+    (reported : List ℕ) × Appends held holds reported × IsWatchTold every had left failed (Ok w) reported
 IsWatchEnd every had left failed held holds (Err (Refused r)) =
     (reported : List ℕ) × Appends held holds reported × IsWatchTold every had left failed (Err r) reported
 IsWatchEnd every had left failed held holds (Err Unwritten) =

@@ -17,10 +17,10 @@ use Rattle.asm_audit.specs.Chain.{last_left, HasLegal, IsGoing}
 use Rattle.asm_audit.specs.declared.progress.Counts.{Counts}
 use Rattle.asm_trace.specs.Note.{Note, AreNotesOf}
 use Rattle.asm_trace.specs.Text.{notes_text}
+use Rattle.asm_driver.specs.Audit.{IsBadRun}
 use Rattle.asm_driver.specs.Ports.{Known}
-use Rattle.asm_audit.specs.declared.opened.Opened as audit
-use Rattle.asm_driver.specs.Parts.{audited, AreParts, IsPartRead, IsAt, IsOneLine, IsRefusedRun, IsToldBehind}
-use Rattle.asm_driver.specs.declared.program.parts.Opened.{Opened}
+use Rattle.asm_audit.specs.declared.part_auditor.PartAuditor.{PartAuditor}
+use Rattle.asm_driver.specs.Parts.{AreParts, IsPartRead, IsAt, IsOneLine, IsToldBehind}
 use Rattle.asm_driver.specs.declared.program.refusal.Refusal.{Refusal}
 use Rattle.asm_driver.specs.declared.program.refusal.Refusal.TheVariants as refusal
 use Rattle.asm_driver.specs.declared.program.words.Window.{Window}
@@ -104,14 +104,14 @@ HasFewParts w text count =
 abbrev pub IsBadWindow : Window → List ℕ → Refusal → Type 0
 IsBadWindow w text (refusal.FewCalls part calls) = (part ≡ w.part) × HasFewCalls w text calls
 IsBadWindow w text (refusal.FewParts parts) = HasFewParts w text parts
-IsBadWindow w text r = IsRefusedRun text r
+IsBadWindow w text r = IsBadRun text r
 
 -- the text is complete legal segments, at most as many as the window's number, and perhaps the header and the first
 -- events of one more: in the window's own segment, fewer than up to the window's end
 abbrev pub IsInside : Window → List ℕ → Type 0
 IsInside w text =
     ((number : ℕ) × AreParts number text × (number ≤ w.part))
-    ⊎ ((number : ℕ) × (o : audit.Opened) × (A : State) × (es : List Event) × IsPartRead number text o A es
+    ⊎ ((number : ℕ) × (o : PartAuditor) × (A : State) × (es : List Event) × IsPartRead number text o A es
     × (number ≤ w.part) × (number ≡ w.part → length es < end_in w o.limits.events))
 
 -- some bytes of the input were consumed, and this is the window's text, whatever follows them
@@ -134,24 +134,24 @@ abbrev pub IsUpTo : Window → ℕ → ℕ → ℕ → Type 0
 IsUpTo w number calls count = (number < w.part) ⊎ ((number ≡ w.part) × (calls ≤ end_in w count))
 
 -- this many events of the segment were read; or the run is refused
-abbrev pub IsPassed : Window → Known → Known → Bool → ℕ → List ℕ → Opened → State → Result (Unit {0}) Refusal → Type 0
+abbrev pub IsPassed : Window → Known → Known → Bool → ℕ → List ℕ → PartAuditor → State → Result (Unit {0}) Refusal → Type 0
 IsPassed w had left failed calls behind o A (Ok u) =
     (failed ≡ false) × ((text : List ℕ) × (es : List Event) × IsAt had left text behind
-    × IsPartRead o.number text (audited o) A es × (length es ≡ calls))
+    × IsPartRead o.number text o A es × (length es ≡ calls))
 IsPassed w had left failed calls behind o A (Err r) = IsNoWindow w had left failed r
 
 -- the header of the segment was read, behind complete segments
-abbrev pub IsPartOpened : Known → Known → Bool → List ℕ → Opened → Type 0
+abbrev pub IsPartOpened : Known → Known → Bool → List ℕ → PartAuditor → Type 0
 IsPartOpened had left failed behind o =
     (failed ≡ false) × (o.taken ≡ 0) × ((text line : List ℕ) × (A : State) × IsAt had left (text ++ line) behind
-    × AreParts o.number text × IsOneLine line × IsPartRead o.number (text ++ line) (audited o) A [])
+    × AreParts o.number text × IsOneLine line × IsPartRead o.number (text ++ line) o A [])
 
 -- the events up to the window's end were read, and the line of each was appended; or the run is refused
-abbrev pub AreNoted : Window → Known → Known → Bool → ℕ → List ℕ → Opened → State → List Event → List ℕ → List ℕ →
+abbrev pub AreNoted : Window → Known → Known → Bool → ℕ → List ℕ → PartAuditor → State → List Event → List ℕ → List ℕ →
     Result (Unit {0}) Refusal → Type 0
 AreNoted w had left failed end behind o A es old new (Ok u) =
     (failed ≡ false) × ((text : List ℕ) × (shown : List Event) × (notes : List Note) × IsAt had left text behind
-    × IsPartRead w.part text (audited o) A (es ++ shown) × (length (es ++ shown) ≡ end)
+    × IsPartRead w.part text o A (es ++ shown) × (length (es ++ shown) ≡ end)
     × AreNotesOf (machine standard_part A o.limits.capacity) (fired_moves es) (length es) shown notes
     × (new ≡ old ++ notes_text notes))
 AreNoted w had left failed end behind o A es old new (Err r) = IsNoWindow w had left failed r

@@ -5,7 +5,7 @@ ghost use Rattle.asm_driver.specs.Refusal.{has_number};
 ghost use Rattle.asm_driver.specs.Words.{Words, faults, AsksFor};
 ghost use Rattle.asm_driver.specs.declared.program.words.Request.TheVariants as requests;
 ghost use Rattle.asm_driver.specs.Run.{IsAnswer, IsNoAnswer, IsAnswerTo, version_line, Takes, Writes, Refuses};
-ghost use Rattle.asm_driver.specs.Run.{TellsVerdict, Watches};
+ghost use Rattle.asm_driver.specs.Run.{WritesLegal, Watches};
 ghost use Rattle.asm_driver.specs.Run.{input_of, output_of, Runs, RunsOver, HasFailed, RefusesKind, IsRefusalOfKind};
 
 mod commands;
@@ -22,10 +22,10 @@ use crate::ports::sink::{NotedWriter, Sink};
 use crate::ports::source::{NotedReader, Source};
 use crate::program::commands::{Ending, carry_out};
 use crate::program::refusal::Refusal;
-use crate::program::watching::{Stop, verdict_ending, watched};
+use crate::program::watching::{Stop, legal_line, watched};
 use crate::program::windowing::window_input;
 use crate::program::words::{Request, WordsError, read_words};
-use asm_audit::Verdict;
+use asm_audit::Counts;
 use std::alloc::{AllocError, Global};
 use std::io;
 use std::io::{ErrorKind, Read, Write};
@@ -125,23 +125,23 @@ fn write_answer<K: Sink>(alloc: Global, output: &mut K, answer: Result<Ending, R
     }
 }
 
-// Write the line of a verdict, or that of an allocation failure; return its status, or 4 if the output failed.
-fn write_verdict<K: Sink>(alloc: Global, output: &mut K, verdict: Verdict) -> u8
+// Write the line of a legal run, or that of an allocation failure; return its status, or 4 if the output failed.
+fn write_legal<K: Sink>(alloc: Global, output: &mut K, counts: Counts) -> u8
     requires { K.failed output.old ≡ false }
     ensures same_reference { K.lender output.new ≡ K.lender output.old }
-    ensures reports { TellsVerdict verdict
+    ensures writes { WritesLegal counts
         (output_of (K.contents output.old) (K.contents output.new) (K.failed output.new) (K.flushed output.new)) result }
 {
-    match verdict_ending(alloc, verdict) {
-        Ok(ending) => write_out(output, ending.text.as_bytes(), ending.status),
+    match legal_line(alloc, counts) {
+        Ok(line) => write_out(output, line.as_bytes(), 0),
         Err(_) => refuse(alloc, output, Refusal::Memory),
     }
 }
 
 /// Audit the run on the input, and return the program's status.
 ///
-/// It writes its progress after each `every` calls, or never if `every` is 0, and then the line of the verdict or of
-/// the refusal.
+/// It writes its progress after each `every` calls, or never if `every` is 0, and then its last line: that
+/// of a legal run, or that of the refusal.
 fn watch<T: Wait, S: Source, K: Sink>(
     rt: &T,
     alloc: Global,
@@ -158,7 +158,7 @@ fn watch<T: Wait, S: Source, K: Sink>(
         (output_of (K.contents output.old) (K.contents output.new) (K.failed output.new) (K.flushed output.new)) result }
 {
     match watched(rt, alloc, every, input, output) {
-        Ok(verdict) => write_verdict(alloc, output, verdict),
+        Ok(counts) => write_legal(alloc, output, counts),
         Err(stop) => match stop {
             Stop::Refused(refusal) => refuse(alloc, output, refusal),
             Stop::Unwritten => 4,

@@ -32,14 +32,14 @@ pub enum Refusal {
     BadPart { part: u64, fault: JournalError },
     /// This segment of a run doesn't open with the state that the one before leaves.
     Apart(u64),
-    /// In a traced run, this is the first call with a wrong answer.
+    /// In a run, this is the first call with a wrong answer.
     ///
     /// That is an answer other than that of the sequential storage.
-    Illegal { part: u32, call: u32 },
+    Illegal { part: u64, call: u64 },
     /// The segment of a run has this many calls, and a window goes beyond them.
     FewCalls { part: u32, calls: u32 },
     /// A run has this many segments, and none with the number of a window's.
-    FewParts(u32),
+    FewParts(u64),
     /// The history of the script's calls is beyond a journal's limits.
     Unfit,
     /// The fired move with this number has no receipt.
@@ -114,6 +114,7 @@ impl From<AuditError> for Refusal {
         match error {
             AuditError::Journal { part, fault } => Refusal::BadPart { part, fault },
             AuditError::Apart { part } => Refusal::Apart(part),
+            AuditError::Illegal { part, call } => Refusal::Illegal { part, call },
             AuditError::LongLine => Refusal::TooLarge,
             AuditError::Memory => Refusal::Memory,
         }

@@ -3,7 +3,7 @@ ghost use Rattle.std.specs.Prelude.{◌≡◌, ◌↔◌, ◌∷◌, ◌++◌, f
 ghost use Rattle.asm_aggregate.specs.Standard.{standard_meaning, standard_part};
 ghost use Rattle.asm_audit.specs.Fed.{IsFed};
 ghost use Rattle.std.specs.Io.KnownBytes.{Appends};
-ghost use Rattle.asm_driver.specs.Audit.{refusal_of_audit, verdict_line, verdict_status};
+ghost use Rattle.asm_driver.specs.Audit.{refusal_of_audit, legal_line as line_of_legal};
 ghost use Rattle.asm_driver.specs.Ports.{AppendsSome};
 ghost use Rattle.asm_driver.specs.Watch.{so_far_line as line_of_counts, IsDue, AddsDue, IsWatched, IsWatchAnswer};
 ghost use Rattle.asm_driver.specs.Watch.{is_unwritten, IsWrittenAnswer, IsWatchEnd};
@@ -13,9 +13,8 @@ use crate::ports::PortFailed;
 use crate::ports::output::write_whole;
 use crate::ports::sink::Sink;
 use crate::ports::source::Source;
-use crate::program::commands::Ending;
 use crate::program::refusal::Refusal;
-use asm_audit::{AuditError, ByteAuditor, Counts, Told, Verdict};
+use asm_audit::{AuditError, ByteAuditor, Counts};
 use asm_play::aggregator::script_aggregator;
 use asm_update::Aggregator;
 use std::alloc::{AllocError, Global};
@@ -24,7 +23,7 @@ use std::sync::Wait;
 // Number of bytes that a read asks for.
 const CHUNK: usize = 4096;
 
-/// Why a watched audit has no verdict.
+/// Why a watched audit ends.
 #[derive(Clone, Copy, Debug, PartialEq, Eq)]
 pub enum Stop {
     /// What is asked for is refused.
@@ -49,27 +48,16 @@ impl From<AuditError> for Stop {
     }
 }
 
-/// Return the line and the status of a verdict.
-pub(crate) fn verdict_ending(alloc: Global, verdict: Verdict) -> Result<Ending, AllocError>
-    ensures status { IfOk result (λ e. e.status ≡ verdict_status verdict) }
-    ensures text { IfOk result (λ e. string_bytes e.text ≡ verdict_line verdict) }
+/// Return the line of a legal run.
+pub(crate) fn legal_line(alloc: Global, counts: Counts) -> Result<String, AllocError>
+    ensures { IfOk result (λ text. string_bytes text ≡ line_of_legal counts) }
 {
-    Ok(match verdict {
-        Verdict::Legal(
-            Counts {
-                calls,
-                moves,
-                parts,
-            },
-        ) => Ending {
-            status: 0,
-            text: format!(in alloc; "legal {calls} {moves} {parts}\n")?,
-        },
-        Verdict::Illegal { part, call } => Ending {
-            status: 1,
-            text: format!(in alloc; "illegal {part} {call}\n")?,
-        },
-    })
+    let Counts {
+        calls,
+        moves,
+        parts,
+    } = counts;
+    Ok(format!(in alloc; "legal {calls} {moves} {parts}\n")?)
 }
 
 /// Return the line with the progress of an audit.
@@ -118,7 +106,7 @@ fn take_bytes<A: Aggregator + Drop>(
     auditor: &mut ByteAuditor<A>,
     bytes: &[u8],
     lines: &mut String,
-) -> Result<Told, AuditError>
+) -> Result<(), AuditError>
     requires { A.meaning auditor.old.auditor.aggregator ≡ standard_meaning }
     ensures aggregator { auditor.new.auditor.aggregator ≡ auditor.old.auditor.aggregator }
     ensures reported { (text before : List ℕ)
@@ -129,15 +117,12 @@ fn take_bytes<A: Aggregator + Drop>(
     let mut rest = bytes;
     while !rest.is_empty() {
         let before = auditor.counts();
-        let (count, reported) = auditor.feed_line(alloc, rest);
+        let (count, fed) = auditor.feed_line(alloc, rest);
         rest = &rest[count..];
-        match reported? {
-            Told::Legal => {}
-            Told::Illegal { part, call } => return Ok(Told::Illegal { part, call }),
-        }
+        fed?;
         add_due(alloc, every, before, auditor.counts(), lines)?;
     }
-    Ok(Told::Legal)
+    Ok(())
 }
 
 /// Write the lines and flush them, if there are any.
@@ -161,7 +146,7 @@ fn watch_bytes<A: Aggregator + Drop, K: Sink>(
     auditor: &mut ByteAuditor<A>,
     bytes: &[u8],
     output: &mut K,
-) -> Result<Told, Stop>
+) -> Result<(), Stop>
     requires meaning { A.meaning auditor.old.auditor.aggregator ≡ standard_meaning }
     requires output { K.failed output.old ≡ false }
     ensures aggregator { auditor.new.auditor.aggregator ≡ auditor.old.auditor.aggregator }
@@ -173,14 +158,14 @@ fn watch_bytes<A: Aggregator + Drop, K: Sink>(
     ensures noted { K.failed output.new ≡ is_unwritten result }
 {
     let mut lines = String::new(alloc);
-    let reported = take_bytes(alloc, every, auditor, bytes, &mut lines);
+    let fed = take_bytes(alloc, every, auditor, bytes, &mut lines);
     write_lines(output, lines.as_str())?;
-    Ok(reported?)
+    Ok(fed?)
 }
 
 /// Feed the input to the auditor, and write the lines that are due.
 ///
-/// It stops at the input's end, or at the first fault or wrong answer. No call is retried.
+/// It stops at the input's end, or at the first error. No call is retried.
 fn watch_all<T: Wait, A: Aggregator + Drop, S: Source, K: Sink>(
     rt: &T,
     alloc: Global,
@@ -188,7 +173,7 @@ fn watch_all<T: Wait, A: Aggregator + Drop, S: Source, K: Sink>(
     auditor: &mut ByteAuditor<A>,
     input: &mut S,
     output: &mut K,
-) -> Result<Verdict, Stop>
+) -> Result<Counts, Stop>
     requires unread { S.failed input.old ≡ false }
     requires unwritten { K.failed output.old ≡ false }
     requires meaning { A.meaning auditor.old.auditor.aggregator ≡ standard_meaning }
@@ -206,19 +191,16 @@ fn watch_all<T: Wait, A: Aggregator + Drop, S: Source, K: Sink>(
             Err(_) => return Err(Stop::Refused(Refusal::InputFault)),
         };
         if count == 0 {
-            return Ok(Verdict::Legal(auditor.finish(alloc)?));
+            return Ok(auditor.finish(alloc)?);
         }
-        match watch_bytes(alloc, every, auditor, &buffer[..count], output)? {
-            Told::Legal => {}
-            Told::Illegal { part, call } => return Ok(Verdict::Illegal { part, call }),
-        }
+        watch_bytes(alloc, every, auditor, &buffer[..count], output)?;
     }
     unreachable!()
 }
 
 /// Audit the run on the input, and write its progress.
 ///
-/// It stops at the input's end, or at the first fault or wrong answer. It writes its progress after each `every` calls,
+/// It stops at the input's end, or at the first error. It writes its progress after each `every` calls,
 /// or never if `every` is 0. It holds one state and one line.
 pub(crate) fn watched<T: Wait, S: Source, K: Sink>(
     rt: &T,
@@ -226,7 +208,7 @@ pub(crate) fn watched<T: Wait, S: Source, K: Sink>(
     every: u32,
     input: &mut S,
     output: &mut K,
-) -> Result<Verdict, Stop>
+) -> Result<Counts, Stop>
     requires unread { S.failed input.old ≡ false }
     requires unwritten { K.failed output.old ≡ false }
     ensures same_input { S.lender input.new ≡ S.lender input.old }
@@ -236,6 +218,6 @@ pub(crate) fn watched<T: Wait, S: Source, K: Sink>(
     ensures noted { K.failed output.new ≡ is_unwritten result }
 {
     let mut auditor = ByteAuditor::new(alloc, script_aggregator());
-    let verdict = watch_all(rt, alloc, every, &mut auditor, input, output);
-    verdict
+    let counts = watch_all(rt, alloc, every, &mut auditor, input, output);
+    counts
 }

@@ -7,10 +7,10 @@ ghost use Rattle.asm_state.specs.FollowsFrom.{FollowsFrom};
 ghost use Rattle.asm_storage.specs.History.{fired_moves};
 ghost use Rattle.asm_storage.specs.declared.history.Event.{Event as Item};
 ghost use Rattle.asm_audit.proofs.SameState.{IsHeld};
-ghost use Rattle.asm_audit.specs.Opened.{history_of};
+ghost use Rattle.asm_audit.specs.PartAuditor.{history_of};
 ghost use Rattle.asm_driver.specs.Ports.{Known};
 ghost use Rattle.asm_driver.specs.Lines.{pending};
-ghost use Rattle.asm_driver.specs.Parts.{audited, IsAt, IsPartRead, IsEventRead, IsNext};
+ghost use Rattle.asm_driver.specs.Parts.{IsAt, IsPartRead, IsEventRead, IsNext};
 ghost use Rattle.asm_driver.specs.Window.{end_in, LiesIn, IsUpTo, IsPassed, IsPartOpened, AreNoted, window_header, window_header_with};
 ghost use Rattle.asm_driver.specs.Window.{IsWindow, IsNoWindow};
 ghost use Rattle.asm_driver.specs.declared.program.words.Window.{Window as Wanted};
@@ -18,10 +18,12 @@ ghost use Rattle.asm_driver.specs.declared.program.words.Window.{Window as Wante
 use crate::ports::line_reader::LineReader;
 use crate::ports::source::Source;
 use crate::program::commands::Ending;
-use crate::program::parts::Opened;
+use crate::program::parts::{open_first, open_next};
 use crate::program::refusal::Refusal;
 use crate::program::words::Window;
+use asm_audit::PartAuditor;
 use asm_journal::{ToJson, push_line};
+use asm_play::aggregator::script_aggregator;
 use asm_storage::Event;
 use asm_trace::push_standard_note;
 use asm_update::PlainState;
@@ -47,7 +49,7 @@ fn end_of(window: Window, calls: u32) -> Option<u32>
 fn next_event<T: Wait, S: Source>(
     rt: &T,
     alloc: Global,
-    opened: &mut Opened,
+    opened: &mut PartAuditor,
     lines: &mut LineReader,
     input: &mut S,
 ) -> Result<Event, Refusal>
@@ -58,18 +60,18 @@ fn next_event<T: Wait, S: Source>(
     ensures unread { IfOk result (λ _. S.failed input.new ≡ false) }
     ensures reported { (had : Known) (text : List ℕ) (A : Plain) (es : List Item) →
         IsAt had (S.remaining input.old) text (pending lines.old) →
-        IsPartRead opened.old.number text (audited opened.old) A es →
+        IsPartRead opened.old.number text opened.old A es →
         IsEventRead had (S.remaining input.new) (S.failed input.new) text (pending lines.new) opened.new A es result }
 {
     lines.read(rt, input)?;
-    opened.take(alloc, lines.line())
+    Ok(opened.take(alloc, &script_aggregator(), lines.line())?)
 }
 
 /// Read the first `calls` events of the segment.
 fn pass<T: Wait, S: Source>(
     rt: &T,
     alloc: Global,
-    opened: &mut Opened,
+    opened: &mut PartAuditor,
     calls: u32,
     lines: &mut LineReader,
     input: &mut S,
@@ -85,7 +87,7 @@ fn pass<T: Wait, S: Source>(
     ensures reported { (w : Wanted) (had : Known) (text : List ℕ) (A : Plain) →
         IsUpTo w opened.old.number calls opened.old.limits.events →
         IsAt had (S.remaining input.old) text (pending lines.old) →
-        IsPartRead opened.old.number text (audited opened.old) A [] →
+        IsPartRead opened.old.number text opened.old A [] →
         IsPassed w had (S.remaining input.new) (S.failed input.new) calls (pending lines.new) opened.new A result }
 {
     for _ in 0..calls {
@@ -98,10 +100,10 @@ fn pass<T: Wait, S: Source>(
 fn next_part<T: Wait, S: Source>(
     rt: &T,
     alloc: Global,
-    before: &Opened,
+    before: &PartAuditor,
     lines: &mut LineReader,
     input: &mut S,
-) -> Result<Opened, Refusal>
+) -> Result<PartAuditor, Refusal>
     requires unread { S.failed input.old ≡ false }
     requires whole { before.now.limits.events ≤ before.now.taken }
     requires few { before.now.number < 4294967295 }
@@ -109,18 +111,18 @@ fn next_part<T: Wait, S: Source>(
     ensures number { IfOk result (λ o. o.number ≡ before.now.number + 1) }
     ensures ok { IfOk result (λ o. (had : Known) (text : List ℕ) (A : Plain) (es : List Item) →
         IsAt had (S.remaining input.old) text (pending lines.old) →
-        IsPartRead before.now.number text (audited before.now) A es →
+        IsPartRead before.now.number text before.now A es →
         IsPartOpened had (S.remaining input.new) (S.failed input.new) (pending lines.new) o) }
     ensures err { IfErr result (λ r. (w : Wanted) (had : Known) (text : List ℕ) (A : Plain) (es : List Item) →
         before.now.number < w.part → IsAt had (S.remaining input.old) text (pending lines.old) →
-        IsPartRead before.now.number text (audited before.now) A es →
+        IsPartRead before.now.number text before.now A es →
         IsNoWindow w had (S.remaining input.new) (S.failed input.new) r) }
 {
     lines.read(rt, input)?;
     if lines.line().is_empty() {
         return Err(Refusal::FewParts(before.number + 1));
     }
-    before.next(alloc, lines.line())
+    Ok(open_next(alloc, before, lines.line())?)
 }
 
 /// Open the first segment of a run.
@@ -129,7 +131,7 @@ fn first_part<T: Wait, S: Source>(
     alloc: Global,
     lines: &mut LineReader,
     input: &mut S,
-) -> Result<Opened, Refusal>
+) -> Result<PartAuditor, Refusal>
     requires unread { S.failed input.old ≡ false }
     requires begins { pending lines.old ≡ [] }
     ensures same_reference { S.lender input.new ≡ S.lender input.old }
@@ -140,7 +142,7 @@ fn first_part<T: Wait, S: Source>(
         IsNoWindow w (S.remaining input.old) (S.remaining input.new) (S.failed input.new) r) }
 {
     lines.read(rt, input)?;
-    Opened::first(alloc, lines.line())
+    Ok(open_first(alloc, lines.line())?)
 }
 
 /// Read `wanted` complete segments, and open the next one.
@@ -150,7 +152,7 @@ fn open_part<T: Wait, S: Source>(
     wanted: u32,
     lines: &mut LineReader,
     input: &mut S,
-) -> Result<Opened, Refusal>
+) -> Result<PartAuditor, Refusal>
     requires unread { S.failed input.old ≡ false }
     requires begins { pending lines.old ≡ [] }
     ensures same_reference { S.lender input.new ≡ S.lender input.old }
@@ -174,7 +176,7 @@ fn open_part<T: Wait, S: Source>(
 /// The window has this many calls, and what was read of its segment leaves this state.
 fn header_with(
     alloc: Global,
-    opened: &Opened,
+    opened: &PartAuditor,
     init: &PlainState,
     calls: u32,
 ) -> Result<Json, AllocError>
@@ -211,12 +213,12 @@ fn header_with(
 /// Return the JSON header of a window, which begins behind what was read.
 ///
 /// The window has this many calls.
-fn header_json(alloc: Global, opened: &Opened, calls: u32) -> Result<Json, AllocError>
+fn header_json(alloc: Global, opened: &PartAuditor, calls: u32) -> Result<Json, AllocError>
     ensures { IfOk result (λ json. (A : Plain) (es all : List Item) → IsHeld A → opened.now.taken ≡ length es →
         FollowsFrom standard_part A opened.now.state (fired_moves es) →
         view json ≡ window_header opened.now.number (history_of opened.now.limits A all) es calls) }
 {
-    let init = opened.left(alloc)?;
+    let init = opened.plain_state(alloc)?;
     header_with(alloc, opened, &init, calls)
 }
 
@@ -224,7 +226,7 @@ fn header_json(alloc: Global, opened: &Opened, calls: u32) -> Result<Json, Alloc
 fn note_calls<T: Wait, S: Source>(
     rt: &T,
     alloc: Global,
-    opened: &mut Opened,
+    opened: &mut PartAuditor,
     end: u32,
     lines: &mut LineReader,
     input: &mut S,
@@ -234,13 +236,13 @@ fn note_calls<T: Wait, S: Source>(
     requires forward { opened.old.taken ≤ end }
     requires enough { end ≤ opened.old.limits.events }
     requires known { (text : List ℕ) × (A : Plain) × (es : List Item)
-        × IsPartRead opened.old.number text (audited opened.old) A es }
+        × IsPartRead opened.old.number text opened.old A es }
     ensures same_reference { S.lender input.new ≡ S.lender input.old }
     ensures limits { IfOk result (λ _. opened.new.limits ≡ opened.old.limits) }
     ensures reported { (w : Wanted) (had : Known) (before : List ℕ) (A : Plain) (es : List Item) →
         opened.old.number ≡ w.part → end ≡ end_in w opened.old.limits.events →
         IsAt had (S.remaining input.old) before (pending lines.old) →
-        IsPartRead opened.old.number before (audited opened.old) A es →
+        IsPartRead opened.old.number before opened.old A es →
         AreNoted w had (S.remaining input.new) (S.failed input.new) end (pending lines.new) opened.new A es
         (string_bytes text.old) (string_bytes text.new) result }
 {

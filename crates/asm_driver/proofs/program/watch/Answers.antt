@@ -1,10 +1,10 @@
 use Rattle.std.proofs.Common.{refl}
-use Rattle.asm_driver.proofs.Ending.{watched_verdict, watched_refusal, watched_cut}
+use Rattle.asm_driver.proofs.Ending.{watched_legal, watched_refusal, watched_cut}
 use Rattle.asm_driver.proofs.program.watch.Goals as goal
 
 pub returns-in-Ok-clause-watches : goal.returns-in-Ok-clause-watches
 returns-in-Ok-clause-watches g c =
-    watched_verdict c.args.every _ _ _ _ _ _ _ _ _ c.in-Ok.verdict c.in-Ok.ensures.reported c.write_verdict.ensures.reports
+    watched_legal c.args.every _ _ _ _ _ _ _ _ _ c.in-Ok.counts c.in-Ok.ensures.reported c.write_legal.ensures.writes
 
 pub returns-in-Refused-clause-watches : goal.returns-in-Refused-clause-watches
 returns-in-Refused-clause-watches g c =

@@ -1,22 +1,20 @@
-use Rattle.std.proofs.Common.{ℕ, List, ◌++◌, take, length, true, string_bytes, Ok, Err, refl, sym, ap, subst, ◌∙◌, append-nil, append_assoc, rules}
+use Rattle.std.proofs.Common.{ℕ, List, ◌++◌, take, length, true, string_bytes, refl, sym, ap, subst, ◌∙◌, append-nil, append_assoc, rules}
 use Rattle.std.proofs.lemmas.List.{take_at}
 use Rattle.std.proofs.lemmas.Result.{err_from_is_err_and}
 use Rattle.asm_aggregate.specs.Standard.{standard_part}
 use Rattle.asm_update.specs.Aggregator.{Meaning}
 use Rattle.asm_audit.proofs.Fed.{none_left}
-use Rattle.asm_audit.specs.Fed.{HasTakenLine}
+use Rattle.asm_audit.specs.Fed.{FeedsLine}
 use Rattle.asm_audit.specs.SoFar.{AreFedSoFar}
-use Rattle.asm_audit.specs.declared.reading.Verdict.TheVariants as verdict
-use Rattle.asm_audit.specs.declared.progress.Told.TheVariants.{Illegal}
 use Rattle.asm_driver.specs.Audit.{refusal_of_audit}
 use Rattle.asm_driver.specs.Watch.{IsWatched}
 use Rattle.asm_driver.specs.declared.program.refusal.Refusal.TheVariants as refusal
 use Rattle.asm_driver.proofs.TextPieces.{moved}
-use Rattle.asm_driver.proofs.Watching.{stopped_wrong, stopped_fault, stopped_memory, stopped_more, line_taken}
+use Rattle.asm_driver.proofs.Watching.{stopped_fault, stopped_memory, stopped_more, line_taken}
 use Rattle.asm_driver.proofs.program.watching.take_bytes.Goals as goal
 
-pub returns-in_err-reported-clause-reported : goal.returns-in_err-reported-clause-reported
-returns-in_err-reported-clause-reported g c = λ text before watched.
+pub returns-in_err-fed-clause-reported : goal.returns-in_err-fed-clause-reported
+returns-in_err-fed-clause-reported g c = λ text before watched.
     let r = err_from_is_err_and c.from_residual.result c.from_residual.ensures.1 in
     let l = c.loop-rest in
     let i = l.invariant in
@@ -26,34 +24,14 @@ returns-in_err-reported-clause-reported g c = λ text before watched.
     let mean = ap (λ a. g.A.Aggregator.meaning a) i.same_aggregator ∙ c.requires in
     let p = l.auditor.auditor.progress in
     let line = l.auditor.line.items in
-    let reported = subst (λ (m : Meaning). HasTakenLine m.part rest p line new.auditor.progress new.line.items f.result.0 f.result.1) mean
+    let reported = subst (λ (m : Meaning). FeedsLine m.part rest p line new.auditor.progress new.line.items f.result.0 f.result.1) mean
     f.ensures.taken in
-    let e = c.in_err-reported.field-0.0 in
-    let fault = subst (λ x. HasTakenLine standard_part rest p line new.auditor.progress new.line.items f.result.0 x)
-    c.in_err-reported.was reported in
+    let e = c.in_err-fed.field-0.0 in
+    let fault = subst (λ x. FeedsLine standard_part rest p line new.auditor.progress new.line.items f.result.0 x)
+    c.in_err-fed.was reported in
     rw (r.1, r.2) (stopped_more c.args.every text i.done rest c.args.bytes.now (before ++ string_bytes l.lines)
-    (Err (refusal_of_audit e)) i.all (stopped_fault c.args.every (text ++ i.done) (before ++ string_bytes l.lines) rest p
+    (refusal_of_audit e) i.all (stopped_fault c.args.every (text ++ i.done) (before ++ string_bytes l.lines) rest p
     new.auditor.progress line new.line.items f.result.0 (i.watched text before watched) e fault))
-
-pub returns-in-Illegal-clause-reported : goal.returns-in-Illegal-clause-reported
-returns-in-Illegal-clause-reported g c = λ text before watched.
-    let l = c.loop-rest in
-    let i = l.invariant in
-    let f = c.feed_line-count in
-    let new = f.new.self in
-    let rest = l.rest.now in
-    let mean = ap (λ a. g.A.Aggregator.meaning a) i.same_aggregator ∙ c.requires in
-    let p = l.auditor.auditor.progress in
-    let line = l.auditor.line.items in
-    let reported = subst (λ (m : Meaning). HasTakenLine m.part rest p line new.auditor.progress new.line.items f.result.0 f.result.1) mean
-    f.ensures.taken in
-    let j = c.in-Illegal.part in
-    let k = c.in-Illegal.call in
-    let wrong = subst (λ x. HasTakenLine standard_part rest p line new.auditor.progress new.line.items f.result.0 x)
-    (c.in_ok-reported.was ∙ ap Ok c.in-Illegal.is) reported in
-    stopped_more c.args.every text i.done rest c.args.bytes.now (before ++ string_bytes l.lines) (Ok (verdict.Illegal j k)) i.all
-    (stopped_wrong c.args.every (text ++ i.done) (before ++ string_bytes l.lines) rest p new.auditor.progress line new.line.items
-    f.result.0 (i.watched text before watched) j k wrong)
 
 pub returns-in_err-add_due-clause-reported : goal.returns-in_err-add_due-clause-reported
 returns-in_err-add_due-clause-reported g c = λ text before watched.
@@ -66,12 +44,12 @@ returns-in_err-add_due-clause-reported g c = λ text before watched.
     let mean = ap (λ a. g.A.Aggregator.meaning a) i.same_aggregator ∙ c.requires in
     let p = l.auditor.auditor.progress in
     let line = l.auditor.line.items in
-    let reported = subst (λ (m : Meaning). HasTakenLine m.part rest p line new.auditor.progress new.line.items f.result.0 f.result.1) mean
+    let reported = subst (λ (m : Meaning). FeedsLine m.part rest p line new.auditor.progress new.line.items f.result.0 f.result.1) mean
     f.ensures.taken in
     let kept = subst (λ (t : List ℕ). IsWatched c.args.every (text ++ i.done) p line (before ++ t)) (sym c.in_err-add_due.ensures.err)
     (i.watched text before watched) in
     rw (r.1, r.2) (stopped_more c.args.every text i.done rest c.args.bytes.now (before ++ string_bytes c.add_due.new.lines)
-    (Err refusal.Memory) i.all (stopped_memory c.args.every (text ++ i.done) (before ++ string_bytes c.add_due.new.lines) rest p p
+    refusal.Memory i.all (stopped_memory c.args.every (text ++ i.done) (before ++ string_bytes c.add_due.new.lines) rest p p
     line line 0 kept (search rules)))
 
 pub loop-rest-preserved : goal.loop-rest-preserved
@@ -84,10 +62,10 @@ loop-rest-preserved g c =
     let mean = ap (λ a. g.A.Aggregator.meaning a) i.same_aggregator ∙ c.requires in
     let p = l.auditor.auditor.progress in
     let line = l.auditor.line.items in
-    let reported = subst (λ (m : Meaning). HasTakenLine m.part rest p line new.auditor.progress new.line.items f.result.0 f.result.1) mean
+    let reported = subst (λ (m : Meaning). FeedsLine m.part rest p line new.auditor.progress new.line.items f.result.0 f.result.1) mean
     f.ensures.taken in
-    let legal = subst (λ x. HasTakenLine standard_part rest p line new.auditor.progress new.line.items f.result.0 x)
-    (c.in_ok-reported.was ∙ ap Ok c.in-Legal.is) reported in
+    let legal = subst (λ x. FeedsLine standard_part rest p line new.auditor.progress new.line.items f.result.0 x)
+    c.in_ok-fed.was reported in
     let here = subst (λ (m : Meaning). AreFedSoFar m.part p line c.counts-before.result) mean c.counts-before.ensures in
     let there = subst (λ (m : Meaning). AreFedSoFar m.part new.auditor.progress new.line.items c.counts.result)
     (ap (λ a. g.A.Aggregator.meaning a) f.ensures.aggregator ∙ mean) c.counts.ensures in

@@ -2,7 +2,7 @@ use Rattle.std.proofs.Common.{◌<◌, length, take, Ok, Err, refl, ap, subst, �
 use Rattle.std.proofs.lemmas.Result.{err_from_is_err_and}
 use Rattle.asm_update.specs.Aggregator.{Meaning}
 use Rattle.asm_audit.specs.Fed.{IsFedEnd}
-use Rattle.asm_driver.proofs.Watching.{watched_none, end_unread, end_all, end_fault, chunk_on, chunk_wrong, chunk_stopped}
+use Rattle.asm_driver.proofs.Watching.{watched_none, end_unread, end_all, end_fault, chunk_on, chunk_stopped}
 use Rattle.asm_driver.proofs.program.watching.watch_all.Goals as goal
 
 pub chunks-init : goal.chunks-init
@@ -31,7 +31,7 @@ returns-in_err-finish-clause-reported g c =
     let line = l.auditor.line.items in
     let some : 0 < length c.read.new.buffer = search rules in
     let e = c.in_err-finish.field-0.0 in
-    let reported = subst (λ (m : Meaning). IsFedEnd m.part p line (Err e)) same c.in_err-finish.ensures.reported in
+    let reported = subst (λ (m : Meaning). IsFedEnd m.part p line (Err e)) same c.in_err-finish.ensures.answer in
     rw (r.1, r.2) (end_fault c.args.every _ _ _ _ p line i.watched (g.S.Source.remaining c.read.new.self)
     c.read.new.buffer c.in-Ok.count (g.S.Source.failed c.read.new.self) c.if-count-eq0.true c.in-Ok.ensures.bytes.0
     (c.in-Ok.ensures.bytes.1 c.if-count-eq0.true some) c.in-Ok.ensures.noted e reported)
@@ -45,7 +45,7 @@ returns-then-count-eq0-clause-reported g c =
     let line = l.auditor.line.items in
     let some : 0 < length c.read.new.buffer = search rules in
     let w = c.in_ok-finish.field-0 in
-    let reported = subst (λ (m : Meaning). IsFedEnd m.part p line (Ok w)) same c.in_ok-finish.ensures.reported in
+    let reported = subst (λ (m : Meaning). IsFedEnd m.part p line (Ok w)) same c.in_ok-finish.ensures.answer in
     end_all c.args.every _ _ _ _ p line i.watched (g.S.Source.remaining c.read.new.self)
     c.read.new.buffer c.in-Ok.count (g.S.Source.failed c.read.new.self) c.if-count-eq0.true c.in-Ok.ensures.bytes.0
     (c.in-Ok.ensures.bytes.1 c.if-count-eq0.true some) c.in-Ok.ensures.noted w reported
@@ -62,24 +62,12 @@ returns-in_err-watch_bytes-clause-reported g c =
     (take c.in-Ok.count c.read.new.buffer) (g.S.Source.failed c.read.new.self) c.in-Ok.ensures.bytes.0 c.in-Ok.ensures.noted e
     (c.in_err-watch_bytes.ensures.reported w.bytes w.reported w.watched))
 
-pub returns-in-Illegal-clause-reported : goal.returns-in-Illegal-clause-reported
-returns-in-Illegal-clause-reported g c =
-    let l = c.chunks in
-    let w = l.invariant.watched in
-    let new = c.watch_bytes.new.auditor in
-    let reported = rw c.in-Illegal.is at c.in_ok-watch_bytes.ensures.reported in
-    chunk_wrong c.args.every _ _ _ _ l.auditor.auditor.progress l.auditor.line.items w
-    (g.S.Source.remaining c.read.new.self) (g.K.Sink.contents c.watch_bytes.new.output) new.auditor.progress new.line.items
-    (take c.in-Ok.count c.read.new.buffer) (g.S.Source.failed c.read.new.self) c.in-Ok.ensures.bytes.0 c.in-Ok.ensures.noted
-    c.in-Illegal.part c.in-Illegal.call (reported w.bytes w.reported w.watched)
-
 pub chunks-preserved : goal.chunks-preserved
 chunks-preserved g c =
     let l = c.chunks in
     let i = l.invariant in
     let w = i.watched in
     let new = c.watch_bytes.new.auditor in
-    let reported = rw c.in-Legal.is at c.in_ok-watch_bytes.ensures.reported in
     record {
       same_aggregator = c.watch_bytes.ensures.aggregator ∙ i.same_aggregator;
       same_input = c.in-Ok.ensures.same_reference ∙ i.same_input;
@@ -89,5 +77,5 @@ chunks-preserved g c =
       watched = chunk_on c.args.every _ _ _ _ l.auditor.auditor.progress l.auditor.line.items w
           (g.S.Source.remaining c.read.new.self) (g.K.Sink.contents c.watch_bytes.new.output) new.auditor.progress
           new.line.items (take c.in-Ok.count c.read.new.buffer) (g.S.Source.failed c.read.new.self) c.in-Ok.ensures.bytes.0
-          c.in-Ok.ensures.noted (reported w.bytes w.reported w.watched);
+          c.in-Ok.ensures.noted (c.in_ok-watch_bytes.ensures.reported w.bytes w.reported w.watched);
     }

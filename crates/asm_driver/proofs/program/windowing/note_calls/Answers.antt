@@ -6,7 +6,7 @@ use Rattle.asm_storage.specs.History.{fired_moves}
 use Rattle.asm_storage.specs.declared.history.Event.{Event}
 use Rattle.asm_journal.specs.declared.parsing.Limits.{Limits}
 use Rattle.asm_driver.specs.Lines.{pending}
-use Rattle.asm_driver.specs.Parts.{audited, IsPartRead}
+use Rattle.asm_driver.specs.Parts.{IsPartRead}
 use Rattle.asm_driver.specs.Window.{end_in}
 use Rattle.asm_driver.proofs.Windows.{AreNotedTo, noted_none, noted_more, few_followed, memory_window}
 use Rattle.asm_driver.proofs.PartsRead.{event_refused_window}
@@ -30,7 +30,7 @@ loop-call-init g c = record {
     before,
     [],
     at,
-    subst (λ (xs : List Event). IsPartRead c.args.opened.now.number before (audited c.args.opened.now) A xs)
+    subst (λ (xs : List Event). IsPartRead c.args.opened.now.number before c.args.opened.now A xs)
         (sym (append-nil es)) read,
     noted_none c.args.opened.now.limits.capacity A es c.in_ok-noted.noted (string_bytes c.args.text.now)
         (subst (λ s. FollowsFrom standard_part A s (fired_moves es)) (sym c.in_ok-noted.ensures) read.stands),
@@ -59,7 +59,7 @@ push_standard_note-requires g c =
     let now = i.read None k.0 k.1 k.2 tt k.3 in
     let taken = i.taken in
     let long = now.3.taken in
-    few_followed c.loop-call.opened.number c.args.end c.args.end now.0 (audited c.loop-call.opened) k.1 (k.2 ++ now.1)
+    few_followed c.loop-call.opened.number c.args.end c.args.end now.0 c.loop-call.opened k.1 (k.2 ++ now.1)
     c.loop-call.noted now.3 now.4.stands (omega (arith, taken, long, c.loop-call-test.true)) (omega (arith, c.ranges.end.fits))
 
 pub returns-in_err-push_standard_note-clause-reported : goal.returns-in_err-push_standard_note-clause-reported
@@ -91,7 +91,7 @@ loop-call-preserved g c =
             reported.1.0,
             now.1 ++ e ∷ [],
             reported.1.1,
-            subst (λ (xs : List Event). IsPartRead c.next_event.new.opened.number reported.1.0 (audited c.next_event.new.opened) A xs)
+            subst (λ (xs : List Event). IsPartRead c.next_event.new.opened.number reported.1.0 c.next_event.new.opened A xs)
                 (append_assoc es now.1 (e ∷ [])) reported.1.2,
             subst (λ (l : Limits). AreNotedTo l.capacity A es (now.1 ++ e ∷ []) c.push_standard_note.new.state (string_bytes c.args.text.now) (string_bytes c.push_standard_note.new.text))
                 (sym (n.1 ∙ i.limits))
@@ -116,7 +116,7 @@ returns-clause-reported g c = λ w had before A es number end at read.
         now.1,
         now.4.notes,
         now.2,
-        subst (λ n. IsPartRead n now.0 (audited c.loop-call.opened) A (es ++ now.1)) (i.number ∙ number) now.3,
+        subst (λ n. IsPartRead n now.0 c.loop-call.opened A (es ++ now.1)) (i.number ∙ number) now.3,
         omega (arith, taken, within, long, c.loop-call-test.false),
         now.4.are,
         now.4.text,

@@ -3,7 +3,7 @@ use Rattle.asm_update.specs.State.{State}
 use Rattle.asm_storage.specs.declared.history.Event.{Event}
 use Rattle.asm_driver.specs.Ports.{Known}
 use Rattle.asm_driver.specs.Lines.{pending}
-use Rattle.asm_driver.specs.Parts.{audited, IsAt, IsPartRead}
+use Rattle.asm_driver.specs.Parts.{IsAt, IsPartRead}
 use Rattle.asm_driver.proofs.Windows.{AreNotedTo}
 use Rattle.asm_driver.proofs.program.windowing.note_calls.Given as goal
 
@@ -18,8 +18,8 @@ invariant-loop-call g l = record {
   within : l.call ≤ l.end;
   read : (had : Known) (before : List ℕ) (A : State) (es : List Event) →
       IsAt had (g.S.Source.remaining l.fn.input) before (pending l.fn.lines) →
-      IsPartRead l.fn.opened.number before (audited l.fn.opened) A es →
+      IsPartRead l.fn.opened.number before l.fn.opened A es →
       (more : List ℕ) × (shown : List Event) × IsAt had (g.S.Source.remaining l.input) more (pending l.lines)
-      × IsPartRead l.opened.number more (audited l.opened) A (es ++ shown)
+      × IsPartRead l.opened.number more l.opened A (es ++ shown)
       × AreNotedTo l.opened.limits.capacity A es shown l.noted (string_bytes l.fn.text) (string_bytes l.text);
 }

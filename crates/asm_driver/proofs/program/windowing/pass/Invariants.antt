@@ -3,7 +3,7 @@ use Rattle.asm_update.specs.State.{State}
 use Rattle.asm_storage.specs.declared.history.Event.{Event}
 use Rattle.asm_driver.specs.Ports.{Known}
 use Rattle.asm_driver.specs.Lines.{pending}
-use Rattle.asm_driver.specs.Parts.{audited, IsAt, IsPartRead}
+use Rattle.asm_driver.specs.Parts.{IsAt, IsPartRead}
 use Rattle.asm_driver.proofs.program.windowing.pass.Given as goal
 
 -- so many events of the same part were read, and no read failed
@@ -16,7 +16,7 @@ invariant-loop g l = record {
   taken : l.opened.taken ≡ l.counter;
   within : l.counter ≤ l.calls;
   read : (had : Known) (text : List ℕ) (A : State) → IsAt had (g.S.Source.remaining l.fn.input) text (pending l.fn.lines) →
-      IsPartRead l.fn.opened.number text (audited l.fn.opened) A [] →
+      IsPartRead l.fn.opened.number text l.fn.opened A [] →
       (more : List ℕ) × (es : List Event) × IsAt had (g.S.Source.remaining l.input) more (pending l.lines)
-      × IsPartRead l.opened.number more (audited l.opened) A es;
+      × IsPartRead l.opened.number more l.opened A es;
 }

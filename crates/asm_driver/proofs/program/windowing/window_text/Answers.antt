@@ -5,10 +5,9 @@ use Rattle.serde_json.specs.Written.{has_float}
 use Rattle.asm_journal.specs.Text.{line}
 use Rattle.asm_storage.specs.History.{fired_moves}
 use Rattle.asm_journal.specs.declared.parsing.Limits.{Limits}
-use Rattle.asm_audit.specs.Opened.{history_of}
+use Rattle.asm_audit.specs.PartAuditor.{history_of}
 use Rattle.asm_trace.specs.Text.{notes_text}
 use Rattle.asm_driver.specs.Lines.{pending}
-use Rattle.asm_driver.specs.Parts.{audited}
 use Rattle.asm_driver.specs.Window.{end_in, LiesIn, window_header}
 use Rattle.asm_driver.proofs.Windows.{few_calls, memory_window, part_held, window_no_float, window_shown}
 use Rattle.asm_driver.proofs.program.windowing.window_text.Goals as goal
@@ -19,7 +18,7 @@ returns-in_default-clause-err g c =
     let o = ok.2 in
     let opened = c.in_ok-opened.opened in
     few_calls c.args.window (g.S.Source.remaining c.args.input.now) (g.S.Source.remaining c.open_part.new.input)
-    (g.S.Source.failed c.open_part.new.input) o.0 o.1 (pending c.open_part.new.lines) opened.number (audited opened) o.2
+    (g.S.Source.failed c.open_part.new.input) o.0 o.1 (pending c.open_part.new.lines) opened.number opened o.2
     c.in_ok-opened.ensures.number o.4 o.5 o.6 o.3 ok.0 (rw c.in_default.is at c.end_of.ensures.none)
 
 pub returns-in_err-pass-clause-err : goal.returns-in_err-pass-clause-err
@@ -54,7 +53,7 @@ push_line-requires g c =
     let up_to = inr (c.in_ok-opened.ensures.number, some.1.0) in
     let passed = c.in_ok-pass.ensures.reported w had (o.0 ++ o.1) o.2 up_to o.3 o.6 in
     let read = passed.1.3 in
-    let held = part_held c.pass.new.opened.number passed.1.0 (audited c.pass.new.opened) o.2 passed.1.1 read in
+    let held = part_held c.pass.new.opened.number passed.1.0 c.pass.new.opened o.2 passed.1.1 read in
     ap has_float (c.in_ok-header.ensures o.2 passed.1.1 [] held read.taken read.stands)
     ∙ window_no_float c.pass.new.opened.limits.agents c.pass.new.opened.limits.capacity (c.in-Some.end - w.from)
     (length passed.1.1) _ (length (fired_moves passed.1.1)) c.pass.new.opened.number
@@ -106,7 +105,7 @@ returns-clause-ok g c =
     let up_to = inr (c.in_ok-opened.ensures.number, some.1.0) in
     let passed = c.in_ok-pass.ensures.reported w had (o.0 ++ o.1) o.2 up_to o.3 o.6 in
     let read = passed.1.3 in
-    let held = part_held c.pass.new.opened.number passed.1.0 (audited c.pass.new.opened) o.2 passed.1.1 read in
+    let held = part_held c.pass.new.opened.number passed.1.0 c.pass.new.opened o.2 passed.1.1 read in
     let number = c.in_ok-pass.ensures.number ∙ c.in_ok-opened.ensures.number in
     let es = passed.1.1 in
     let end = subst (λ (l : Limits). c.in-Some.end ≡ end_in w l.events) (sym c.in_ok-pass.ensures.limits) some.0 in
@@ -130,5 +129,5 @@ returns-clause-ok g c =
     ∙ ap (λ (d : Data). string_bytes c.new-text.result ++ line d) header
     ∙ ap (λ b. b ++ line D) c.new-text.ensures.bytes) in
     window_shown w had (g.S.Source.remaining c.note_calls.new.input) (g.S.Source.failed c.note_calls.new.input) t.0
-    (pending c.note_calls.new.lines) (audited c.note_calls.new.opened) o.2 es shown t.2 (string_bytes c.note_calls.new.text) t.3
+    (pending c.note_calls.new.lines) c.note_calls.new.opened o.2 es shown t.2 (string_bytes c.note_calls.new.text) t.3
     reported.0 t.4 lies first (long ∙ closed) t.6 text
