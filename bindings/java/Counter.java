@@ -21,7 +21,7 @@ public final class Counter {
                     return null;
                 });
         }
-        Auditor.Counts told = Auditor.audit(path);
-        System.out.println(told.moves() + " moves in " + told.parts() + " parts are legal");
+        Auditor.Counts counts = Auditor.audit(path);
+        System.out.println(counts.moves() + " moves in " + counts.parts() + " parts are legal");
     }
 }

@@ -90,7 +90,17 @@ public sealed interface Actor extends AutoCloseable permits Agent, RunAgent, Sha
      * <p>It has the number of the move that was fired, from 1 up, or 0 if the rule pushed nothing;
      * what the rule returned; and how often it was begun again.
      */
-    record Played<T>(long move, T told, int retries) {
+    record Played<T>(long move, T result, int retries) {
+        /**
+         * Returns what the rule returned.
+         *
+         * @deprecated use {@link #result()}
+         */
+        @Deprecated(since = "0.2")
+        public T told() {
+            return result;
+        }
+
         /** Returns whether a move was fired. */
         public boolean isFired() {
             return move != 0;

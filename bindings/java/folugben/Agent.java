@@ -45,7 +45,7 @@ public final class Agent extends AgentCalls implements Actor {
 
     /** Reads the locations [LOC, ..], and returns {"number":N,"values":[VALUE, ..]}. */
     public String read(String locations) {
-        Turns.Player player = Turns.Player.look(this);
+        Turns.Player player = Turns.Player.poll(this);
         byte[] call = Texts.utf8(locations, "locations");
         takeState();
         synchronized (slot) {
@@ -54,11 +54,11 @@ public final class Agent extends AgentCalls implements Actor {
                 throw ManyException.places(
                         JsonReader.locations(locations).size(), "locations are read");
             FolugbenException.expectRead(held(code), Storage.Form.LOCATIONS, call);
-            vain++;
-            String told = lastAnswer();
+            unfired++;
+            String answer = lastAnswer();
             player.reads(locations);
-            player.hears(values(told));
-            return told;
+            player.observe(values(answer));
+            return answer;
         }
     }
 
@@ -145,7 +145,7 @@ public final class Agent extends AgentCalls implements Actor {
      * @throws FolugbenException as of two arguments
      */
     public Reply tryFire(String instructions, String reads, String scans) {
-        Turns.Player player = Turns.Player.look(this);
+        Turns.Player player = Turns.Player.poll(this);
         String move = "{\"fire\":" + Texts.oneValue(instructions, "instructions") + ",\"reads\":"
                 + Texts.oneValue(reads, "reads") + "}";
         byte[] call = Texts.utf8(move, "the move");
@@ -173,9 +173,9 @@ public final class Agent extends AgentCalls implements Actor {
      */
     @Override
     public Step step() {
-        Turns.Player player = Turns.Player.look(this);
+        Turns.Player player = Turns.Player.poll(this);
         Step step = begin();
-        player.begun(step);
+        player.stepBegan(step);
         return step;
     }
 
@@ -196,7 +196,7 @@ public final class Agent extends AgentCalls implements Actor {
      */
     @Override
     public long follow() {
-        Turns.Player.look(this);
+        Turns.Player.poll(this);
         takeState();
         synchronized (slot) {
             expect(slot.follow());
@@ -214,11 +214,11 @@ public final class Agent extends AgentCalls implements Actor {
         Turns.Player player = Turns.Player.call(this);
         byte[] call = Texts.utf8(locations, "locations");
         synchronized (slot) {
-            Calls.Told told = slot.peek(call);
-            FolugbenException.expectRead(held(told.code()), Storage.Form.LOCATIONS, call);
+            Calls.Result result = slot.peek(call);
+            FolugbenException.expectRead(held(result.code()), Storage.Form.LOCATIONS, call);
             player.reads(locations);
-            player.hears(values(told.text()));
-            return told.text();
+            player.observe(values(result.text()));
+            return result.text();
         }
     }
 
@@ -234,7 +234,7 @@ public final class Agent extends AgentCalls implements Actor {
         Turns.Player player = Turns.Player.call(this);
         synchronized (slot) {
             look(location, player);
-            return new Peeked(room.number(0), room.told());
+            return new Peeked(room.number(0), room.readValue());
         }
     }
 
@@ -247,7 +247,7 @@ public final class Agent extends AgentCalls implements Actor {
         Turns.Player player = Turns.Player.call(this);
         synchronized (slot) {
             look(location, player);
-            return room.kind() == Room.NUM ? room.number() : room.told().asLong();
+            return room.kind() == Room.NUM ? room.number() : room.readValue().asLong();
         }
     }
 
@@ -256,11 +256,11 @@ public final class Agent extends AgentCalls implements Actor {
     public State state() {
         Turns.Player player = Turns.Player.call(this);
         synchronized (slot) {
-            Calls.Told told = slot.state();
-            expect(told.code());
+            Calls.Result result = slot.state();
+            expect(result.code());
             player.readsAll();
-            player.hears(told.text());
-            return new State(room.number(0), told.text());
+            player.observe(result.text());
+            return new State(room.number(0), result.text());
         }
     }
 
@@ -275,11 +275,11 @@ public final class Agent extends AgentCalls implements Actor {
         Turns.Player player = Turns.Player.call(this);
         byte[] bytes = Texts.utf8(name, "name");
         synchronized (slot) {
-            Calls.Told told = slot.scan(bytes);
-            expect(told.code());
+            Calls.Result result = slot.scan(bytes);
+            expect(result.code());
             player.scans(name);
-            player.hears(told.text());
-            return new State(room.number(0), told.text());
+            player.observe(result.text());
+            return new State(room.number(0), result.text());
         }
     }
 
@@ -293,8 +293,8 @@ public final class Agent extends AgentCalls implements Actor {
      *         the moves that the agent had seen
      */
     public Reply stands(String reads) {
-        Turns.Player player = Turns.Player.look(this);
-        return standing(reads, player);
+        Turns.Player player = Turns.Player.poll(this);
+        return validate(reads, player);
     }
 
     /**
@@ -326,7 +326,7 @@ public final class Agent extends AgentCalls implements Actor {
 
     /** Learns what the other agent of the storage has seen. */
     public void learn(Agent other) {
-        Turns.Player.look(this).depends();
+        Turns.Player.poll(this).depends();
         Objects.requireNonNull(other, "other");
         if (other.storage != storage)
             FolugbenException.expect(Code.OTHER);
@@ -385,7 +385,7 @@ public final class Agent extends AgentCalls implements Actor {
     /** Returns it to its storage, if that isn't closed yet; it may be called again. */
     @Override
     public void close() {
-        if (!storage.takesBack(this))
+        if (!storage.takeBackIfOpen(this))
             abandon();
     }
 
@@ -394,7 +394,7 @@ public final class Agent extends AgentCalls implements Actor {
     public String toString() {
         synchronized (slot) {
             long seen = before() + Calls.asm_seen(slot.at);
-            return "agent " + number + (slot.isFull() ? ", at " + seen + " moves" : ", given back");
+            return "agent " + number + (slot.isFull() ? ", at " + seen + " moves" : ", returned");
         }
     }
 }

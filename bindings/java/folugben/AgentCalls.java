@@ -10,8 +10,8 @@ abstract sealed class AgentCalls permits Agent {
     final Storage storage;
     final int number;
     /** The part that it belongs to, if it is of a run; else null. */
-    volatile Run.Chained chain;
-    int vain;
+    volatile Run.RunPart chain;
+    int unfired;
     /** Whether commits add a receipt of what their step read; with its lock. */
     private boolean isRecording;
     /** Throws if this code says that it was returned; to be called with its lock. */
@@ -20,11 +20,11 @@ abstract sealed class AgentCalls permits Agent {
             return code;
         if (isPast())
             throw PartException.full();
-        throw FolugbenException.closed("the agent was given back");
+        throw FolugbenException.closed("the agent was returned");
     }
     /** Returns whether it is of a part of a run that is over. */
     boolean isPast() {
-        Run.Chained own = chain;
+        Run.RunPart own = chain;
         return own != null && own.isOver();
     }
     /** Throws if the code of a call on it isn't DONE. */
@@ -36,13 +36,13 @@ abstract sealed class AgentCalls permits Agent {
         return reading.substring(reading.indexOf(','));
     }
     /** Returns the code of a fire, or FULL if it came too late for the part of a run. */
-    Code inTime(Code code) {
+    Code fullIfTooLate(Code code) {
         boolean isTooLate = code == Code.EMPTY && !slot.isFull() && isPast();
         return isTooLate ? Code.FULL : code;
     }
     /** Returns the outcome of a fire with this code, while its agent's lock is held. */
-    Actor.Reply reply(Code told, boolean isOfStep) {
-        Code code = inTime(told);
+    Actor.Reply reply(Code callCode, boolean isOfStep) {
+        Code code = fullIfTooLate(callCode);
         long before = before();
         long move = code == Code.DONE ? before + room.number(0) : 0;
         long from = before + room.number(1);
@@ -50,10 +50,10 @@ abstract sealed class AgentCalls permits Agent {
         String answer = null;
         switch (code) {
             case STALE, CLASH -> {
-                vain++;
+                unfired++;
                 answer = lastAnswer();
             }
-            case FULL -> vain++;
+            case FULL -> unfired++;
             case BUSY, MOVED -> {}
             default -> expect(code);
         }
@@ -75,7 +75,7 @@ abstract sealed class AgentCalls permits Agent {
             return Code.of(Calls.asm_commit(slot.at, step, room.numbers()));
         Code code = Code.of(Calls.asm_commit_recorded(slot.at, step, room.numbers()));
         switch (code) {
-            case DONE, STALE, CLASH, FULL, BUSY -> vain++; // the receipt of the read
+            case DONE, STALE, CLASH, FULL, BUSY -> unfired++; // the receipt of the read
             default -> {}
         }
         return code;
@@ -85,7 +85,7 @@ abstract sealed class AgentCalls permits Agent {
         return chain != null;
     }
     /** Has the agent be one of this part of a run. */
-    void joins(Run.Chained chain) {
+    void setPart(Run.RunPart chain) {
         this.chain = chain;
     }
     /** Returns how many moves of its run come before those of its storage. */
@@ -97,9 +97,9 @@ abstract sealed class AgentCalls permits Agent {
      *
      * <p>They count since it was made or checked out.
      */
-    int vain() {
+    int unfired() {
         synchronized (slot) {
-            return vain;
+            return unfired;
         }
     }
     /** Returns whether it was neither returned nor abandoned. */
@@ -120,9 +120,9 @@ abstract sealed class AgentCalls permits Agent {
             chain.endStep();
     }
     /** Throws what has ended the run, if it is of one. */
-    void expectGoing() {
+    void expectRunning() {
         if (chain != null)
-            chain.expectGoing();
+            chain.expectRunning();
     }
     void look(PreparedLocation location, Turns.Player player) {
         Objects.requireNonNull(location, "location");
@@ -130,13 +130,13 @@ abstract sealed class AgentCalls permits Agent {
             location.expect(held(slot.peek(location)));
         }
         player.reads(location);
-        player.hears(room);
+        player.observe(room);
     }
     String lastAnswer() {
         synchronized (slot) {
-            Calls.Told told = slot.answer();
-            expect(told.code());
-            return told.text();
+            Calls.Result result = slot.answer();
+            expect(result.code());
+            return result.text();
         }
     }
     /** Returns its storage. */
@@ -173,22 +173,22 @@ abstract sealed class AgentCalls permits Agent {
     }
 
     /** Validates the named reads. */
-    final Actor.Reply standing(String reads, Turns.Player player) {
+    final Actor.Reply validate(String reads, Turns.Player player) {
         byte[] call = Texts.utf8(reads, "reads");
         synchronized (slot) {
-            Calls.Told told = slot.stands(call);
-            if (told.code() == Code.STALE || told.code() == Code.DONE) {
+            Calls.Result result = slot.stands(call);
+            if (result.code() == Code.STALE || result.code() == Code.DONE) {
                 player.readsNamed(reads);
-                player.hears(told.text());
+                player.observe(result.text());
             }
-            if (told.code() == Code.STALE)
-                return new Actor.Reply(told.code(), 0, 0, 0, told.text());
-            if (told.code() == Code.MANY)
+            if (result.code() == Code.STALE)
+                return new Actor.Reply(result.code(), 0, 0, 0, result.text());
+            if (result.code() == Code.MANY)
                 throw ManyException.places(JsonReader.reads(reads).size(), "locations are named");
-            if (told.code() == Code.AHEAD)
+            if (result.code() == Code.AHEAD)
                 throw FolugbenException.ahead(reads, Calls.asm_seen(slot.at));
-            FolugbenException.expectReads(held(told.code()), reads);
-            return new Actor.Reply(told.code(), 0, 0, 0, null);
+            FolugbenException.expectReads(held(result.code()), reads);
+            return new Actor.Reply(result.code(), 0, 0, 0, null);
         }
     }
 }

@@ -88,11 +88,11 @@ public final class Auditor implements AutoCloseable {
     private void take(byte[] bytes, int at, int length) {
         Code code = asked(bytes, at, length);
         taken += room.written();
-        Counts told = told();
+        Counts numbers = currentCounts();
         if (code != Code.DONE && asked(NOTHING, 0, 0) == Code.DONE)
-            counts = told();
-        expect(code, told);
-        counts = told;
+            counts = currentCounts();
+        expect(code, numbers);
+        counts = numbers;
     }
 
     private Code asked(byte[] bytes, int at, int length) {
@@ -101,16 +101,16 @@ public final class Auditor implements AutoCloseable {
                         -> Calls.asm_audit(slot.at, text, length, written, room.numbers()));
     }
 
-    private Counts told() {
+    private Counts currentCounts() {
         return new Counts(room.wide(0), room.wide(1), room.wide(2));
     }
 
-    private void expect(Code code, Counts told) {
+    private void expect(Code code, Counts numbers) {
         switch (code) {
             case DONE, MEMORY -> FolugbenException.expect(code);
             // Such a line comes without numbers; those of the audit are these.
             case LONG_LINE -> throw new AuditException(code, counts.parts(), 0);
-            default -> throw new AuditException(code, told.parts(), told.calls());
+            default -> throw new AuditException(code, numbers.parts(), numbers.calls());
         }
     }
 
@@ -188,8 +188,8 @@ public final class Auditor implements AutoCloseable {
         synchronized (slot) {
             expectOpen();
             Code code = Code.of(Calls.asm_audited(slot.at, room.numbers()));
-            expect(code, told());
-            return told();
+            expect(code, currentCounts());
+            return currentCounts();
         }
     }
 
@@ -201,11 +201,11 @@ public final class Auditor implements AutoCloseable {
     public String state() {
         synchronized (slot) {
             expectOpen();
-            Calls.Told told = room.told(
+            Calls.Result result = room.resultOf(
                     (text, out, length, written)
                             -> Calls.asm_audit_state(slot.at, out, length, written));
-            FolugbenException.expect(told.code());
-            return told.text();
+            FolugbenException.expect(result.code());
+            return result.text();
         }
     }
 

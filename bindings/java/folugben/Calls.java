@@ -228,10 +228,10 @@ final class Calls {
     }
 
     /** The code of a call, and the text that it wrote with it. */
-    record Told(Code code, String text) {}
+    record Result(Code code, String text) {}
 
     /** Returns what a call writes to a buffer of this size, or else a larger one. */
-    static Told told(Writer call, int room) {
+    static Result resultOf(Writer call, int room) {
         byte[] out = new byte[room];
         long[] written = new long[1];
         Code code = Code.of(call.write(out, out.length, written));
@@ -241,14 +241,14 @@ final class Calls {
             out = new byte[(int) written[0]];
             code = Code.of(call.write(out, out.length, written));
         }
-        return new Told(code, new String(out, 0, (int) written[0], StandardCharsets.UTF_8));
+        return new Result(code, new String(out, 0, (int) written[0], StandardCharsets.UTF_8));
     }
 
     /** The text of a call that is expected to be done. */
     static String text(Writer call, int room) {
-        Told told = told(call, room);
-        FolugbenException.expect(told.code);
-        return told.text;
+        Result result = resultOf(call, room);
+        FolugbenException.expect(result.code);
+        return result.text;
     }
 
     /** A call on a journal that writes a text. */
@@ -282,7 +282,7 @@ final class Calls {
 
         private Quick() {}
 
-        static boolean isThere() {
+        static boolean isAvailable() {
             return LIBRARY != null;
         }
 
@@ -309,7 +309,7 @@ final class Calls {
          */
         static void forget(Class<?> own, Map<String, ?> options) {
             if (options != null)
-                options.values().removeIf(kept -> kept == own || kept == own.getClassLoader());
+                options.values().removeIf(loader -> loader == own || loader == own.getClassLoader());
         }
 
         /**
@@ -318,7 +318,7 @@ final class Calls {
          * <p>If class loaders share the further library, it has the calls of the first libfolugben.
          */
         static void bind(Class<?> calls, NativeLibrary library) {
-            if (!isThere())
+            if (!isAvailable())
                 return;
             Function name = LIBRARY.getFunction("folugben_bindable");
             Function bind = LIBRARY.getFunction("folugben_bind");

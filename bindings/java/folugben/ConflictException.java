@@ -10,7 +10,7 @@ public abstract sealed class ConflictException extends FolugbenException
                 StaleException {
     private static final long serialVersionUID = 1;
 
-    ConflictException(Code code, long number, String said, String where, String answer) {
-        super(code, number, said, where, answer);
+    ConflictException(Code code, long number, String detail, String where, String answer) {
+        super(code, number, detail, where, answer);
     }
 }

@@ -11,8 +11,8 @@ public final class DamagedException extends RuntimeException {
     /** The number of the segment. */
     private final long segment;
 
-    DamagedException(long segment, String said) {
-        super("segment " + segment + ": " + said);
+    DamagedException(long segment, String detail) {
+        super("segment " + segment + ": " + detail);
         this.segment = segment;
     }
 

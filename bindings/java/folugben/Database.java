@@ -120,19 +120,19 @@ interface Database {
         }
 
         /** Returns the rows of the last statement that returns some. */
-        List<Object[]> lastRows(PreparedStatement statement, boolean tells) throws SQLException {
-            return tells ? rows(statement.getResultSet()) : List.of();
+        List<Object[]> lastRows(PreparedStatement statement, boolean hasRows) throws SQLException {
+            return hasRows ? rows(statement.getResultSet()) : List.of();
         }
 
-        static List<Object[]> rows(ResultSet told) throws SQLException {
+        static List<Object[]> rows(ResultSet results) throws SQLException {
             List<Object[]> rows = new ArrayList<>();
-            int columns = told.getMetaData().getColumnCount();
-            while (told.next()) {
+            int columns = results.getMetaData().getColumnCount();
+            while (results.next()) {
                 Object[] row = new Object[columns];
-                for (int at = 0; at < columns; at++) row[at] = told.getObject(at + 1);
+                for (int at = 0; at < columns; at++) row[at] = results.getObject(at + 1);
                 rows.add(row);
             }
-            told.close();
+            results.close();
             return rows;
         }
 
@@ -140,7 +140,7 @@ interface Database {
         public void close() {
             try {
                 connection().close();
-            } catch (SQLException gone) {
+            } catch (SQLException missing) {
                 // It is closed then, as far as it can be.
             }
         }

@@ -37,16 +37,16 @@ public final class Explorer {
 
     private final Supplier<Storage> make;
     private final List<Interleave.Work<? super Agent, ?>> works;
-    private final Holds holds;
+    private final Invariants invariants;
     private final int schedules;
     private final Duration time;
     private final int turns;
 
     private Explorer(Supplier<Storage> make, List<Interleave.Work<? super Agent, ?>> works,
-            Holds holds, int schedules, Duration time, int turns) {
+            Invariants invariants, int schedules, Duration time, int turns) {
         this.make = make;
         this.works = works;
-        this.holds = holds;
+        this.invariants = invariants;
         this.schedules = schedules;
         this.time = time;
         this.turns = turns;
@@ -57,7 +57,7 @@ public final class Explorer {
             Supplier<Storage> make, List<? extends Interleave.Work<? super Agent, ?>> works) {
         return new Explorer(Objects.requireNonNull(make, "make"),
                 Texts.Copies.<Interleave.Work<? super Agent, ?>>of(works, "works"),
-                new Holds(values -> true, values -> true), SCHEDULES, TIME, TURNS);
+                new Invariants(values -> true, values -> true), SCHEDULES, TIME, TURNS);
     }
 
     /**
@@ -65,31 +65,31 @@ public final class Explorer {
      * AssertionError, breaks it.
      */
     public Explorer invariant(Predicate<? super Map<Location, Value>> invariant) {
-        return with(new Holds(Objects.requireNonNull(invariant, "invariant"), holds.atEnd()));
+        return with(new Invariants(Objects.requireNonNull(invariant, "invariant"), invariants.atEnd()));
     }
 
     /** The same with what has to hold in the last state. */
     public Explorer atEnd(Predicate<? super Map<Location, Value>> invariant) {
-        return with(new Holds(holds.invariant(), Objects.requireNonNull(invariant, "invariant")));
+        return with(new Invariants(invariants.invariant(), Objects.requireNonNull(invariant, "invariant")));
     }
 
-    private Explorer with(Holds other) {
+    private Explorer with(Invariants other) {
         return new Explorer(make, works, other, schedules, time, turns);
     }
 
     /** Returns such a search with at most so many schedules, 10,000 by default. */
     public Explorer schedules(int most) {
-        return new Explorer(make, works, holds, most, time, turns);
+        return new Explorer(make, works, invariants, most, time, turns);
     }
 
     /** Returns such a search with at most so much time, a minute by default. */
     public Explorer time(Duration most) {
-        return new Explorer(make, works, holds, schedules, Objects.requireNonNull(most, "most"), turns);
+        return new Explorer(make, works, invariants, schedules, Objects.requireNonNull(most, "most"), turns);
     }
 
     /** Returns such a search with so many turns a schedule at most, 10,000 by default. */
     public Explorer turns(int most) {
-        return new Explorer(make, works, holds, schedules, time, most);
+        return new Explorer(make, works, invariants, schedules, time, most);
     }
 
     /**
@@ -130,12 +130,12 @@ public final class Explorer {
     public static final class DiffersException extends RuntimeException {
         private static final long serialVersionUID = 1;
 
-        DiffersException(String said) {
-            super(said);
+        DiffersException(String detail) {
+            super(detail);
         }
     }
 
-    private record Planned(int length, int place, List<Integer> plan) {}
+    private record PlanEntry(int length, int place, List<Integer> plan) {}
 
     /**
      * Searches up to the first finding, to a bound, or until all schedules were tried.
@@ -147,11 +147,11 @@ public final class Explorer {
      */
     public Explored explore() {
         long end = System.nanoTime() + time.toNanos();
-        holds.forget();
+        invariants.forget();
         Schedule.Tree tree = new Schedule.Tree(Map.of());
-        PriorityQueue<Planned> queue = new PriorityQueue<>(
-                Comparator.comparingInt(Planned::length).thenComparingInt(Planned::place));
-        queue.add(new Planned(0, 0, List.of()));
+        PriorityQueue<PlanEntry> queue = new PriorityQueue<>(
+                Comparator.comparingInt(PlanEntry::length).thenComparingInt(PlanEntry::place));
+        queue.add(new PlanEntry(0, 0, List.of()));
         int played = 0;
         int pushed = 0;
         boolean isExact = true;
@@ -160,13 +160,13 @@ public final class Explorer {
             played++;
             isExact &= schedule.isExact();
             for (Schedule.Plan plan : schedule.plans())
-                queue.add(new Planned(plan.length(), ++pushed, plan.agents()));
-            Holds.Breach breach = schedule.isBlocked() ? null : holds.breach(schedule);
+                queue.add(new PlanEntry(plan.length(), ++pushed, plan.agents()));
+            Invariants.Breach breach = schedule.isBlocked() ? null : invariants.breach(schedule);
             if (breach != null)
                 return new Explored(played, false, Optional.of(replayed(breach, schedule)));
             if (queue.isEmpty() && tree.hasGrown()) {
                 tree = new Schedule.Tree(tree.footprints());
-                queue.add(new Planned(0, 0, List.of()));
+                queue.add(new PlanEntry(0, 0, List.of()));
             }
         }
         return new Explored(played, isExact && queue.isEmpty(), Optional.empty());
@@ -177,7 +177,7 @@ public final class Explorer {
      *
      * <p>Else the finding has all turns of the schedule.
      */
-    private Finding replayed(Holds.Breach breach, Schedule schedule) {
+    private Finding replayed(Invariants.Breach breach, Schedule schedule) {
         List<Schedule.Event> all = new ArrayList<>(breach.events());
         for (Schedule.Event event : schedule.events())
             if (breach.events().stream().noneMatch(it -> it == event))
@@ -195,7 +195,7 @@ public final class Explorer {
             found = new Finding(listed, journal.get(), breach.broken(), breach.thrown());
             break;
         }
-        if (breach.thrown() == null && !holds.isBroken(found.journal()))
+        if (breach.thrown() == null && !invariants.isBroken(found.journal()))
             throw new DiffersException(breach.broken()
                     + ", but not when it was played again by the turns " + found.turns());
         return found;

@@ -24,22 +24,22 @@ public sealed class FolugbenException extends RuntimeException
     /** The text that was answered; else null. */
     private final String answer;
 
-    FolugbenException(Code code, long number, String said, String where, String answer) {
-        super(message(code, said) + (where.isEmpty() ? "" : " (" + where + ")"));
+    FolugbenException(Code code, long number, String detail, String where, String answer) {
+        super(message(code, detail) + (where.isEmpty() ? "" : " (" + where + ")"));
         this.code = code;
         this.number = number;
         this.answer = answer;
-        Turns.here().hears(this);
+        Turns.here().observe(this);
     }
 
     /** Returns the exception of a code without an answer, if it can of its own class. */
-    private static FolugbenException of(Code code, long number, String said, String where) {
+    private static FolugbenException of(Code code, long number, String detail, String where) {
         return switch (code) {
-            case MANY, LONG_MOVE, AGENTS -> new ManyException(code, said);
+            case MANY, LONG_MOVE, AGENTS -> new ManyException(code, detail);
             case DEEP -> new DeepException();
             case MOVED -> new MovedException();
-            case LARGE, LONG_LINE, MANY_CALLS -> new LargeException(code, said, null);
-            default -> new FolugbenException(code, number, said, where, null);
+            case LARGE, LONG_LINE, MANY_CALLS -> new LargeException(code, detail, null);
+            default -> new FolugbenException(code, number, detail, where, null);
         };
     }
 
@@ -88,10 +88,10 @@ public sealed class FolugbenException extends RuntimeException
     }
 
     /** Returns what the code means, with what is said of the text that is refused. */
-    private static String message(Code code, String said) {
-        if (said.isEmpty())
+    private static String message(Code code, String detail) {
+        if (detail.isEmpty())
             return code.text();
-        return code == Code.NOT_JSON ? said : code.text() + ": " + said;
+        return code == Code.NOT_JSON ? detail : code.text() + ": " + detail;
     }
 
     /** Returns its code, for a switch. */
@@ -137,29 +137,29 @@ public sealed class FolugbenException extends RuntimeException
         expect(code, "", numbers);
     }
 
-    private static void expect(Code code, String said, long... numbers) {
+    private static void expect(Code code, String detail, long... numbers) {
         if (code == Code.MEMORY)
             throw new OutOfMemoryError(code.text());
         if (code == Code.DONE)
             return;
         String name = numbers.length > 0 ? numberName(code) : null;
         if (name == null)
-            throw of(code, 0, said, "");
-        throw of(code, numbers[0], said, name + " " + numbers[0]);
+            throw of(code, 0, detail, "");
+        throw of(code, numbers[0], detail, name + " " + numbers[0]);
     }
 
     /** Throws if the code of a call that was passed a text of this form isn't DONE. */
     static void expectRead(Code code, Storage.Form form, byte[] text) {
-        expect(code, isMisread(code) ? Calls.explain(form, text) : "");
+        expect(code, isFormFault(code) ? Calls.explain(form, text) : "");
     }
 
     /** Throws if the code of a fire that was passed this move, and scans, isn't DONE. */
     static void expectFire(Code code, byte[] call) {
-        String said = isMisread(code) ? Calls.explain(Storage.Form.MOVE, call) : "";
-        expect(code, code == Code.SHAPE && said.isEmpty() ? SCAN : said);
+        String detail = isFormFault(code) ? Calls.explain(Storage.Form.MOVE, call) : "";
+        expect(code, code == Code.SHAPE && detail.isEmpty() ? SCAN : detail);
     }
 
-    private static boolean isMisread(Code code) {
+    private static boolean isFormFault(Code code) {
         return code == Code.NOT_JSON || code == Code.SHAPE;
     }
 
@@ -175,22 +175,22 @@ public sealed class FolugbenException extends RuntimeException
 
     /** Throws if the code of a call on a state and a move, in this order, isn't DONE. */
     static void expectStateAndMove(Code code, String state, String move) {
-        String said = isMisread(code) ? explain(Storage.Form.STATE, state) : "";
-        if (!said.isEmpty())
-            throw of(code, 0, said, "state");
+        String detail = isFormFault(code) ? explain(Storage.Form.STATE, state) : "";
+        if (!detail.isEmpty())
+            throw of(code, 0, detail, "state");
         expectMove(code, move, "move");
     }
 
     /** Throws if the code of a call on two moves, in this order, isn't DONE. */
     static void expectMoves(Code code, String first, String second) {
-        if (isMisread(code) && !explain(Storage.Form.MOVE, withoutReads(first)).isEmpty())
+        if (isFormFault(code) && !explain(Storage.Form.MOVE, withoutReads(first)).isEmpty())
             expectMove(code, first, "first");
         expectMove(code, second, "second");
     }
 
     /** Throws if the code of a call that was passed a location LOC isn't DONE. */
     static void expectLocation(Code code, String location) {
-        if (isMisread(code))
+        if (isFormFault(code))
             throw of(code, 0,
                     explain(Storage.Form.LOCATIONS,
                             code == Code.NOT_JSON ? location : "[" + location + "]"),
@@ -203,9 +203,9 @@ public sealed class FolugbenException extends RuntimeException
     }
 
     private static String explain(Storage.Form form, String text) {
-        String said = Calls.explain(form, Texts.utf8(text, "text"));
+        String detail = Calls.explain(form, Texts.utf8(text, "text"));
         return Texts.depth(text) > DEEPEST
-                ? said + "; lists nest at most " + Element.MAX_DEPTH + " deep" : said;
+                ? detail + "; lists nest at most " + Element.MAX_DEPTH + " deep" : detail;
     }
 
     /**
@@ -213,22 +213,22 @@ public sealed class FolugbenException extends RuntimeException
      *
      * <p>If the part isn't JSON, the byte at which it isn't is one of its own.
      */
-    private static void expectPart(Code code, String part, String whole, String name) {
-        if (!isMisread(code)) {
+    private static void expectPart(Code code, String part, String move, String name) {
+        if (!isFormFault(code)) {
             expect(code);
             return;
         }
-        String said = code == Code.NOT_JSON ? explain(Storage.Form.LOCATIONS, part)
-                                       : explain(Storage.Form.MOVE, whole);
-        throw of(code, 0, said, name);
+        String detail = code == Code.NOT_JSON ? explain(Storage.Form.LOCATIONS, part)
+                                       : explain(Storage.Form.MOVE, move);
+        throw of(code, 0, detail, name);
     }
 
     /** Throws if a call reports why a move can't be made. */
-    static void expectNoObjection(Calls.Told told) {
-        if (told.code() == Code.CLASH)
-            throw new ClashException(told.text());
-        if (told.code() == Code.LARGE)
-            throw new LargeException(Code.LARGE, told.text(), told.text());
+    static void expectNoObjection(Calls.Result result) {
+        if (result.code() == Code.CLASH)
+            throw new ClashException(result.text());
+        if (result.code() == Code.LARGE)
+            throw new LargeException(Code.LARGE, result.text(), result.text());
     }
 
     /**
@@ -237,14 +237,14 @@ public sealed class FolugbenException extends RuntimeException
      * <p>It is passed the number of a call or a line.
      */
     static void expectJournal(Code code, byte[] journal, long number) {
-        boolean isLine = isMisread(code) && number > 1;
-        String said = isLine ? Calls.explain(Storage.Form.EVENT, Texts.line(journal, number)) : "";
-        expect(code, said, number);
+        boolean isLine = isFormFault(code) && number > 1;
+        String detail = isLine ? Calls.explain(Storage.Form.EVENT, Texts.line(journal, number)) : "";
+        expect(code, detail, number);
     }
 
     /** Returns the exception for what is closed, with this text. */
-    static FolugbenException closed(String said) {
-        return of(Code.EMPTY, 0, said, "");
+    static FolugbenException closed(String detail) {
+        return of(Code.EMPTY, 0, detail, "");
     }
 
     /** Returns the exception for a number that an agent has or had. */
@@ -253,14 +253,14 @@ public sealed class FolugbenException extends RuntimeException
     }
 
     /** Returns the exception for a number that an agent of another process has. */
-    static FolugbenException numberHeld(int agent) {
+    static FolugbenException numberInUse(int agent) {
         return of(Code.NUMBER, 0, "agent " + agent + " is in use by another process", "");
     }
 
     /** Returns the exception for a journal that lacks a move, with this text on the agents. */
-    static FolugbenException missing(int move, String said) {
+    static FolugbenException missing(int move, String detail) {
         String where = numberName(Code.MISSING) + " " + move;
-        return of(Code.MISSING, move, said, said.endsWith(where) ? "" : where);
+        return of(Code.MISSING, move, detail, detail.endsWith(where) ? "" : where);
     }
 
     /** Returns the exception for an argument that isn't one value of JSON. */

@@ -99,7 +99,7 @@ public final class Interleave {
         Turns turns = new Turns(own.size(), choice, most);
         List<Turns.Player> players = new ArrayList<>();
         for (int number = 0; number < own.size(); number++) players.add(new Turns.Player(turns, number));
-        Turns.Told<R> told = turns.play(own, each, players);
-        return told.orThrow();
+        Turns.Outcomes<R> outcomes = turns.play(own, each, players);
+        return outcomes.orThrow();
     }
 }

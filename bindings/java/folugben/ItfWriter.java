@@ -22,7 +22,7 @@ final class ItfWriter {
     private final long last;
     private final long limit;
     /** The values of each function's locations; a written location goes to the end. */
-    private final Map<String, Map<Location, Held>> held = new TreeMap<>();
+    private final Map<String, Map<Location, Cell>> held = new TreeMap<>();
     private long written;
 
     private ItfWriter(Appendable out, long first, long last, long limit) {
@@ -51,7 +51,7 @@ final class ItfWriter {
             for (Journals.Trace.Change it : move.changes()) places(it.location());
     }
 
-    private Map<Location, Held> places(Location at) {
+    private Map<Location, Cell> places(Location at) {
         return held.computeIfAbsent(at.name(), name -> new LinkedHashMap<>());
     }
 
@@ -74,7 +74,7 @@ final class ItfWriter {
     private void put(Location at, Value value) {
         places(at).remove(at);
         if (!value.isUndef())
-            places(at).put(at, new Held(at, value));
+            places(at).put(at, new Cell(at, value));
     }
 
     private void change(Journals.Trace.Change change) {
@@ -92,7 +92,7 @@ final class ItfWriter {
         pieces.add((written > 0 ? ",\n" : "") + "{\"#meta\":" + meta);
         held.forEach((name, places) -> {
             String comma = ",\"" + name + "\":{\"#map\":[";
-            for (Held it : places.values()) {
+            for (Cell it : places.values()) {
                 pieces.add(comma);
                 pieces.add(it.entry());
                 comma = ",";
@@ -109,7 +109,7 @@ final class ItfWriter {
     }
 
     /** What a location has. A member of a set or a bag is a text: a change costs what it changes. */
-    private static final class Held {
+    private static final class Cell {
         private final String begin;
         private final String end;
         private final boolean isSet;
@@ -117,7 +117,7 @@ final class ItfWriter {
         /** Its text, until it changes. */
         private String entry;
 
-        Held(Location at, Value value) {
+        Cell(Location at, Value value) {
             isSet = value instanceof Value.SetOf;
             boolean isElement = value instanceof Element;
             String kind = isElement ? text(value) : isSet ? "{\"#set\":[" : "{\"#map\":[";

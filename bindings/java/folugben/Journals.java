@@ -63,13 +63,13 @@ public final class Journals {
         public Moment next() {
             if (next == null)
                 throw new NoSuchElementException("no further state");
-            Moment told = next;
+            Moment moment = next;
             Trace.Move move = trace.next();
             if (move == null) {
                 next = null;
-                return told;
+                return moment;
             }
-            SortedMap<Location, Value> values = new TreeMap<>(told.values());
+            SortedMap<Location, Value> values = new TreeMap<>(moment.values());
             for (Trace.Change change : move.changes()) {
                 Value now = change.on(values.get(change.location()));
                 if (now.isUndef())
@@ -77,8 +77,8 @@ public final class Journals {
                 else
                     values.put(change.location(), now);
             }
-            next = new Moment(told.number() + 1, values);
-            return told;
+            next = new Moment(moment.number() + 1, values);
+            return moment;
         }
     }
 
@@ -287,19 +287,19 @@ public final class Journals {
         private static Change change(JsonReader reader) throws IOException {
             reader.begin(JsonToken.START_ARRAY, "no change");
             Location location = reader.location();
-            Change told;
+            Change change;
             if (reader.next() == JsonToken.START_OBJECT) {
                 String key = reader.key();
-                told = switch (key) {
+                change = switch (key) {
                     case "added" -> ofSet(location, reader);
                     case "counts" -> ofBag(location, reader);
                     default -> other(location, reader.valueOf(key), reader);
                 };
             } else {
-                told = other(location, reader.value(), reader);
+                change = other(location, reader.value(), reader);
             }
             reader.end(JsonToken.END_ARRAY);
-            return told;
+            return change;
         }
 
         private static Change other(Location location, Value old, JsonReader reader) throws IOException {

@@ -63,9 +63,9 @@ final class JsonReader {
             if (in.nextToken() == null)
                 throw new IllegalArgumentException("no " + kind + ": an empty text");
             JsonReader reader = new JsonReader(in);
-            T told = form.read(reader);
+            T result = form.read(reader);
             reader.expect(in.nextToken() == null, "more than one value");
-            return told;
+            return result;
         } catch (JsonProcessingException error) {
             throw new IllegalArgumentException(
                     "no " + kind + ": " + error.getOriginalMessage(), error);
@@ -378,9 +378,9 @@ final class JsonReader {
         expect(in.nextToken() == token, "more than is expected");
     }
 
-    private <T> T ended(T told, JsonToken token) throws IOException {
+    private <T> T ended(T result, JsonToken token) throws IOException {
         end(token);
-        return told;
+        return result;
     }
 
     private void expect(boolean holds, String what) throws IOException {

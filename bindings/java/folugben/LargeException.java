@@ -13,8 +13,8 @@ import java.util.Locale;
 public final class LargeException extends FolugbenException {
     private static final long serialVersionUID = 1;
 
-    LargeException(Code code, String said, String answer) {
-        super(code, 0, said, "", answer);
+    LargeException(Code code, String detail, String answer) {
+        super(code, 0, detail, "", answer);
     }
 
     /** Returns that of a line of so many bytes, which something would make. */

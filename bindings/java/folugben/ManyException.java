@@ -8,8 +8,8 @@ package folugben;
 public final class ManyException extends FolugbenException {
     private static final long serialVersionUID = 1;
 
-    ManyException(Code code, String said) {
-        super(code, 0, said, "", null);
+    ManyException(Code code, String detail) {
+        super(code, 0, detail, "", null);
     }
 
     /** Returns that of so many places; at most 256 are allowed. */
@@ -21,7 +21,7 @@ public final class ManyException extends FolugbenException {
     static void expectPlaces(Code code) {
         if (code == Code.MANY)
             throw new ManyException(
-                    code, "the step would rest on more than 256 locations and functions");
+                    code, "the step would depend on more than 256 locations and functions");
     }
 
     /** Throws for a move that would have too many instructions. */

@@ -8,7 +8,7 @@ package folugben;
 public final class MismatchException extends IllegalArgumentException {
     private static final long serialVersionUID = 1;
 
-    MismatchException(String said) {
-        super(said);
+    MismatchException(String detail) {
+        super(detail);
     }
 }

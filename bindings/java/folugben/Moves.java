@@ -26,14 +26,14 @@ public final class Moves {
     public static String aggregate(String state, String move) {
         byte[] old = Texts.utf8(Texts.oneValue(state, "state"), "state");
         byte[] instructions = Texts.utf8(Texts.oneValue(move, "move"), "move");
-        Calls.Told told = Calls.told(
+        Calls.Result result = Calls.resultOf(
                 (out, room, written)
                         -> Calls.asm_aggregate(old, old.length, instructions, instructions.length,
                                 out, room, written),
                 Calls.ROOM);
-        FolugbenException.expectNoObjection(told);
-        FolugbenException.expectStateAndMove(told.code(), state, move);
-        return told.text();
+        FolugbenException.expectNoObjection(result);
+        FolugbenException.expectStateAndMove(result.code(), state, move);
+        return result.text();
     }
 
     /**
@@ -65,13 +65,13 @@ public final class Moves {
     public static String compose(String first, String second) {
         byte[] one = Texts.utf8(Texts.oneValue(first, "first"), "first");
         byte[] two = Texts.utf8(Texts.oneValue(second, "second"), "second");
-        Calls.Told told = Calls.told(
+        Calls.Result result = Calls.resultOf(
                 (out, room, written)
                         -> Calls.asm_compose(one, one.length, two, two.length, out, room, written),
                 Calls.ROOM);
-        FolugbenException.expectNoObjection(told);
-        FolugbenException.expectMoves(told.code(), first, second);
-        return told.text();
+        FolugbenException.expectNoObjection(result);
+        FolugbenException.expectMoves(result.code(), first, second);
+        return result.text();
     }
 
     /**

@@ -8,7 +8,7 @@ package folugben;
  *
  * <p>Its lock is taken after that of an agent of the run, and before those of slots.
  */
-final class Part implements Run.Chained {
+final class Part implements Run.RunPart {
     /** Its number among the segments, from 0. */
     final long number;
     /** How many moves the parts before it have. */
@@ -17,10 +17,10 @@ final class Part implements Run.Chained {
     final int capacity;
 
     private final Run run;
-    private final boolean[] isOut = new boolean[Storage.AGENTS];
-    private final boolean[] wasMade = new boolean[Storage.AGENTS];
-    private int out;
-    private volatile long vain;
+    private final boolean[] isCheckedOut = new boolean[Storage.AGENTS];
+    private final boolean[] hasAgent = new boolean[Storage.AGENTS];
+    private int checkedOut;
+    private volatile long unfired;
     private volatile boolean isOver;
     private volatile Part next;
 
@@ -36,21 +36,21 @@ final class Part implements Run.Chained {
     synchronized Agent take(int own) {
         if (isOver)
             return null;
-        Agent taken = wasMade[own] ? storage.take(own) : storage.agent(own);
-        taken.joins(this);
-        wasMade[own] = true;
-        isOut[own] = true;
-        out++;
+        Agent taken = hasAgent[own] ? storage.take(own) : storage.agent(own);
+        taken.setPart(this);
+        hasAgent[own] = true;
+        isCheckedOut[own] = true;
+        checkedOut++;
         return taken;
     }
 
     /** Notes that the agent with this number came back, or was abandoned. */
-    void back(int own) {
+    void noteReturn(int own) {
         synchronized (this) {
-            if (!isOut[own])
+            if (!isCheckedOut[own])
                 return;
-            isOut[own] = false;
-            out--;
+            isCheckedOut[own] = false;
+            checkedOut--;
         }
         endStep();
     }
@@ -60,7 +60,7 @@ final class Part implements Run.Chained {
      *
      * @throws LargeException if that is too long for a line
      */
-    synchronized void passOn(Agent agent) {
+    synchronized void openNext(Agent agent) {
         if (isOver)
             return;
         Texts.Lines.expectState(Texts.Lines.bytes(agent.state().pairs()));
@@ -68,7 +68,7 @@ final class Part implements Run.Chained {
     }
 
     /** Opens the part after this one, which is at rest, and whose journal was closed. */
-    synchronized void goOnAtRest() {
+    synchronized void openNextAtRest() {
         int moves = storage.moves();
         open(storage.next(capacity), before + moves);
     }
@@ -81,7 +81,7 @@ final class Part implements Run.Chained {
 
     /** Counts so many calls that fired nothing. */
     synchronized void count(int calls) {
-        vain += calls;
+        unfired += calls;
     }
 
     /**
@@ -89,8 +89,8 @@ final class Part implements Run.Chained {
      *
      * <p>So many moves have one receipt each.
      */
-    boolean isOverWith(int moves) {
-        if (!isOver && moves + vain > run.receipts()) {
+    boolean endIfFull(int moves) {
+        if (!isOver && moves + unfired > run.receipts()) {
             end();
             run.wake();
         }
@@ -124,8 +124,8 @@ final class Part implements Run.Chained {
     }
 
     /** Returns whether it is over and all agents came back. */
-    synchronized boolean isWhole() {
-        return isOver && out == 0;
+    synchronized boolean isComplete() {
+        return isOver && checkedOut == 0;
     }
 
     /** Wakes those who wait for the agents of a part that is over. */
@@ -136,8 +136,8 @@ final class Part implements Run.Chained {
     }
 
     @Override
-    public void expectGoing() {
-        run.expectGoing();
+    public void expectRunning() {
+        run.expectRunning();
     }
 
     @Override

@@ -8,8 +8,8 @@ package folugben;
 public final class PartException extends ConflictException {
     private static final long serialVersionUID = 1;
 
-    private PartException(Code code, String said) {
-        super(code, 0, said, "", null);
+    private PartException(Code code, String detail) {
+        super(code, 0, detail, "", null);
     }
 
     /** Returns that of a call in a part that is over. */

@@ -75,7 +75,7 @@ final class PartWriter {
      */
     synchronized void awaitPart(boolean waitsForRoom) {
         boolean isInterrupted = false;
-        while (run.isGoing() && (run.newest().isOver() || waitsForRoom && isBehind()))
+        while (run.isRunning() && (run.newest().isOver() || waitsForRoom && isBehind()))
             isInterrupted |= !awaitChange(0);
         if (isInterrupted)
             Thread.currentThread().interrupt();
@@ -98,7 +98,7 @@ final class PartWriter {
     /** Waits until the part with this number is written, or the run has ended. */
     synchronized void awaitWritten(long number) {
         boolean isInterrupted = false;
-        while (run.isGoing() && head.number <= number) isInterrupted |= !awaitChange(0);
+        while (run.isRunning() && head.number <= number) isInterrupted |= !awaitChange(0);
         if (isInterrupted)
             Thread.currentThread().interrupt();
     }
@@ -125,7 +125,7 @@ final class PartWriter {
 
     private void work() {
         try {
-            do awaitWhole();
+            do awaitComplete();
             while (write());
         } catch (Throwable fault) {
             run.fail(head.number, fault);
@@ -149,7 +149,7 @@ final class PartWriter {
      *
      * <p>It takes back agents that are in no step, or too long in one.
      */
-    private void awaitWhole() {
+    private void awaitComplete() {
         long begin = 0;
         long first = 0;
         while (true) {
@@ -163,7 +163,7 @@ final class PartWriter {
             long left = PATIENCE - (System.nanoTime() - begin) / 1_000_000;
             if (head.isOver())
                 run.takeBack(head, isClosing(), left <= 0);
-            if (head.isWhole())
+            if (head.isComplete())
                 return;
             awaitChange(seen, head.isOver() ? Math.max(left, 0) : look());
         }
@@ -189,7 +189,7 @@ final class PartWriter {
         ByteBuffer journal = whole.storage.closeJournal(room);
         boolean isLast = whole.next() == null && isClosing();
         if (whole.next() == null && !isLast)
-            whole.goOnAtRest();
+            whole.openNextAtRest();
         long events = events(journal);
         try {
             if (!isLast || events > 0)

@@ -60,13 +60,13 @@ final class Patience {
                 boolean isLast = tries + 1 >= most;
                 try (Step step = actor.step()) {
                     try {
-                        T told = rule.play(step);
+                        T result = rule.play(step);
                         if (step.isIdle())
-                            return new Actor.Played<>(0, told, tries);
+                            return new Actor.Played<>(0, result, tries);
                         Actor.Reply reply = step.tryCommit();
                         isLast |= isTimed && System.nanoTime() - begin >= timeout.toNanos();
                         if (isLast || !reply.shouldRetry())
-                            return new Actor.Played<>(reply.orThrow(), told, tries);
+                            return new Actor.Played<>(reply.orThrow(), result, tries);
                     } catch (PartException over) {
                         if (isLast || !step.isPast())
                             throw over;

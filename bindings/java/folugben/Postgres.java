@@ -60,9 +60,9 @@ final class Postgres extends Database.JdbcDatabase {
 
     /** Returns what is thrown if a server doesn't answer as a run is opened. */
     static ConnectException unanswered(Database.LostException lost) {
-        ConnectException told = new ConnectException("the server doesn't answer: " + lost.getMessage());
-        told.initCause(lost);
-        return told;
+        ConnectException error = new ConnectException("the server doesn't answer: " + lost.getMessage());
+        error.initCause(lost);
+        return error;
     }
 
     @Override
@@ -75,18 +75,18 @@ final class Postgres extends Database.JdbcDatabase {
         String state = "" + thrown.getSQLState();
         if (state.startsWith(CONNECTION) || state.startsWith(SHUTDOWN) || isClosed())
             return new Database.LostException(thrown);
-        String said = "PostgreSQL: " + thrown.getMessage();
-        FileSystemException told = state.equals(READ_ONLY) || state.equals(NOT_ALLOWED)
-                ? new AccessDeniedException(target, null, said)
-                : new FileSystemException(target, null, said);
-        told.initCause(thrown);
-        return told;
+        String detail = "PostgreSQL: " + thrown.getMessage();
+        FileSystemException error = state.equals(READ_ONLY) || state.equals(NOT_ALLOWED)
+                ? new AccessDeniedException(target, null, detail)
+                : new FileSystemException(target, null, detail);
+        error.initCause(thrown);
+        return error;
     }
 
     private boolean isClosed() {
         try {
             return connection.isClosed();
-        } catch (SQLException gone) {
+        } catch (SQLException missing) {
             return true;
         }
     }
@@ -97,9 +97,9 @@ final class Postgres extends Database.JdbcDatabase {
     }
 
     @Override
-    List<Object[]> lastRows(PreparedStatement statement, boolean tells) throws SQLException {
+    List<Object[]> lastRows(PreparedStatement statement, boolean hasRows) throws SQLException {
         List<Object[]> last = List.of();
-        for (boolean more = tells; more || statement.getUpdateCount() >= 0;
+        for (boolean more = hasRows; more || statement.getUpdateCount() >= 0;
                 more = statement.getMoreResults())
             if (more)
                 last = rows(statement.getResultSet());
@@ -204,16 +204,16 @@ final class Postgres extends Database.JdbcDatabase {
         static ServerName of(String target) {
             int hash = target.indexOf('#');
             String schema = hash < 0 ? "" : target.substring(hash + 1);
-            Matcher told = FORM.matcher(hash < 0 ? target : target.substring(0, hash));
-            if (!told.matches())
+            Matcher match = FORM.matcher(hash < 0 ? target : target.substring(0, hash));
+            if (!match.matches())
                 throw new IllegalArgumentException("no postgresql://user@host:port/base: " + target);
             Map<String, String> words = new HashMap<>();
             for (String name : new String[] {"user", "password", "host", "port", "dbname"}) {
-                String word = told.group(name);
+                String word = match.group(name);
                 words.put(name, word == null ? "" : decoded(word));
             }
-            if (told.group("more") != null)
-                for (String word : told.group("more").split("&")) {
+            if (match.group("more") != null)
+                for (String word : match.group("more").split("&")) {
                     String[] both = word.split("=", 2);
                     words.put(both[0], both.length < 2 ? "" : decoded(both[1]));
                 }

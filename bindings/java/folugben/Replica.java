@@ -25,10 +25,10 @@ final class Replica {
     record Answer(Actor.Reply reply, FolugbenException error) {}
 
     /** A segment that has ended, with its text and the place of its last call. */
-    record Ended(Segment segment, byte[] text, long place) {}
+    record EndedSegment(Segment segment, byte[] text, long place) {}
 
     /** The effect of a call: its answer, and what it has ended, each null if there is none. */
-    record Applied(Answer answer, Ended ended) {}
+    record Effect(Answer answer, EndedSegment ended) {}
 
     private final int moves;
     private Segment segment;
@@ -37,7 +37,7 @@ final class Replica {
     private int fired;
 
     /** Makes the replica after a segment, which is checked. */
-    Replica(SharedLog log, SharedLog.Ended last) throws IOException {
+    Replica(SharedLog log, SharedLog.SegmentEnd last) throws IOException {
         moves = log.moves();
         segment = last.segment();
         applied = last.place();
@@ -60,14 +60,14 @@ final class Replica {
     }
 
     /** Fires the call at the next place; a call of another process has no answer. */
-    Applied apply(SharedLog.Placed next, boolean isOwn) {
+    Effect apply(SharedLog.LogEntry next, boolean isOwn) {
         SharedLog.Call call = next.call();
         Answer answer = isOwn ? new Answer(past(), null) : null;
         if (call.segment() == era.number)
             answer = fire(call, isOwn);
         applied = next.place();
-        boolean goesOn = fired < moves && era.events() < (long) CALLS * moves;
-        return new Applied(answer, goesOn ? null : end());
+        boolean continues = fired < moves && era.events() < (long) CALLS * moves;
+        return new Effect(answer, continues ? null : end());
     }
 
     /** Returns the reply to a call whose segment had ended. */
@@ -112,7 +112,7 @@ final class Replica {
                 || code == Code.BUSY;
     }
 
-    private Ended end() {
+    private EndedSegment end() {
         Era ended = era;
         String state = state().pairs();
         Texts.Lines.expectState(Texts.Lines.bytes(state));
@@ -121,7 +121,7 @@ final class Replica {
         segment = segment.following(fired, ended.events(), ByteBuffer.wrap(text));
         era = next;
         fired = 0;
-        return new Ended(segment, text, applied);
+        return new EndedSegment(segment, text, applied);
     }
 
     /** Returns the number of moves of the run up to its place, and the state after them. */
@@ -146,10 +146,10 @@ final class Replica {
         Replica replica = new Replica(log, log.ended(last));
         List<byte[]> journals = new ArrayList<>();
         try {
-            List<SharedLog.Placed> placed;
+            List<SharedLog.LogEntry> placed;
             while (!(placed = log.exchange(List.of(), replica.applied)).isEmpty())
-                for (SharedLog.Placed next : placed) {
-                    Ended ended = replica.apply(next, false).ended();
+                for (SharedLog.LogEntry next : placed) {
+                    EndedSegment ended = replica.apply(next, false).ended();
                     if (ended != null)
                         journals.add(ended.text());
                 }
@@ -182,7 +182,7 @@ final class Replica {
         private final Storage storage;
         /** The numbers that agents of this process may have in the storage, and the made ones. */
         private final Deque<Integer> free = new ArrayDeque<>();
-        private final boolean[] wasMade = new boolean[Storage.AGENTS];
+        private final boolean[] hasAgent = new boolean[Storage.AGENTS];
         /** The agents of the calls, as the log has them: a byte for each. */
         private final ByteArrayOutputStream agents = new ByteArrayOutputStream();
 
@@ -203,8 +203,8 @@ final class Replica {
             Integer own = free.poll();
             if (own == null)
                 throw new ManyException(Code.AGENTS, "one process has at most 255 agents of a shared run");
-            Agent taken = wasMade[own] ? storage.take(own) : storage.agent(own);
-            wasMade[own] = true;
+            Agent taken = hasAgent[own] ? storage.take(own) : storage.agent(own);
+            hasAgent[own] = true;
             return taken;
         }
 

@@ -87,14 +87,14 @@ final class Room {
     }
 
     /** Returns what such a call wrote. */
-    Calls.Told told(byte[] text, Call call) {
+    Calls.Result resultOf(byte[] text, Call call) {
         Code code = make(text, call);
-        return new Calls.Told(code, text());
+        return new Calls.Result(code, text());
     }
 
     /** Returns what such a call wrote that is passed no text. */
-    Calls.Told told(Call call) {
-        return told(NO_TEXT, call);
+    Calls.Result resultOf(Call call) {
+        return resultOf(NO_TEXT, call);
     }
 
     /** Returns the text that the last call wrote, which must be a call that writes one. */
@@ -148,7 +148,7 @@ final class Room {
     }
 
     /** Returns the value itself. */
-    Value told() {
+    Value readValue() {
         return switch (kind()) {
             case UNDEF -> Element.undef();
             case BOOL -> new Element.Bool(number() != 0);

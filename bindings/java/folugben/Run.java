@@ -117,7 +117,7 @@ public final class Run implements AutoCloseable {
             if (folder == null)
                 storage.close();
         }
-        return begun(folder, storage, moves, receipts);
+        return start(folder, storage, moves, receipts);
     }
 
     /**
@@ -153,7 +153,7 @@ public final class Run implements AutoCloseable {
             RunFolder folder = RunFolder.reopen(path);
             try (Auditor auditor = new Auditor()) {
                 audit(folder.path(), check, auditor);
-                return begun(folder, new Storage(auditor.state(), moves), moves, receipts);
+                return start(folder, new Storage(auditor.state(), moves), moves, receipts);
             } catch (IOException | RuntimeException | Error fault) {
                 folder.close();
                 throw fault;
@@ -194,7 +194,7 @@ public final class Run implements AutoCloseable {
         segments.get(last).audit(folder, last == 0 ? Segment.START : segments.get(last - 1), auditor);
     }
 
-    private static Run begun(RunFolder folder, Storage storage, int moves, long receipts) {
+    private static Run start(RunFolder folder, Storage storage, int moves, long receipts) {
         Run run = new Run(folder, storage, moves, receipts);
         run.writer.start();
         return run;
@@ -210,7 +210,7 @@ public final class Run implements AutoCloseable {
     public RunAgent agent(int number) {
         Storage.expectNumber(number);
         synchronized (agents) {
-            expectGoing();
+            expectRunning();
             if (agents[number] != null && !agents[number].isClosed())
                 throw FolugbenException.numberTaken(number);
             return agents[number] = new RunAgent(this, number, isRecording);
@@ -248,7 +248,7 @@ public final class Run implements AutoCloseable {
      * @throws RunException if a part of the run couldn't be written
      */
     public void flush() {
-        expectGoing();
+        expectRunning();
         Part now = newest;
         if (now.isEmpty()) {
             writer.awaitWritten(now.number - 1);
@@ -257,7 +257,7 @@ public final class Run implements AutoCloseable {
             writer.wake();
             writer.awaitWritten(now.number);
         }
-        expectGoing();
+        expectRunning();
     }
 
     /** Returns the path of its folder. */
@@ -268,7 +268,7 @@ public final class Run implements AutoCloseable {
     /** Returns a text such as the run in bank.run, 7 moves saved. */
     @Override
     public String toString() {
-        return "the run in " + folder + ", " + saved() + " moves saved" + (isGoing() ? "" : ", ended");
+        return "the run in " + folder + ", " + saved() + " moves saved" + (isRunning() ? "" : ", ended");
     }
 
     /** Returns how many parts are on the disk. */
@@ -282,7 +282,7 @@ public final class Run implements AutoCloseable {
     }
 
     /** Throws what has ended the run. */
-    void expectGoing() {
+    void expectRunning() {
         RunException ended = failure;
         if (ended != null)
             throw new RunException(ended.part(), ended.getCause());
@@ -290,7 +290,7 @@ public final class Run implements AutoCloseable {
             throw FolugbenException.closed("the run was closed");
     }
 
-    boolean isGoing() {
+    boolean isRunning() {
         return failure == null && !isClosed;
     }
 
@@ -321,10 +321,10 @@ public final class Run implements AutoCloseable {
      * written, so that the order depends on the seed alone.
      */
     void awaitPart() {
-        while (Turns.isPlayed() && isGoing() && newest.isOver() && isAnyInStep())
+        while (Turns.isPlayed() && isRunning() && newest.isOver() && isAnyInStep())
             Turns.Player.call(this);
         writer.awaitPart(!Turns.isPlayed());
-        expectGoing();
+        expectRunning();
     }
 
     private RunAgent[] agents() {
@@ -359,7 +359,7 @@ public final class Run implements AutoCloseable {
         synchronized (agents) {
             if (failure == null)
                 failure = new RunException(part,
-                        fault instanceof UncheckedIOException told ? told.getCause() : fault);
+                        fault instanceof UncheckedIOException error ? error.getCause() : fault);
         }
         writer.wake();
     }
@@ -380,7 +380,7 @@ public final class Run implements AutoCloseable {
     }
 
     /** What the agents of a run know of it: where they are, and whether it goes on. */
-    interface Chained {
+    interface RunPart {
         /** Returns whether its agents have gone on to another part. */
         boolean isOver();
 
@@ -388,7 +388,7 @@ public final class Run implements AutoCloseable {
         void endStep();
 
         /** Throws what has ended the run. */
-        void expectGoing();
+        void expectRunning();
 
         /** Returns how many moves of the run come before its own. */
         long before();

@@ -19,7 +19,7 @@ public final class RunAgent implements Actor {
     private Agent own;
     private Part part;
     /** How many of its vain calls were reported to the part. */
-    private int vain;
+    private int unfired;
     private long won;
     /** Whether its last step is by turns, so that no time limit applies to it. */
     private boolean isByTurns;
@@ -51,14 +51,14 @@ public final class RunAgent implements Actor {
     @Override
     public Step step() {
         Turns.Player.call(this);
-        return whereOpen(agent -> {
+        return inOpenPart(agent -> {
             isByTurns = Turns.isPlayed();
             Step step = agent.begin();
-            if (step.own() < part.capacity && !part.isOverWith(step.own()))
+            if (step.own() < part.capacity && !part.endIfFull(step.own()))
                 return step;
             step.close();
             if (step.own() == part.capacity)
-                part.passOn(agent);
+                part.openNext(agent);
             return null;
         });
     }
@@ -88,7 +88,7 @@ public final class RunAgent implements Actor {
     public Reading peek(List<Location> locations) {
         Turns.Player.call(this);
         List<Location> copy = Texts.Copies.of(locations, "locations");
-        return whereOpen(agent -> {
+        return inOpenPart(agent -> {
             agent.follow();
             return agent.peek(copy).plus(part.before());
         });
@@ -98,7 +98,7 @@ public final class RunAgent implements Actor {
     @Override
     public State state() {
         Turns.Player.call(this);
-        return whereOpen(agent -> {
+        return inOpenPart(agent -> {
             agent.follow();
             return ofRun(agent.state());
         });
@@ -108,7 +108,7 @@ public final class RunAgent implements Actor {
     @Override
     public State scan(String name) {
         Turns.Player.call(this);
-        return whereOpen(agent -> {
+        return inOpenPart(agent -> {
             agent.follow();
             return ofRun(agent.scan(name));
         });
@@ -133,17 +133,17 @@ public final class RunAgent implements Actor {
      */
     public long fire(List<? extends Instruction> instructions, List<Named> reads) {
         Turns.Player.call(this);
-        List<Named> rests = Texts.Copies.of(reads, "reads");
+        List<Named> named = Texts.Copies.of(reads, "reads");
         List<Instruction> move = Texts.Copies.of(instructions, "instructions");
-        Texts.Lines.expectCall(move, rests);
-        return whereOpen(agent -> {
-            if (part.isOverWith((int) agent.seen()))
+        Texts.Lines.expectCall(move, named);
+        return inOpenPart(agent -> {
+            if (part.endIfFull((int) agent.seen()))
                 return null;
-            Reply reply = agent.tryFire(move, named(rests));
+            Reply reply = agent.tryFire(move, named(named));
             if (reply.code() != Code.FULL)
                 return reply.orThrow();
             agent.follow();
-            part.passOn(agent);
+            part.openNext(agent);
             return null;
         });
     }
@@ -166,13 +166,13 @@ public final class RunAgent implements Actor {
      *
      * <p>If the work returns null, the part is over by then, and the work is done in the next one.
      */
-    private <T> T whereOpen(Function<Agent, T> work) {
+    private <T> T inOpenPart(Function<Agent, T> work) {
         while (true) {
             synchronized (lock) {
-                if (isOut()) {
-                    T told = Turns.still(() -> work.apply(own));
-                    if (told != null)
-                        return told;
+                if (checkOut()) {
+                    T result = Turns.withoutTurns(() -> work.apply(own));
+                    if (result != null)
+                        return result;
                     putBack();
                 }
             }
@@ -185,12 +185,12 @@ public final class RunAgent implements Actor {
      *
      * <p>One of a part that is over comes back first, and one of the newest part is checked out.
      */
-    private boolean isOut() {
-        run.expectGoing();
+    private boolean checkOut() {
+        run.expectRunning();
         if (isClosed)
             throw FolugbenException.closed("the agent was closed");
         if (own != null) {
-            countVain();
+            countUnfired();
             if (!part.isOver())
                 return true;
             putBack();
@@ -199,7 +199,7 @@ public final class RunAgent implements Actor {
         Agent taken = newest.take(number);
         if (taken == null)
             return false;
-        vain = 0;
+        unfired = 0;
         won -= taken.won();
         taken.setRecording(isRecording);
         part = newest;
@@ -207,11 +207,11 @@ public final class RunAgent implements Actor {
         return true;
     }
 
-    private void countVain() {
-        int all = own.vain();
-        if (all > vain)
-            part.count(all - vain);
-        vain = all;
+    private void countUnfired() {
+        int all = own.unfired();
+        if (all > unfired)
+            part.count(all - unfired);
+        unfired = all;
     }
 
     /** Returns the agent that is out to its part, if one is. */
@@ -223,7 +223,7 @@ public final class RunAgent implements Actor {
             own.storage().give(own);
         won += fired;
         own = null;
-        part.back(number);
+        part.noteReturn(number);
     }
 
     /** Returns it to the part, if it is in no step, too long in one, or if forced. */
@@ -269,12 +269,12 @@ public final class RunAgent implements Actor {
     @Override
     public long follow() {
         Turns.Player.call(this);
-        return whereOpen(agent -> part.before() + agent.follow());
+        return inOpenPart(agent -> part.before() + agent.follow());
     }
 
     @Override
     public long seen() {
-        return whereOpen(agent -> part.before() + agent.seen());
+        return inOpenPart(agent -> part.before() + agent.seen());
     }
 
     /** Returns a text such as agent 3 of the run in bank.run, 7 moves saved. */
@@ -303,7 +303,7 @@ public final class RunAgent implements Actor {
             won += own.won();
             own.abandon();
             own = null;
-            part.back(number);
+            part.noteReturn(number);
         }
     }
 

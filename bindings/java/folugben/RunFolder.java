@@ -46,7 +46,7 @@ final class RunFolder implements AutoCloseable {
         try {
             key = key(path);
             taken = lock = new FileGuard(path.resolve(LOCK));
-            expectThere();
+            expectFolder();
             // What an earlier, killed run has renamed is flushed before it is reported.
             folder.force(true);
             force(path.getParent());
@@ -108,8 +108,8 @@ final class RunFolder implements AutoCloseable {
     static Path reached(Path path) throws IOException {
         if (Files.exists(path))
             return path.toRealPath();
-        Path whole = path.toAbsolutePath();
-        return whole.getParent().toRealPath().resolve(whole.getFileName());
+        Path absolute = path.toAbsolutePath();
+        return absolute.getParent().toRealPath().resolve(absolute.getFileName());
     }
 
     private static void expectEmpty(Path path) throws IOException {
@@ -157,13 +157,13 @@ final class RunFolder implements AutoCloseable {
             throw new FileSystemException(
                     path.toString(), null, "a run has at most 100,000,000 segments");
         long length = text.remaining();
-        expectThere();
+        expectFolder();
         writeNew(text);
         Files.move(path.resolve(NEW), path.resolve(now.name()), StandardCopyOption.ATOMIC_MOVE);
         folder.force(true);
         last = now;
         size = length;
-        expectThere();
+        expectFolder();
     }
 
     private void writeNew(ByteBuffer text) throws IOException {
@@ -186,7 +186,7 @@ final class RunFolder implements AutoCloseable {
     }
 
     /** Throws if the path doesn't lead to this folder, with the lock and the last segment. */
-    private void expectThere() throws IOException {
+    private void expectFolder() throws IOException {
         long next = last.number() + 1;
         try {
             if (!key(path).equals(key))
@@ -196,7 +196,7 @@ final class RunFolder implements AutoCloseable {
             if (next > 0 && size(path.resolve(last.name())) != size)
                 throw new DamagedException(
                         last.number(), "its file has another size than it was written with");
-        } catch (NoSuchFileException gone) {
+        } catch (NoSuchFileException missing) {
             throw new DamagedException(next, path + ": what the run has written was removed");
         }
     }

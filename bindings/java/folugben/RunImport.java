@@ -33,11 +33,11 @@ final class RunImport implements AutoCloseable {
             throw new FileAlreadyExistsException(path.toString(), null, "there is something already");
         Path made = path.resolveSibling("." + path.getFileName() + "." + Long.toHexString(System.nanoTime()));
         try (RunImport own = new RunImport(made)) {
-            Run.Imported told = own.read(file);
+            Run.Imported imported = own.read(file);
             own.folder.close();
             Files.move(made, path);
             RunFolder.force(path.getParent());
-            return told;
+            return imported;
         } finally {
             drop(made);
         }
@@ -103,8 +103,8 @@ final class RunImport implements AutoCloseable {
     /** Returns the journal without a call that opens as this one does. */
     private static ByteBuffer opening(byte[] text) {
         String header = new String(Texts.line(text, 1), StandardCharsets.UTF_8);
-        JsonReader.Header told = JsonReader.header(header);
-        try (Storage storage = new Storage(told.init(), told.capacity())) {
+        JsonReader.Header opening = JsonReader.header(header);
+        try (Storage storage = new Storage(opening.init(), opening.capacity())) {
             ByteBuffer journal = storage.closeJournal(new Room());
             byte[] copy = new byte[journal.remaining()];
             journal.get(copy);

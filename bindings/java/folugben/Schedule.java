@@ -31,11 +31,11 @@ final class Schedule {
     private final List<Integer> plan;
     private int planned;
     private Node node;
-    private int begun;
+    private int started;
     private int last = -1;
     private boolean isOpen;
     private boolean isBlocked;
-    private final List<Noted> players = new ArrayList<>();
+    private final List<RecordedPlayer> players = new ArrayList<>();
     private final List<Event> events = new ArrayList<>();
     /** The nodes before the events. */
     private final List<Node> nodes = new ArrayList<>();
@@ -51,7 +51,7 @@ final class Schedule {
      * <p>The bits of `before` are the events that come before it in each schedule with the same
      * answers.
      */
-    record Event(int agent, Noted.Footprint footprint, int calls, boolean isMove, BitSet before) {}
+    record Event(int agent, RecordedPlayer.Footprint footprint, int calls, boolean isMove, BitSet before) {}
 
     /** The number of an event before which an agent must be tried, and that agent. */
     private record Reversal(int at, int agent) {}
@@ -60,34 +60,34 @@ final class Schedule {
     record Plan(int length, List<Integer> agents) {}
 
     /** What an agent did at a node, its footprint, and the node after it. */
-    private record After(String key, Noted.Footprint did, Noted.Footprint footprint, Node node) {}
+    private record Successor(String key, RecordedPlayer.Footprint did, RecordedPlayer.Footprint footprint, Node node) {}
 
     /** A state of the search, after some events. */
     private static final class Node {
         /** Agents whose next event, which has this footprint, is tried first elsewhere. */
-        private final Map<Integer, Noted.Footprint> asleep;
-        private final Map<Integer, After> after = new LinkedHashMap<>();
+        private final Map<Integer, RecordedPlayer.Footprint> asleep;
+        private final Map<Integer, Successor> after = new LinkedHashMap<>();
         /** Which agents were chosen, or must be. */
         private final Set<Integer> chosen = new HashSet<>();
 
-        Node(Map<Integer, Noted.Footprint> asleep) {
+        Node(Map<Integer, RecordedPlayer.Footprint> asleep) {
             this.asleep = asleep;
         }
 
         /** Returns the node after the last event of a player. */
-        Node follow(Noted player, Noted.Footprint footprint) {
-            After there = after.get(player.number());
+        Node follow(RecordedPlayer player, RecordedPlayer.Footprint footprint) {
+            Successor there = after.get(player.number());
             if (there != null) {
                 if (!there.key.equals(player.key()) || !there.did.equals(player.now()))
                     throw differs(player.number());
                 return there.node;
             }
-            Map<Integer, Noted.Footprint> others = new LinkedHashMap<>(asleep);
+            Map<Integer, RecordedPlayer.Footprint> others = new LinkedHashMap<>(asleep);
             after.forEach((agent, it) -> others.put(agent, it.footprint));
             others.remove(player.number());
-            others.values().removeIf(own -> own.meets(footprint));
+            others.values().removeIf(own -> own.overlaps(footprint));
             Node next = new Node(others);
-            after.put(player.number(), new After(player.key(), player.now(), footprint, next));
+            after.put(player.number(), new Successor(player.key(), player.now(), footprint, next));
             return next;
         }
     }
@@ -100,18 +100,18 @@ final class Schedule {
      * begins again with it.
      */
     static final class Tree {
-        private record Key(int agent, String told) {}
+        private record Key(int agent, String observed) {}
 
         private final Node root = new Node(Map.of());
-        private final Map<Key, Noted.Footprint> footprints;
+        private final Map<Key, RecordedPlayer.Footprint> footprints;
         private boolean hasGrown;
 
         /** A search that knows these footprints. */
-        Tree(Map<Key, Noted.Footprint> footprints) {
+        Tree(Map<Key, RecordedPlayer.Footprint> footprints) {
             this.footprints = new HashMap<>(footprints);
         }
 
-        Map<Key, Noted.Footprint> footprints() {
+        Map<Key, RecordedPlayer.Footprint> footprints() {
             return footprints;
         }
 
@@ -120,10 +120,10 @@ final class Schedule {
         }
 
         /** The footprint of the last event of a player. */
-        private Noted.Footprint footprint(Noted player) {
+        private RecordedPlayer.Footprint footprint(RecordedPlayer player) {
             Key key = new Key(player.number(), player.key());
-            Noted.Footprint known = footprints.get(key);
-            Noted.Footprint all = known == null ? player.now() : known.joined(player.now());
+            RecordedPlayer.Footprint known = footprints.get(key);
+            RecordedPlayer.Footprint all = known == null ? player.now() : known.joined(player.now());
             hasGrown |= known != null && !all.equals(known);
             footprints.put(key, all);
             return all;
@@ -151,7 +151,7 @@ final class Schedule {
         node = tree.root;
         nodes.add(node);
         Turns turns = new Turns(works.size(), this::choose, most);
-        for (int number = 0; number < works.size(); number++) players.add(new Noted(turns, number));
+        for (int number = 0; number < works.size(); number++) players.add(new RecordedPlayer(turns, number));
         try (Storage storage = make.get()) {
             List<Agent> agents = agents(storage, works.size());
             try {
@@ -177,7 +177,7 @@ final class Schedule {
     }
 
     boolean isExact() {
-        return players.stream().allMatch(Noted::isExact);
+        return players.stream().allMatch(RecordedPlayer::isExact);
     }
 
     List<Event> events() {
@@ -195,8 +195,8 @@ final class Schedule {
 
     private int choose(List<Integer> alive) {
         // At first each agent goes on up to its first event.
-        if (begun < players.size())
-            return begun++;
+        if (started < players.size())
+            return started++;
         endEvent();
         if (planned < plan.size()) {
             last = plan.get(planned++);
@@ -234,20 +234,20 @@ final class Schedule {
     private void endEvent() {
         if (!isOpen) {
             if (events.isEmpty())
-                begins = players.stream().map(Noted::calls).toList();
+                begins = players.stream().map(RecordedPlayer::calls).toList();
             return;
         }
         isOpen = false;
-        Noted player = players.get(last);
+        RecordedPlayer player = players.get(last);
         int now = events.size();
-        Noted.Footprint footprint = tree.footprint(player);
+        RecordedPlayer.Footprint footprint = tree.footprint(player);
         BitSet before = new BitSet();
         for (int at = now - 1; at >= 0 && before.isEmpty(); at--)
             if (events.get(at).agent == last)
                 include(before, at);
         List<Integer> races = new ArrayList<>();
         for (int at = now - 1; at >= 0; at--)
-            if (!before.get(at) && footprint.meets(events.get(at).footprint)) {
+            if (!before.get(at) && footprint.overlaps(events.get(at).footprint)) {
                 include(before, at);
                 races.add(at);
             }

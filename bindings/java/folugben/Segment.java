@@ -58,13 +58,13 @@ record Segment(long number, long first, long moves, long events, String digest) 
     /** Returns the next segment, with this text. */
     Segment following(long moves, long events, ByteBuffer text) {
         Segment bare = new Segment(number + 1, end(), moves, events, "");
-        MessageDigest all = bare.begun(digest, text.remaining());
+        MessageDigest all = bare.digestStart(digest, text.remaining());
         all.update(text.duplicate());
         return new Segment(bare.number, bare.first, moves, events, hex(all));
     }
 
     /** Returns the digest of all that comes before its text. */
-    MessageDigest begun(String previous, long length) {
+    MessageDigest digestStart(String previous, long length) {
         String line = previous + " " + number + " " + first + " " + moves + " " + events + " " + length;
         try {
             MessageDigest digest = MessageDigest.getInstance("SHA-256");
@@ -100,16 +100,16 @@ record Segment(long number, long first, long moves, long events, String digest) 
 
     /** Returns the segment after this one, whose file has the name. */
     private Segment named(String name) {
-        Matcher told = NAME.matcher(name);
-        if (!told.matches())
+        Matcher match = NAME.matcher(name);
+        if (!match.matches())
             throw new DamagedException(number + 1, "\"" + name + "\" is no name of a segment");
-        long found = Long.parseLong(told.group(1));
+        long found = Long.parseLong(match.group(1));
         if (found == number)
             throw new DamagedException(number, "another file has this number too: " + name);
         if (found != number + 1)
             throw new DamagedException(number + 1, "its file is missing");
-        Segment next = new Segment(found, end(), Long.parseLong(told.group(2)),
-                Long.parseLong(told.group(3)), told.group(4));
+        Segment next = new Segment(found, end(), Long.parseLong(match.group(2)),
+                Long.parseLong(match.group(3)), match.group(4));
         if (found == 0 && (next.moves > 0 || next.events > 0))
             throw new DamagedException(0, "the opening segment has no event");
         return next;
@@ -129,14 +129,14 @@ record Segment(long number, long first, long moves, long events, String digest) 
     void audit(Source source, Auditor auditor) throws IOException {
         source.give((piece, length) -> {}); // the digest comes first
         Auditor.Counts all = auditor.counts();
-        Auditor.Counts told;
+        Auditor.Counts counts;
         try {
             source.give((piece, length) -> auditor.feed(piece, 0, length));
-            told = auditor.end();
+            counts = auditor.end();
         } catch (AuditException fault) {
             throw new AuditException(fault.code(), number, fault.number());
         }
-        if (!told.equals(new Auditor.Counts(
+        if (!counts.equals(new Auditor.Counts(
                     all.parts() + 1, all.calls() + events, all.moves() + moves)))
             throw new DamagedException(
                     number, "its text has other numbers of moves or events than its name");
@@ -146,14 +146,14 @@ record Segment(long number, long first, long moves, long events, String digest) 
         byte[] piece = new byte[PIECE];
         try (SeekableByteChannel file = Files.newByteChannel(folder.resolve(name()),
                      Set.of(StandardOpenOption.READ, LinkOption.NOFOLLOW_LINKS))) {
-            MessageDigest all = begun(previous, file.size());
+            MessageDigest all = digestStart(previous, file.size());
             for (int length; (length = file.read(ByteBuffer.wrap(piece))) >= 0;) {
                 all.update(piece, 0, length);
                 sink.take(piece, length);
             }
             if (!hex(all).equals(digest))
                 throw new DamagedException(number, "its text isn't the one that was saved");
-        } catch (NoSuchFileException gone) {
+        } catch (NoSuchFileException missing) {
             throw new DamagedException(number, "its file is gone");
         }
     }

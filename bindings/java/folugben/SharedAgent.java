@@ -17,7 +17,7 @@ public final class SharedAgent implements Actor {
     private final SharedWorker worker;
     private final int own;
     /** What its agents in segments know of it. */
-    private final Run.Chained chain = new Chain();
+    private final Run.RunPart chain = new Chain();
 
     /** The lock of all below. */
     private final Object lock = new Object();
@@ -25,7 +25,7 @@ public final class SharedAgent implements Actor {
     private Replica.Era era;
     private long won;
     private long fired;
-    private volatile boolean isGone;
+    private volatile boolean isAbandoned;
 
     SharedAgent(SharedRun run, SharedWorker worker, int own) {
         this.run = run;
@@ -33,10 +33,10 @@ public final class SharedAgent implements Actor {
         this.own = own;
     }
 
-    private final class Chain implements Run.Chained {
+    private final class Chain implements Run.RunPart {
         @Override
         public boolean isOver() {
-            return !isGone;
+            return !isAbandoned;
         }
 
         @Override
@@ -45,8 +45,8 @@ public final class SharedAgent implements Actor {
         }
 
         @Override
-        public void expectGoing() {
-            worker.expectGoing();
+        public void expectRunning() {
+            worker.expectRunning();
         }
 
         @Override
@@ -62,15 +62,15 @@ public final class SharedAgent implements Actor {
 
     private <T> T now(Work<T> work) {
         synchronized (lock) {
-            if (isGone)
-                throw FolugbenException.closed("the agent was given back");
-            worker.expectGoing();
+            if (isAbandoned)
+                throw FolugbenException.closed("the agent was returned");
+            worker.expectRunning();
             if (era != worker.era()) {
                 leave();
                 Replica.Era[] place = new Replica.Era[1];
                 agent = worker.come(place);
                 era = place[0];
-                agent.joins(chain);
+                agent.setPart(chain);
             }
             return work.done(agent, era);
         }
@@ -165,9 +165,9 @@ public final class SharedAgent implements Actor {
     @Override
     public void close() {
         synchronized (lock) {
-            if (isGone)
+            if (isAbandoned)
                 return;
-            isGone = true;
+            isAbandoned = true;
             leave();
         }
         try {
@@ -178,12 +178,12 @@ public final class SharedAgent implements Actor {
     }
 
     boolean isClosed() {
-        return isGone;
+        return isAbandoned;
     }
 
     @Override
     public String toString() {
-        return "agent " + own + " of " + run + (isGone ? ", given back" : "");
+        return "agent " + own + " of " + run + (isAbandoned ? ", returned" : "");
     }
 
     /** A step of an agent of a shared run, whose fire is a call of the run's log. */

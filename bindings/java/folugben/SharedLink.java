@@ -100,14 +100,14 @@ final class SharedLink {
         void sent();
     }
 
-    List<SharedLog.Placed> exchange(Exchange calls, long applied)
+    List<SharedLog.LogEntry> exchange(Exchange calls, long applied)
             throws IOException, SharedLog.BehindException {
         SharedLog.BehindException[] behind = new SharedLog.BehindException[1];
-        List<SharedLog.Placed> placed = reach(log -> {
+        List<SharedLog.LogEntry> placed = reach(log -> {
             try {
                 return log.exchange(calls.calls(), applied);
-            } catch (SharedLog.BehindException told) {
-                behind[0] = told;
+            } catch (SharedLog.BehindException error) {
+                behind[0] = error;
                 return null;
             } finally {
                 if (behind[0] == null)

@@ -52,10 +52,10 @@ final class SharedLog {
     }
 
     /** A call of the log at its place. */
-    record Placed(long place, Call call) {}
+    record LogEntry(long place, Call call) {}
 
     /** A segment, the one before it, and the place at which it ended. */
-    record Ended(Segment segment, Segment before, long place) {}
+    record SegmentEnd(Segment segment, Segment before, long place) {}
 
     /** Makes the opening journal for so many moves. */
     interface Opening {
@@ -112,7 +112,7 @@ final class SharedLog {
 
     private void join(Opening opening, int most) throws IOException {
         if (opening == null && !database.hasRun())
-            throw isNotThere();
+            throw missingRun();
         // This commit flushes what an earlier, killed process left unflushed.
         database.transact(() -> {
             if (!database.hasRun())
@@ -126,7 +126,7 @@ final class SharedLog {
             throw new MismatchException("the run has another opening state: " + target);
     }
 
-    private NoSuchFileException isNotThere() {
+    private NoSuchFileException missingRun() {
         return new NoSuchFileException(target, null, "there is no run");
     }
 
@@ -142,7 +142,7 @@ final class SharedLog {
         List<Object[]> rows =
                 database.hasRun() ? database.run("select format, moves from run") : List.of();
         if (rows.isEmpty())
-            throw isNotThere();
+            throw missingRun();
         int format = ((Number) rows.get(0)[0]).intValue();
         if (format != FORMAT)
             throw new MismatchException("the tables are of version " + format
@@ -180,11 +180,11 @@ final class SharedLog {
      *
      * @throws BehindException if the log doesn't have the next one any more
      */
-    List<Placed> exchange(List<Call> calls, long applied) throws IOException, BehindException {
-        List<Placed> found = new ArrayList<>();
+    List<LogEntry> exchange(List<Call> calls, long applied) throws IOException, BehindException {
+        List<LogEntry> found = new ArrayList<>();
         for (Object[] row :
                 database.append(calls.stream().map(Call::row).toList(), applied, READ))
-            found.add(new Placed(number(row[0]),
+            found.add(new LogEntry(number(row[0]),
                     new Call((byte[]) row[1], number(row[2]), (int) number(row[3]), (String) row[4],
                             (String) row[5])));
         // Of calls that were appended twice the later place stays empty.
@@ -193,8 +193,8 @@ final class SharedLog {
         return found;
     }
 
-    private static long number(Object told) {
-        return ((Number) told).longValue();
+    private static long number(Object value) {
+        return ((Number) value).longValue();
     }
 
     private long asked(String sql, Object... values) throws IOException {
@@ -294,15 +294,15 @@ final class SharedLog {
     }
 
     /** Returns the last segment. */
-    Ended last() throws IOException {
+    SegmentEnd last() throws IOException {
         return ended(segment(asked("select max(number) from segment")));
     }
 
     /** Returns a segment with what is before it. */
-    Ended ended(Segment segment) throws IOException {
+    SegmentEnd ended(Segment segment) throws IOException {
         Segment before =
                 segment.number() == 0 ? Segment.START : segment(segment.number() - 1);
-        return new Ended(segment, before,
+        return new SegmentEnd(segment, before,
                 asked("select last_place from segment where number = ?", segment.number()));
     }
 
@@ -315,7 +315,7 @@ final class SharedLog {
         long number = segment.number();
         List<Object[]> rows = database.run("select length from segment where number = ?", number);
         long length = rows.isEmpty() ? 0 : number(rows.get(0)[0]);
-        MessageDigest digest = segment.begun(previous, length);
+        MessageDigest digest = segment.digestStart(previous, length);
         long done = 0;
         for (int place = 0; done < length; place++) {
             List<Object[]> data = database.run(

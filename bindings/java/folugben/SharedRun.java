@@ -127,11 +127,11 @@ public final class SharedRun implements AutoCloseable {
     public SharedAgent agent(int number) {
         Storage.expectNumber(number);
         synchronized (agents) {
-            worker.expectGoing();
+            worker.expectRunning();
             if (agents[number] != null && !agents[number].isClosed())
                 throw FolugbenException.numberTaken(number);
             if (!reaching(() -> worker.link().hold(number)))
-                throw FolugbenException.numberHeld(number);
+                throw FolugbenException.numberInUse(number);
             return agents[number] = new SharedAgent(this, worker, number);
         }
     }

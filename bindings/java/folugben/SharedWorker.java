@@ -29,7 +29,7 @@ final class SharedWorker {
     /** A call of an agent that waits for its answer. */
     private static final class Waiter {
         final SharedLog.Call call;
-        final CompletableFuture<Replica.Answer> told = new CompletableFuture<>();
+        final CompletableFuture<Replica.Answer> answer = new CompletableFuture<>();
         /** Whether the call may be in the log. */
         boolean isSent;
 
@@ -76,7 +76,7 @@ final class SharedWorker {
     }
 
     /** Throws if the run doesn't go on. */
-    void expectGoing() {
+    void expectRunning() {
         if (fault != null)
             throw broken();
         if (isClosing)
@@ -100,7 +100,7 @@ final class SharedWorker {
         Waiter waiter = new Waiter(new SharedLog.Call(token, segment, agent, call, scans));
         lock.lock();
         try {
-            expectGoing();
+            expectRunning();
             waiting.add(waiter);
             if (waiting.size() >= expected)
                 changed.signalAll();
@@ -116,29 +116,29 @@ final class SharedWorker {
      * <p>The call can't be taken back.
      */
     private Actor.Reply answer(Waiter waiter) {
-        Replica.Answer told;
+        Replica.Answer answer;
         try {
-            told = waiter.told.join();
+            answer = waiter.answer.join();
         } catch (CompletionException failed) {
             if (failed.getCause() instanceof UnknownException)
                 throw new UnknownException();
-            expectGoing();
+            expectRunning();
             throw failed;
         }
-        if (told.error() != null)
-            throw told.error();
-        return told.reply();
+        if (answer.error() != null)
+            throw answer.error();
+        return answer.reply();
     }
 
     /** Waits until all is applied that is in the log now. */
     void follow() {
         lock.lock();
         try {
-            expectGoing();
+            expectRunning();
             long own = ++asked;
             changed.signalAll();
             while (applied < own) {
-                expectGoing();
+                expectRunning();
                 changed.awaitUninterruptibly();
             }
         } finally {
@@ -171,7 +171,7 @@ final class SharedWorker {
     Actor.State state() {
         lock.lock();
         try {
-            expectGoing();
+            expectRunning();
             return replica.state();
         } finally {
             lock.unlock();
@@ -205,7 +205,7 @@ final class SharedWorker {
 
     private void work() {
         try {
-            while (isGoing()) turn();
+            while (isRunning()) turn();
         } catch (Throwable failed) {
             fault = failed;
         } finally {
@@ -213,7 +213,7 @@ final class SharedWorker {
         }
     }
 
-    private boolean isGoing() {
+    private boolean isRunning() {
         lock.lock();
         try {
             if (expected > 1 && !isDue())
@@ -240,7 +240,7 @@ final class SharedWorker {
     }
 
     private void turn() throws IOException {
-        long begun = System.nanoTime();
+        long start = System.nanoTime();
         List<Waiter> batch = new ArrayList<>();
         long own;
         lock.lock();
@@ -253,14 +253,14 @@ final class SharedWorker {
         } finally {
             lock.unlock();
         }
-        List<SharedLog.Placed> placed;
+        List<SharedLog.LogEntry> placed;
         try {
             placed = exchange(batch);
         } catch (SharedLog.BehindException behind) {
             rejoin();
             return;
         }
-        moment = Math.min(MOMENT, (System.nanoTime() - begun) / 4);
+        moment = Math.min(MOMENT, (System.nanoTime() - start) / 4);
         apply(placed);
         if (placed.size() < SharedLog.READ)
             noteApplied(own);
@@ -277,24 +277,24 @@ final class SharedWorker {
     }
 
     /** Applies calls to the replica. Agents are woken after all, as they would slow it. */
-    private void apply(List<SharedLog.Placed> placed) throws IOException {
+    private void apply(List<SharedLog.LogEntry> placed) throws IOException {
         Map<Waiter, Replica.Answer> answered = new HashMap<>();
         try {
-            for (SharedLog.Placed next : placed) {
+            for (SharedLog.LogEntry next : placed) {
                 Waiter waiter = sent.get(ByteBuffer.wrap(next.call().token()));
-                Replica.Applied told;
+                Replica.Effect applied;
                 lock.lock();
                 try {
-                    told = replica.apply(next, waiter != null);
+                    applied = replica.apply(next, waiter != null);
                     if (waiter != null)
                         sent.remove(waiter.token());
                 } finally {
                     lock.unlock();
                 }
                 if (waiter != null)
-                    answered.put(waiter, told.answer());
-                if (told.ended() != null)
-                    save(told.ended());
+                    answered.put(waiter, applied.answer());
+                if (applied.ended() != null)
+                    save(applied.ended());
             }
         } finally {
             lock.lock();
@@ -303,11 +303,11 @@ final class SharedWorker {
             } finally {
                 lock.unlock();
             }
-            answered.forEach((waiter, answer) -> waiter.told.complete(answer));
+            answered.forEach((waiter, answer) -> waiter.answer.complete(answer));
         }
     }
 
-    private List<SharedLog.Placed> exchange(List<Waiter> first)
+    private List<SharedLog.LogEntry> exchange(List<Waiter> first)
             throws IOException, SharedLog.BehindException {
         return link.exchange(new SharedLink.Exchange() {
             /** First the new ones; over another connection all calls that may be there. */
@@ -326,7 +326,7 @@ final class SharedWorker {
         }, replica.applied());
     }
 
-    private void save(Replica.Ended ended) throws IOException {
+    private void save(Replica.EndedSegment ended) throws IOException {
         link.reach(log -> {
             log.save(ended.segment(), ended.text(), ended.place());
             return null;
@@ -343,7 +343,7 @@ final class SharedWorker {
             // What was sent just now is after that. Of what was sent before, the answer may have
             // been dropped with the call.
             sent.values().removeIf(it -> it.isSent
-                    && it.told.completeExceptionally(new UnknownException()));
+                    && it.answer.completeExceptionally(new UnknownException()));
             sent.values().forEach(it -> it.isSent = true);
         } finally {
             lock.unlock();
@@ -354,9 +354,9 @@ final class SharedWorker {
         lock.lock();
         try {
             isClosing = true;
-            RuntimeException told = new IllegalStateException("the run has ended");
-            waiting.forEach(it -> it.told.completeExceptionally(told));
-            sent.values().forEach(it -> it.told.completeExceptionally(told));
+            RuntimeException error = new IllegalStateException("the run has ended");
+            waiting.forEach(it -> it.answer.completeExceptionally(error));
+            sent.values().forEach(it -> it.answer.completeExceptionally(error));
             waiting.clear();
             sent.clear();
             changed.signalAll();

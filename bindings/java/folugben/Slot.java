@@ -105,7 +105,7 @@ class Slot extends Memory {
         }
 
         /** Notes the code of a call that polls, after which the state is as new as any. */
-        private Code looked(Code code) {
+        private Code afterPoll(Code code) {
             isIdle = false;
             if (code == Code.DONE)
                 isLent = false;
@@ -118,7 +118,7 @@ class Slot extends Memory {
         }
 
         Code read(byte[] locations) {
-            return looked(room.make(locations,
+            return afterPoll(room.make(locations,
                     (text, out, length, written) -> Calls.asm_read(at, text, locations.length)));
         }
 
@@ -133,24 +133,24 @@ class Slot extends Memory {
         }
 
         Code begin(StepSlot step) {
-            return looked(Code.of(Calls.asm_begin(at, step.at, room.numbers())));
+            return afterPoll(Code.of(Calls.asm_begin(at, step.at, room.numbers())));
         }
 
         Code follow() {
-            return looked(Code.of(Calls.asm_follow(at, room.numbers())));
+            return afterPoll(Code.of(Calls.asm_follow(at, room.numbers())));
         }
 
-        Calls.Told stands(byte[] reads) {
-            Calls.Told told = room.told(reads,
+        Calls.Result stands(byte[] reads) {
+            Calls.Result result = room.resultOf(reads,
                     (text, out, length, written)
                             -> Calls.asm_stands(at, text, reads.length, out, length, written));
-            looked(told.code());
-            return told;
+            afterPoll(result.code());
+            return result;
         }
 
-        Calls.Told peek(byte[] locations) {
+        Calls.Result peek(byte[] locations) {
             Code code = catchUp();
-            return code != Code.DONE ? new Calls.Told(code, "") : room.told(locations,
+            return code != Code.DONE ? new Calls.Result(code, "") : room.resultOf(locations,
                     (text, out, length, written)
                             -> Calls.asm_peek(at, text, locations.length, out, length, written));
         }
@@ -164,16 +164,16 @@ class Slot extends Memory {
                                     length, written));
         }
 
-        Calls.Told state() {
+        Calls.Result state() {
             Code code = catchUp();
-            return code != Code.DONE ? new Calls.Told(code, "") : room.told(
+            return code != Code.DONE ? new Calls.Result(code, "") : room.resultOf(
                     (text, out, length, written)
                             -> Calls.asm_state(at, room.numbers(), out, length, written));
         }
 
-        Calls.Told scan(byte[] name) {
+        Calls.Result scan(byte[] name) {
             Code code = catchUp();
-            return code != Code.DONE ? new Calls.Told(code, "") : room.told(name,
+            return code != Code.DONE ? new Calls.Result(code, "") : room.resultOf(name,
                     (text, out, length, written)
                             -> Calls.asm_scan(
                                     at, text, name.length, room.numbers(), out, length, written));
@@ -184,8 +184,8 @@ class Slot extends Memory {
             return code != Code.DONE ? code : Code.of(Calls.asm_go_on(at, capacity, next.at));
         }
 
-        Calls.Told answer() {
-            return room.told((text, out, length, written) -> Calls.asm_answer(at, out, length, written));
+        Calls.Result answer() {
+            return room.resultOf((text, out, length, written) -> Calls.asm_answer(at, out, length, written));
         }
     }
 }

@@ -112,14 +112,14 @@ final class Sqlite extends Database.JdbcDatabase {
 
     @Override
     IOException fault(SQLException thrown) {
-        String said = "SQLite: " + thrown.getMessage();
+        String detail = "SQLite: " + thrown.getMessage();
         switch (thrown.getErrorCode()) {
             case NOT_A_DATABASE, CORRUPT:
-                throw new DamagedException(0, path + ": " + said);
+                throw new DamagedException(0, path + ": " + detail);
             case READ_ONLY, PERM, CAN_NOT_OPEN:
-                return (IOException) new AccessDeniedException("" + path, null, said).initCause(thrown);
+                return (IOException) new AccessDeniedException("" + path, null, detail).initCause(thrown);
             default:
-                return (IOException) new FileSystemException("" + path, null, said).initCause(thrown);
+                return (IOException) new FileSystemException("" + path, null, detail).initCause(thrown);
         }
     }
 

@@ -49,7 +49,7 @@ public sealed class Step extends StepCalls implements AutoCloseable permits Shar
      * @throws FolugbenException MOVED; MANY if more than 256 would be tracked
      */
     public String get(String locations) {
-        return looked(Calls::asm_get, locations);
+        return readLocations(Calls::asm_get, locations);
     }
 
     /**
@@ -103,7 +103,7 @@ public sealed class Step extends StepCalls implements AutoCloseable permits Shar
      * @throws FolugbenException MOVED
      */
     public String see(String locations) {
-        return looked(Calls::asm_see, locations);
+        return readLocations(Calls::asm_see, locations);
     }
 
     /** Returns the values of the locations, in their order, and tracks nothing. */
@@ -127,7 +127,7 @@ public sealed class Step extends StepCalls implements AutoCloseable permits Shar
         Turns.Player player = Turns.Player.call(this);
         synchronized (agent.slot) {
             take(location, player);
-            return room.told();
+            return room.readValue();
         }
     }
 
@@ -142,7 +142,7 @@ public sealed class Step extends StepCalls implements AutoCloseable permits Shar
         Turns.Player player = Turns.Player.call(this);
         synchronized (agent.slot) {
             take(location, player);
-            return room.kind() == Room.NUM ? room.number() : room.told().asLong();
+            return room.kind() == Room.NUM ? room.number() : room.readValue().asLong();
         }
     }
 
@@ -155,7 +155,7 @@ public sealed class Step extends StepCalls implements AutoCloseable permits Shar
         Turns.Player player = Turns.Player.call(this);
         synchronized (agent.slot) {
             take(location, player);
-            return room.kind() == Room.BOOL ? room.number() != 0 : room.told().asBoolean();
+            return room.kind() == Room.BOOL ? room.number() != 0 : room.readValue().asBoolean();
         }
     }
 
@@ -168,7 +168,7 @@ public sealed class Step extends StepCalls implements AutoCloseable permits Shar
         Turns.Player player = Turns.Player.call(this);
         synchronized (agent.slot) {
             take(location, player);
-            return room.kind() == Room.STRING ? room.text() : room.told().asText();
+            return room.kind() == Room.STRING ? room.text() : room.readValue().asText();
         }
     }
 

@@ -18,7 +18,7 @@ abstract sealed class StepCalls permits Step {
     /** The step's slot, until the step is over: the agent then uses it for another. */
     final Slot.AgentSlot.StepSlot slot;
     void end() {
-        Turns.here().over(self());
+        Turns.here().stepEnded(self());
         agent.slot.giveStep(slot, self());
         agent.endStep();
     }
@@ -33,7 +33,7 @@ abstract sealed class StepCalls permits Step {
     }
     /** Returns the slot of a step that isn't over. */
     Slot slot() {
-        agent.expectGoing();
+        agent.expectRunning();
         if (isOver())
             throw FolugbenException.closed("the step is over: it was fired or closed");
         return slot;
@@ -55,28 +55,28 @@ abstract sealed class StepCalls permits Step {
         int call(long agent, long step, long text, long len, long out, long room,
                 long written);
     }
-    Calls.Told told(Call call, byte[] text) {
+    Calls.Result resultOf(Call call, byte[] text) {
         synchronized (agent.slot) {
             long step = slot().at;
             size += text.length;
-            Calls.Told told = room.told(text,
+            Calls.Result result = room.resultOf(text,
                     (at, out, length, written)
                             -> call.call(
                                     agent.slot.at, step, at, text.length, out, length, written));
-            size += told.text().length();
-            agent.held(told.code());
-            return told;
+            size += result.text().length();
+            agent.held(result.code());
+            return result;
         }
     }
-    String looked(Call call, String locations) {
+    String readLocations(Call call, String locations) {
         byte[] text = Texts.utf8(locations, "locations");
         Turns.Player player = Turns.Player.call(this);
-        Calls.Told told = told(call, text);
-        ManyException.expectPlaces(told.code());
-        FolugbenException.expectRead(told.code(), Storage.Form.LOCATIONS, text);
+        Calls.Result result = resultOf(call, text);
+        ManyException.expectPlaces(result.code());
+        FolugbenException.expectRead(result.code(), Storage.Form.LOCATIONS, text);
         player.reads(locations);
-        player.hears(told.text());
-        return told.text();
+        player.observe(result.text());
+        return result.text();
     }
     /** Reads and tracks the value into the agent's room, whose lock is held. */
     void take(PreparedLocation location, Turns.Player player) {
@@ -91,18 +91,18 @@ abstract sealed class StepCalls permits Step {
         }
         size += room.written();
         player.reads(location);
-        player.hears(room);
+        player.observe(room);
     }
     void grow(Call call, String move) {
         byte[] text = Texts.utf8(move, "move");
         Turns.Player player = Turns.Player.call(this);
-        Calls.Told told;
+        Calls.Result result;
         synchronized (agent.slot) {
-            told = pushed(told(call, text));
+            result = pushed(resultOf(call, text));
         }
-        FolugbenException.expectNoObjection(told);
-        ManyException.expectMove(told.code(), "the one move of all that are pushed");
-        FolugbenException.expectMove(told.code(), move, "");
+        FolugbenException.expectNoObjection(result);
+        ManyException.expectMove(result.code(), "the one move of all that are pushed");
+        FolugbenException.expectMove(result.code(), move, "");
         player.pushes(self());
     }
     /**
@@ -111,10 +111,10 @@ abstract sealed class StepCalls permits Step {
      * <p>If it is refused, or another move is pushed already, the commit may name locations that
      * have partial updates.
      */
-    private Calls.Told pushed(Calls.Told told) {
-        namesMore |= told.code() != Code.DONE || isPushed;
+    private Calls.Result pushed(Calls.Result result) {
+        namesMore |= result.code() != Code.DONE || isPushed;
         isPushed = true;
-        return told;
+        return result;
     }
     /** A call on an agent, a step and a move that writes a text. */
     interface MoveCall {
@@ -123,33 +123,33 @@ abstract sealed class StepCalls permits Step {
     /** Pushes the text of a move of no instructions, as a slot holds no such move. */
     void grow(MoveCall call, Call textCall, Move move) {
         Objects.requireNonNull(move, "move");
-        Calls.Told told;
+        Calls.Result result;
         Turns.Player player = Turns.Player.call(this);
         synchronized (agent.slot) {
             long step = slot().at;
             synchronized (move.slot) {
                 move.expectOpen();
                 size += move.bytes;
-                told = pushed(move.size() == 0
-                                ? told(textCall, NO_INSTRUCTIONS)
-                                : room.told((text, out, length, written)
+                result = pushed(move.size() == 0
+                                ? resultOf(textCall, NO_INSTRUCTIONS)
+                                : room.resultOf((text, out, length, written)
                                                     -> call.call(agent.slot.at, step, move.slot.at,
                                                             out, length, written)));
             }
-            agent.held(told.code());
+            agent.held(result.code());
         }
-        FolugbenException.expectNoObjection(told);
-        ManyException.expectMove(told.code(), "the one move of all that are pushed");
-        FolugbenException.expect(told.code());
+        FolugbenException.expectNoObjection(result);
+        ManyException.expectMove(result.code(), "the one move of all that are pushed");
+        FolugbenException.expect(result.code());
         player.pushes(self());
     }
     String offered() {
         synchronized (agent.slot) {
             long step = slot().at;
-            Calls.Told told = room.told(
+            Calls.Result result = room.resultOf(
                     (text, out, length, written) -> Calls.asm_offer(step, out, length, written));
-            FolugbenException.expect(agent.held(told.code()));
-            return told.text();
+            FolugbenException.expect(agent.held(result.code()));
+            return result.text();
         }
     }
     Code committed() {
@@ -198,14 +198,14 @@ abstract sealed class StepCalls permits Step {
         List<Named> reads = JsonReader.offer(offer).reads();
         byte[] places = Texts.utf8(
                 JsonWriter.locations(reads.stream().map(Named::location).toList()), "locations");
-        Calls.Told told = agent.slot.peek(places);
-        agent.expect(told.code());
-        Texts.Lines.expectRead(places.length, told.text());
+        Calls.Result result = agent.slot.peek(places);
+        agent.expect(result.code());
+        Texts.Lines.expectRead(places.length, result.text());
     }
 
     /** Returns the reply to a commit. */
     final Actor.Reply commits() {
-        Turns.Player player = Turns.Player.look(this);
+        Turns.Player player = Turns.Player.poll(this);
         player.fires(self());
         synchronized (agent.slot) {
             boolean mayBeLong = size > Texts.Lines.SHORT || namesMore && agent.isRecording();
@@ -221,12 +221,12 @@ abstract sealed class StepCalls permits Step {
     final Actor.State scanned(String name) {
         byte[] text = Texts.utf8(name, "name");
         Turns.Player player = Turns.Player.call(this);
-        Calls.Told told = told(Calls::asm_step_scan, text);
-        ManyException.expectPlaces(told.code());
-        FolugbenException.expect(told.code());
+        Calls.Result result = resultOf(Calls::asm_step_scan, text);
+        ManyException.expectPlaces(result.code());
+        FolugbenException.expect(result.code());
         player.stepScans(name);
-        player.hears(told.text());
-        return new Actor.State(before() + number, told.text());
+        player.observe(result.text());
+        return new Actor.State(before() + number, result.text());
     }
 
     /** Pops into a move. */

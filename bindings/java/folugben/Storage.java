@@ -203,7 +203,7 @@ public final class Storage implements AutoCloseable {
     }
 
     /** Returns the agent to this, if both are open; false if this is closed. */
-    boolean takesBack(Agent agent) {
+    boolean takeBackIfOpen(Agent agent) {
         synchronized (slot) {
             synchronized (agent.slot) {
                 if (slot.isFull() && agent.slot.isFull())
@@ -241,12 +241,12 @@ public final class Storage implements AutoCloseable {
         int[] missing = new int[1];
         Code code = Code.of(Calls.asm_close(slot.at, missing));
         if (code == Code.MISSING)
-            throw FolugbenException.missing(missing[0], whoIsOut(missing[0]));
+            throw FolugbenException.missing(missing[0], agentToReturn(missing[0]));
         expect(code);
     }
 
     /** Returns which agents that fired must be returned, with the lock of the slot. */
-    private String whoIsOut(int move) {
+    private String agentToReturn(int move) {
         List<String> numbers = new ArrayList<>();
         boolean isAbandoned = false;
         for (Agent agent : agents)
@@ -259,8 +259,8 @@ public final class Storage implements AutoCloseable {
         if (numbers.isEmpty())
             return "an agent was abandoned";
         if (numbers.size() > 1)
-            return "agents " + String.join(", ", numbers) + " were not given back";
-        String one = "agent " + numbers.get(0) + " was not given back";
+            return "agents " + String.join(", ", numbers) + " were not returned";
+        String one = "agent " + numbers.get(0) + " was not returned";
         return isAbandoned ? one : one + ": it fired move " + move;
     }
 

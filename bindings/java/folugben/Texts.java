@@ -155,9 +155,9 @@ final class Texts {
         static void expectCall(byte[] call) {
             if (2L * call.length + ROOM <= LIMIT)
                 return;
-            Step.Offer told = JsonReader.offer(new String(call, StandardCharsets.UTF_8));
-            long longest = Stream.concat(told.fire().stream().map(Instruction::location),
-                                         told.reads().stream().map(Named::location))
+            Step.Offer offer = JsonReader.offer(new String(call, StandardCharsets.UTF_8));
+            long longest = Stream.concat(offer.fire().stream().map(Instruction::location),
+                                         offer.reads().stream().map(Named::location))
                                    .mapToLong(it -> bytes(it.json()))
                                    .max()
                                    .orElse(0);

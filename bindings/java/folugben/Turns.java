@@ -51,9 +51,9 @@ final class Turns {
     }
 
     /** What the works returned or threw, each at its place. */
-    record Told<R>(List<R> values, List<Throwable> faults) {
-        private static <R> Told<R> none(int count) {
-            return new Told<>(new ArrayList<>(Collections.nCopies(count, null)),
+    record Outcomes<R>(List<R> values, List<Throwable> faults) {
+        private static <R> Outcomes<R> none(int count) {
+            return new Outcomes<>(new ArrayList<>(Collections.nCopies(count, null)),
                     new ArrayList<>(Collections.nCopies(count, null)));
         }
 
@@ -70,14 +70,14 @@ final class Turns {
     }
 
     /** Plays each work with its agent on its own thread; throws what ended all of them. */
-    <A, R> Told<R> play(List<? extends A> agents,
+    <A, R> Outcomes<R> play(List<? extends A> agents,
             List<? extends Interleave.Work<? super A, ? extends R>> works,
             List<? extends Player> players) {
-        Told<R> told = Told.none(works.size());
+        Outcomes<R> outcomes = Outcomes.none(works.size());
         List<Thread> threads = new ArrayList<>();
         for (int i = 0; i < works.size(); i++) {
             int number = i;
-            Thread thread = new Thread(() -> playOne(players.get(number), told,
+            Thread thread = new Thread(() -> playOne(players.get(number), outcomes,
                     () -> works.get(number).play(agents.get(number))));
             thread.setDaemon(true); // a work that waits for something else can't be ended
             threads.add(thread);
@@ -91,18 +91,18 @@ final class Turns {
         }
         if (fault != null)
             throw fault;
-        return told;
+        return outcomes;
     }
 
-    private <R> void playOne(Player player, Told<R> told, Supplier<? extends R> work) {
+    private <R> void playOne(Player player, Outcomes<R> outcomes, Supplier<? extends R> work) {
         HERE.set(player);
         try {
             await(player.number());
-            told.values.set(player.number(), work.get());
+            outcomes.values.set(player.number(), work.get());
         } catch (Stopped end) {
             // The result reports what has stopped it.
         } catch (RuntimeException | Error thrown) {
-            told.faults.set(player.number(), thrown);
+            outcomes.faults.set(player.number(), thrown);
         } finally {
             HERE.remove();
             end(player.number());
@@ -145,19 +145,19 @@ final class Turns {
         if (PLAYS.get() == 0)
             return Player.NOBODY;
         Player player = HERE.get();
-        return player == null || player.isStill ? Player.NOBODY : player;
+        return player == null || player.takesNoTurns ? Player.NOBODY : player;
     }
 
     /** Does the work with no turns in it, as others may wait for locks that are held. */
-    static <T> T still(Supplier<T> work) {
+    static <T> T withoutTurns(Supplier<T> work) {
         Player player = here();
         if (player == Player.NOBODY)
             return work.get();
-        player.isStill = true;
+        player.takesNoTurns = true;
         try {
             return work.get();
         } finally {
-            player.isStill = false;
+            player.takesNoTurns = false;
         }
     }
 
@@ -175,7 +175,7 @@ final class Turns {
             choose();
             while (now != number && fault == null) turns[number].awaitUninterruptibly();
             waits[number] = false;
-            expectGoing();
+            expectRunning();
         } finally {
             lock.unlock();
         }
@@ -187,13 +187,13 @@ final class Turns {
         try {
             if (++taken > most)
                 stop(new EndlessException(alive(), most));
-            expectGoing();
+            expectRunning();
         } finally {
             lock.unlock();
         }
     }
 
-    private void expectGoing() {
+    private void expectRunning() {
         if (fault != null)
             throw new Stopped();
     }
@@ -258,7 +258,7 @@ final class Turns {
         final Turns turns;
         private final int number;
         /** Whether its calls take no turn for now. */
-        boolean isStill;
+        boolean takesNoTurns;
 
         Player(Turns turns, int number) {
             this.turns = turns;
@@ -266,7 +266,7 @@ final class Turns {
         }
 
         /** Takes the turn of a call of an agent that polls or writes. */
-        static Player look(Object it) {
+        static Player poll(Object it) {
             Player player = Turns.here();
             if (player != NOBODY)
                 player.turn(it, true);
@@ -287,15 +287,15 @@ final class Turns {
         }
 
         /** Takes a turn of a call on an agent or a step. */
-        void turn(Object it, boolean isLook) {
+        void turn(Object it, boolean isPoll) {
             turns.await(number);
         }
 
         /** Notes a step that has begun. */
-        void begun(Step step) {}
+        void stepBegan(Step step) {}
 
         /** Notes a step that is over. */
-        void over(Step step) {}
+        void stepEnded(Step step) {}
 
         /** Notes that the locations [LOC, ..] were read. */
         void reads(String locations) {}
@@ -331,12 +331,12 @@ final class Turns {
         void fired(Actor.Reply reply) {}
 
         /** Notes what a call returned, except numbers of moves. */
-        void hears(String told) {}
+        void observe(String message) {}
 
         /** Notes the value that a call wrote into a room. */
-        void hears(Room room) {}
+        void observe(Room room) {}
 
         /** Notes what a call has thrown. */
-        void hears(FolugbenException thrown) {}
+        void observe(FolugbenException thrown) {}
     }
 }

@@ -29,9 +29,9 @@ public sealed interface Value permits Element, Value.SetOf, Value.BagOf {
     record SetOf(Set<Element> elements) implements Value {
         /** Copies the elements. */
         public SetOf {
-            SortedSet<Element> kept = new TreeSet<>(Elements.ORDER);
-            kept.addAll(Texts.Copies.of(elements, "elements"));
-            elements = Collections.unmodifiableSortedSet(kept);
+            SortedSet<Element> copy = new TreeSet<>(Elements.ORDER);
+            copy.addAll(Texts.Copies.of(elements, "elements"));
+            elements = Collections.unmodifiableSortedSet(copy);
         }
 
         @Override
@@ -44,10 +44,10 @@ public sealed interface Value permits Element, Value.SetOf, Value.BagOf {
     record BagOf(Map<Element, Long> counts) implements Value {
         /** Copies the counts, if they are in range. */
         public BagOf {
-            SortedMap<Element, Long> kept = new TreeMap<>(Elements.ORDER);
+            SortedMap<Element, Long> copy = new TreeMap<>(Elements.ORDER);
             Objects.requireNonNull(counts, "counts")
-                    .forEach((element, count) -> kept.put(element, inRange(count)));
-            counts = Collections.unmodifiableSortedMap(kept);
+                    .forEach((element, count) -> copy.put(element, inRange(count)));
+            counts = Collections.unmodifiableSortedMap(copy);
         }
 
         /** Returns how often the element is there; 0 if it isn't. */
@@ -98,11 +98,11 @@ public sealed interface Value permits Element, Value.SetOf, Value.BagOf {
     }
 
     private static Value setOf(Collection<?> elements) {
-        SortedSet<Element> kept = new TreeSet<>(Elements.ORDER);
+        SortedSet<Element> copy = new TreeSet<>(Elements.ORDER);
         for (Object element : elements)
-            if (!kept.add(Element.of(element)))
+            if (!copy.add(Element.of(element)))
                 throw Texts.Words.isTwice("set", element);
-        return new SetOf(kept);
+        return new SetOf(copy);
     }
 
     /**
@@ -114,14 +114,14 @@ public sealed interface Value permits Element, Value.SetOf, Value.BagOf {
      *         an element occurs twice, as 1 and 1L are one; or as Element.of
      */
     static Value bag(Map<?, ?> counts) {
-        SortedMap<Element, Long> kept = new TreeMap<>(Elements.ORDER);
+        SortedMap<Element, Long> copy = new TreeMap<>(Elements.ORDER);
         counts.forEach((key, count) -> {
             if (!(count instanceof Integer || count instanceof Long))
                 throw new IllegalArgumentException("a count is an Integer or a Long: " + count);
-            if (kept.put(Element.of(key), ((Number) count).longValue()) != null)
+            if (copy.put(Element.of(key), ((Number) count).longValue()) != null)
                 throw Texts.Words.isTwice("bag", key);
         });
-        return new BagOf(kept);
+        return new BagOf(copy);
     }
 
     /**

@@ -19,14 +19,14 @@ public final class Main {
             Path folder = Files.createTempDirectory("engine");
             Path path = folder.resolve("engine.run");
             try {
-                System.out.println(machine.getClass().getSimpleName() + ": " + told(machine, path));
+                System.out.println(machine.getClass().getSimpleName() + ": " + playAndReport(machine, path));
             } finally {
                 drop(folder);
             }
         }
     }
 
-    private static String told(Machine machine, Path path) throws IOException {
+    private static String playAndReport(Machine machine, Path path) throws IOException {
         try (Run run = Run.open(machine.init(), path, 100, 100_000)) {
             Engine.onRun(run, machine);
         }

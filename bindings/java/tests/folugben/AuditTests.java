@@ -47,7 +47,7 @@ final class AuditTests {
         return text.getBytes(StandardCharsets.UTF_8);
     }
 
-    static void runsAreToldHoweverTheyCome() {
+    static void runsAreAuditedInAnyPieces() {
         byte[] run = bytes(String.join("", parts(3, 4)));
         Auditor.Counts all = new Auditor.Counts(3, 15, 12);
         Random random = new Random(5);
@@ -100,16 +100,16 @@ final class AuditTests {
         throw new IllegalStateException("not told as at fault");
     }
 
-    private static void faultIs(String run, Code code, long part, long call, long line, String told) {
+    private static void faultIs(String run, Code code, long part, long call, long line, String message) {
         AuditException fault = fault(run);
         equal(fault.code(), code);
         equal(fault.part(), part);
         equal(fault.call(), call);
         equal(fault.line(), line);
-        equal(fault.getMessage(), code.text() + told);
+        equal(fault.getMessage(), code.text() + message);
     }
 
-    static void faultsAreToldWithTheirPlace() {
+    static void faultsReportTheirPlace() {
         List<String> parts = parts(3, 2);
         String first = parts.get(0);
         String second = parts.get(1);
@@ -131,7 +131,7 @@ final class AuditTests {
     }
 
     /** What comes before a fault is taken; the fault is reported again for what isn't. */
-    static void faultsStay() {
+    static void faultsPersist() {
         List<String> parts = parts(2, 2);
         String wrong = parts.get(0) + parts.get(1).replace("\"fired\":2", "\"fired\":1");
         try (Auditor auditor = new Auditor()) {
@@ -148,11 +148,11 @@ final class AuditTests {
         Auditor auditor = new Auditor();
         auditor.close();
         auditor.close();
-        String told = Code.EMPTY.text()
+        String message = Code.EMPTY.text()
                 + ": the auditor was closed";
         for (Runnable call : List.<Runnable>of(auditor::end, auditor::state,
                      () -> auditor.feed(new byte[0]), () -> auditor.feed(new byte[1])))
-            equal(refused(Code.EMPTY, call).getMessage(), told);
+            equal(refused(Code.EMPTY, call).getMessage(), message);
         Class<? extends RuntimeException> kind = NullPointerException.class;
         thrown(kind, "bytes", () -> new Auditor().feed((byte[]) null));
         thrown(IndexOutOfBoundsException.class, "Range [1, 1 + 2) out of bounds for length 2",
@@ -160,7 +160,7 @@ final class AuditTests {
     }
 
     /** A storage goes on from an agent's own state, and an agent is checked out again. */
-    static void agentsGoOnAndAreTaken() {
+    static void agentsContinueAndAreCheckedOut() {
         try (Storage storage = Storage.open(Map.of(COUNT, 0), 2); Agent other = storage.agent(1)) {
             Agent agent = storage.agent(0);
             List<Instruction> up = List.of(Instruction.inc(COUNT, 1));
@@ -182,7 +182,7 @@ final class AuditTests {
             taken.give();
             equal(refused(Code.EMPTY, () -> taken.goOn(3)).getMessage(),
                     Code.EMPTY.text()
-                            + ": the agent was given back");
+                            + ": the agent was returned");
             try (Storage next = other.goOn(3); Agent behind = next.agent(0)) {
                 equal(behind.read(List.of(COUNT)).value(COUNT), Element.of(2));
                 behind.fire(up, List.of());
@@ -199,12 +199,12 @@ final class AuditTests {
 
     static void all() {
         try {
-            runsAreToldHoweverTheyCome();
+            runsAreAuditedInAnyPieces();
             filesAndStreamsAreRead();
-            faultsAreToldWithTheirPlace();
-            faultsStay();
+            faultsReportTheirPlace();
+            faultsPersist();
             closedOnesSaySo();
-            agentsGoOnAndAreTaken();
+            agentsContinueAndAreCheckedOut();
         } catch (IOException fault) {
             throw new UncheckedIOException(fault);
         }
@@ -238,19 +238,19 @@ final class AuditTests {
             }
         }
 
-        private static void statesAreTold() {
+        private static void statesAreListed() {
             String journal = journal();
-            List<Journals.Moment> told = Journals.states(journal).toList();
-            equal(told.size(), 5);
-            for (int i = 0; i < told.size(); i++) equal(told.get(i).number(), i);
-            equal(told.get(0).values(), Map.of(SET, Value.of(INIT.get(SET)), BAG, Value.of(INIT.get(BAG))));
+            List<Journals.Moment> results = Journals.states(journal).toList();
+            equal(results.size(), 5);
+            for (int i = 0; i < results.size(); i++) equal(results.get(i).number(), i);
+            equal(results.get(0).values(), Map.of(SET, Value.of(INIT.get(SET)), BAG, Value.of(INIT.get(BAG))));
             Map<Location, Value> first = Map.of(SET, Value.of(Set.of(2, 3)), BAG, Value.of(Map.of("e", 5)));
-            equal(told.get(1).values(), first);
+            equal(results.get(1).values(), first);
             Map<Location, Value> second = new TreeMap<>(first);
             second.put(TEXT, Value.of("x;\"y\""));
-            equal(told.get(2).values(), second);
-            equal(told.get(4).values(), Storage.replayed(journal));
-            equal(told.get(3).values(), told.get(4).values());
+            equal(results.get(2).values(), second);
+            equal(results.get(4).values(), Storage.replayed(journal));
+            equal(results.get(3).values(), results.get(4).values());
             refused(Code.NOT_JSON, () -> Journals.states("{\n"));
         }
 
@@ -281,7 +281,7 @@ final class AuditTests {
         }
 
         static void all() {
-            statesAreTold();
+            statesAreListed();
             aTableIsWritten();
             try {
                 thePageHasTheExample();

@@ -135,8 +135,8 @@ final class ConformanceTests {
     }
 
     private static String checked(String journal, int recorded) {
-        Storage.Checked told = Storage.check(journal);
-        return "[" + (told.calls() - recorded) + "," + told.moves() + "]";
+        Storage.Checked checked = Storage.check(journal);
+        return "[" + (checked.calls() - recorded) + "," + checked.moves() + "]";
     }
 
     /** How many reads were recorded by the agents that were returned. */
@@ -168,16 +168,16 @@ final class ConformanceTests {
     private static String audited(String text) {
         try (Auditor auditor = new Auditor()) {
             auditor.feed(text.getBytes(StandardCharsets.UTF_8));
-            Auditor.Counts told = auditor.end();
-            return "[" + told.calls() + "," + told.moves() + "," + told.parts() + "]";
+            Auditor.Counts counts = auditor.end();
+            return "[" + counts.calls() + "," + counts.moves() + "," + counts.parts() + "]";
         }
     }
 
     private String ofStep(String name, String own, List<String> words) {
         if (name.equals("begin")) {
-            Step begun = agents.get(own).step();
-            steps.put(own, begun);
-            return "" + begun.number();
+            Step start = agents.get(own).step();
+            steps.put(own, start);
+            return "" + start.number();
         }
         Step step = steps.get(own);
         return switch (name) {
@@ -217,8 +217,8 @@ final class ConformanceTests {
                 String stale = agent.stands(words.get(0)).answer();
                 yield stale == null ? "null" : stale;
             }
-            case "state" -> told(agent.state(), words.get(0));
-            case "scan" -> told(agent.scan(string(words.get(0))), words.get(1));
+            case "state" -> stateText(agent.state(), words.get(0));
+            case "scan" -> stateText(agent.scan(string(words.get(0))), words.get(1));
             case "seen" -> "" + agent.seen();
             case "won" -> "" + agent.won();
             case "misses" -> "" + agent.misses();
@@ -226,23 +226,23 @@ final class ConformanceTests {
         };
     }
 
-    private static String told(Agent.State state, String number) {
+    private static String stateText(Agent.State state, String number) {
         Test.Checks.equal("" + state.number(), number);
         return state.pairs();
     }
 
     /** Whether the answer is the one that is wanted; of an error only what is written is compared. */
-    private static boolean agree(String told, String wanted) {
+    private static boolean agree(String answer, String wanted) {
         if (!wanted.startsWith("{\"error\""))
-            return told.equals(wanted);
+            return answer.equals(wanted);
         List<String> members = items("[" + wanted.substring(1, wanted.length() - 1) + "]");
-        List<String> own = items("[" + told.substring(1, told.length() - 1) + "]");
+        List<String> own = items("[" + answer.substring(1, answer.length() - 1) + "]");
         for (String member : members) {
-            String said = "\"said\":";
-            boolean isTold = member.startsWith(said)
-                    ? string(own.get(1).substring(said.length())).contains(string(member.substring(said.length())))
+            String detail = "\"said\":";
+            boolean isReported = member.startsWith(detail)
+                    ? string(own.get(1).substring(detail.length())).contains(string(member.substring(detail.length())))
                     : own.contains(member);
-            if (!isTold)
+            if (!isReported)
                 return false;
         }
         return true;
@@ -261,10 +261,10 @@ final class ConformanceTests {
                 continue;
             }
             boolean isEnd = name.equals("end");
-            String told = replayer.answer(name, all.subList(1, all.size() - (isEnd ? 0 : 1)));
+            String answer = replayer.answer(name, all.subList(1, all.size() - (isEnd ? 0 : 1)));
             String wanted = isEnd ? "null" : all.get(all.size() - 1);
-            if (!agree(told, wanted))
-                throw new IllegalStateException(table.getFileName() + ":" + number + ": told " + told
+            if (!agree(answer, wanted))
+                throw new IllegalStateException(table.getFileName() + ":" + number + ": found " + answer
                         + ", wanted " + wanted);
             count++;
         }

@@ -63,12 +63,12 @@ final class ExploreTests {
         equal(Journals.states(found.journal()).allMatch(it -> holds.test(it.values())), false);
     }
 
-    private static void thePlainestLostUpdateIsFound() {
-        Explorer.Explored told = of(List.of(ExploreTests::lost, ExploreTests::lost))
+    private static void theSimplestLostUpdateIsFound() {
+        Explorer.Explored explored = of(List.of(ExploreTests::lost, ExploreTests::lost))
                                          .atEnd(ExploreTests::countsTwo).explore();
-        Explorer.Finding found = told.finding().orElseThrow();
+        Explorer.Finding found = explored.finding().orElseThrow();
         equal(found.turns(), List.of(0, 0, 1));
-        equal(told.isExhaustive(), false);
+        equal(explored.isExhaustive(), false);
         equal(found.broken(), "at the end it doesn't hold");
         equal(Journals.states(found.journal()).map(it -> it.values().get(COUNT).asLong()).toList(),
                 List.of(0L, 1L, 1L));
@@ -81,17 +81,17 @@ final class ExploreTests {
     private static void aStateOfAnotherOrderIsFound() {
         Interleave.Work<Agent, Object> puts = agent
                 -> agent.fire(List.of(Instruction.put(Location.of("x", agent.number()), 1)), List.of());
-        Explorer.Explored told = of(List.of(puts, puts)).invariant(values -> {
+        Explorer.Explored explored = of(List.of(puts, puts)).invariant(values -> {
             if (values.containsKey(Location.of("x", 1)) && !values.containsKey(Location.of("x", 0)))
                 throw new AssertionError("1 came first");
             return true;
         }).explore();
-        equal(told.schedules(), 1);
-        equal(told.toString(), "the invariant doesn't hold after move 1: 1 came first, by the turns"
+        equal(explored.schedules(), 1);
+        equal(explored.toString(), "the invariant doesn't hold after move 1: 1 came first, by the turns"
                 + " [1]; 1 schedules were played");
     }
 
-    private static void whatAWorkThrowsIsFound() {
+    private static void exceptionsOfWorksAreFound() {
         Interleave.Work<Agent, Object> fails = agent -> {
             if (agent.read(List.of(COUNT)).value(COUNT).asLong() == 1)
                 throw new IllegalStateException("one");
@@ -103,7 +103,7 @@ final class ExploreTests {
         equal(found.thrown().getMessage(), "one");
     }
 
-    private static void oneThatWaitsLetsOthersGoOn() {
+    private static void aWaitingWorkLetsOthersRun() {
         Interleave.Work<Agent, Object> waits = agent -> {
             while (agent.read(List.of(COUNT)).value(COUNT).asLong() == 0);
             return agent.fire(List.of(Instruction.put(COUNT, 5)), List.of());
@@ -111,8 +111,8 @@ final class ExploreTests {
         List<Interleave.Work<Agent, Object>> works =
                 List.of(waits, ExploreTests::lost, ExploreTests::lost);
         Explorer explorer = Explorer.of(ExploreTests::counting, works);
-        Explorer.Explored told = explorer.schedules(30).turns(500).explore();
-        equal(told.toString(), "30 schedules hold, and there are more");
+        Explorer.Explored explored = explorer.schedules(30).turns(500).explore();
+        equal(explored.toString(), "30 schedules hold, and there are more");
         Predicate<Map<Location, Value>> holds = values -> !countsTwo(values);
         expectBroken(explorer.invariant(holds).explore().finding().orElseThrow(),
                 ExploreTests::counting, works, holds);
@@ -129,8 +129,8 @@ final class ExploreTests {
         };
         try {
             of(List.of(draws, draws, draws)).explore();
-        } catch (Explorer.DiffersException told) {
-            equal(told.getMessage().endsWith("the works draw, or share more than the storage"), true);
+        } catch (Explorer.DiffersException error) {
+            equal(error.getMessage().endsWith("the works draw, or share more than the storage"), true);
             return;
         }
         throw new IllegalStateException("not refused");
@@ -161,11 +161,11 @@ final class ExploreTests {
             }
             return null;
         };
-        Explorer.Explored told = Explorer.of(() -> Storage.open(init, 100), List.of(work, work, work))
+        Explorer.Explored explored = Explorer.of(() -> Storage.open(init, 100), List.of(work, work, work))
                 .time(Duration.ofMinutes(10))
                 .atEnd(values -> values.values().stream().mapToLong(Value::asLong).sum() == 12)
                 .explore();
-        equal(told.toString(), "108 schedules hold, which are all");
+        equal(explored.toString(), "108 schedules hold, which are all");
     }
 
     /** The results and final states of random programs: nothing is missed. */
@@ -188,24 +188,24 @@ final class ExploreTests {
         final Set<Object> ends = new HashSet<>();
         final Set<Object> moments = new HashSet<>();
         final int schedules;
-        private final Map<Integer, List<Object>> told = new TreeMap<>();
+        private final Map<Integer, List<Object>> answers = new TreeMap<>();
 
         Outcomes(int seed, boolean isNaive) {
             Random random = new Random(seed);
             Map<Location, Object> init = Map.of(x(0), 1, x(1), 5, Location.of("n"), 0);
             List<Interleave.Work<Agent, Object>> works = new ArrayList<>();
             for (int i = 0; i < (seed % 4 == 0 ? 3 : 2); i++) works.add(work(random));
-            Noted.areAllDependent = isNaive;
+            RecordedPlayer.areAllDependent = isNaive;
             try {
                 Explorer.Explored explored = Explorer.of(() -> Storage.open(init, 100), works)
                         .time(Duration.ofMinutes(10))
                         .invariant(values -> moments.add(Map.copyOf(values)) || true)
-                        .atEnd(values -> ends.add(List.of("" + told, Map.copyOf(values))) || true)
+                        .atEnd(values -> ends.add(List.of("" + answers, Map.copyOf(values))) || true)
                         .explore();
                 equal(explored.isExhaustive(), true);
                 schedules = explored.schedules();
             } finally {
-                Noted.areAllDependent = false;
+                RecordedPlayer.areAllDependent = false;
             }
         }
 
@@ -221,7 +221,7 @@ final class ExploreTests {
                         random.nextInt(6)));
             return agent -> {
                 List<Object> heard = new ArrayList<>();
-                told.put(agent.number(), heard);
+                answers.put(agent.number(), heard);
                 for (Interleave.Work<Agent, Object> it : all)
                     try {
                         heard.add("" + it.play(agent));
@@ -262,20 +262,20 @@ final class ExploreTests {
                 step.push(Instruction.inc(Location.of("n"), 1), Instruction.put(x, by));
                 return step.tryCommit().isFired();
             }
-            Object told = kind == 5 ? step.scan("x").pairs() : step.get(x);
-            long next = kind == 5 ? told.toString().length() : number((Value) told) + 1;
-            if (kind == 6 && number((Value) told) != by % 3)
-                told = List.of(told, step.get(y));
+            Object value = kind == 5 ? step.scan("x").pairs() : step.get(x);
+            long next = kind == 5 ? value.toString().length() : number((Value) value) + 1;
+            if (kind == 6 && number((Value) value) != by % 3)
+                value = List.of(value, step.get(y));
             step.push(Instruction.put(by % 2 == 1 ? x : y, next));
-            return List.of(told, step.tryCommit().isFired());
+            return List.of(value, step.tryCommit().isFired());
         }
     }
 
     static void all() {
-        thePlainestLostUpdateIsFound();
+        theSimplestLostUpdateIsFound();
         aStateOfAnotherOrderIsFound();
-        whatAWorkThrowsIsFound();
-        oneThatWaitsLetsOthersGoOn();
+        exceptionsOfWorksAreFound();
+        aWaitingWorkLetsOthersRun();
         worksThatDrawAreRefused();
         itIsBounded();
         mostlyDifferentLocationsTakeFewSchedules();

@@ -147,7 +147,7 @@ final class ItfTests {
         return out.toString();
     }
 
-    private static void textsAreThoseOfPython() {
+    private static void textsEqualThoseOfPython() {
         equal(written(RUN), STATES);
         equal(written(ILLEGAL), ILLEGAL_STATES);
         equal(written(EMPTY), OPENING);
@@ -170,10 +170,10 @@ final class ItfTests {
         ItfWriter.write(Storage.trace(RUN), out, "", 0, 7, length);
         equal(out.toString(), STATES);
         out.setLength(0);
-        FolugbenException told = refused(Code.LONG_LINE,
+        FolugbenException error = refused(Code.LONG_LINE,
                 () -> ItfWriter.write(Storage.trace(RUN), out, "", 0, 7, length - 1));
-        equal(told.getClass(), LargeException.class);
-        equal(told.getMessage(), Code.LONG_LINE.text() + ": the states of moves 0 to 7 have more than "
+        equal(error.getClass(), LargeException.class);
+        equal(error.getMessage(), Code.LONG_LINE.text() + ": the states of moves 0 to 7 have more than "
                 + String.format(Locale.ROOT, "%,d", length - 1) + " characters: take fewer by first and last");
         equal(out.toString(), STATES.substring(0, STATES.lastIndexOf(",\n")));
         equal(ItfWriter.LIMIT, 1_073_741_824);
@@ -185,7 +185,7 @@ final class ItfTests {
         equal(out.length(), 0);
     }
 
-    private static void whatIsNoJournalIsRefused() {
+    private static void textsThatAreNoJournalAreRefused() {
         refusedWithoutAText(Code.NOT_JSON, "{\n");
         refusedWithoutAText(Code.CUT, "");
         refusedWithoutAText(Code.CUT, RUN.substring(0, RUN.length() - 1));
@@ -221,10 +221,10 @@ final class ItfTests {
     }
 
     static void all() {
-        textsAreThoseOfPython();
+        textsEqualThoseOfPython();
         aRangeIsWritten();
         statesAreBounded();
-        whatIsNoJournalIsRefused();
+        textsThatAreNoJournalAreRefused();
         argumentsAreChecked();
         System.out.println("Informal Trace Format");
     }

@@ -95,7 +95,7 @@ final class ObjectTests {
                 {"\"\\ud83d\"", "a text has a lone surrogate at index 0"},
                 {"\"\ud83d\"", "value has a lone surrogate at index 1"},
                 {nested, "lists nest at most 8 deep at character 80"}};
-        for (String[] told : values) refusedValue(told[1], () -> Value.parse(told[0]));
+        for (String[] row : values) refusedValue(row[1], () -> Value.parse(row[0]));
         refusedValue("no location at character 0", () -> Location.parse("\"x\""));
         refusedValue("no string at character 1", () -> Location.parse("[7]"));
         refusedValue(

@@ -48,9 +48,9 @@ final class OddTests {
     static void argumentsAreCopiedOnce() {
         try (Storage storage = Storage.open(Map.of(X, 1, Y, 2), 10);
                 Agent agent = storage.agent(0)) {
-            List<Reading> told =
+            List<Reading> results =
                     List.of(agent.read(changing(X, Y)), agent.peek(changing(X, Y)));
-            for (Reading reading : told) {
+            for (Reading reading : results) {
                 equal(reading.locations(), List.of(X));
                 equal(reading.values(), List.of(Element.of(1)));
             }
@@ -85,7 +85,7 @@ final class OddTests {
         }
     }
 
-    static void whatIsOverIsTold() {
+    static void closedObjectsSaySo() {
         String over = Code.EMPTY.text() + ": ";
         Storage storage = Storage.open(Map.of(), 10);
         Agent agent = storage.agent(3);
@@ -97,14 +97,14 @@ final class OddTests {
                          () -> step.get(x), () -> step.scan("x"), step::push, () -> step.push(move)))
                 equal(refused(Code.EMPTY, call).getMessage(),
                         over + "the step is over: it was fired or closed");
-            refusedAt(Code.MISSING, 1, ": agent 3 was not given back: it fired move 1",
+            refusedAt(Code.MISSING, 1, ": agent 3 was not returned: it fired move 1",
                     storage::closeJournal);
             storage.agent(4).abandon(); // which may have fired it
-            refusedAt(Code.MISSING, 1, ": agent 3 was not given back (move 1)",
+            refusedAt(Code.MISSING, 1, ": agent 3 was not returned (move 1)",
                     storage::closeJournal);
             Agent other = storage.agent(9);
             other.fire(List.of(), List.of());
-            refusedAt(Code.MISSING, 1, ": agents 3, 9 were not given back (move 1)",
+            refusedAt(Code.MISSING, 1, ": agents 3, 9 were not returned (move 1)",
                     storage::closeJournal);
             other.close();
             Step open = agent.step();
@@ -115,7 +115,7 @@ final class OddTests {
                          () -> agent.stands("[]"), () -> open.get(X), () -> open.get(x),
                          () -> open.push(move), open::push, open::commit))
                 equal(refused(Code.EMPTY, call).getMessage(),
-                        over + "the agent was given back");
+                        over + "the agent was returned");
             open.close();
         }
         storage.close();
@@ -125,16 +125,16 @@ final class OddTests {
                     over + "the storage was closed");
     }
 
-    static void elementsAreAskedFor() {
+    static void lookupsNeedElements() {
         Value set = Value.set(1, "a");
         Value bag = Value.bag(Map.of(2, 3));
         equal(set.has(1) && set.has("a") && !set.has(2), true);
         equal(bag.has(2) && !bag.has(1), true);
         equal(set.asSet().contains(Element.of(1)), true);
         Class<? extends RuntimeException> kind = ClassCastException.class;
-        String told = "1 is no folugben.Element: ask for Element.of(1)";
-        thrown(kind, told, () -> set.asSet().contains(1));
-        thrown(kind, told, () -> bag.asBag().get(1));
+        String message = "1 is no folugben.Element: ask for Element.of(1)";
+        thrown(kind, message, () -> set.asSet().contains(1));
+        thrown(kind, message, () -> bag.asBag().get(1));
         thrown(IllegalStateException.class, "no set or bag: 7", () -> Element.of(7).has(7));
     }
 
@@ -251,9 +251,9 @@ final class OddTests {
                 PreparedLocation x = X.prepare()) {
             move.inc(x, 1);
             move.isCutOff = true;
-            String told = "a call on the move was cut off, and may have been done: clear the move";
-            thrown(IllegalStateException.class, told, () -> move.inc(x, 1));
-            thrown(IllegalStateException.class, told, () -> step.push(move));
+            String message = "a call on the move was cut off, and may have been done: clear the move";
+            thrown(IllegalStateException.class, message, () -> move.inc(x, 1));
+            thrown(IllegalStateException.class, message, () -> step.push(move));
             step.push(move.clear().inc(x, 1));
             equal(step.getNumber(x), 2L);
         }
@@ -312,7 +312,7 @@ final class OddTests {
     }
 
     /** If JNA is in a parent of the class loader, that is freed as the page on Java says. */
-    static void classLoadersAreLetGo() throws Exception {
+    static void classLoadersAreCollected() throws Exception {
         WeakReference<ClassLoader> own = loaded();
         collectUntil(() -> own.get() == null);
         equal(Storage.version(), Calls.WRITTEN_FOR);
@@ -335,7 +335,7 @@ final class OddTests {
     }
 
     /** What is unpacked from a jar is in no folder once it is loaded. */
-    static void nothingIsLeftOfJars() throws IOException {
+    static void extractedFilesAreDeleted() throws IOException {
         equal(CopiedLibrary.isLoaded("/jna\\d+\\.tmp"), false);
     }
 
@@ -343,19 +343,19 @@ final class OddTests {
         try {
             argumentsAreCopiedOnce();
             nullsAreNamed();
-            whatIsOverIsTold();
-            elementsAreAskedFor();
+            closedObjectsSaySo();
+            lookupsNeedElements();
             longTextsAreRead();
             movesAreCutOff();
             stacksRunOut();
             threadsAreStopped();
-            classLoadersAreLetGo();
+            classLoadersAreCollected();
             librariesAreUnloaded();
-            nothingIsLeftOfJars();
+            extractedFilesAreDeleted();
         } catch (IOException fault) {
             throw new UncheckedIOException(fault);
         } catch (Exception fault) {
-            throw fault instanceof RuntimeException told ? told : new IllegalStateException(fault);
+            throw fault instanceof RuntimeException error ? error : new IllegalStateException(fault);
         }
         System.out.println("odd use");
     }

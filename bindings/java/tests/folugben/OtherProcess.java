@@ -57,8 +57,8 @@ final class OtherProcess {
         Path path = Path.of(words[1]);
         switch (words[0]) {
             case "resume" -> {
-                Throwable told = ResumeTests.faultOf(() -> Run.resume(path));
-                System.exit(told.getMessage().endsWith("another run is at work in the folder") ? 3 : 4);
+                Throwable error = ResumeTests.faultOf(() -> Run.resume(path));
+                System.exit(error.getMessage().endsWith("another run is at work in the folder") ? 3 : 4);
             }
             case "fill" -> RunEndTests.fill(path);
             default -> play(path);

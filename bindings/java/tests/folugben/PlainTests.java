@@ -146,19 +146,19 @@ final class PlainTests {
         } catch (ClashException error) {
             wanted = error.answer();
         }
-        String told = null;
+        String answer = null;
         try {
             if (isPush)
                 step.push(move);
             else
                 step.extend(move);
         } catch (ClashException error) {
-            told = error.answer();
+            answer = error.answer();
         }
-        equal("" + told, "" + wanted);
+        equal("" + answer, "" + wanted);
         equal(step.depth(), other.depth());
         for (Instruction one : all) equal(step.get(one.location()), other.get(one.location()));
-        return told != null;
+        return answer != null;
     }
 
     static void limits() {
@@ -200,9 +200,9 @@ final class PlainTests {
         try (PreparedLocation x = X.prepare(); Move move = new Move()) {
             move.put(x, 1);
             for (long amount : new long[] {0, -1, Value.MAX_COUNT + 1, Long.MAX_VALUE}) {
-                String told = "an amount or a count is 1 to 4294967295, and not " + amount;
-                refusedValue(told, () -> move.bagAdd(x, 1, amount));
-                refusedValue(told, () -> move.bagRemove(x, "", amount));
+                String message = "an amount or a count is 1 to 4294967295, and not " + amount;
+                refusedValue(message, () -> move.bagAdd(x, 1, amount));
+                refusedValue(message, () -> move.bagRemove(x, "", amount));
             }
             refusedValue("text has a lone surrogate at index 1", () -> move.put(x, "a\ud83d"));
             Class<? extends RuntimeException> kind = NullPointerException.class;
@@ -293,11 +293,11 @@ final class PlainTests {
             Step next = agent.step();
             x.close();
             x.close();
-            String told = Code.EMPTY.text() + ": the ";
+            String message = Code.EMPTY.text() + ": the ";
             for (Runnable call : List.<Runnable>of(() -> next.get(x), () -> next.getNumber(x),
                          () -> agent.peek(x), () -> agent.peekNumber(x), () -> move.put(x, 1),
                          () -> move.put(x, "text")))
-                equal(refused(Code.EMPTY, call).getMessage(), told + "location was closed");
+                equal(refused(Code.EMPTY, call).getMessage(), message + "location was closed");
             next.push(move);
             equal(next.get(X), Element.of(5));
             move.close();
@@ -305,7 +305,7 @@ final class PlainTests {
             try (PreparedLocation y = Location.of("y").prepare()) {
                 for (Runnable call : List.<Runnable>of(() -> next.push(move),
                              () -> next.extend(move), () -> move.put(y, 1), move::clear))
-                    equal(refused(Code.EMPTY, call).getMessage(), told + "move was closed");
+                    equal(refused(Code.EMPTY, call).getMessage(), message + "move was closed");
                 equal(move.size(), 0);
                 equal(next.depth(), 1);
                 agent.give();

@@ -69,9 +69,9 @@ final class ResumeTests {
     }
 
     private static void isRefused(Path path, Path link) {
-        Throwable told = faultOf(() -> Run.resume(link));
-        equal(told.getClass(), FileSystemException.class);
-        equal(told.getMessage(), path + ": another run is at work in the folder");
+        Throwable error = faultOf(() -> Run.resume(link));
+        equal(error.getClass(), FileSystemException.class);
+        equal(error.getMessage(), path + ": another run is at work in the folder");
         Throwable there = faultOf(() -> Run.open(opening(), link));
         equal(there.getClass(), FileAlreadyExistsException.class);
         equal(there.getMessage(), path + ": there is a run, with which Run.resume goes on");
@@ -93,8 +93,8 @@ final class ResumeTests {
         }
         Run.resume(path).close();
         equal(audited(path), new Auditor.Counts(3, 7, 7));
-        Throwable gone = faultOf(() -> Run.resume(path.resolveSibling("none")));
-        equal(gone.getClass(), NoSuchFileException.class);
+        Throwable missing = faultOf(() -> Run.resume(path.resolveSibling("none")));
+        equal(missing.getClass(), NoSuchFileException.class);
     }
 
     private static void runsAreResumed(Path path) {
@@ -223,8 +223,8 @@ final class ResumeTests {
         equal(audited(path), new Auditor.Counts(4, 5, 5));
         RunTests.drop(path);
         Files.writeString(path, "{\"agents\":");
-        String told = faultOf(() -> Run.resume(path)).getMessage();
-        equal(told.endsWith("is imported by: python -m folugben import"), true);
+        String message = faultOf(() -> Run.resume(path)).getMessage();
+        equal(message.endsWith("is imported by: python -m folugben import"), true);
         equal(Files.size(path), 10L);
     }
 
@@ -293,7 +293,7 @@ final class ResumeTests {
         } catch (IOException fault) {
             throw new UncheckedIOException(fault);
         } catch (Exception fault) {
-            throw fault instanceof RuntimeException told ? told : new IllegalStateException(fault);
+            throw fault instanceof RuntimeException error ? error : new IllegalStateException(fault);
         }
         System.out.println("folders of runs");
     }
@@ -343,10 +343,10 @@ final class ResumeTests {
 
         private static void filesAreImported(Path path) throws IOException {
             Path file = path.resolveSibling("old.run");
-            String whole = part(0, 3) + part(3, 5);
-            Files.writeString(file, whole + part(5, 7).substring(0, 150));
-            Run.Imported told = Run.importFile(file, path);
-            equal(told, new Run.Imported(new Auditor.Counts(2, 5, 5), 150));
+            String journal = part(0, 3) + part(3, 5);
+            Files.writeString(file, journal + part(5, 7).substring(0, 150));
+            Run.Imported imported = Run.importFile(file, path);
+            equal(imported, new Run.Imported(new Auditor.Counts(2, 5, 5), 150));
             equal(RunTests.counted(path, 5), new Auditor.Counts(3, 5, 5));
             try (Run run = Run.resume(path); RunAgent agent = run.agent(0)) {
                 equal(RunTests.count(agent).move(), 6L);
@@ -358,7 +358,7 @@ final class ResumeTests {
                 equal(fault.getCause().getClass(), FileAlreadyExistsException.class);
             }
             Path bad = path.resolveSibling("bad");
-            Files.writeString(file, whole.replace("\"fired\":2", "\"fired\":1"));
+            Files.writeString(file, journal.replace("\"fired\":2", "\"fired\":1"));
             Test.Checks.refused(Code.ILLEGAL, () -> Run.importFile(file, bad));
             equal(Files.exists(bad), false);
         }
@@ -369,7 +369,7 @@ final class ResumeTests {
                              SavingTests::timeEndsParts, SavingTests::filesAreImported))
                     RunTests.withFile(test);
             } catch (Exception fault) {
-                throw fault instanceof RuntimeException told ? told : new IllegalStateException(fault);
+                throw fault instanceof RuntimeException error ? error : new IllegalStateException(fault);
             }
             System.out.println("saving of runs");
         }

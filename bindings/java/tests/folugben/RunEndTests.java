@@ -33,10 +33,10 @@ final class RunEndTests {
         step.push(RunTests.up());
         run.close();
         run.close();
-        String told = Code.EMPTY.text() + ": the run was closed";
+        String message = Code.EMPTY.text() + ": the run was closed";
         for (Runnable call : List.<Runnable>of(agent::step, agent::follow, agent::state,
                      () -> run.agent(1), step::commit, () -> step.get(COUNT), () -> RunTests.count(agent)))
-            equal(refused(Code.EMPTY, call).getMessage(), told);
+            equal(refused(Code.EMPTY, call).getMessage(), message);
         step.close();
         agent.close();
         equal(agent.won(), 1L);
@@ -59,13 +59,13 @@ final class RunEndTests {
         });
     }
 
-    private static void toldByAll(Run run, RunException first, List<RunAgent> agents) {
+    private static void allThrow(Run run, RunException first, List<RunAgent> agents) {
         for (RunAgent agent : agents)
             for (Runnable call : List.<Runnable>of(
                          () -> RunTests.count(agent), agent::step, agent::follow, agent::state)) {
-                RunException told = fails(call);
-                equal(told.part(), first.part());
-                equal(told.getCause(), first.getCause());
+                RunException error = fails(call);
+                equal(error.part(), first.part());
+                equal(error.getCause(), first.getCause());
             }
         equal(fails(() -> run.agent(9)).part(), first.part());
         equal(fails(run::close).part(), first.part());
@@ -74,20 +74,20 @@ final class RunEndTests {
     }
 
     /** A part that lacks a move ends the run; what was complete stays. */
-    private static void lostAgentsEndTheRun(Path path) {
+    private static void abandonedAgentsEndTheRun(Path path) {
         Run run = RunTests.open(path, 2);
         RunAgent agent = run.agent(0);
         RunAgent lost = run.agent(1);
         for (int i = 0; i < 4; i++) RunTests.count(agent);
         RunTests.count(lost);
         lost.abandon();
-        RunException told = failsInTime(agent);
-        equal(told.part(), 3L);
-        equal(((FolugbenException) told.getCause()).code(), Code.MISSING);
-        equal(told.getMessage(), "part 3 of the run can't be written: "
+        RunException error = failsInTime(agent);
+        equal(error.part(), 3L);
+        equal(((FolugbenException) error.getCause()).code(), Code.MISSING);
+        equal(error.getMessage(), "part 3 of the run can't be written: "
                 + Code.MISSING.text()
                 + ": an agent was abandoned (move 1)");
-        toldByAll(run, told, List.of(agent));
+        allThrow(run, error, List.of(agent));
         equal(RunTests.counted(path, 4), new Auditor.Counts(3, 4, 4));
         try (Run again = Run.resume(path, 2); RunAgent other = again.agent(0)) {
             equal(RunTests.count(other), new RunAgent.Played<>(5, 4L, 0));
@@ -96,7 +96,7 @@ final class RunEndTests {
     }
 
     /** An agent that fired nothing may be abandoned. */
-    private static void lostAgentsThatFiredNothingAreMissedByNone(Path path) {
+    private static void abandonedAgentsWithoutMovesAreNotMissing(Path path) {
         try (Run run = RunTests.open(path, 2); RunAgent agent = run.agent(0)) {
             RunAgent lost = run.agent(1);
             lost.follow();
@@ -123,11 +123,11 @@ final class RunEndTests {
         Run run = Run.resume(path, 1000);
         List<RunAgent> agents = List.of(run.agent(0), run.agent(1));
         RunTests.count(agents.get(1));
-        RunException told = failsInTime(agents.get(0));
-        equal(told.part(), 6L);
-        equal(told.part(), run.parts());
-        equal(told.getCause() instanceof IOException, true);
-        toldByAll(run, told, agents);
+        RunException error = failsInTime(agents.get(0));
+        equal(error.part(), 6L);
+        equal(error.part(), run.parts());
+        equal(error.getCause() instanceof IOException, true);
+        allThrow(run, error, agents);
     }
 
     /** What someone else does to the folder of a run. */
@@ -165,13 +165,13 @@ final class RunEndTests {
             while (run.parts() < 2) Thread.sleep(1);
             harm.on(path);
             Step step = other.step();
-            RunException told = failsInTime(agent);
-            equal(told.part(), 2L);
-            equal(told.getCause().getClass(), DamagedException.class);
+            RunException error = failsInTime(agent);
+            equal(error.part(), 2L);
+            equal(error.getCause().getClass(), DamagedException.class);
             equal(fails(() -> step.get(COUNT)).part(), 2L);
             equal(fails(step::commit).part(), 2L);
             step.close();
-            toldByAll(run, told, List.of(agent, other));
+            allThrow(run, error, List.of(agent, other));
             for (Path left : List.of(path, path.resolveSibling("moved"))) {
                 equal(!Files.exists(left) || RunTests.files(left).size() % 2 == 0, true);
                 RunTests.drop(left);
@@ -256,7 +256,7 @@ final class RunEndTests {
         equal(RunTests.counted(path, 5), new Auditor.Counts(3, 5, 5));
     }
 
-    private static void argumentsAreLookedAt(Path path) {
+    private static void argumentsAreChecked(Path path) {
         Class<? extends RuntimeException> kind = NullPointerException.class;
         thrown(kind, "path", () -> Run.open(Map.of(), null));
         thrown(kind, "init", () -> Run.open((Map<Location, ?>) null, path));
@@ -297,9 +297,9 @@ final class RunEndTests {
             });
         }
         equal(fired.nextClearBit(1), fired.length());
-        Auditor.Counts told = RunTests.counted(path, fired.cardinality());
-        equal(told.moves(), fired.cardinality());
-        System.out.println("stress " + seconds + " s: " + told);
+        Auditor.Counts counts = RunTests.counted(path, fired.cardinality());
+        equal(counts.moves(), fired.cardinality());
+        System.out.println("stress " + seconds + " s: " + counts);
     }
 
     /** Stresses so many runs, each for so many seconds: 20 and 30 by default. */
@@ -312,17 +312,17 @@ final class RunEndTests {
     static void all() {
         try {
             for (RunTests.OnFile test : List.<RunTests.OnFile>of(RunEndTests::closedRunsSaySo,
-                         RunEndTests::lostAgentsEndTheRun,
-                         RunEndTests::lostAgentsThatFiredNothingAreMissedByNone,
+                         RunEndTests::abandonedAgentsEndTheRun,
+                         RunEndTests::abandonedAgentsWithoutMovesAreNotMissing,
                          RunEndTests::fullDisksEndTheRun, RunEndTests::harmEndsTheRun,
                          RunEndTests::linesAreShort, RunEndTests::longLinesEndNoRun,
                          RunEndTests::numbersAreFreedAtTheEnd,
-                         RunEndTests::argumentsAreLookedAt))
+                         RunEndTests::argumentsAreChecked))
                 RunTests.withFile(test);
         } catch (IOException fault) {
             throw new UncheckedIOException(fault);
         } catch (Exception fault) {
-            throw fault instanceof RuntimeException told ? told : new IllegalStateException(fault);
+            throw fault instanceof RuntimeException error ? error : new IllegalStateException(fault);
         }
         System.out.println("ends of runs");
     }

@@ -95,11 +95,11 @@ final class RunTests {
     }
 
     /** The numbers of a run without the reads that were recorded. */
-    private static Auditor.Counts unrecorded(Path path, Auditor.Counts told) {
+    private static Auditor.Counts unrecorded(Path path, Auditor.Counts counts) {
         try {
             long reads = text(path).lines().filter(it -> it.contains("\"call\":{\"read\":")).count();
-            equal(reads > 0, isRecording && told.moves() > 0);
-            return new Auditor.Counts(told.parts(), told.calls() - reads, told.moves());
+            equal(reads > 0, isRecording && counts.moves() > 0);
+            return new Auditor.Counts(counts.parts(), counts.calls() - reads, counts.moves());
         } catch (IOException fault) {
             throw new UncheckedIOException(fault);
         }
@@ -109,7 +109,7 @@ final class RunTests {
         return audited(path, Map.of(COUNT, Element.of(count)));
     }
 
-    private static void agentsGoOn(Path path) throws Exception {
+    private static void agentsContinue(Path path) throws Exception {
         try (Run run = open(path, 3); RunAgent agent = run.agent(0)) {
             for (int i = 0; i < 10; i++) {
                 equal(count(agent), new RunAgent.Played<>(i + 1, (long) i, 0));
@@ -165,19 +165,19 @@ final class RunTests {
             throw new IllegalStateException(fault.get());
     }
 
-    private static void threadsGoOn(Path path) throws Exception {
+    private static void threadsContinueAcrossParts(Path path) throws Exception {
         try (Run run = open(path, 64, 1_000_000)) {
             inThreads(run, 8, agent -> {
                 for (int i = 0; i < 500; i++) count(agent);
             });
         }
-        Auditor.Counts told = counted(path, 4000);
-        equal(told.moves(), 4000L);
-        equal(told.parts(), 64L);
+        Auditor.Counts counts = counted(path, 4000);
+        equal(counts.moves(), 4000L);
+        equal(counts.parts(), 64L);
     }
 
     /** An agent that does nothing holds up no part, and then finds all that was done. */
-    private static void idleAgentsAreTaken(Path path) throws Exception {
+    private static void idleAgentsAreReturned(Path path) throws Exception {
         try (Run run = open(path, 2); RunAgent idle = run.agent(0); RunAgent agent = run.agent(1)) {
             count(idle);
             try (Step step = idle.step()) {
@@ -185,7 +185,7 @@ final class RunTests {
             }
             for (int i = 0; i < 40; i++) count(agent);
             while (run.parts() < 21) Thread.sleep(1);
-            equal(count(idle).told(), 41L);
+            equal(count(idle).result(), 41L);
             equal(idle.won(), 2L);
         }
         equal(counted(path, 42), new Auditor.Counts(22, 42, 42));
@@ -223,19 +223,19 @@ final class RunTests {
                     for (long parts = run.parts(); run.parts() < parts + 2;) count(agent);
                 step.push(up());
                 return step.get(COUNT).asLong();
-            }).told() > 20, true);
+            }).result() > 20, true);
             equal(tries[0], 3);
             PartException own = PartException.full();
             equal(refused(Code.FULL, () -> slow.play(step -> {
                 throw own;
             })) == own, true);
         }
-        Auditor.Counts told = unrecorded(path, Auditor.audit(path));
-        equal(told.calls(), told.moves() + 1);
+        Auditor.Counts counts = unrecorded(path, Auditor.audit(path));
+        equal(counts.calls(), counts.moves() + 1);
     }
 
     /** No step and no number is valid in another part than its own. */
-    private static void partsAreApart(Path path) {
+    private static void stepsAndNumbersStayInTheirPart(Path path) {
         try (Run run = open(path, 2); RunAgent slow = run.agent(0); RunAgent agent = run.agent(1)) {
             List<Named> first = slow.peek(List.of(COUNT)).named();
             equal(slow.fire(List.of(Instruction.put(COUNT, 1)), first), 1L);
@@ -249,8 +249,8 @@ final class RunTests {
                 step.push(up());
                 count(agent);
                 count(agent);
-                FolugbenException told = refused(Code.FULL, step::commit);
-                equal(told instanceof PartException && told instanceof ConflictException, true);
+                FolugbenException error = refused(Code.FULL, step::commit);
+                equal(error instanceof PartException && error instanceof ConflictException, true);
                 try (Step next = slow.step()) {
                     equal(next.number(), 3L);
                     equal(next.get(COUNT), Element.of(3));
@@ -258,10 +258,10 @@ final class RunTests {
                     refused(Code.FULL, step::commit);
                 }
             }
-            FolugbenException told = refused(Code.FULL,
+            FolugbenException error = refused(Code.FULL,
                     () -> slow.fire(List.of(Instruction.put(COUNT, 9)), old));
-            equal(told instanceof PartException, true);
-            equal(told.getMessage().endsWith(
+            equal(error instanceof PartException, true);
+            equal(error.getMessage().endsWith(
                           "count is named at 1, and that part has ended at 2, so read again"),
                     true);
             equal(slow.fire(List.of(up()), List.of()), 4L);
@@ -287,7 +287,7 @@ final class RunTests {
             Step open = rival.step();
             CountDownLatch isDone = new CountDownLatch(1);
             Thread thread = new Thread(() -> {
-                equal(count(agent).told(), 4L);
+                equal(count(agent).result(), 4L);
                 isDone.countDown();
             });
             thread.start();
@@ -314,7 +314,7 @@ final class RunTests {
     }
 
     /** A run waits a tenth of a second for one who stays in a step, who then begins again. */
-    private static void stepsThatLastAreEnded(Path path) throws Exception {
+    private static void longStepsAreEnded(Path path) throws Exception {
         try (Run run = open(path, 1000, 3); RunAgent agent = run.agent(0);
                 RunAgent lasting = run.agent(1)) {
             Step step = lasting.step();
@@ -326,7 +326,7 @@ final class RunTests {
                     true);
             isFull(step.tryCommit());
             step.close();
-            equal(count(lasting).told(), 5L);
+            equal(count(lasting).result(), 5L);
         }
         equal(counted(path, 6).moves(), 6L);
     }
@@ -337,9 +337,9 @@ final class RunTests {
                 for (int i = 0; i < 250; i++) count(agent);
             });
         }
-        Auditor.Counts told = counted(path, 2000);
-        equal(told.moves(), 2000L);
-        equal(told.parts() >= 7, true);
+        Auditor.Counts counts = counted(path, 2000);
+        equal(counts.moves(), 2000L);
+        equal(counts.parts() >= 7, true);
     }
 
     private static String byTurns(Path path, long seed) throws IOException {
@@ -376,16 +376,16 @@ final class RunTests {
 
     private static void allOnce() {
         try {
-            for (OnFile test : List.<OnFile>of(RunTests::agentsGoOn, RunTests::lastPartsAreNotEmpty,
-                         RunTests::threadsGoOn, RunTests::idleAgentsAreTaken,
-                         RunTests::stepsInFullPartsEnd, RunTests::partsAreApart,
+            for (OnFile test : List.<OnFile>of(RunTests::agentsContinue, RunTests::lastPartsAreNotEmpty,
+                         RunTests::threadsContinueAcrossParts, RunTests::idleAgentsAreReturned,
+                         RunTests::stepsInFullPartsEnd, RunTests::stepsAndNumbersStayInTheirPart,
                          RunTests::partsEndAtRest, RunTests::contendersEndPartsAtRest,
-                         RunTests::stepsThatLastAreEnded, RunTests::runsGoByTurns))
+                         RunTests::longStepsAreEnded, RunTests::runsGoByTurns))
                 withFile(test);
         } catch (IOException fault) {
             throw new UncheckedIOException(fault);
         } catch (Exception fault) {
-            throw fault instanceof RuntimeException told ? told : new IllegalStateException(fault);
+            throw fault instanceof RuntimeException error ? error : new IllegalStateException(fault);
         }
     }
 }

@@ -87,7 +87,7 @@ final class ScopeTests {
             Agent agent = storage.agent(0);
             try (agent) {
                 put(agent, 1);
-                refusedAt(Code.MISSING, 1, ": agent 0 was not given back: it fired move 1", storage::closeJournal);
+                refusedAt(Code.MISSING, 1, ": agent 0 was not returned: it fired move 1", storage::closeJournal);
             }
             agent.close();
             equal(Storage.check(storage.closeJournal()), new Storage.Checked(1, 1));
@@ -134,7 +134,7 @@ final class ScopeTests {
         }
     }
 
-    static void numbersAreToldByTheirRange() {
+    static void numbersReportTheirRange() {
         refusedValue("a capacity is 1 to 1,048,576, not 0", () -> new Storage("[]", 0));
         try (Storage storage = open()) {
             refusedValue("agent 256: numbers are 0 to 255", () -> storage.agent(256));
@@ -149,7 +149,7 @@ final class ScopeTests {
             fires();
             agentsComeBack();
             journalsAreWritten();
-            numbersAreToldByTheirRange();
+            numbersReportTheirRange();
         } catch (IOException fault) {
             throw new UncheckedIOException(fault);
         }
@@ -263,8 +263,8 @@ final class ScopeTests {
                     Actor.Reply moved = step.tryCommit();
                     equal(moved.code(), Code.MOVED);
                     equal(moved.shouldRetry() && !moved.isFired(), true);
-                    ConflictException told = (ConflictException) refused(Code.MOVED, moved::orThrow);
-                    equal(told.getClass(), CommitMovedException.class);
+                    ConflictException error = (ConflictException) refused(Code.MOVED, moved::orThrow);
+                    equal(error.getClass(), CommitMovedException.class);
                     equal(refused(Code.MOVED, step::commit).getClass(), CommitMovedException.class);
                     agent.record(false);
                     equal(step.commit(), 2L);

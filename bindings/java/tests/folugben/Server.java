@@ -17,7 +17,7 @@ final class Server implements AutoCloseable {
     private final int port;
 
     /** Whether Debian's server and its driver for Java are there. */
-    static boolean isThere() throws IOException {
+    static boolean isAvailable() throws IOException {
         try {
             Class.forName("org.postgresql.Driver");
         } catch (ClassNotFoundException none) {

@@ -29,7 +29,7 @@ final class SharedKills {
     private final int agents;
     private final int times;
     private final Random random = new Random();
-    private final List<String> told = new ArrayList<>();
+    private final List<String> reports = new ArrayList<>();
 
     private SharedKills(String target, int agents, int times) {
         this.target = target;
@@ -52,7 +52,7 @@ final class SharedKills {
 
     private void take(Process process) throws Exception {
         String all = new String(process.getInputStream().readAllBytes(), StandardCharsets.UTF_8);
-        all.lines().filter(it -> it.endsWith("]")).forEach(told::add);
+        all.lines().filter(it -> it.endsWith("]")).forEach(reports::add);
         process.waitFor();
     }
 
@@ -103,7 +103,7 @@ final class SharedKills {
             });
         equal(new HashSet<>(marks).size(), marks.size());
         Map<Long, String> answered = new HashMap<>();
-        for (String line : told) {
+        for (String line : reports) {
             String[] both = line.substring(1, line.length() - 1).split(", ", 2);
             equal(answered.put(Long.parseLong(both[0]), both[1]) == null, true);
         }

@@ -26,9 +26,9 @@ final class SharedTests {
     private static final Map<Location, Long> INIT = Map.of(COUNT, 0L);
 
     private static final List<OnTarget> ALL = List.of(SharedTests::agentsInThreads,
-            SharedTests::replicasHaveEqualStates, SharedTests::readsAndScansAreRestedOn,
+            SharedTests::replicasHaveEqualStates, SharedTests::firesDependOnReadsAndScans,
             SharedTests::stepsOfEndedSegments, SharedTests::numbersOfAgents,
-            SharedTests::whatIsToldMustFit, SharedTests::sampleOfThePage);
+            SharedTests::openingsMustFitTheRun, SharedTests::exampleOfThePage);
 
     private SharedTests() {}
 
@@ -65,17 +65,17 @@ final class SharedTests {
 
     /** The run is legal, also as one file, and has so many moves. */
     static void isRun(String target, long moves) {
-        Auditor.Counts told = SharedRun.audit(target);
-        equal(told.moves(), moves);
+        Auditor.Counts counts = SharedRun.audit(target);
+        equal(counts.moves(), moves);
         try (Auditor auditor = new Auditor()) {
             auditor.feed(saved(target));
-            equal(auditor.end(), told);
+            equal(auditor.end(), counts);
             equal(auditor.values().get(COUNT), Element.of(moves));
         }
     }
 
     private static void agentsInThreads(String target) throws Exception {
-        List<Long> told = new ArrayList<>();
+        List<Long> results = new ArrayList<>();
         try (SharedRun run = SharedRun.open(INIT, target, 25)) {
             List<Thread> threads = new ArrayList<>();
             for (int at = 0; at < 4; at++) {
@@ -84,8 +84,8 @@ final class SharedTests {
                     try (SharedAgent agent = run.agent(own)) {
                         for (int i = 0; i < 10; i++) {
                             long move = raise(agent).move();
-                            synchronized (told) {
-                                told.add(move);
+                            synchronized (results) {
+                                results.add(move);
                             }
                         }
                         equal(agent.won(), 10L);
@@ -97,12 +97,12 @@ final class SharedTests {
             for (Thread thread : threads) thread.join();
             equal(run.state(), new Actor.State(40, "[[[\"count\"],40]]"));
         }
-        told.sort(null);
-        for (int i = 0; i < 40; i++) equal(told.get(i), i + 1);
+        results.sort(null);
+        for (int i = 0; i < 40; i++) equal(results.get(i), i + 1);
         isRun(target, 40);
     }
 
-    private static void sampleOfThePage(String target) {
+    private static void exampleOfThePage(String target) {
         try (SharedRun run = SharedRun.open(Map.of(Location.of("balance"), 0), target);
                 SharedAgent anna = run.agent(0)) {
             anna.play(step -> {
@@ -138,7 +138,7 @@ final class SharedTests {
         equal(own, 5L);
     }
 
-    private static void readsAndScansAreRestedOn(String target) {
+    private static void firesDependOnReadsAndScans(String target) {
         Location task = Location.of("task", 1);
         try (SharedRun run = SharedRun.open(INIT, target, 100); SharedAgent agent = run.agent(0);
                 SharedAgent rival = run.agent(1)) {
@@ -219,7 +219,7 @@ final class SharedTests {
         refused(Code.EMPTY, () -> ended.agent(3));
     }
 
-    private static void whatIsToldMustFit(String target) throws Exception {
+    private static void openingsMustFitTheRun(String target) throws Exception {
         equal(faultOf(() -> SharedRun.join(target)).getClass(), NoSuchFileException.class);
         SharedRun.open(INIT, target, 7).close();
         SharedRun.open(INIT, target, 100).close();
@@ -262,11 +262,11 @@ final class SharedTests {
         equal(Files.size(text), 1800L);
         for (Path path : List.of(room.resolve("absent/x.db"), room))
             equal(faultOf(() -> SharedRun.open(INIT, path.toString())) instanceof IOException, true);
-        String gone = room.resolve("gone.db").toString();
-        SharedRun run = SharedRun.open(INIT, gone);
+        String missing = room.resolve("gone.db").toString();
+        SharedRun run = SharedRun.open(INIT, missing);
         SharedAgent agent = run.agent(0);
         raise(agent);
-        Files.delete(Path.of(gone));
+        Files.delete(Path.of(missing));
         equal(faultOf(() -> raise(agent)).getClass(), RunException.class);
         equal(faultOf(() -> {
             run.close();
@@ -283,9 +283,9 @@ final class SharedTests {
         String target = server.target("of reading");
         SharedRun.open(INIT, target).close();
         alter(target, "alter role folugben set default_transaction_read_only = on");
-        Throwable told = faultOf(() -> SharedRun.join(target));
-        equal(told.getClass(), AccessDeniedException.class);
-        equal(told.getMessage().contains("read-only"), true);
+        Throwable error = faultOf(() -> SharedRun.join(target));
+        equal(error.getClass(), AccessDeniedException.class);
+        equal(error.getMessage().contains("read-only"), true);
     }
 
     /** Processes, one of them of Python if that is there, work on one run, and two are killed. */
@@ -313,17 +313,17 @@ final class SharedTests {
 
     static void all() {
         try {
-            if (isThere("org.sqlite.JDBC"))
+            if (isAvailable("org.sqlite.JDBC"))
                 onSqlite();
-            if (Server.isThere())
+            if (Server.isAvailable())
                 onServer();
         } catch (Exception fault) {
-            throw fault instanceof RuntimeException told ? told : new IllegalStateException(fault);
+            throw fault instanceof RuntimeException error ? error : new IllegalStateException(fault);
         }
         System.out.println("shared runs");
     }
 
-    private static boolean isThere(String driver) {
+    private static boolean isAvailable(String driver) {
         try {
             Class.forName(driver);
             return true;

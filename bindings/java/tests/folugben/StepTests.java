@@ -27,7 +27,7 @@ final class StepTests {
         return "{\"number\":" + number + ",\"values\":[" + values + "]}";
     }
 
-    static void looks() {
+    static void readings() {
         try (Storage storage = new Storage(INIT, 8); Agent agent = storage.agent(0);
                 Agent rival = storage.agent(1)) {
             rival.tryFire(inc("x", 1), "[]");
@@ -126,7 +126,7 @@ final class StepTests {
     }
 
     /** The call is refused with this code and this answer, which the message has too. */
-    static void told(Code code, String answer, Runnable call) {
+    static void refusedWith(Code code, String answer, Runnable call) {
         FolugbenException error = refused(code, call);
         equal(error.answer(), answer);
         equal(error.getMessage(), code.text() + ": " + answer);
@@ -136,7 +136,7 @@ final class StepTests {
     static void objection(Step step, Code code, String answer, Runnable call) {
         int depth = step.depth();
         String seen = step.get("[[\"x\"],[\"s\"]]");
-        told(code, answer, call);
+        refusedWith(code, answer, call);
         equal(step.depth(), depth);
         equal(step.get("[[\"x\"],[\"s\"]]"), seen);
     }
@@ -249,7 +249,7 @@ final class StepTests {
     }
 
     /** What one move alone adds depends on nothing, and clashes if it doesn't fit any more. */
-    static void restingOnNothing() {
+    static void movesWithoutReads() {
         String one = "[[\"bagremove\",[\"b\"],1,1]]";
         try (Storage storage = new Storage("[[[\"b\"],{\"bag\":[[1,2]]}],[[\"x\"],7]]", 8);
                 Agent agent = storage.agent(0); Agent rival = storage.agent(1);
@@ -292,13 +292,13 @@ final class StepTests {
         try (Storage storage = new Storage(INIT, 8); Agent agent = storage.agent(0);
                 Agent rival = storage.agent(1)) {
             for (int round = 0; round < 2; round++) {
-                String told = ": read 2: [\"y\",1]" + seen;
-                refusedAt(range, 0, told, () -> agent.tryFire("[]", reads));
-                refusedAt(range, 0, told, () -> agent.stands(reads));
+                String message = ": read 2: [\"y\",1]" + seen;
+                refusedAt(range, 0, message, () -> agent.tryFire("[]", reads));
+                refusedAt(range, 0, message, () -> agent.stands(reads));
                 List<Named> named = List.of(new Named(Location.of("x"), 1));
-                told = ": read 1: [\"x\"]" + seen;
-                refusedAt(range, 0, told, () -> agent.tryFire(List.of(), named));
-                refusedAt(range, 0, told, () -> agent.stands(named));
+                message = ": read 1: [\"x\"]" + seen;
+                refusedAt(range, 0, message, () -> agent.tryFire(List.of(), named));
+                refusedAt(range, 0, message, () -> agent.stands(named));
                 rival.tryFire("[]", "[]");
             }
             equal(agent.seen(), 0);
@@ -316,14 +316,14 @@ final class StepTests {
     static void numbersOfTheStorageBefore() {
         Location x = Location.of("x");
         Storage storage = new Storage(INIT, 8);
-        Reading kept;
+        Reading reading;
         try (Agent agent = storage.agent(0)) {
             agent.tryFire(inc("x", 1), "[]");
-            kept = agent.read(List.of(x));
+            reading = agent.read(List.of(x));
             agent.give();
         }
         storage.closeJournal();
-        List<Instruction> raised = List.of(Instruction.put(x, kept.value(x).asLong() + 1));
+        List<Instruction> raised = List.of(Instruction.put(x, reading.value(x).asLong() + 1));
         try (Storage next = storage.next(8); Agent agent = next.agent(0);
                 Agent rival = next.agent(1)) {
             storage.close();
@@ -331,7 +331,7 @@ final class StepTests {
             // Nothing was written above this number, so that the rival's update would be lost.
             refusedAt(Code.AHEAD, 0,
                     ": read 1: [\"x\"] is named at 1, and the agent has seen 0",
-                    () -> agent.tryFire(raised, kept.named()));
+                    () -> agent.tryFire(raised, reading.named()));
             equal(agent.read(List.of(x)).value(x).asLong(), 9L);
         }
     }
@@ -344,9 +344,9 @@ final class StepTests {
         equal(Moves.compose(put("x", "1"), inc("x", 2)), put("x", "3"));
         String all = "[[\"bagremove\",[\"b\"],1,4294967295]]";
         String one = "[[\"bagremove\",[\"b\"],1,1]]";
-        told(Code.CLASH, clash, () -> Moves.aggregate("[]", two));
-        told(Code.CLASH, clash, () -> Moves.compose("[]", two));
-        told(Code.LARGE, "{\"large\":[\"b\"]}", () -> Moves.compose(all, one));
+        refusedWith(Code.CLASH, clash, () -> Moves.aggregate("[]", two));
+        refusedWith(Code.CLASH, clash, () -> Moves.compose("[]", two));
+        refusedWith(Code.LARGE, "{\"large\":[\"b\"]}", () -> Moves.compose(all, one));
         refusedAt(Code.SHAPE, 0, ": a location stands twice (state)",
                 () -> Moves.aggregate("[[[\"x\"],1],[[\"x\"],2]]", "7"));
         refusedAt(Code.NOT_JSON, 0, " at byte 3 (move)",
@@ -364,7 +364,7 @@ final class StepTests {
     }
 
     /** A run goes on in a storage that opens with the state after the one before. */
-    static void goingOn() {
+    static void storagesContinue() {
         Storage storage = new Storage(INIT, 1);
         refused(Code.NO_JOURNAL, () -> storage.next(1));
         try (Agent agent = storage.agent(0)) {
@@ -408,7 +408,7 @@ final class StepTests {
     }
 
     static void all() throws InterruptedException {
-        looks();
+        readings();
         System.out.println("looks");
         scans();
         System.out.println("scans");
@@ -420,7 +420,7 @@ final class StepTests {
         System.out.println("sees and offers");
         rivals();
         System.out.println("rivals");
-        restingOnNothing();
+        movesWithoutReads();
         System.out.println("resting on nothing");
         numbersToCome();
         System.out.println("numbers to come");
@@ -428,7 +428,7 @@ final class StepTests {
         System.out.println("numbers of the storage before");
         moves();
         System.out.println("moves");
-        goingOn();
+        storagesContinue();
         System.out.println("going on");
         sharedByThreads();
         System.out.println("shared by threads");

@@ -65,7 +65,7 @@ final class TakeTests {
                 Instruction.bagRemove(Location.of("b"), "e", 1), Instruction.inc(Location.of("n"), -4));
         Map<Location, Object> init = Map.of(Location.of("s"), java.util.Set.of(1), Location.of("b"),
                 Map.of("e", 2), Location.of("n"), 1, Y, 7);
-        List<String> told = new ArrayList<>();
+        List<String> results = new ArrayList<>();
         for (boolean isGathered : new boolean[] {false, true})
             try (Storage storage = Storage.open(init, 10); Agent agent = storage.agent(0);
                     Step step = agent.step(); Move gathered = new Move()) {
@@ -76,13 +76,13 @@ final class TakeTests {
                     step.push(move);
                 step.commit();
                 agent.follow();
-                told.add(agent.state().pairs());
+                results.add(agent.state().pairs());
             }
-        equal(told.get(0), told.get(1));
+        equal(results.get(0), results.get(1));
     }
 
     /** Agents that a thread plays by turns do as on threads of their own. */
-    private static void agentsOfOneThreadGoOnFromEachOther() {
+    private static void agentsOfOneThreadShareTheirState() {
         try (Storage storage = Storage.open(Map.of(X, 0), 10_000)) {
             List<Agent> agents = Schedule.agents(storage, 16);
             for (int round = 0; round < 10; round++)
@@ -170,7 +170,7 @@ final class TakeTests {
         try (Storage storage = Storage.open(Map.of(X, 0), 100); Agent one = storage.agent(0);
                 Agent rival = storage.agent(1)) {
             Actor.Played<Value> idle = one.play(step -> step.get(X));
-            equal(idle.told(), Value.of(0));
+            equal(idle.result(), Value.of(0));
             equal(idle.isFired(), false);
             equal(storage.moves(), 0);
             int[] tries = new int[1];
@@ -226,30 +226,30 @@ final class TakeTests {
         List<Named> reads = many.stream().map(it -> new Named(it, 0)).toList();
         try (Storage storage = Storage.open(Map.of(X, 0), 10); Agent agent = storage.agent(0);
                 Step step = agent.step(); Move full = new Move()) {
-            saying("257 locations are read, at most 256", () -> agent.read(many));
-            saying("257 locations and scanned functions are named, at most 256",
+            withMessage("257 locations are read, at most 256", () -> agent.read(many));
+            withMessage("257 locations and scanned functions are named, at most 256",
                     () -> agent.fire(List.of(), reads.subList(0, 256), List.of(new Scanned("f", 0))));
-            saying("257 locations are named, at most 256", () -> agent.stands(reads));
-            saying("the step would rest on more than 256 locations and functions", () -> step.get(many));
+            withMessage("257 locations are named, at most 256", () -> agent.stands(reads));
+            withMessage("the step would depend on more than 256 locations and functions", () -> step.get(many));
             for (int i = 0; i < 4096; i++) full.gather(Instruction.put(Location.of("y", i), 1));
-            saying("the move would have more than 4,096 instructions",
+            withMessage("the move would have more than 4,096 instructions",
                     () -> full.gather(Instruction.inc(X, 1)));
             step.push(full);
-            saying("the one move of all that are pushed would have more than 4,096 instructions",
+            withMessage("the one move of all that are pushed would have more than 4,096 instructions",
                     () -> step.push(Instruction.put(Y, 1)));
-            saying("lists nest at most 8 deep", () -> step.push(
+            withMessage("lists nest at most 8 deep", () -> step.push(
                     "[[\"put\",[\"x\"]," + "{\"list\":[".repeat(90) + "]}".repeat(90) + "]]"));
         }
     }
 
-    private static void saying(String said, Runnable call) {
+    private static void withMessage(String detail, Runnable call) {
         try {
             call.run();
-        } catch (FolugbenException told) {
-            equal(told.getMessage().contains(said) ? said : told.getMessage(), said);
+        } catch (FolugbenException error) {
+            equal(error.getMessage().contains(detail) ? detail : error.getMessage(), detail);
             return;
         }
-        throw new IllegalStateException("not refused: " + said);
+        throw new IllegalStateException("not refused: " + detail);
     }
 
     /**
@@ -281,7 +281,7 @@ final class TakeTests {
         movesAreUnited();
         unitedMovesHaveALimit();
         instructionsAreGathered();
-        agentsOfOneThreadGoOnFromEachOther();
+        agentsOfOneThreadShareTheirState();
         threadsMayPlayTheSameAgents();
         playsHaveBounds();
         conflictsAreOneException();

@@ -78,8 +78,8 @@ public final class Test {
         List<String> trace = Storage.trace(journal.replace("\"fired\":1", "\"fired\":2"));
         equal(trace.size(), 2);
         equal(trace.get(0).endsWith("\"trace\":1}"), true);
-        String told = "\"right\":{\"fired\":1},\"updates\":[";
-        equal(trace.get(1).contains(told), true);
+        String message = "\"right\":{\"fired\":1},\"updates\":[";
+        equal(trace.get(1).contains(message), true);
         refusedAt(Code.NOT_JSON, 0, ": cut off after byte 1",
                 () -> new Storage("[", 1));
         storage.close();
@@ -189,7 +189,7 @@ public final class Test {
     static void quick() {
         String wanted = System.getProperty("folugben.quick");
         if (wanted != null)
-            equal(Calls.Quick.isThere(), Boolean.valueOf(wanted));
+            equal(Calls.Quick.isAvailable(), Boolean.valueOf(wanted));
     }
 
     static void libraryNames() {
@@ -253,11 +253,11 @@ public final class Test {
     static final class Checks {
         private Checks() {}
 
-        static void equal(Object told, Object wanted) {
-            boolean areNumbers = told instanceof Number && wanted instanceof Number;
-            if (areNumbers ? ((Number) told).longValue() != ((Number) wanted).longValue()
-                           : !told.equals(wanted))
-                throw new IllegalStateException("told " + told + ", wanted " + wanted);
+        static void equal(Object actual, Object wanted) {
+            boolean areNumbers = actual instanceof Number && wanted instanceof Number;
+            if (areNumbers ? ((Number) actual).longValue() != ((Number) wanted).longValue()
+                           : !actual.equals(wanted))
+                throw new IllegalStateException("found " + actual + ", wanted " + wanted);
         }
 
         static FolugbenException refused(Code code, Runnable call) {
@@ -271,35 +271,35 @@ public final class Test {
         }
 
         /** The call is refused with this number, which the message has too, as what it counts. */
-        static void refusedAt(Code code, long number, String told, Runnable call) {
+        static void refusedAt(Code code, long number, String message, Runnable call) {
             FolugbenException error = refused(code, call);
             equal(error.number(), number);
-            equal(error.getMessage(), code.text() + told);
+            equal(error.getMessage(), code.text() + message);
         }
 
         /** The call throws an exception of this class with this text. */
-        static void thrown(Class<? extends RuntimeException> kind, String told, Runnable call) {
+        static void thrown(Class<? extends RuntimeException> kind, String message, Runnable call) {
             try {
                 call.run();
             } catch (RuntimeException error) {
                 equal(error.getClass(), kind);
-                equal("" + error.getMessage(), "" + told);
+                equal("" + error.getMessage(), "" + message);
                 return;
             }
-            throw new IllegalStateException("not thrown: " + told);
+            throw new IllegalStateException("not thrown: " + message);
         }
 
         /** The call is refused by an IllegalArgumentException with this text. */
-        static void refusedValue(String told, Runnable call) {
-            thrown(IllegalArgumentException.class, told, call);
+        static void refusedValue(String message, Runnable call) {
+            thrown(IllegalArgumentException.class, message, call);
         }
 
         /** The call is refused as a capacity or the number of an agent is out of its range. */
         static void outOfRange(Runnable call) {
             try {
                 call.run();
-            } catch (IllegalArgumentException told) {
-                equal(told.getMessage().contains(" 1 to 1,048,576") || told.getMessage().contains(" 0 to 255"), true);
+            } catch (IllegalArgumentException error) {
+                equal(error.getMessage().contains(" 1 to 1,048,576") || error.getMessage().contains(" 0 to 255"), true);
                 return;
             }
             throw new IllegalStateException("not refused");

@@ -80,10 +80,10 @@ final class TextTests {
                 "[\"\n\"]"};
         try (Storage storage = new Storage("[]", 8); Agent agent = storage.agent(0)) {
             for (String text : none) {
-                String told = Code.NOT_JSON.text();
-                thrown(FolugbenException.class, told + " (instructions)",
+                String message = Code.NOT_JSON.text();
+                thrown(FolugbenException.class, message + " (instructions)",
                         () -> agent.tryFire(text, "[]"));
-                thrown(FolugbenException.class, told + " (reads)", () -> agent.tryFire(put, text));
+                thrown(FolugbenException.class, message + " (reads)", () -> agent.tryFire(put, text));
             }
             for (String text : wrong) {
                 refused(Code.SHAPE, () -> agent.tryFire(text, "[]"));

@@ -102,8 +102,8 @@ final class TurnTests {
         try (Storage storage = new Storage("[]", 10); Agent one = storage.agent(0);
                 Agent two = storage.agent(1)) {
             List<Agent> agents = List.of(one, two);
-            Interleave.Work<Agent, String> tells = agent -> "told " + agent.number();
-            equal(Interleave.play(agents, List.of(tells, tells), 3), List.of("told 0", "told 1"));
+            Interleave.Work<Agent, String> name = agent -> "told " + agent.number();
+            equal(Interleave.play(agents, List.of(name, name), 3), List.of("told 0", "told 1"));
             Interleave.Work<Agent, String> fails = agent -> {
                 agent.step().close();
                 throw new IllegalStateException("failed " + agent.number());
@@ -113,18 +113,18 @@ final class TurnTests {
                 thrown(IllegalStateException.class, "failed 0",
                         () -> Interleave.play(agents, List.of(fails, fails), own));
                 thrown(IllegalStateException.class, "failed 1",
-                        () -> Interleave.play(agents, List.of(tells, fails), own));
+                        () -> Interleave.play(agents, List.of(name, fails), own));
             }
             thrown(IllegalArgumentException.class, "2 agents for 1 works",
-                    () -> Interleave.play(agents, List.of(tells), 3));
+                    () -> Interleave.play(agents, List.of(name), 3));
             thrown(NullPointerException.class, "works[1] is null",
-                    () -> Interleave.play(agents, Arrays.asList(tells, null), 3));
+                    () -> Interleave.play(agents, Arrays.asList(name, null), 3));
             equal(Turns.isPlayed(), false);
         }
     }
 
     /** A list says whose turn it is; after its end each in turn plays to its own end. */
-    static void aListTellsTheTurns() {
+    static void aListGivesTheTurns() {
         try (Storage storage = new Storage("[]", 100)) {
             List<Agent> agents = List.of(storage.agent(0), storage.agent(1), storage.agent(2));
             StringBuilder order = new StringBuilder();
@@ -148,7 +148,7 @@ final class TurnTests {
     }
 
     /** One at a time goes on: nothing else runs between two turns. */
-    static void oneAtATimeGoesOn() {
+    static void oneThreadRunsAtATime() {
         int[] inside = new int[1];
         try (Storage storage = new Storage("[]", 10)) {
             List<Agent> agents = new ArrayList<>();
@@ -172,7 +172,7 @@ final class TurnTests {
     }
 
     /** A read and then a blind fire: a turn between both loses an update. */
-    private static void blindUpdatesAreLostByTurns() {
+    private static void blindUpdatesAreLostInTurns() {
         Location count = Location.of("count");
         Interleave.Work<Agent, Object> blind = agent -> {
             long there = agent.read(List.of(count)).value(count).asLong();
@@ -192,7 +192,7 @@ final class TurnTests {
     }
 
     /** One who waits for another for ever is ended, and an interruption ends all. */
-    private static void playsThatDoNotEndAreEnded() {
+    private static void endlessPlaysAreStopped() {
         try (Storage storage = Storage.open(Map.of(), 10); Agent one = storage.agent(0);
                 Agent two = storage.agent(1)) {
             Interleave.Work<Agent, Object> waits = agent -> {
@@ -213,10 +213,10 @@ final class TurnTests {
         oneSeedGivesOneJournal();
         aSeedFindsWhatBreaks();
         worksAnswerAndThrow();
-        aListTellsTheTurns();
-        oneAtATimeGoesOn();
-        blindUpdatesAreLostByTurns();
-        playsThatDoNotEndAreEnded();
+        aListGivesTheTurns();
+        oneThreadRunsAtATime();
+        blindUpdatesAreLostInTurns();
+        endlessPlaysAreStopped();
         System.out.println("turns");
     }
 }

@@ -54,9 +54,9 @@ public final class EngineTests {
         return Location.of("f", number);
     }
 
-    private static void equal(Object told, Object wanted) {
-        if (!told.equals(wanted))
-            throw new IllegalStateException("told " + told + ", wanted " + wanted);
+    private static void equal(Object actual, Object wanted) {
+        if (!actual.equals(wanted))
+            throw new IllegalStateException("found " + actual + ", wanted " + wanted);
     }
 
     private static long count(Step see) {
@@ -128,11 +128,11 @@ public final class EngineTests {
         Random random = new Random(4);
         BiFunction<Location, Value, Rule> mark =
                 (at, value) -> update(chosen, Rule.Term.value(at.arguments().get(0)));
-        List<Object> told = new ArrayList<>();
+        List<Object> results = new ArrayList<>();
         for (int times = 0; times < 40; times++)
-            told.add(played(choose(random, "f", isA, mark, skip()), chosen).get(0));
-        equal(told.contains(Value.of(1)) && told.contains(Value.of(3)), true);
-        equal(told.contains(Value.of(2)), false);
+            results.add(played(choose(random, "f", isA, mark, skip()), chosen).get(0));
+        equal(results.contains(Value.of(1)) && results.contains(Value.of(3)), true);
+        equal(results.contains(Value.of(2)), false);
         Rule rule = par(forall("f", isA, all),
                 choose(random, "f", isNone, mark, update(other, Rule.Term.value(1))));
         equal(played(rule, Location.of("all", 1), Location.of("all", 2), Location.of("all", 3),
@@ -143,8 +143,8 @@ public final class EngineTests {
     private static ClashException clash(Rule rule) {
         try {
             played(rule);
-        } catch (ClashException told) {
-            return told;
+        } catch (ClashException error) {
+            return error;
         }
         throw new IllegalStateException("no clash");
     }
@@ -156,14 +156,14 @@ public final class EngineTests {
                 update(inner, EngineTests::count));
         equal(played(par(dry, update(beside, EngineTests::count)), COUNT, inner, beside),
                 values(10, 10, 3));
-        ClashException told = clash(par(dry, seq(raised(0), update(beside, EngineTests::count))));
-        equal(told.at(), COUNT);
-        equal(told.cause(), Cause.TWO);
+        ClashException error = clash(par(dry, seq(raised(0), update(beside, EngineTests::count))));
+        equal(error.at(), COUNT);
+        equal(error.cause(), Cause.TWO);
         clash(seq(par(raised(1), update(COUNT, Rule.Term.value(9))), raised(1)));
     }
 
     /** In sequence these come to nothing, but on a number alone. */
-    private static void dryRunsAreRestedOn() {
+    private static void movesDependOnDryRuns() {
         Rule rule = par(seq(raise(COUNT, 1), raise(COUNT, -1)),
                 update(Location.of("g"), Rule.Term.value(1)));
         try (Storage storage = Storage.open(INIT, 10); Agent agent = storage.agent(0);
@@ -197,9 +197,9 @@ public final class EngineTests {
             try (Run run = Run.open(machine.init(), path, 50)) {
                 Engine.onRun(run, machine);
             }
-            Auditor.Counts told = Auditor.audit(path);
-            equal(told.moves(), 320L);
-            equal(told.parts() >= 8, true);
+            Auditor.Counts counts = Auditor.audit(path);
+            equal(counts.moves(), 320L);
+            equal(counts.parts() >= 8, true);
             long states = 0;
             try (Stream<Path> all = Files.list(path)) {
                 for (Path file : all.sorted().toList()) {
@@ -207,7 +207,7 @@ public final class EngineTests {
                         states += states(machine, Files.readString(file));
                 }
             }
-            equal(states, 320 + told.parts());
+            equal(states, 320 + counts.parts());
             try (Stream<Path> all = Files.walk(path)) {
                 for (Path left : all.sorted(Comparator.reverseOrder()).toList()) Files.delete(left);
             }
@@ -270,7 +270,7 @@ public final class EngineTests {
         return agent.fire(move, List.of());
     }
 
-    private static void theBankRestsOnItsGuard() {
+    private static void theBankDependsOnItsGuard() {
         Explorer.Explored found = explored(false);
         equal(found.finding().orElseThrow().turns(), List.of(0, 0, 1));
         Storage.check(found.finding().get().journal());
@@ -284,8 +284,8 @@ public final class EngineTests {
                 par(update(COUNT, Rule.Term.value(1)), update(COUNT, Rule.Term.value(2))), actor -> false);
         try (Storage storage = Storage.open(INIT, 10)) {
             Engine.play(number -> storage.agent(number), List.of(waits, clashes, waits));
-        } catch (ClashException told) {
-            equal(told.at(), COUNT);
+        } catch (ClashException error) {
+            equal(error.at(), COUNT);
             return;
         }
         throw new IllegalStateException("no clash");
@@ -296,11 +296,11 @@ public final class EngineTests {
         Machine counts = new Bank(4, 20, 1);
         List<Machine.Program> programs =
                 Collections.nCopies(4, new Machine.Program(raised(1), actor -> actor.won() == 20));
-        List<Long> told = new ArrayList<>();
+        List<Long> results = new ArrayList<>();
         Journals.states(Engine.byTurns(INIT, programs, 5))
-                .forEach(it -> told.add(it.values().get(COUNT).asLong()));
-        equal(told.size(), 81);
-        for (int i = 0; i <= 80; i++) equal(told.get(i), 3L + i);
+                .forEach(it -> results.add(it.values().get(COUNT).asLong()));
+        equal(results.size(), 81);
+        for (int i = 0; i <= 80; i++) equal(results.get(i), 3L + i);
         equal(counts.claim().isEmpty(), false);
     }
 
@@ -311,13 +311,13 @@ public final class EngineTests {
         iterationsEndWithoutUpdates();
         chosenAndAll();
         sequencesBesideOthersAreDryRuns();
-        dryRunsAreRestedOn();
+        movesDependOnDryRuns();
         System.out.println("rules");
         machinesRunOnStorages();
         machinesRunOnRuns();
         conditionsCanFail();
         seedsAreRepeated();
-        theBankRestsOnItsGuard();
+        theBankDependsOnItsGuard();
         anErrorOfOneProgramEndsAll();
         statesAreVisited();
         System.out.println("machines");

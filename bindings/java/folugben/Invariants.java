@@ -11,13 +11,13 @@ import java.util.TreeMap;
 import java.util.function.Predicate;
 
 /** What must hold in each state, and in the last one. */
-final class Holds {
+final class Invariants {
     private final Predicate<? super Map<Location, Value>> invariant;
     private final Predicate<? super Map<Location, Value>> atEnd;
     /** The known states: why one breaks the invariant; empty for one that doesn't. */
     private final Map<Map<Location, Value>, Verdict> known = new HashMap<>();
 
-    Holds(Predicate<? super Map<Location, Value>> invariant,
+    Invariants(Predicate<? super Map<Location, Value>> invariant,
             Predicate<? super Map<Location, Value>> atEnd) {
         this.invariant = invariant;
         this.atEnd = atEnd;

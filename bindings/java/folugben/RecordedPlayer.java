@@ -17,7 +17,7 @@ import java.util.Set;
  * <p>An event is what is done from such a turn to the next one. By that a search knows which events
  * depend on each other.
  */
-final class Noted extends Turns.Player {
+final class RecordedPlayer extends Turns.Player {
     /** Whether all events count as dependent, by which a test sees what is saved. */
     static volatile boolean areAllDependent;
 
@@ -43,7 +43,7 @@ final class Noted extends Turns.Player {
         /**
          * Returns whether the order of the two matters: one writes what the other reads or writes.
          */
-        boolean meets(Footprint other) {
+        boolean overlaps(Footprint other) {
             return areAllDependent || disturbs(other) || other.disturbs(this)
                     || areCommon(writes, other.writes);
         }
@@ -90,14 +90,14 @@ final class Noted extends Turns.Player {
     private boolean isMove;
     /** A digest of all answers before this event, and by now, on which what follows depends. */
     private String key = "";
-    private String told = "";
+    private String observed = "";
     /** Whether all that was noted of an event was noted within it. */
     private boolean isExact = true;
     /** The step that is open, and the functions that it has scanned. */
     private Step step;
     private final List<String> scanned = new ArrayList<>();
 
-    Noted(Turns turns, int number) {
+    RecordedPlayer(Turns turns, int number) {
         super(turns, number);
     }
 
@@ -122,8 +122,8 @@ final class Noted extends Turns.Player {
     }
 
     @Override
-    void turn(Object it, boolean isLook) {
-        if (!isLook) {
+    void turn(Object it, boolean isPoll) {
+        if (!isPoll) {
             turns.count();
             calls++;
             if (it instanceof Step && it != step)
@@ -138,18 +138,18 @@ final class Noted extends Turns.Player {
         now.readsAll = isMixed;
         calls = 1;
         isMove = false;
-        key = told;
+        key = observed;
     }
 
     @Override
-    void begun(Step begun) {
-        step = begun;
+    void stepBegan(Step start) {
+        step = start;
         scanned.clear();
     }
 
     @Override
-    void over(Step over) {
-        if (step == over)
+    void stepEnded(Step ended) {
+        if (step == ended)
             step = null;
     }
 
@@ -227,31 +227,31 @@ final class Noted extends Turns.Player {
             now.reads.add(reply.at());
         if (reply.code() == Code.FULL)
             readsAll();
-        hears(reply.code() + " " + reply.answer());
+        observe(reply.code() + " " + reply.answer());
     }
 
     @Override
-    void hears(String more) {
+    void observe(String more) {
         try {
             MessageDigest digest = MessageDigest.getInstance("SHA-256");
-            digest.update((told + "\n" + more).getBytes(StandardCharsets.UTF_8));
-            told = HexFormat.of().formatHex(digest.digest());
+            digest.update((observed + "\n" + more).getBytes(StandardCharsets.UTF_8));
+            observed = HexFormat.of().formatHex(digest.digest());
         } catch (NoSuchAlgorithmException error) {
             throw new IllegalStateException(error);
         }
     }
 
     @Override
-    void hears(Room room) {
-        hears(room.told().json());
+    void observe(Room room) {
+        observe(room.readValue().json());
     }
 
     @Override
-    void hears(FolugbenException thrown) {
+    void observe(FolugbenException thrown) {
         if (thrown.code() == Code.CLASH)
             now.reads.add(JsonReader.objection(thrown.answer()).at());
         if (thrown.code() == Code.FULL)
             readsAll();
-        hears(thrown.code() + " " + thrown.answer());
+        observe(thrown.code() + " " + thrown.answer());
     }
 }
