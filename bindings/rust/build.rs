@@ -7,16 +7,16 @@ use std::{env, fs};
 const ARCHIVE: &str = "libfolugben.a";
 
 fn candidates() -> Vec<PathBuf> {
-    let here = PathBuf::from(env::var_os("CARGO_MANIFEST_DIR").unwrap_or_default());
+    let thread = PathBuf::from(env::var_os("CARGO_MANIFEST_DIR").unwrap_or_default());
     match env::var_os("FOLUGBEN_LIB_DIR") {
         Some(folder) => vec![PathBuf::from(folder)],
-        None => ["lib", "../../../lib", "../out"].iter().map(|it| here.join(it)).collect(),
+        None => ["lib", "../../../lib", "../out"].iter().map(|it| thread.join(it)).collect(),
     }
 }
 
 fn installed() -> Option<PathBuf> {
-    let told = Command::new("pkg-config").args(["--variable=libdir", "folugben"]).output().ok()?;
-    let folder = PathBuf::from(String::from_utf8(told.stdout).ok()?.trim());
+    let output = Command::new("pkg-config").args(["--variable=libdir", "folugben"]).output().ok()?;
+    let folder = PathBuf::from(String::from_utf8(output.stdout).ok()?.trim());
     folder.join(ARCHIVE).is_file().then_some(folder)
 }
 

@@ -41,8 +41,8 @@ fn main() -> Result<(), Error> {
     let end = Instant::now() + Duration::from_secs(seconds);
     thread::scope(|threads| {
         let agents = run.agents(AGENTS)?.into_iter();
-        let begun: Vec<_> = agents.map(|mut agent| threads.spawn(move || work(&mut agent, end))).collect();
-        begun.into_iter().try_for_each(|it| it.join().expect("no thread panics"))
+        let handles: Vec<_> = agents.map(|mut agent| threads.spawn(move || work(&mut agent, end))).collect();
+        handles.into_iter().try_for_each(|it| it.join().expect("no thread panics"))
     })?;
     let counts = run.close()?;
     assert_eq!(audit_run(&path)?, counts);

@@ -25,13 +25,13 @@ fn time_of(count: usize, moves: u32) -> Result<f64, Error> {
     for at in &places {
         add_one(&mut agents[0], at, &mut put)?;
     }
-    let begun = Instant::now();
+    let start = Instant::now();
     let mut turn = 0;
     for at in places.iter().cycle().take(moves as usize) {
         turn = (turn + 1) % count;
         add_one(&mut agents[turn], at, &mut put)?;
     }
-    let time = begun.elapsed().as_secs_f64() * 1e9 / f64::from(moves);
+    let time = start.elapsed().as_secs_f64() * 1e9 / f64::from(moves);
     agents.into_iter().for_each(Agent::abandon);
     Ok(time)
 }

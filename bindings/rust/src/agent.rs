@@ -1,11 +1,11 @@
 //! Agents.
 use crate::cause::{Limit, OutOfRange};
-use crate::error::{Error, answer, done, done_or_told, done_with, of_text};
-use crate::held::{Held, told};
+use crate::error::{Error, answer, done, done_or_refusal, done_with, of_text};
 use crate::holder::Holder;
 use crate::instruction::Move;
 use crate::json::{Json, ToJson};
 use crate::number::{AgentNumber, MoveNumber};
+use crate::owned_slot::{OwnedSlot, text_of_call};
 use crate::play::{Attempt, Patience, Played};
 use crate::step::Step;
 use crate::storage::{Shared, Storage};
@@ -29,8 +29,8 @@ pub struct Reading {
 }
 
 impl Reading {
-    pub(crate) fn of(told: Json) -> Option<Reading> {
-        let Json::Object(mut members) = told else {
+    pub(crate) fn of(json: Json) -> Option<Reading> {
+        let Json::Object(mut members) = json else {
             return None;
         };
         let number: u32 = members.remove("number")?.number()?;
@@ -52,7 +52,7 @@ pub struct Agent {
 }
 
 impl Agent {
-    pub(crate) fn new(agent: Held, shared: &Arc<Shared>, number: AgentNumber) -> Agent {
+    pub(crate) fn new(agent: OwnedSlot, shared: &Arc<Shared>, number: AgentNumber) -> Agent {
         let slots = Arc::new(AgentSlots::new(agent, Arc::as_ptr(shared).addr()));
         let is_recording = shared.is_recording();
         Agent { slots, shared: Arc::clone(shared), number, is_recording, in_one_thread: PhantomData }
@@ -252,7 +252,7 @@ impl Agent {
     pub(crate) fn last_answer(&self) -> Result<Vec<u8>, Error> {
         // SAFETY: the slots are held by this agent, no call is at work on them, and the texts and numbers outlive the call.
         let (code, text) =
-            told(|out, room, written| unsafe { sys::asm_answer(self.slots.agent(), out, room, written) });
+            text_of_call(|out, room, written| unsafe { sys::asm_answer(self.slots.agent(), out, room, written) });
         done(code)?;
         Ok(text)
     }
@@ -278,11 +278,7 @@ impl Agent {
     ///
     /// [`Error::Memory`].
     pub fn follow(&mut self) -> Result<MoveNumber, Error> {
-        self.looked().map(MoveNumber::from)
-    }
-
-    pub(crate) fn looked(&mut self) -> Result<u32, Error> {
-        self.poll()
+        self.poll().map(MoveNumber::from)
     }
 
     pub(crate) fn poll(&self) -> Result<u32, Error> {
@@ -307,7 +303,7 @@ impl Agent {
         self.slots.begin_turn();
         let text = reads.json();
         // SAFETY: the slots are held by this agent, no call is at work on them, and the texts and numbers outlive the call.
-        let (code, told) = told(|out, room, written| unsafe {
+        let (code, output) = text_of_call(|out, room, written| unsafe {
             sys::asm_stands(self.slots.agent(), text.as_ptr(), text.len(), out, room, written)
         });
         match code {
@@ -316,7 +312,7 @@ impl Agent {
                 done_with(code, sys::FORM_MOVE, &call)
             }
             sys::MANY => Err(Error::Many(Limit::Places(Some(reads.len())))),
-            code => done_or_told(code, &told),
+            code => done_or_refusal(code, &output),
         }
     }
 
@@ -333,7 +329,7 @@ impl Agent {
     /// - [`Error::Memory`].
     pub fn go_on(&self, capacity: u32) -> Result<Storage, Error> {
         self.catch_up()?;
-        let next = Held::empty();
+        let next = OwnedSlot::empty();
         // SAFETY: the slots are held by this agent, no call is at work on them, and the texts and numbers outlive the call.
         match unsafe { sys::asm_go_on(self.slots.agent(), capacity, next.at()) } {
             sys::NOT_FULL => Err(Error::NotFull),

@@ -1,8 +1,8 @@
 //! The audit of a run of any length.
 use crate::error::{Error, answer, plain};
-use crate::held::{Held, told};
 use crate::journal::JournalError;
 use crate::json::Json;
+use crate::owned_slot::{OwnedSlot, text_of_call};
 use crate::sys;
 use crate::value::{Location, Value};
 use std::{fmt, io};
@@ -20,8 +20,8 @@ pub struct Counts {
 }
 
 impl Counts {
-    fn of(told: sys::AuditNumbers) -> Counts {
-        Counts { parts: told.parts, calls: told.calls, moves: told.moves }
+    fn of(numbers: sys::AuditNumbers) -> Counts {
+        Counts { parts: numbers.parts, calls: numbers.calls, moves: numbers.moves }
     }
 
     pub(crate) fn add(&mut self, more: Counts) {
@@ -150,7 +150,7 @@ impl From<AuditError> for io::Error {
 /// # }
 /// ```
 pub struct Auditor {
-    slot: Held,
+    slot: OwnedSlot,
     counts: Counts,
     fault: Option<AuditError>,
 }
@@ -159,7 +159,7 @@ impl Auditor {
     /// Makes an auditor that has read nothing.
     #[must_use]
     pub fn new() -> Auditor {
-        Auditor { slot: Held::empty(), counts: Counts::default(), fault: None }
+        Auditor { slot: OwnedSlot::empty(), counts: Counts::default(), fault: None }
     }
 
     /// Returns the counts that were found right so far.
@@ -205,7 +205,7 @@ impl Auditor {
     pub(crate) fn state_text(&self) -> Result<Option<Vec<u8>>, Error> {
         // SAFETY: the slot is held by this auditor, and the bytes and numbers outlive the call.
         let (code, text) =
-            told(|out, room, written| unsafe { sys::asm_audit_state(self.slot.at(), out, room, written) });
+            text_of_call(|out, room, written| unsafe { sys::asm_audit_state(self.slot.at(), out, room, written) });
         match code {
             sys::DONE => Ok(Some(text)),
             sys::NO_PART | sys::EMPTY => Ok(None),

@@ -29,7 +29,7 @@ impl From<Error> for Refusal {
     }
 }
 
-type Told = Result<String, Refusal>;
+type Answer = Result<String, Refusal>;
 
 fn typed<T>(word: Option<T>) -> Result<T, Refusal> {
     word.ok_or(Refusal::Untyped)
@@ -39,7 +39,7 @@ fn places(word: Json) -> Result<Vec<Location>, Refusal> {
     typed(typed(word.list())?.into_iter().map(Json::location).collect())
 }
 
-fn gathered(word: Json) -> Result<Move, Refusal> {
+fn move_of(word: Json) -> Result<Move, Refusal> {
     let instructions: Option<Vec<Instruction>> = typed(word.list())?.into_iter().map(Json::instruction).collect();
     Ok(typed(instructions)?.into_iter().collect())
 }
@@ -62,7 +62,7 @@ struct Replayer {
     storage: Option<Storage>,
     agents: BTreeMap<u8, Agent>,
     /// The number of moves at which each agent's step began, and how many reads its commits recorded.
-    begun: BTreeMap<u8, u64>,
+    starts: BTreeMap<u8, u64>,
     recorded: BTreeMap<u8, u64>,
     journal: Option<Journal>,
 }
@@ -79,21 +79,21 @@ impl Replayer {
     }
 
     /// Commits; if the agent has moved on, without recording, as nothing was done then.
-    fn commit(&mut self, number: u8) -> Told {
-        let (is_recording, begun) = (self.is_recording, self.begun.get(&number).copied());
+    fn commit(&mut self, number: u8) -> Answer {
+        let (is_recording, start) = (self.is_recording, self.starts.get(&number).copied());
         let agent = self.agent(number)?;
-        let has_moved = is_recording && Some(agent.peek(&[])?.number.get()) != begun;
-        let mut told = commit(agent);
-        let is_moved = told == Err(Error::Unknown(sys::MOVED));
-        assert!(has_moved == is_moved || told == Err(Error::Unknown(sys::EMPTY)), "{told:?}");
+        let has_moved = is_recording && Some(agent.peek(&[])?.number.get()) != start;
+        let mut result = commit(agent);
+        let is_moved = result == Err(Error::Unknown(sys::MOVED));
+        assert!(has_moved == is_moved || result == Err(Error::Unknown(sys::EMPTY)), "{result:?}");
         if is_moved {
             agent.set_recording(false);
-            told = commit(agent);
+            result = commit(agent);
             agent.set_recording(true);
-        } else if is_recording && !matches!(told, Err(Error::Unknown(sys::EMPTY) | Error::Many(_))) {
+        } else if is_recording && !matches!(result, Err(Error::Unknown(sys::EMPTY) | Error::Many(_))) {
             *self.recorded.entry(number).or_default() += 1;
         }
-        Ok(fired(told?.into()))
+        Ok(fired(result?.into()))
     }
 
     /// How many reads were recorded by the agents that were returned.
@@ -110,15 +110,15 @@ impl Replayer {
     }
 
     /// Calls the agent's step, which stays open.
-    fn step(&mut self, number: u8, call: impl FnOnce(&mut Step<'_>) -> Told) -> Told {
+    fn step(&mut self, number: u8, call: impl FnOnce(&mut Step<'_>) -> Answer) -> Answer {
         let agent = self.agent(number)?;
         let mut step = Step { agent: Holder::Own(agent), number: 0 };
-        let told = call(&mut step);
+        let result = call(&mut step);
         mem::forget(step);
-        told
+        result
     }
 
-    fn answer(&mut self, name: &str, words: Vec<Json>) -> Told {
+    fn answer(&mut self, name: &str, words: Vec<Json>) -> Answer {
         let null = || Ok("null".to_owned());
         let mut words = words.into_iter();
         let mut next = || words.next().unwrap();
@@ -141,8 +141,8 @@ impl Replayer {
                 return Ok(journal.replay().map_err(Refusal::Journal)?.as_slice().json());
             }
             "audit" => return audited(&next().text().unwrap()),
-            "aggregate" => return Ok(aggregate(&typed(next().pairs())?, &gathered(next())?)?.as_slice().json()),
-            "compose" => return Ok(compose(&gathered(next())?, &gathered(next())?)?.instructions().json()),
+            "aggregate" => return Ok(aggregate(&typed(next().pairs())?, &move_of(next())?)?.as_slice().json()),
+            "compose" => return Ok(compose(&move_of(next())?, &move_of(next())?)?.instructions().json()),
             _ => {
                 let number = typed(next().number())?;
                 return self.of_agent(name, number, words);
@@ -151,7 +151,7 @@ impl Replayer {
         null()
     }
 
-    fn of_agent(&mut self, name: &str, number: u8, mut words: impl Iterator<Item = Json>) -> Told {
+    fn of_agent(&mut self, name: &str, number: u8, mut words: impl Iterator<Item = Json>) -> Answer {
         let mut next = || words.next().unwrap();
         match name {
             "agent" => drop(self.agents.insert(number, self.storage().agent(number)?)),
@@ -166,11 +166,11 @@ impl Replayer {
             }
             "read" | "peek" => {
                 let (places, agent) = (places(next())?, self.agent(number)?);
-                let told = if name == "read" { agent.read(&places)? } else { agent.peek(&places)? };
-                return Ok(format!("{{\"number\":{},\"values\":{}}}", told.number, told.values.as_slice().json()));
+                let result = if name == "read" { agent.read(&places)? } else { agent.peek(&places)? };
+                return Ok(format!("{{\"number\":{},\"values\":{}}}", result.number, result.values.as_slice().json()));
             }
             "fire" => {
-                let (instructions, reads) = (gathered(next())?, named(next(), Json::location)?);
+                let (instructions, reads) = (move_of(next())?, named(next(), Json::location)?);
                 let scans = named(next(), Json::text)?;
                 let scans: Vec<_> = scans.iter().map(|(name, number)| (name.as_str(), *number)).collect();
                 return Ok(fired(self.agent(number)?.fire_over(&instructions, &reads, &scans)?));
@@ -178,22 +178,22 @@ impl Replayer {
             "follow" => return Ok(self.agent(number)?.follow()?.to_string()),
             "stands" => self.agent(number)?.stands(&named(next(), Json::location)?)?,
             "state" | "scan" => {
-                let (at, told) = match name {
+                let (at, result) = match name {
                     "scan" => self.agent(number)?.scan(&next().text().unwrap())?,
                     _ => self.agent(number)?.state()?,
                 };
                 assert_eq!(at.get(), next().number::<u64>().unwrap());
-                return Ok(told.as_slice().json());
+                return Ok(result.as_slice().json());
             }
             "seen" => return Ok(self.agent(number)?.seen().to_string()),
             "won" => return Ok(self.agent(number)?.won().to_string()),
             "misses" => return Ok(self.agent(number)?.misses().to_string()),
             "begin" => {
                 let step = self.agent(number)?.step()?;
-                let begun = step.number();
+                let start = step.number();
                 mem::forget(step);
-                self.begun.insert(number, begun.get());
-                return Ok(begun.to_string());
+                self.starts.insert(number, start.get());
+                return Ok(start.to_string());
             }
             "end" => self.agent(number)?.slots.end_step(),
             "commit" => return self.commit(number),
@@ -210,8 +210,8 @@ impl Replayer {
                     Ok(format!("{{\"fire\":{fire},\"reads\":{reads}}}"))
                 });
             }
-            "push" => drop(self.step(number, |it| Ok(it.push(&gathered(next())?).map(|()| String::new())?))?),
-            "extend" => drop(self.step(number, |it| Ok(it.extend(&gathered(next())?).map(|()| String::new())?))?),
+            "push" => drop(self.step(number, |it| Ok(it.push(&move_of(next())?).map(|()| String::new())?))?),
+            "extend" => drop(self.step(number, |it| Ok(it.extend(&move_of(next())?).map(|()| String::new())?))?),
             "pop" => drop(self.step(number, |it| Ok(it.pop().map(|()| String::new())?))?),
             other => panic!("{other}"),
         }
@@ -219,22 +219,22 @@ impl Replayer {
     }
 }
 
-fn checked(journal: &Journal, recorded: u64) -> Told {
+fn checked(journal: &Journal, recorded: u64) -> Answer {
     match journal.check().map_err(Refusal::Journal)? {
         Legality::Legal { calls, moves } => Ok(format!("[{},{moves}]", calls - recorded)),
         Legality::Illegal { call } => Err(Refusal::Illegal(call)),
     }
 }
 
-fn audited(run: &str) -> Told {
+fn audited(run: &str) -> Answer {
     let mut auditor = Auditor::new();
     let refused = |error: std::io::Error| match Error::from(error) {
         Error::Audit(error) => Refusal::Audit(error),
         error => Refusal::Call(error),
     };
     auditor.write_all(run.as_bytes()).map_err(refused)?;
-    let told = auditor.finish().map_err(Refusal::Audit)?;
-    Ok(format!("[{},{},{}]", told.calls, told.moves, told.parts))
+    let counts = auditor.finish().map_err(Refusal::Audit)?;
+    Ok(format!("[{},{},{}]", counts.calls, counts.moves, counts.parts))
 }
 
 fn of_journal(fault: &JournalError) -> (&'static str, Vec<u64>) {
@@ -289,9 +289,9 @@ fn of_call(error: &Error) -> Result<(&'static str, Vec<u64>), String> {
 }
 
 /// Whether the call was answered so; an answer that can't be in the crate's types is refused by them.
-fn is_so(told: &Told, wanted: &str) -> bool {
-    let refusal = match told {
-        Ok(told) => return read(told.as_bytes()) == read(wanted.as_bytes()),
+fn matches_wanted(answer: &Answer, wanted: &str) -> bool {
+    let refusal = match answer {
+        Ok(answer) => return read(answer.as_bytes()) == read(wanted.as_bytes()),
         Err(Refusal::Untyped) => {
             return ["SHAPE", "AGENTS"].iter().any(|it| wanted.starts_with(&format!("{{\"error\":\"{it}\"")));
         }
@@ -299,8 +299,8 @@ fn is_so(told: &Told, wanted: &str) -> bool {
     };
     let (name, numbers) = match refusal {
         Refusal::Call(error) => match of_call(error) {
-            Ok(told) => told,
-            Err(told) => return read(told.as_bytes()) == read(wanted.as_bytes()),
+            Ok(answer) => answer,
+            Err(answer) => return read(answer.as_bytes()) == read(wanted.as_bytes()),
         },
         Refusal::Journal(fault) => of_journal(fault),
         Refusal::Audit(error) => of_audit(error),
@@ -352,9 +352,14 @@ fn replay(path: &Path, is_recording: bool) -> (usize, usize) {
                     words.pop();
                 }
                 // A step that isn't there ends nothing.
-                let told = replayer.answer(&name, words);
-                assert!(is_so(&told, wanted), "{}:{}: {line:.300} answered {told:?}", path.display(), i + 1);
-                untyped += usize::from(matches!(told, Err(Refusal::Untyped)));
+                let answer = replayer.answer(&name, words);
+                assert!(
+                    matches_wanted(&answer, wanted),
+                    "{}:{}: {line:.300} answered {answer:?}",
+                    path.display(),
+                    i + 1
+                );
+                untyped += usize::from(matches!(answer, Err(Refusal::Untyped)));
                 calls += 1;
             }
         }
@@ -372,8 +377,8 @@ fn calls_are_answered_as_in_the_table() {
         return;
     }
     for is_recording in [false, true] {
-        let told =
+        let result =
             ["moves", "calls", "steps", "journals"].map(|it| replay(&folder.join(format!("{it}.jsonl")), is_recording));
-        assert!(told.iter().all(|(calls, untyped)| *calls > 15 && untyped * 8 < *calls), "{told:?}");
+        assert!(result.iter().all(|(calls, untyped)| *calls > 15 && untyped * 8 < *calls), "{result:?}");
     }
 }

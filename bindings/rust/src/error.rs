@@ -1,9 +1,9 @@
 //! What calls are refused for.
 use crate::audit::AuditError;
 use crate::cause::{Cause, Conflict, Limit, OutOfRange};
-use crate::held::told;
 use crate::json::{Json, read};
 use crate::number::{AgentNumber, MoveNumber};
+use crate::owned_slot::text_of_call;
 use crate::run::Ended;
 use crate::sys;
 use crate::value::Location;
@@ -110,11 +110,11 @@ impl fmt::Display for Error {
             Error::Deep => f.write_str("64 moves are pushed already"),
             Error::Large(at) => write!(f, "too large an amount or sum at {at}"),
             Error::NoMove => f.write_str("no move is pushed"),
-            Error::NoJournal => f.write_str("no journal was made since an agent was given back"),
+            Error::NoJournal => f.write_str("no journal was made since an agent was returned"),
             Error::Range(range) => range.fmt(f),
             Error::NumberTaken(number) => write!(f, "an agent {number} was made before"),
-            Error::NotGiven(number) => write!(f, "agent {number} wasn't given back, or is in use"),
-            Error::Missing(number) => write!(f, "move {number} was fired by an agent that wasn't given back"),
+            Error::NotGiven(number) => write!(f, "agent {number} wasn't returned, or is in use"),
+            Error::Missing(number) => write!(f, "move {number} was fired by an agent that wasn't returned"),
             Error::OtherStorage => f.write_str("the agent is of another storage"),
             Error::Closed => f.write_str("the run was closed"),
             Error::Ended(ended) => ended.fmt(f),
@@ -165,15 +165,16 @@ impl From<AuditError> for Error {
 
 fn code_text(code: i32) -> String {
     // SAFETY: the text outlives the call, and no slot is passed.
-    let (_, text) = told(|out, room, written| unsafe { sys::asm_error_text(code, out, room, written) });
+    let (_, text) = text_of_call(|out, room, written| unsafe { sys::asm_error_text(code, out, room, written) });
     String::from_utf8_lossy(&text).into_owned()
 }
 
 /// Why a text of the form is refused.
 fn explained(form: i32, text: &[u8]) -> Error {
     // SAFETY: the text outlives the call, and no slot is passed.
-    let (code, why) =
-        told(|out, room, written| unsafe { sys::asm_explain(form, text.as_ptr(), text.len(), out, room, written) });
+    let (code, why) = text_of_call(|out, room, written| unsafe {
+        sys::asm_explain(form, text.as_ptr(), text.len(), out, room, written)
+    });
     match code {
         sys::DONE if nests_too_deep(text) => Error::Refused("lists nest at most 8 deep".to_owned()),
         sys::DONE => Error::Refused(String::from_utf8_lossy(&why).into_owned()),
@@ -235,7 +236,7 @@ pub(crate) fn answer<T>(text: &[u8], form: impl FnOnce(Json) -> Option<T>) -> Re
 
 /// Returns the error of an answer's text: {"stale":LOC}, {"clash":[LOC,CAUSE]} or {"large":LOC}.
 pub(crate) fn of_text(code: i32, text: &[u8]) -> Error {
-    let told = answer(text, |it| match code {
+    let refusal = answer(text, |it| match code {
         sys::STALE => it.member("stale")?.location().map(|at| Conflict::Stale(at).into()),
         sys::LARGE => it.member("large")?.location().map(Error::Large),
         _ => {
@@ -243,11 +244,11 @@ pub(crate) fn of_text(code: i32, text: &[u8]) -> Error {
             Some(Error::Clash { at: at.location()?, cause: Cause::named(&cause.text()?)? })
         }
     });
-    told.unwrap_or_else(|error| error)
+    refusal.unwrap_or_else(|error| error)
 }
 
 /// As `done`, for a call that writes the text of a refusal.
-pub(crate) fn done_or_told(code: i32, text: &[u8]) -> Result<(), Error> {
+pub(crate) fn done_or_refusal(code: i32, text: &[u8]) -> Result<(), Error> {
     match code {
         sys::STALE | sys::CLASH | sys::LARGE => Err(of_text(code, text)),
         code => done(code),

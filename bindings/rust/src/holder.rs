@@ -1,9 +1,9 @@
 //! The agents that steps work with.
 use crate::agent::Agent;
 use crate::error::{Error, done, of_text};
-use crate::held::told;
 use crate::number::AgentNumber;
-use crate::run::Lent;
+use crate::owned_slot::text_of_call;
+use crate::run::SeatStep;
 use crate::sys;
 
 /// How a step's pushed moves changed.
@@ -24,14 +24,14 @@ impl Change {
 /// The agent that a step works with: one that it borrows, or one that a run has lent it.
 pub(crate) enum Holder<'a> {
     Own(&'a mut Agent),
-    Lent(Lent<'a>),
+    Seat(SeatStep<'a>),
 }
 
 impl Holder<'_> {
     pub(crate) fn number(&self) -> AgentNumber {
         match self {
             Holder::Own(agent) => agent.number(),
-            Holder::Lent(lent) => lent.number(),
+            Holder::Seat(seat_step) => seat_step.number(),
         }
     }
 
@@ -39,7 +39,7 @@ impl Holder<'_> {
     pub(crate) fn before(&self) -> u64 {
         match self {
             Holder::Own(_) => 0,
-            Holder::Lent(lent) => lent.part().before,
+            Holder::Seat(seat_step) => seat_step.part().before,
         }
     }
 
@@ -47,21 +47,21 @@ impl Holder<'_> {
     pub(crate) fn with<T>(&self, call: impl FnOnce(&Agent) -> Result<T, Error>) -> Result<T, Error> {
         match self {
             Holder::Own(agent) => call(agent),
-            Holder::Lent(lent) => lent.with(call),
+            Holder::Seat(seat_step) => seat_step.with(call),
         }
     }
 
     /// Counts bytes of what the step has pushed and read, which a line of a run's journal may have.
     pub(crate) fn count(&self, size: usize) {
-        if let Holder::Lent(lent) = self {
-            lent.count(size);
+        if let Holder::Seat(seat_step) = self {
+            seat_step.count(size);
         }
     }
 
     /// Notes a push, or a pop.
     pub(crate) fn note(&self, change: &Change) {
-        if let Holder::Lent(lent) = self {
-            lent.note(change);
+        if let Holder::Seat(seat_step) = self {
+            seat_step.note(change);
         }
     }
 }
@@ -86,7 +86,8 @@ pub(crate) fn commit(agent: &Agent) -> Result<u32, Error> {
 /// The text of what the agent's step would fire by now.
 pub(crate) fn offer_text(agent: &Agent) -> Result<Vec<u8>, Error> {
     // SAFETY: the slots are of one agent and its step, which this thread alone has, and the texts and numbers outlive the call.
-    let (code, text) = told(|out, room, written| unsafe { sys::asm_offer(agent.slots.step(), out, room, written) });
+    let (code, text) =
+        text_of_call(|out, room, written| unsafe { sys::asm_offer(agent.slots.step(), out, room, written) });
     done(code)?;
     Ok(text)
 }

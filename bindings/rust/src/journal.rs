@@ -1,8 +1,8 @@
 //! Journals, and moves without a storage.
-use crate::error::{Error, answer, done_or_told, done_with};
-use crate::held::told;
+use crate::error::{Error, answer, done_or_refusal, done_with};
 use crate::instruction::{Instruction, Move};
 use crate::json::{Json, ToJson};
+use crate::owned_slot::text_of_call;
 use crate::sys;
 use crate::value::{Location, Value};
 use std::fmt;
@@ -73,7 +73,7 @@ impl From<JournalError> for Error {
     }
 }
 
-fn refused(code: i32, line: u64) -> JournalError {
+fn journal_error(code: i32, line: u64) -> JournalError {
     match code {
         sys::NOT_JSON => JournalError::NotJson(line),
         sys::SHAPE => JournalError::Shape(line),
@@ -122,7 +122,7 @@ impl Journal {
         match unsafe { sys::asm_check(self.text.as_ptr(), self.text.len(), &raw mut calls, &raw mut moves) } {
             sys::DONE => Ok(Legality::Legal { calls, moves }),
             sys::ILLEGAL => Ok(Legality::Illegal { call: calls }),
-            code => Err(refused(code, calls)),
+            code => Err(journal_error(code, calls)),
         }
     }
 
@@ -136,12 +136,12 @@ impl Journal {
     pub fn replay(&self) -> Result<Vec<(Location, Value)>, JournalError> {
         let mut line = 0;
         // SAFETY: the texts and numbers outlive the call, and no slot is passed.
-        let (code, text) = told(|out, room, written| unsafe {
+        let (code, text) = text_of_call(|out, room, written| unsafe {
             sys::asm_replay(self.text.as_ptr(), self.text.len(), out, room, written, &raw mut line)
         });
         match code {
             sys::DONE => answer(&text, Json::pairs).map_err(|_| JournalError::Memory),
-            code => Err(refused(code, line)),
+            code => Err(journal_error(code, line)),
         }
     }
 
@@ -155,12 +155,12 @@ impl Journal {
     pub fn trace(&self) -> Result<Vec<u8>, JournalError> {
         let mut line = 0;
         // SAFETY: the texts and numbers outlive the call, and no slot is passed.
-        let (code, text) = told(|out, room, written| unsafe {
+        let (code, text) = text_of_call(|out, room, written| unsafe {
             sys::asm_trace(self.text.as_ptr(), self.text.len(), out, room, written, &raw mut line)
         });
         match code {
             sys::DONE => Ok(text),
-            code => Err(refused(code, line)),
+            code => Err(journal_error(code, line)),
         }
     }
 }
@@ -183,9 +183,9 @@ impl fmt::Debug for Journal {
     }
 }
 
-fn is_ok(code: i32, told: &[u8], instructions: &[&Move]) -> Result<(), Error> {
+fn is_ok(code: i32, output: &[u8], instructions: &[&Move]) -> Result<(), Error> {
     if code != sys::NOT_JSON && code != sys::SHAPE {
-        return done_or_told(code, told);
+        return done_or_refusal(code, output);
     }
     for it in instructions {
         let text = format!("{{\"fire\":{},\"reads\":[]}}", it.instructions().json());
@@ -208,11 +208,11 @@ fn is_ok(code: i32, told: &[u8], instructions: &[&Move]) -> Result<(), Error> {
 pub fn aggregate(state: &[(Location, Value)], instructions: &Move) -> Result<Vec<(Location, Value)>, Error> {
     let (state, text) = (state.json(), instructions.instructions().json());
     // SAFETY: the texts and numbers outlive the call, and no slot is passed.
-    let (code, told) = told(|out, room, written| unsafe {
+    let (code, output) = text_of_call(|out, room, written| unsafe {
         sys::asm_aggregate(state.as_ptr(), state.len(), text.as_ptr(), text.len(), out, room, written)
     });
-    is_ok(code, &told, &[instructions])?;
-    answer(&told, Json::pairs)
+    is_ok(code, &output, &[instructions])?;
+    answer(&output, Json::pairs)
 }
 
 /// One move that does what the first and then the second do.
@@ -225,12 +225,12 @@ pub fn aggregate(state: &[(Location, Value)], instructions: &Move) -> Result<Vec
 pub fn compose(first: &Move, second: &Move) -> Result<Move, Error> {
     let (one, other) = (first.instructions().json(), second.instructions().json());
     // SAFETY: the texts and numbers outlive the call, and no slot is passed.
-    let (code, told) = told(|out, room, written| unsafe {
+    let (code, output) = text_of_call(|out, room, written| unsafe {
         sys::asm_compose(one.as_ptr(), one.len(), other.as_ptr(), other.len(), out, room, written)
     });
-    is_ok(code, &told, &[first, second])?;
+    is_ok(code, &output, &[first, second])?;
     let instructions: Option<Vec<Instruction>> =
-        answer(&told, |it| Some(it.list()?.into_iter().map(Json::instruction).collect()))?;
+        answer(&output, |it| Some(it.list()?.into_iter().map(Json::instruction).collect()))?;
     let instructions = instructions.ok_or_else(|| Error::Refused("an unknown answer".to_owned()))?;
     Ok(instructions.into_iter().collect())
 }

@@ -59,7 +59,6 @@ mod cause;
 #[cfg(test)]
 mod conformance;
 mod error;
-mod held;
 mod holder;
 mod instruction;
 mod journal;
@@ -67,6 +66,7 @@ mod json;
 mod number;
 mod old_names;
 mod own_state;
+mod owned_slot;
 mod play;
 mod prepared;
 mod run;

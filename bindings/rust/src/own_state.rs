@@ -1,9 +1,9 @@
 //! What an agent shows of its own state.
 use crate::agent::{Agent, Reading};
 use crate::error::{Error, answer, done, done_with};
-use crate::held::told;
 use crate::json::{Json, ToJson};
 use crate::number::MoveNumber;
+use crate::owned_slot::text_of_call;
 use crate::prepared::{Prepared, value_of};
 use crate::sys;
 use crate::value::{Location, Value};
@@ -31,11 +31,11 @@ impl Agent {
         self.catch_up()?;
         let text = places.json();
         // SAFETY: the slots are held by this agent, no call is at work on them, and the texts and numbers outlive the call.
-        let (code, told) = told(|out, room, written| unsafe {
+        let (code, output) = text_of_call(|out, room, written| unsafe {
             sys::asm_peek(self.slots.agent(), text.as_ptr(), text.len(), out, room, written)
         });
         done_with(code, sys::FORM_LOCATIONS, &text)?;
-        Ok(told)
+        Ok(output)
     }
 
     /// Returns the value of a prepared location in its own state, with its number.
@@ -49,7 +49,7 @@ impl Agent {
         self.catch_up()?;
         let (mut number, mut head) = (0, sys::Value::default());
         // SAFETY: the slots are held by this agent, no call is at work on them, and the texts and numbers outlive the call.
-        let (code, bytes) = told(|out, room, written| unsafe {
+        let (code, bytes) = text_of_call(|out, room, written| unsafe {
             sys::asm_peek_at(self.slots.agent(), place.slot.at(), &raw mut number, &raw mut head, out, room, written)
         });
         done(code)?;
@@ -65,7 +65,7 @@ impl Agent {
         self.catch_up()?;
         let mut number = 0;
         // SAFETY: the slots are held by this agent, no call is at work on them, and the texts and numbers outlive the call.
-        let (code, text) = told(|out, room, written| unsafe {
+        let (code, text) = text_of_call(|out, room, written| unsafe {
             sys::asm_state(self.slots.agent(), &raw mut number, out, room, written)
         });
         done(code)?;
@@ -81,7 +81,7 @@ impl Agent {
         self.catch_up()?;
         let mut number = 0;
         // SAFETY: the slots are held by this agent, no call is at work on them, and the texts and numbers outlive the call.
-        let (code, text) = told(|out, room, written| unsafe {
+        let (code, text) = text_of_call(|out, room, written| unsafe {
             sys::asm_scan(self.slots.agent(), name.as_ptr(), name.len(), &raw mut number, out, room, written)
         });
         done(code)?;

@@ -82,15 +82,15 @@ impl Patience {
         self,
         mut attempt: impl FnMut() -> Result<Attempt<T>, E>,
     ) -> Result<Played<T>, E> {
-        let begun = Instant::now();
+        let start = Instant::now();
         let mut retries = 0;
         loop {
             let error = match attempt()? {
                 Attempt::Fired(number, result) => return Ok(Played { number: Some(number), result, retries }),
                 Attempt::Unfired(result) => return Ok(Played { number: None, result, retries }),
-                Attempt::Vain(error) => error,
+                Attempt::Retry(error) => error,
             };
-            let is_late = self.timeout.is_some_and(|it| begun.elapsed() >= it);
+            let is_late = self.timeout.is_some_and(|it| start.elapsed() >= it);
             if is_late || self.tries.is_some_and(|it| retries + 1 >= it) {
                 return Err(error.into());
             }
@@ -106,7 +106,7 @@ pub(crate) enum Attempt<T> {
     /// Nothing was pushed.
     Unfired(T),
     /// Begin again.
-    Vain(Error),
+    Retry(Error),
 }
 
 impl<T> Attempt<T> {
@@ -114,12 +114,12 @@ impl<T> Attempt<T> {
     pub(crate) fn of(result: T, step: Step<'_>) -> Result<Attempt<T>, Error> {
         match step.pushed() {
             Ok(0) => return Ok(Attempt::Unfired(result)),
-            Err(error) if error.is_retry() => return Ok(Attempt::Vain(error)),
+            Err(error) if error.is_retry() => return Ok(Attempt::Retry(error)),
             pushed => pushed?,
         };
         match step.try_commit()? {
             Outcome::Fired(number) => Ok(Attempt::Fired(number, result)),
-            Outcome::Conflict(conflict) => Ok(Attempt::Vain(conflict.into())),
+            Outcome::Conflict(conflict) => Ok(Attempt::Retry(conflict.into())),
         }
     }
 }

@@ -1,8 +1,8 @@
 //! Locations and moves that are prepared once, for steps that write and read no text.
 use crate::cause::OutOfRange;
 use crate::error::{Error, answer, done, done_with};
-use crate::held::Held;
 use crate::json::{Json, ToJson};
+use crate::owned_slot::OwnedSlot;
 use crate::run::short;
 use crate::sys;
 use crate::value::{Element, Location, Value};
@@ -13,7 +13,7 @@ pub struct Prepared {
     location: Location,
     /// How many bytes its text has.
     pub(crate) size: usize,
-    pub(crate) slot: Held,
+    pub(crate) slot: OwnedSlot,
 }
 
 impl Prepared {
@@ -24,7 +24,7 @@ impl Prepared {
     /// [`Error::Refused`]: it is against the rules of locations. [`Error::Memory`].
     pub fn new(location: &Location) -> Result<Prepared, Error> {
         let text = location.json();
-        let slot = Held::empty();
+        let slot = OwnedSlot::empty();
         // SAFETY: the slots are held by this thread, and the texts outlive the call.
         match unsafe { sys::asm_location(text.as_ptr(), text.len(), slot.at()) } {
             code @ (sys::NOT_JSON | sys::SHAPE) => {
@@ -67,19 +67,19 @@ pub struct PreparedMove {
     len: usize,
     /// How many bytes its text has, about; of a popped move nothing is known.
     pub(crate) size: usize,
-    pub(crate) slot: Held,
+    pub(crate) slot: OwnedSlot,
 }
 
 impl PreparedMove {
     /// The move without instructions.
     #[must_use]
     pub fn new() -> PreparedMove {
-        PreparedMove { len: 0, size: 0, slot: Held::empty() }
+        PreparedMove { len: 0, size: 0, slot: OwnedSlot::empty() }
     }
 
     /// The move that the call puts into the slot.
     pub(crate) fn put_by(call: impl FnOnce(*mut sys::Slot) -> Result<(), Error>) -> Result<PreparedMove, Error> {
-        let slot = Held::empty();
+        let slot = OwnedSlot::empty();
         call(slot.at())?;
         Ok(PreparedMove { len: 1, size: short(), slot })
     }

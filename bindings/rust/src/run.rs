@@ -34,7 +34,7 @@ pub use agent::{RunAgent, RunStep};
 pub use ended::{EndCause, Ended};
 pub use import::import_run;
 pub(crate) use lines::short;
-pub(crate) use seat::Lent;
+pub(crate) use seat::SeatStep;
 pub use segment::audit_run;
 
 use crate::audit::{Auditor, Counts};
@@ -139,7 +139,7 @@ impl RunOptions {
         let opening = storage.close()?;
         lines::events(opening.as_bytes())?;
         let path = path.as_ref();
-        let folder = writer::apart(|| RunFolder::create(path, opening.as_bytes()))?;
+        let folder = writer::on_own_thread(|| RunFolder::create(path, opening.as_bytes()))?;
         self.start(storage, folder)
     }
 
@@ -157,7 +157,7 @@ impl RunOptions {
     /// - [`Error::Range`]: the number of moves is out of its range.
     pub fn resume(self, path: impl AsRef<Path>, check: Check) -> Result<Run, Error> {
         let path = path.as_ref();
-        let (folder, segments) = writer::apart(|| RunFolder::reopen(path))?;
+        let (folder, segments) = writer::on_own_thread(|| RunFolder::reopen(path))?;
         let checked = match check {
             Check::All => &segments[..],
             Check::Last => &segments[segments.len() - 1..],

@@ -1,11 +1,11 @@
 //! Steps.
 use crate::agent::Reading;
-use crate::error::{Error, answer, done, done_or_told, done_with};
-use crate::held::told;
+use crate::error::{Error, answer, done, done_or_refusal, done_with};
 use crate::holder::{Change, Holder, commit, offer_text};
 use crate::instruction::{Instruction, Move};
 use crate::json::{Json, ToJson};
 use crate::number::MoveNumber;
+use crate::owned_slot::text_of_call;
 use crate::play::Outcome;
 use crate::prepared::{Prepared, PreparedMove, value_of};
 use crate::sys;
@@ -70,21 +70,21 @@ impl Step<'_> {
     fn look(&self, call: ByText, places: &[Location]) -> Result<Vec<Value>, Error> {
         let text = places.json();
         // SAFETY: the slots are of one agent and its step, which this thread alone has, and the texts and numbers outlive the call.
-        let (code, told) = self.told(|slot, step, out, room, written| unsafe {
+        let (code, output) = self.text_of_call(|slot, step, out, room, written| unsafe {
             call(slot, step, text.as_ptr(), text.len(), out, room, written)
         })?;
-        self.agent.count(text.len() + told.len());
+        self.agent.count(text.len() + output.len());
         done_with(code, sys::FORM_LOCATIONS, &text)?;
-        Ok(answer(&told, Reading::of)?.values)
+        Ok(answer(&output, Reading::of)?.values)
     }
 
     /// Makes a call with the slots of the agent and the step that writes a text: its code and the text.
-    fn told(
+    fn text_of_call(
         &self,
         mut call: impl FnMut(*mut sys::Slot, *mut sys::Slot, *mut u8, usize, *mut usize) -> i32,
     ) -> Result<(i32, Vec<u8>), Error> {
         self.agent.with(|agent| {
-            Ok(told(|out, room, written| call(agent.slots.agent(), agent.slots.step(), out, room, written)))
+            Ok(text_of_call(|out, room, written| call(agent.slots.agent(), agent.slots.step(), out, room, written)))
         })
     }
 
@@ -96,7 +96,7 @@ impl Step<'_> {
     pub fn get_at(&self, at: &Prepared) -> Result<Value, Error> {
         let mut head = sys::Value::default();
         // SAFETY: the slots are of one agent and its step, which this thread alone has, and the texts and numbers outlive the call.
-        let (code, bytes) = self.told(|slot, step, out, room, written| unsafe {
+        let (code, bytes) = self.text_of_call(|slot, step, out, room, written| unsafe {
             sys::asm_get_at(slot, step, at.slot.at(), &raw mut head, out, room, written)
         })?;
         self.agent.count(at.size + bytes.len());
@@ -114,7 +114,7 @@ impl Step<'_> {
     /// [`Error::Many`], [`Error::Memory`].
     pub fn scan(&self, name: &str) -> Result<Vec<(Location, Value)>, Error> {
         // SAFETY: the slots are of one agent and its step, which this thread alone has, and the texts and numbers outlive the call.
-        let (code, text) = self.told(|slot, step, out, room, written| unsafe {
+        let (code, text) = self.text_of_call(|slot, step, out, room, written| unsafe {
             sys::asm_step_scan(slot, step, name.as_ptr(), name.len(), out, room, written)
         })?;
         done(code)?;
@@ -150,7 +150,7 @@ impl Step<'_> {
     fn grow(&mut self, call: ByText, instructions: &[Instruction]) -> Result<(), Error> {
         let text = instructions.json();
         // SAFETY: the slots are of one agent and its step, which this thread alone has, and the texts and numbers outlive the call.
-        let (code, told) = self.told(|slot, step, out, room, written| unsafe {
+        let (code, output) = self.text_of_call(|slot, step, out, room, written| unsafe {
             call(slot, step, text.as_ptr(), text.len(), out, room, written)
         })?;
         self.agent.count(text.len());
@@ -160,7 +160,7 @@ impl Step<'_> {
                 let call = format!("{{\"fire\":{text},\"reads\":[]}}");
                 done_with(code, sys::FORM_MOVE, &call)
             }
-            code => done_or_told(code, &told),
+            code => done_or_refusal(code, &output),
         }
     }
 
@@ -188,12 +188,12 @@ impl Step<'_> {
             return self.grow(by_text, &[]);
         }
         // SAFETY: the slots are of one agent and its step, which this thread alone has, and the texts and numbers outlive the call.
-        let (code, told) = self.told(|slot, step, out, room, written| unsafe {
+        let (code, output) = self.text_of_call(|slot, step, out, room, written| unsafe {
             call(slot, step, instructions.slot.at(), out, room, written)
         })?;
         self.agent.count(instructions.size);
         self.agent.note(&Change::of(code, true));
-        done_or_told(code, &told)
+        done_or_refusal(code, &output)
     }
 
     /// Puts the value, in a move that joins what was pushed last.
@@ -329,7 +329,7 @@ impl Step<'_> {
     pub fn commit(self) -> Result<MoveNumber, Error> {
         let fired = match &self.agent {
             Holder::Own(agent) => commit(agent),
-            Holder::Lent(lent) => lent.commit(),
+            Holder::Seat(seat_step) => seat_step.commit(),
         };
         fired.map(|number| MoveNumber::from(number).behind(self.agent.before()))
     }

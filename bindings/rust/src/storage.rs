@@ -2,10 +2,10 @@
 use crate::agent::Agent;
 use crate::cause::OutOfRange;
 use crate::error::{Error, done, done_with, plain};
-use crate::held::{Held, told};
 use crate::journal::Journal;
 use crate::json::ToJson;
 use crate::number::AgentNumber;
+use crate::owned_slot::{OwnedSlot, text_of_call};
 use crate::sys;
 use crate::turns::AgentSlots;
 use crate::value::{Location, Value};
@@ -24,7 +24,7 @@ pub(crate) struct Shared {
 }
 
 struct Slots {
-    storage: Held,
+    storage: OwnedSlot,
     /// The numbers of which an agent was made.
     made: [bool; AGENTS],
     /// Agents that were dropped when there was no memory to return them.
@@ -52,8 +52,8 @@ impl Shared {
 }
 
 impl Slots {
-    fn make(&mut self, number: AgentNumber) -> Result<Held, Error> {
-        let agent = Held::empty();
+    fn make(&mut self, number: AgentNumber) -> Result<OwnedSlot, Error> {
+        let agent = OwnedSlot::empty();
         // SAFETY: the storage is held under its lock, the agent by this thread, and the texts and numbers outlive the call.
         match unsafe { sys::asm_agent(self.storage.at(), number.into(), agent.at()) } {
             sys::DONE => {
@@ -115,7 +115,7 @@ impl Storage {
     pub fn open(state: impl IntoIterator<Item = (Location, Value)>, capacity: u32) -> Result<Storage, Error> {
         let state: Vec<_> = state.into_iter().collect();
         let text = state.as_slice().json();
-        let storage = Held::empty();
+        let storage = OwnedSlot::empty();
         // SAFETY: the storage is held under its lock, the agent by this thread, and the texts and numbers outlive the call.
         let code = unsafe { sys::asm_open(text.as_ptr(), text.len(), capacity, storage.at()) };
         if code == sys::CAPACITY {
@@ -127,7 +127,7 @@ impl Storage {
 
     /// Opens a storage with the state of the text `[PAIR, ..]`, which the library wrote.
     pub(crate) fn open_text(state: &[u8], capacity: u32) -> Result<Storage, Error> {
-        let storage = Held::empty();
+        let storage = OwnedSlot::empty();
         // SAFETY: the storage is held under its lock, the agent by this thread, and the texts and numbers outlive the call.
         match unsafe { sys::asm_open(state.as_ptr(), state.len(), capacity, storage.at()) } {
             sys::CAPACITY => return Err(OutOfRange::capacity(capacity)),
@@ -136,7 +136,7 @@ impl Storage {
         Storage::of(storage)
     }
 
-    pub(crate) fn of(storage: Held) -> Result<Storage, Error> {
+    pub(crate) fn of(storage: OwnedSlot) -> Result<Storage, Error> {
         let mut waiting = Vec::new();
         // Freeing an agent can't be refused memory.
         waiting.try_reserve_exact(AGENTS).map_err(|_| Error::Memory)?;
@@ -168,7 +168,7 @@ impl Storage {
         Ok(self.holder(agent, number))
     }
 
-    fn holder(&self, agent: Held, number: AgentNumber) -> Agent {
+    fn holder(&self, agent: OwnedSlot, number: AgentNumber) -> Agent {
         Agent::new(agent, &self.shared, number)
     }
 
@@ -183,7 +183,7 @@ impl Storage {
     /// - [`Error::Memory`].
     pub fn take(&self, number: impl Into<AgentNumber>) -> Result<Agent, Error> {
         let number = number.into();
-        let agent = Held::empty();
+        let agent = OwnedSlot::empty();
         let mut slots = self.shared.slots();
         slots.give_waiting()?;
         // SAFETY: the storage is held under its lock, the agent by this thread, and the texts and numbers outlive the call.
@@ -242,7 +242,7 @@ impl Storage {
         }
         // SAFETY: the storage is held under its lock, the agent by this thread, and the texts and numbers outlive the call.
         let (code, text) =
-            told(|out, room, written| unsafe { sys::asm_journal(slots.storage.at(), out, room, written) });
+            text_of_call(|out, room, written| unsafe { sys::asm_journal(slots.storage.at(), out, room, written) });
         done(code)?;
         Ok(Journal::from(text))
     }
@@ -258,7 +258,7 @@ impl Storage {
     /// - [`Error::Range`]: the capacity is outside 1 to 1,048,576.
     /// - [`Error::Memory`].
     pub fn next(&self, capacity: u32) -> Result<Storage, Error> {
-        let next = Held::empty();
+        let next = OwnedSlot::empty();
         // SAFETY: the storage is held under its lock, the agent by this thread, and the texts and numbers outlive the call.
         let code = unsafe { sys::asm_next(self.shared.slots().storage.at(), capacity, next.at()) };
         match code {

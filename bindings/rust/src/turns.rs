@@ -8,7 +8,7 @@
 //! 2. *A state is taken only from an agent whose slots name the taker's own thread*, and no call of which is at work there. 3.
 //! *Only the state of an agent whose last call was a commit, a fire or the end of a step is taken.* So no step is in it, and
 //!    what an agent has followed to is what it peeks at, whatever other agents do.
-use crate::held::Held;
+use crate::owned_slot::OwnedSlot;
 use crate::sys;
 use std::cell::RefCell;
 use std::sync::atomic::{AtomicBool, AtomicUsize, Ordering};
@@ -18,7 +18,7 @@ use std::{ptr, thread};
 /// A thread remembers the last agents of so many storages.
 const STORAGES: usize = 8;
 /// No thread: the agent was returned or abandoned.
-const NOWHERE: usize = 0;
+const NO_THREAD: usize = 0;
 /// Beside a thread: the state is being taken there.
 const TAKING: usize = 1;
 
@@ -30,19 +30,19 @@ struct Last {
 
 thread_local! {
     /// Its address identifies the thread, as long as that lives.
-    static HERE: u64 = const { 0 };
+    static MARK: u64 = const { 0 };
     /// The latest first.
     static LAST: RefCell<Vec<Last>> = const { RefCell::new(Vec::new()) };
 }
 
-fn here() -> usize {
-    HERE.with(|it| ptr::from_ref(it).addr())
+fn thread_mark() -> usize {
+    MARK.with(|it| ptr::from_ref(it).addr())
 }
 
 /// The slots of an agent and of its step.
 pub(crate) struct AgentSlots {
-    agent: Held,
-    step: Held,
+    agent: OwnedSlot,
+    step: OwnedSlot,
     /// The address of its storage, which is only compared.
     storage: usize,
     /// The thread that made the last call on them.
@@ -58,26 +58,33 @@ pub(crate) struct AgentSlots {
 unsafe impl Sync for AgentSlots {}
 
 impl AgentSlots {
-    pub(crate) fn new(agent: Held, storage: usize) -> AgentSlots {
+    pub(crate) fn new(agent: OwnedSlot, storage: usize) -> AgentSlots {
         let (has_acted, is_behind) = (AtomicBool::new(false), AtomicBool::new(false));
-        AgentSlots { agent, step: Held::empty(), storage, thread: AtomicUsize::new(NOWHERE), has_acted, is_behind }
+        AgentSlots {
+            agent,
+            step: OwnedSlot::empty(),
+            storage,
+            thread: AtomicUsize::new(NO_THREAD),
+            has_acted,
+            is_behind,
+        }
     }
 
     /// The agent, for one call of its owner.
     pub(crate) fn agent(&self) -> *mut sys::Slot {
-        self.claim(here());
+        self.claim(thread_mark());
         self.agent.at()
     }
 
     /// Its step, for one call of its owner.
     pub(crate) fn step(&self) -> *mut sys::Slot {
-        self.claim(here());
+        self.claim(thread_mark());
         self.step.at()
     }
 
     /// Ends the step, if there is one.
     pub(crate) fn end_step(&self) {
-        self.claim(here());
+        self.claim(thread_mark());
         self.step.free();
         self.has_acted();
     }
@@ -88,23 +95,23 @@ impl AgentSlots {
     }
 
     /// The agent, of which this is the last call; nobody takes its state any more.
-    pub(crate) fn leave(&self) -> &Held {
-        self.claim(NOWHERE);
+    pub(crate) fn leave(&self) -> &OwnedSlot {
+        self.claim(NO_THREAD);
         self.step.free();
         &self.agent
     }
 
-    fn claim(&self, here: usize) {
-        if self.thread.load(Ordering::Relaxed) != here {
-            self.claim_from_other(here);
+    fn claim(&self, thread: usize) {
+        if self.thread.load(Ordering::Relaxed) != thread {
+            self.claim_from_other(thread);
         }
     }
 
     #[cold]
-    fn claim_from_other(&self, here: usize) {
+    fn claim_from_other(&self, thread: usize) {
         loop {
             let there = self.thread.load(Ordering::Relaxed) & !TAKING;
-            if self.thread.compare_exchange(there, here, Ordering::Acquire, Ordering::Relaxed).is_ok() {
+            if self.thread.compare_exchange(there, thread, Ordering::Acquire, Ordering::Relaxed).is_ok() {
                 return;
             }
             thread::yield_now();
@@ -113,7 +120,7 @@ impl AgentSlots {
 
     /// Before a poll: takes the state of the agent that polled last in this thread, if that has acted.
     pub(crate) fn begin_turn(self: &Arc<AgentSlots>) {
-        self.claim(here());
+        self.claim(thread_mark());
         if let Some(other) = self.replace_last().as_ref().and_then(Weak::upgrade) {
             self.take_state(&other);
         }
@@ -145,8 +152,8 @@ impl AgentSlots {
     }
 
     fn take_state(&self, other: &AgentSlots) {
-        let here = here();
-        if other.thread.compare_exchange(here, here | TAKING, Ordering::Acquire, Ordering::Relaxed).is_err() {
+        let thread = thread_mark();
+        if other.thread.compare_exchange(thread, thread | TAKING, Ordering::Acquire, Ordering::Relaxed).is_err() {
             return;
         }
         if other.has_acted.load(Ordering::Relaxed) {
@@ -155,6 +162,6 @@ impl AgentSlots {
             let _ = unsafe { sys::asm_take_state(self.agent.at(), other.agent.at()) };
             other.is_behind.store(true, Ordering::Relaxed);
         }
-        other.thread.store(here, Ordering::Release);
+        other.thread.store(thread, Ordering::Release);
     }
 }

@@ -25,7 +25,7 @@ fn two_parts() -> (Vec<u8>, Vec<u8>) {
 }
 
 /// Returns the result of the audit of the run, written in pieces of this size.
-fn told(run: &[u8], size: usize) -> Result<folugben::Counts, AuditError> {
+fn audit_in_pieces(run: &[u8], size: usize) -> Result<folugben::Counts, AuditError> {
     let mut auditor = Auditor::new();
     for piece in run.chunks(size) {
         if let Err(error) = auditor.write_all(piece) {
@@ -39,14 +39,14 @@ fn told(run: &[u8], size: usize) -> Result<folugben::Counts, AuditError> {
 }
 
 #[test]
-fn pieces_of_each_size_are_told_alike() {
+fn pieces_of_each_size_are_audited_alike() {
     let (one, other) = two_parts();
     let run = [one.as_slice(), &other].concat();
     for size in [1, 2, 61, run.len()] {
-        let counts = told(&run, size).unwrap();
+        let counts = audit_in_pieces(&run, size).unwrap();
         assert_eq!((counts.parts, counts.calls, counts.moves), (2, 5, 4), "{size}");
     }
-    assert_eq!(audit(&run[..]).unwrap(), told(&run, 1).unwrap());
+    assert_eq!(audit(&run[..]).unwrap(), audit_in_pieces(&run, 1).unwrap());
     assert_eq!(audit(&run[..]).unwrap().to_string(), "5 calls, 4 moves, 2 parts");
 }
 
@@ -73,7 +73,7 @@ fn a_byte_at_a_time_counts_and_state_follow_the_lines() {
 }
 
 #[test]
-fn the_first_fault_is_told_with_its_place() {
+fn the_first_fault_is_reported_with_its_place() {
     let (one, other) = two_parts();
     let (one, other) = (String::from_utf8(one).unwrap(), String::from_utf8(other).unwrap());
     let journal = |part, fault| AuditError::Journal { part, fault };
@@ -90,8 +90,8 @@ fn the_first_fault_is_told_with_its_place() {
         (one[..one.len() - 9].to_owned(), journal(0, JournalError::NotJson(4))),
     ];
     for (run, fault) in cases {
-        assert_eq!(told(run.as_bytes(), run.len()), Err(fault), "{run}");
-        assert_eq!(told(run.as_bytes(), 1), Err(fault), "{run}");
+        assert_eq!(audit_in_pieces(run.as_bytes(), run.len()), Err(fault), "{run}");
+        assert_eq!(audit_in_pieces(run.as_bytes(), 1), Err(fault), "{run}");
         let error = audit(run.as_bytes()).unwrap_err();
         assert_eq!(error.kind(), io::ErrorKind::InvalidData);
         assert_eq!(error.to_string(), fault.to_string());
@@ -101,7 +101,7 @@ fn the_first_fault_is_told_with_its_place() {
 }
 
 #[test]
-fn a_write_says_how_much_it_took_before_a_fault() {
+fn a_write_returns_how_much_it_took_before_a_fault() {
     let (one, _) = two_parts();
     let mut auditor = Auditor::new();
     let run = [one.as_slice(), b"[]\n"].concat();
@@ -118,8 +118,8 @@ fn a_line_may_be_longer_than_a_whole_journal_that_is_checked() {
     let mut auditor = Auditor::new();
     auditor.write_all(&vec![b' '; 16_777_217]).unwrap();
     let error = auditor.write_all(b"\n").unwrap_err();
-    let told = AuditError::Journal { part: 0, fault: JournalError::NotJson(1) };
-    assert_eq!(error.downcast::<AuditError>().unwrap(), told);
+    let expected = AuditError::Journal { part: 0, fault: JournalError::NotJson(1) };
+    assert_eq!(error.downcast::<AuditError>().unwrap(), expected);
 }
 
 #[test]

@@ -24,9 +24,9 @@ fn shim() -> &'static Path {
     MADE.get_or_init(|| {
         let (source, made) = (concat!(env!("CARGO_MANIFEST_DIR"), "/tests/common/shim.c"), env!("CARGO_TARGET_TMPDIR"));
         let made = Path::new(made).join("shim.so");
-        let told =
+        let output =
             Command::new("cc").args(["-shared", "-fPIC", "-O1", "-o"]).arg(&made).args([source, "-ldl"]).status();
-        assert!(told.unwrap().success());
+        assert!(output.unwrap().success());
         made
     })
 }
@@ -53,8 +53,8 @@ fn is_child() {
         "notes" => notes(Path::new(path)),
         "fails" => fails(Path::new(path)),
         "fails_at_once" => {
-            let told = Run::open([], path, 100).unwrap_err();
-            assert!(told.to_string().contains("os error 5"), "{told}");
+            let error = Run::open([], path, 100).unwrap_err();
+            assert!(error.to_string().contains("os error 5"), "{error}");
         }
         "fills" => fills(Path::new(path)),
         other => panic!("{other}"),
@@ -91,9 +91,9 @@ fn kill(times: u64) -> u64 {
     for round in 0..times {
         let mut child = child("plays", room.path()).stdout(Stdio::piped()).spawn().unwrap();
         let lines = BufReader::new(child.stdout.take().unwrap()).lines();
-        let mut told = lines.filter_map(|it| it.ok()?.strip_prefix("saved ")?.parse::<u64>().ok());
+        let mut reports = lines.filter_map(|it| it.ok()?.strip_prefix("saved ")?.parse::<u64>().ok());
         // Some are killed before their run is there.
-        let first = if round % 4 == 3 { 0 } else { told.next().unwrap() };
+        let first = if round % 4 == 3 { 0 } else { reports.next().unwrap() };
         let killer = thread::spawn({
             let wait = Duration::from_micros(2_000 + draw.below(60_000));
             move || {
@@ -102,7 +102,7 @@ fn kill(times: u64) -> u64 {
                 child.wait().unwrap();
             }
         });
-        let saved = told.max().unwrap_or(first);
+        let saved = reports.max().unwrap_or(first);
         killer.join().unwrap();
         let check = if round % 2 == 0 { Check::All } else { Check::Last };
         match Run::resume(room.path(), check) {
@@ -184,13 +184,13 @@ fn is_whole(left: &crashes::Left, path: &Path) -> bool {
     }
     let resumed = Run::resume(path, Check::All);
     let is_none = matches!(&resumed, Err(Error::File { kind: ErrorKind::NotFound, .. }));
-    if is_none && left.told == 0 {
+    if is_none && left.answered == 0 {
         return Run::open([], path, 5).is_ok();
     }
     resumed.is_ok_and(|run| {
         let parts = run.saved().parts;
         let fired = add_one(&mut run.agent(0).unwrap()).unwrap();
-        parts >= left.told && run.close().unwrap().moves == fired && audit_run(path).is_ok()
+        parts >= left.answered && run.close().unwrap().moves == fired && audit_run(path).is_ok()
     })
 }
 
@@ -220,12 +220,12 @@ fn fails(path: &Path) {
 }
 
 #[test]
-fn a_folder_that_is_not_flushed_is_told() {
+fn an_unflushed_folder_is_reported() {
     let (room, log) = (Room::new("unflushed"), Room::new("unflushed-log"));
     let mut command = with_shim(child("fails", room.path()), room.path(), log.path());
     // One flush is that of its opening, and one that of its first segment.
-    let told = command.env("SHIM_FAIL", "3").output().unwrap();
-    assert!(told.status.success(), "{}", String::from_utf8_lossy(&told.stderr));
+    let result = command.env("SHIM_FAIL", "3").output().unwrap();
+    assert!(result.status.success(), "{}", String::from_utf8_lossy(&result.stderr));
     let room = Room::new("unopened");
     let mut command = with_shim(child("fails_at_once", room.path()), room.path(), log.path());
     assert!(command.env("SHIM_FAIL", "1").status().unwrap().success());
@@ -235,8 +235,8 @@ fn a_folder_that_is_not_flushed_is_told() {
 /// No file may have more than 64 KiB.
 fn fills(path: &Path) {
     let long = [(count(), "x".repeat(70_000).into())];
-    let told = Run::open(long, path, 100).unwrap_err();
-    assert!(matches!(told, Error::File { kind: ErrorKind::FileTooLarge, .. }), "{told}");
+    let fault = Run::open(long, path, 100).unwrap_err();
+    assert!(matches!(fault, Error::File { kind: ErrorKind::FileTooLarge, .. }), "{fault}");
     let run = Run::open([(count(), 0.into())], path, 2_000).unwrap();
     let mut agent = run.agent(0).unwrap();
     add_one(&mut agent).unwrap();
@@ -256,8 +256,8 @@ fn a_file_that_becomes_too_large_kills_nobody() {
     let room = Room::new("large");
     let mut command = Command::new("bash");
     command.args(["-c", "ulimit -f 64; exec \"$0\" --exact is_child --nocapture"]).arg(env::current_exe().unwrap());
-    let told = command.env(TASK, format!("fills:{}", room.path().display())).output().unwrap();
-    assert!(told.status.success(), "{}", String::from_utf8_lossy(&told.stdout));
+    let output = command.env(TASK, format!("fills:{}", room.path().display())).output().unwrap();
+    assert!(output.status.success(), "{}", String::from_utf8_lossy(&output.stdout));
     assert_eq!((numbers(room.audited().0), room.path().join("new").exists()), ((2, 1, 1), false));
 }
 
@@ -279,11 +279,11 @@ fn assert_refused(room: &Room, segment: u64, checks: &[Check]) {
         all.into_iter().map(|it| (fs::read(&it).unwrap(), it)).collect::<Vec<_>>()
     };
     let before = all(room.path());
-    let told = checks.iter().map(|check| Run::resume(room.path(), *check).err());
-    for told in told.chain([audit_run(room.path()).err()]) {
+    let result = checks.iter().map(|check| Run::resume(room.path(), *check).err());
+    for result in result.chain([audit_run(room.path()).err()]) {
         assert!(
-            matches!(&told, Some(Error::Damaged { segment: at, .. }) if *at == segment),
-            "{told:?}, and not {segment}"
+            matches!(&result, Some(Error::Damaged { segment: at, .. }) if *at == segment),
+            "{result:?}, and not {segment}"
         );
     }
     assert_eq!(all(room.path()), before);
@@ -297,16 +297,16 @@ fn flip(times: u64) {
     for _ in 0..times {
         let number = draw.below(5);
         let file = &segments[number as usize];
-        let whole = fs::read(file).unwrap();
-        let (mut altered, length) = (whole.clone(), whole.len() as u64);
+        let complete = fs::read(file).unwrap();
+        let (mut altered, length) = (complete.clone(), complete.len() as u64);
         match draw.below(10) {
             0..6 => altered[draw.below(length) as usize] ^= 1 << draw.below(8),
             6..9 => altered.truncate(draw.below(length) as usize),
-            _ => altered.extend_from_slice(&whole[..=(draw.below(length) as usize)]),
+            _ => altered.extend_from_slice(&complete[..=(draw.below(length) as usize)]),
         }
         fs::write(file, altered).unwrap();
         assert_refused(&room, number, if number == 4 { &[Check::All, Check::Last] } else { &[Check::All] });
-        fs::write(file, whole).unwrap();
+        fs::write(file, complete).unwrap();
     }
     assert_eq!(audit_run(room.path()).map(numbers), Ok((5, 14, 14)));
 }
@@ -351,7 +351,7 @@ fn names_of_segments_are_checked() {
 }
 
 #[test]
-fn what_is_moved_removed_or_replaced_meanwhile_is_noticed() {
+fn moved_removed_or_replaced_files_are_noticed() {
     type Alter = fn(&Room);
     let alters: [(&str, Alter, &str); 7] = [
         ("move", |it| fs::rename(it.path(), it.path().with_extension("moved")).unwrap(), "was removed"),

@@ -23,7 +23,7 @@ fn played(room: &Room) -> Vec<u8> {
 }
 
 #[test]
-fn a_resumed_run_goes_on_where_it_was_closed() {
+fn a_resumed_run_continues_where_it_was_closed() {
     for check in [Check::All, Check::Last] {
         let room = Room::new(&format!("resumed-{check:?}"));
         let before = played(&room);
@@ -48,7 +48,7 @@ fn a_resumed_run_goes_on_where_it_was_closed() {
 }
 
 #[test]
-fn files_are_their_owner_s_and_what_was_left_is_removed() {
+fn files_belong_to_their_owner_and_leftovers_are_removed() {
     let room = Room::new("owner");
     let played = played(&room);
     let modes = |name: &str| fs::metadata(room.path().join(name)).unwrap().mode() & 0o777;
@@ -80,7 +80,7 @@ fn a_folder_has_one_run_at_a_time() {
 }
 
 #[test]
-fn what_is_no_run_is_refused_and_stays() {
+fn a_folder_that_is_no_run_is_refused_and_unchanged() {
     let room = Room::new("none");
     let kind = |error: Option<Error>| match error {
         Some(Error::File { kind, why }) => (kind, why),
@@ -129,7 +129,7 @@ fn resume_with(room: &Room, text: &str, calls: u64, moves: u64) -> [Option<Error
 }
 
 #[test]
-fn a_segment_that_is_illegal_is_told_with_its_number() {
+fn an_illegal_segment_is_reported_with_its_number() {
     let room = Room::new("illegal");
     played(&room);
     let text = fs::read_to_string(room.segments().pop().unwrap()).unwrap();
@@ -138,8 +138,8 @@ fn a_segment_that_is_illegal_is_told_with_its_number() {
     let shape = Some(Error::Audit(AuditError::Journal { part: 2, fault: JournalError::Shape(2) }));
     assert_eq!(resume_with(&room, &text.replacen("\"agent\":", "\"agend\":", 1), 5, 5), [shape.clone(), shape]);
     let cut = &text[..=text[..text.len() - 1].rfind('\n').unwrap()];
-    let told = Some(Error::Audit(AuditError::Journal { part: 2, fault: JournalError::Cut }));
-    assert_eq!(resume_with(&room, cut, 4, 4), [told.clone(), told]);
+    let error = Some(Error::Audit(AuditError::Journal { part: 2, fault: JournalError::Cut }));
+    assert_eq!(resume_with(&room, cut, 4, 4), [error.clone(), error]);
     let why = "its text has other numbers of moves or events than its name".to_owned();
     let numbers = Some(Error::Damaged { segment: 2, why });
     assert_eq!(resume_with(&room, &text, 5, 4), [numbers.clone(), numbers]);
@@ -152,8 +152,8 @@ fn too_long_lines_are_refused_and_nothing_is_lost() {
     let mut command = Command::new(env::current_exe().unwrap());
     let ran =
         command.args(["--exact", "--ignored", "too_long_lines"]).env("FOLUGBEN_LINE", "16777216").output().unwrap();
-    let told = String::from_utf8_lossy(&ran.stdout);
-    assert!(ran.status.success() && told.contains("1 passed"), "{told}");
+    let output = String::from_utf8_lossy(&ran.stdout);
+    assert!(ran.status.success() && output.contains("1 passed"), "{output}");
 }
 
 #[test]
@@ -214,28 +214,28 @@ fn old_file(room: &Room) -> (Vec<u8>, usize) {
 #[test]
 fn a_run_of_one_file_is_imported() {
     let (file, room) = (Room::new("old"), Room::new("imported"));
-    let (whole, end) = old_file(&file);
+    let (complete, end) = old_file(&file);
     // What an import leaves that was killed is no hindrance.
     let left = room.path().with_file_name(format!(".{}.import", room.path().file_name().unwrap().to_str().unwrap()));
     Run::open([], &left, 5).unwrap().close().unwrap();
     let (counts, cut) = import_run(file.path(), room.path()).unwrap();
     assert_eq!((numbers(counts), cut, left.exists()), ((3, 3, 3), 0, false));
     assert_eq!(room.audited().1, [(count(), 6.into())]);
-    assert!(room.bytes().ends_with(&whole));
+    assert!(room.bytes().ends_with(&complete));
     assert!(matches!(import_run(file.path(), room.path()), Err(Error::File { kind: ErrorKind::AlreadyExists, .. })));
     let run = Run::resume(room.path(), Check::All).unwrap();
     assert_eq!(add_one(&mut run.agent(0).unwrap()), Ok(4));
     run.close().unwrap();
 
-    for cut in [end + 1, end + 100, whole.len() - 1] {
+    for cut in [end + 1, end + 100, complete.len() - 1] {
         fs::remove_dir_all(room.path()).unwrap();
-        fs::write(file.path(), &whole[..cut]).unwrap();
+        fs::write(file.path(), &complete[..cut]).unwrap();
         let (counts, left) = import_run(file.path(), room.path()).unwrap();
         assert_eq!((numbers(counts), left), ((2, 2, 2), (cut - end) as u64));
-        assert_eq!(fs::read(file.path()).unwrap(), &whole[..cut]);
+        assert_eq!(fs::read(file.path()).unwrap(), &complete[..cut]);
     }
     fs::remove_dir_all(room.path()).unwrap();
-    let text = String::from_utf8(whole.clone()).unwrap();
+    let text = String::from_utf8(complete.clone()).unwrap();
     for (damaged, part) in [
         (text.replacen("\"fired\":2", "\"fired\":3", 1), 0),
         (text.replacen("\"agent\":", "\"agend\":", 1), 0),
@@ -243,11 +243,11 @@ fn a_run_of_one_file_is_imported() {
         (text[..30].to_owned(), 0),
     ] {
         fs::write(file.path(), damaged).unwrap();
-        let told = import_run(file.path(), room.path()).unwrap_err();
+        let error = import_run(file.path(), room.path()).unwrap_err();
         assert!(
-            matches!(told, Error::Audit(AuditError::Illegal { part: at, .. } | AuditError::Journal { part: at, .. }
+            matches!(error, Error::Audit(AuditError::Illegal { part: at, .. } | AuditError::Journal { part: at, .. }
             | AuditError::Apart { part: at }) if at == part),
-            "{told}"
+            "{error}"
         );
         assert!(!room.path().exists() && !left.exists());
     }

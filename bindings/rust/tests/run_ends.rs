@@ -8,7 +8,7 @@ use std::thread;
 use std::time::Duration;
 
 #[test]
-fn a_lost_agent_is_told_where_a_part_ends_at_rest_too() {
+fn an_abandoned_agent_is_reported_when_a_part_ends_at_rest() {
     let room = Room::new("lost-at-rest");
     let run = open(&room, 20);
     let mut lost = run.agent(9).unwrap();
@@ -24,7 +24,7 @@ fn a_lost_agent_is_told_where_a_part_ends_at_rest_too() {
 }
 
 #[test]
-fn a_lost_agent_ends_the_run_and_what_was_saved_stays() {
+fn an_abandoned_agent_ends_the_run_and_saved_moves_stay() {
     let room = Room::new("lost");
     let run = open(&room, 5);
     let agent = |number| run.agent(number).unwrap();
@@ -75,7 +75,7 @@ fn an_abandoned_agent_that_fired_nothing_in_its_part_is_not_missed() {
 }
 
 #[test]
-fn steps_that_are_forgotten_lose_nothing() {
+fn forgotten_steps_lose_nothing() {
     let room = Room::new("forgotten");
     let run = open(&room, 3);
     let (mut one, mut other) = (run.agent(0).unwrap(), run.agent(1).unwrap());
@@ -92,18 +92,18 @@ fn steps_that_are_forgotten_lose_nothing() {
 }
 
 #[test]
-fn a_thread_that_panics_in_a_step_gives_its_agent_back() {
+fn a_panic_in_a_step_returns_the_agent() {
     let room = Room::new("panic");
     let run = open(&room, 10);
     let mut agent = run.agent(0).unwrap();
     add_one(&mut agent).unwrap();
     let ended = thread::spawn(move || {
-        let told = agent.play(|step| {
+        let played = agent.play(|step| {
             step.put(count(), 7)?;
             assert_ne!(step.depth(), 1, "on purpose");
             Ok::<(), Error>(())
         });
-        drop((told, agent));
+        drop((played, agent));
     });
     assert!(ended.join().is_err());
     assert_eq!(run.close().map(numbers), Ok((2, 1, 1)));
@@ -152,16 +152,16 @@ fn closing_waits_for_no_step_of_another_thread() {
     let room = Room::new("waits");
     let run = open(&room, 10);
     let mut agent = run.agent(0).unwrap();
-    let (begun, told) = std::sync::mpsc::channel();
+    let (start, receiver) = std::sync::mpsc::channel();
     let (closed, ended) = std::sync::mpsc::channel::<()>();
     let other = thread::spawn(move || {
         let mut step = agent.step().unwrap();
         step.put(count(), 9).unwrap();
-        begun.send(()).unwrap();
+        start.send(()).unwrap();
         ended.recv().unwrap();
         (step.commit(), agent.step().err())
     });
-    told.recv().unwrap();
+    receiver.recv().unwrap();
     assert_eq!(run.close().map(numbers), Ok((1, 0, 0)));
     closed.send(()).unwrap();
     assert_eq!(other.join().unwrap(), (Err(Error::Closed), Some(Error::Closed)));
@@ -174,20 +174,20 @@ fn steps_that_went_to_other_threads_hang_no_close() {
     let mut agents = run.agents(2).unwrap();
     thread::scope(|threads| {
         let mut steps = agents.iter_mut().map(|it| it.step().unwrap());
-        let (mut step, kept) = (steps.next().unwrap(), steps.next().unwrap());
+        let (mut step, buffer) = (steps.next().unwrap(), steps.next().unwrap());
         let fired = threads.spawn(move || {
             step.put(count(), 3).unwrap();
             step.commit()
         });
         assert_eq!(fired.join().unwrap().unwrap(), 1);
-        let forgotten = threads.spawn(move || std::mem::forget(kept));
+        let forgotten = threads.spawn(move || std::mem::forget(buffer));
         forgotten.join().unwrap();
         assert_eq!(run.close().map(numbers), Ok((2, 1, 1)));
     });
 }
 
 #[test]
-fn a_run_that_is_let_go_is_closed() {
+fn a_dropped_run_is_closed() {
     let room = Room::new("drop");
     let run = open(&room, 10);
     let mut agent = run.agent(0).unwrap();
@@ -200,7 +200,7 @@ fn a_run_that_is_let_go_is_closed() {
 }
 
 #[test]
-fn agents_tell_their_own_state() {
+fn agents_return_their_own_state() {
     let room = Room::new("own");
     let run = open(&room, 3);
     let (mut one, mut other) = (run.agent(0).unwrap(), run.agent(1).unwrap());
@@ -227,8 +227,8 @@ struct Late(std::sync::mpsc::Sender<(Result<u64, Error>, Result<u64, Error>)>, R
 
 impl Drop for Late {
     fn drop(&mut self) {
-        let Late(told, agent, run) = self;
-        let _ = told.send((add_one(agent), run.close().map(|it| it.moves)));
+        let Late(sender, agent, run) = self;
+        let _ = sender.send((add_one(agent), run.close().map(|it| it.moves)));
     }
 }
 
@@ -241,8 +241,8 @@ fn runs_are_played_and_closed_where_the_locals_of_a_thread_end() {
     let room = Room::new("locals");
     let run = open(&room, 3);
     let agent = run.agent(0).unwrap();
-    let (told, ended) = std::sync::mpsc::channel();
-    thread::spawn(move || LATE.set(Some(Late(told, agent, run)))).join().unwrap();
+    let (sender, ended) = std::sync::mpsc::channel();
+    thread::spawn(move || LATE.set(Some(Late(sender, agent, run)))).join().unwrap();
     assert_eq!(ended.recv().unwrap(), (Ok(1), Ok(1)));
     assert_eq!(room.audited().1, [(count(), 1.into())]);
 }
@@ -268,7 +268,7 @@ fn rules_take_steps_of_runs_and_of_storages() {
 fn come_and_go(run: &Run, mut agent: RunAgent, mut draw: Draw) -> Vec<u64> {
     let (number, mut fired) = (agent.number(), Vec::new());
     loop {
-        let told = match draw.below(20) {
+        let result = match draw.below(20) {
             0 => agent.step().map(|step| drop(step.get(count()))),
             1 => agent.step().and_then(|mut step| {
                 step.put(Location::new("account").arg(number.get()), 1)?;
@@ -290,7 +290,7 @@ fn come_and_go(run: &Run, mut agent: RunAgent, mut draw: Draw) -> Vec<u64> {
             }
             _ => add_one(&mut agent).map(|number| fired.push(number)),
         };
-        match told {
+        match result {
             Err(Error::Closed) => return fired,
             Err(error) => assert!(error.is_retry(), "{error}"),
             Ok(()) => {}
@@ -317,15 +317,15 @@ fn no_run_ends_under_stress() {
         let works: Vec<_> = run.agents(4).unwrap().into_iter().map(|it| threads.spawn(|| work(it))).collect();
         works.into_iter().flat_map(|it| it.join().unwrap()).collect()
     });
-    let told = run.close().unwrap();
+    let counts = run.close().unwrap();
     all.sort_unstable();
-    assert!(all.iter().copied().eq(1..=told.moves), "{told}: {} were told", all.len());
-    assert_eq!(room.audited(), (told, vec![(count(), i64::try_from(told.moves).unwrap().into())]));
-    println!("stress {seconds} s: {told}");
+    assert!(all.iter().copied().eq(1..=counts.moves), "{counts}: {} were answered", all.len());
+    assert_eq!(room.audited(), (counts, vec![(count(), i64::try_from(counts.moves).unwrap().into())]));
+    println!("stress {seconds} s: {counts}");
 }
 
 #[test]
-fn agents_come_and_go_and_each_move_that_was_told_is_saved() {
+fn each_answered_move_is_saved_as_agents_come_and_go() {
     for round in 1..=6 {
         let room = Room::new(&format!("come-and-go-{round}"));
         let run = open(&room, [1, 3, 20, 150][round as usize % 4]);
@@ -341,8 +341,8 @@ fn agents_come_and_go_and_each_move_that_was_told_is_saved() {
             works.into_iter().flat_map(|it| it.join().unwrap()).collect()
         });
         all.sort_unstable();
-        let told = room.audited().0;
-        assert_eq!(told, run.saved());
-        assert!(all.iter().copied().eq(1..=told.moves), "{told}: {} were told", all.len());
+        let counts = room.audited().0;
+        assert_eq!(counts, run.saved());
+        assert!(all.iter().copied().eq(1..=counts.moves), "{counts}: {} were answered", all.len());
     }
 }

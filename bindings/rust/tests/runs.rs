@@ -13,9 +13,9 @@ fn account(number: i64) -> Location {
 
 /// Waits until the run has so many parts on the disk.
 fn has_parts(run: &Run, parts: u64) {
-    let begun = Instant::now();
+    let start = Instant::now();
     while run.saved().parts < parts {
-        assert!(begun.elapsed() < Duration::from_secs(60), "{} parts", run.saved().parts);
+        assert!(start.elapsed() < Duration::from_secs(60), "{} parts", run.saved().parts);
         thread::sleep(Duration::from_millis(1));
     }
 }
@@ -30,7 +30,7 @@ fn agents_and_runs_go_between_threads() {
 }
 
 #[test]
-fn threads_go_on_from_part_to_part_as_one_run() {
+fn threads_continue_from_part_to_part_as_one_run() {
     const AGENTS: u8 = 8;
     for (moves, each, is_recording) in
         [(1, 20, false), (7, 100, false), (64, 300, false), (7, 100, true), (64, 300, true)]
@@ -44,13 +44,13 @@ fn threads_go_on_from_part_to_part_as_one_run() {
             let works: Vec<_> = works.collect();
             works.into_iter().flat_map(|it| it.join().unwrap()).collect()
         });
-        let told = run.close().unwrap();
-        assert_eq!(told, run.saved());
+        let totals = run.close().unwrap();
+        assert_eq!(totals, run.saved());
         all.sort_unstable();
         let fired = u64::from(AGENTS) * each;
         assert!(all.iter().copied().eq(1..=fired), "each move has a number of its own");
         let (counts, state) = room.audited();
-        assert_eq!(counts, told);
+        assert_eq!(counts, totals);
         assert_eq!(counts.moves, fired);
         let bytes = room.bytes();
         let reads = String::from_utf8_lossy(&bytes).matches("\"call\":{\"read\":[[\"count\"]]}").count() as u64;
@@ -70,11 +70,11 @@ fn a_sum_stays_in_each_state_of_a_run() {
             threads.spawn(move || {
                 for i in 0..200 {
                     let (from, to) = (account(i % 4), account((i + 1 + i64::from(agent.number()) % 3) % 4));
-                    let told = agent.play(|step| {
+                    let played = agent.play(|step| {
                         let moved = step.get(&from)?.as_num().unwrap().min(7);
                         step.push(&Move::new().inc(&from, -moved).inc(&to, moved))
                     });
-                    told.unwrap();
+                    played.unwrap();
                 }
             });
         }
@@ -91,7 +91,7 @@ fn a_sum_stays_in_each_state_of_a_run() {
 }
 
 #[test]
-fn the_folder_has_each_part_whole_and_in_order() {
+fn the_folder_has_each_part_complete_and_in_order() {
     let room = Room::new("parts");
     let run = open(&room, 5);
     assert_eq!(numbers(run.saved()), (1, 0, 0));
@@ -122,7 +122,7 @@ fn three_parts_are_in_memory_at_most() {
 }
 
 #[test]
-fn an_agent_that_is_idle_holds_no_part_up() {
+fn an_idle_agent_holds_no_part_up() {
     let room = Room::new("idle");
     let run = open(&room, 4);
     let (mut idle, mut busy) = (run.agent(0).unwrap(), run.agent(1).unwrap());
@@ -138,7 +138,7 @@ fn an_agent_that_is_idle_holds_no_part_up() {
 }
 
 #[test]
-fn an_open_step_holds_no_agent_up_and_is_begun_again() {
+fn an_open_step_holds_no_agent_up_and_begins_again() {
     let room = Room::new("open");
     let run = open(&room, 3);
     let (mut slow, mut quick) = (run.agent(0).unwrap(), run.agent(1).unwrap());
@@ -157,8 +157,8 @@ fn an_open_step_holds_no_agent_up_and_is_begun_again() {
         add_one(&mut quick).unwrap();
     }
     has_parts(&run, 10);
-    let told = step.get(count()).unwrap_err();
-    assert!(told == PAST && told.is_retry());
+    let error = step.get(count()).unwrap_err();
+    assert!(error == PAST && error.is_retry());
     assert_eq!((step.depth(), step.commit()), (0, Err(PAST)));
     drop((slow, quick));
     assert_eq!(run.close().unwrap().moves, 34);
@@ -171,7 +171,7 @@ fn a_rule_that_takes_too_long_is_played_again() {
     let run = open(&room, 3);
     let (mut slow, mut quick) = (run.agent(0).unwrap(), run.agent(1).unwrap());
     let mut tries = 0;
-    let told = slow.play(|step| {
+    let played = slow.play(|step| {
         tries += 1;
         for _ in 0..if tries == 1 { 9 } else { 0 } {
             add_one(&mut quick)?;
@@ -181,8 +181,8 @@ fn a_rule_that_takes_too_long_is_played_again() {
         }
         step.put("other", step.get(count())?)
     });
-    let told = told.unwrap();
-    assert_eq!((told.retries, fired(told), tries), (1, 10, 2));
+    let played = played.unwrap();
+    assert_eq!((played.retries, fired(played), tries), (1, 10, 2));
 }
 
 #[test]
@@ -224,11 +224,11 @@ fn a_part_of_many_stale_tries_ends_at_rest_before_it_is_full() {
     for round in 1..=200 {
         assert_eq!(stale_tries(&mut agents, &mut last), Ok(round));
     }
-    let told = run.close().unwrap();
-    assert_eq!(told.moves, 200);
+    let counts = run.close().unwrap();
+    assert_eq!(counts.moves, 200);
     // A round leaves 9 receipts, and a part ends with 400 of them and some.
-    assert!((5..=7).contains(&told.parts), "{told}");
-    assert_eq!(room.audited(), (told, vec![(count(), 200.into())]));
+    assert!((5..=7).contains(&counts.parts), "{counts}");
+    assert_eq!(room.audited(), (counts, vec![(count(), 200.into())]));
 }
 
 #[test]
@@ -237,10 +237,10 @@ fn parts_end_by_time_and_by_flushes() {
     let run = RunOptions::new().every(Duration::from_millis(30)).open([(count(), 0.into())], room.path()).unwrap();
     let (mut agent, mut other) = (run.agent(0).unwrap(), run.agent(1).unwrap());
     assert_eq!(numbers(run.flush().unwrap()), (1, 0, 0));
-    let begun = Instant::now();
+    let start = Instant::now();
     add_one(&mut agent).unwrap();
     has_parts(&run, 2);
-    assert!(begun.elapsed() >= Duration::from_millis(30));
+    assert!(start.elapsed() >= Duration::from_millis(30));
     assert_eq!(numbers(run.close().unwrap()), (2, 1, 1));
 
     let run = Run::resume(room.path(), Check::All).unwrap();

@@ -56,7 +56,7 @@ fn a_step_sees_what_it_pushed_and_fires_as_one_move() {
 }
 
 #[test]
-fn a_stale_step_is_told_with_its_location_and_played_again() {
+fn a_stale_step_reports_its_location_and_is_played_again() {
     let storage = open(&[(count(), 0.into())]);
     let (mut one, mut other) = (storage.agent(0).unwrap(), storage.agent(1).unwrap());
     let mut step = one.step().unwrap();
@@ -66,7 +66,7 @@ fn a_stale_step_is_told_with_its_location_and_played_again() {
     assert_eq!(step.commit(), Err(stale(count())));
 
     let mut tries = 0;
-    let told = one
+    let result = one
         .play(|step| {
             let seen = step.get(count())?.as_num().unwrap_or(0);
             tries += 1;
@@ -77,11 +77,11 @@ fn a_stale_step_is_told_with_its_location_and_played_again() {
             Ok::<_, Error>(seen)
         })
         .unwrap();
-    assert_eq!((told.number, told.result, told.retries, tries), (Some(n(3)), 20, 1, 2));
+    assert_eq!((result.number, result.result, result.retries, tries), (Some(n(3)), 20, 1, 2));
 }
 
 #[test]
-fn what_a_rule_refuses_ends_its_play_and_fires_nothing() {
+fn a_rule_error_ends_its_play_and_fires_nothing() {
     #[derive(Debug, PartialEq)]
     enum Fault {
         Poor,
@@ -94,11 +94,11 @@ fn what_a_rule_refuses_ends_its_play_and_fires_nothing() {
     }
     let storage = open(&[]);
     let mut agent = storage.agent(0).unwrap();
-    let told = agent.play(|step| {
+    let played = agent.play(|step| {
         step.put(count(), 1)?;
         Err::<(), _>(Fault::Poor)
     });
-    assert_eq!(told, Err(Fault::Poor));
+    assert_eq!(played, Err(Fault::Poor));
     let clash =
         agent.play(|step| -> Result<(), Fault> { Ok(step.push(&Move::new().put(count(), 1).put(count(), 2))?) });
     assert_eq!(clash, Err(Fault::Storage(Error::Clash { at: count(), cause: Cause::Two })));
@@ -122,7 +122,7 @@ fn a_removal_that_is_short_by_now_is_played_again() {
 }
 
 #[test]
-fn a_fire_rests_on_the_functions_that_were_scanned() {
+fn a_fire_depends_on_scanned_functions() {
     let task = |n: i64| Location::new("task").arg(n);
     let storage = open(&[(task(1), 7.into())]);
     let (mut one, mut other) = (storage.agent(0).unwrap(), storage.agent(1).unwrap());
@@ -164,8 +164,8 @@ fn values_of_each_kind_come_back() {
         let at = Location::new("f").arg(i64::try_from(i).unwrap()).args_of(elements.iter().cloned());
         agent.play(|step| step.put(&at, value.clone())).unwrap();
         agent.follow().unwrap();
-        let told = agent.peek(std::slice::from_ref(&at)).unwrap();
-        assert_eq!((told.values.len(), &told.values[0]), (1, value));
+        let result = agent.peek(std::slice::from_ref(&at)).unwrap();
+        assert_eq!((result.values.len(), &result.values[0]), (1, value));
         let prepared = Prepared::new(&at).unwrap();
         assert_eq!(agent.peek_at(&prepared).unwrap().1, *value);
         assert_eq!(agent.step().unwrap().get_at(&prepared).unwrap(), *value);
@@ -185,8 +185,8 @@ fn prepared_moves_do_what_moves_do() {
     let [n, s, b, t] = places.each_ref().map(|it| Prepared::new(it).unwrap());
     let mut gathered = PreparedMove::new();
     gathered.put(&t, "text").unwrap().inc(&n, -4).unwrap().add(&s, 1).unwrap().bag_add(&b, true, 3).unwrap();
-    let told = gathered.bag_add(&b, 1, 0).err().unwrap();
-    assert_eq!(told.to_string(), "the amount is 0, and has to be 1 to 4294967295");
+    let result = gathered.bag_add(&b, 1, 0).err().unwrap();
+    assert_eq!(result.to_string(), "the amount is 0, and has to be 1 to 4294967295");
     assert_eq!(gathered.len(), 4);
     agent.play(|step| step.push_prepared(&gathered)).unwrap();
     gathered.clear().remove(&s, 1).unwrap().bag_remove(&b, true, 1).unwrap();
@@ -266,7 +266,7 @@ fn a_popped_move_is_pushed_elsewhere() {
 }
 
 #[test]
-fn what_is_seen_is_not_named_and_an_offer_tells_what_is() {
+fn seen_locations_are_not_named_and_an_offer_lists_the_named() {
     let other_place = Location::new("other").arg(true);
     let storage = open(&[(count(), 1.into())]);
     let (mut one, mut other) = (storage.agent(0).unwrap(), storage.agent(1).unwrap());
@@ -307,13 +307,13 @@ fn reads_and_fires_by_name_work_without_steps() {
 fn a_rule_that_pushes_nothing_fires_nothing_and_says_so() {
     let storage = open(&[(count(), 1.into())]);
     let mut agent = storage.agent(0).unwrap();
-    let told = agent.play(|step| step.get(count())).unwrap();
-    assert_eq!((told.number, told.result, told.retries), (None, 1.into(), 0));
-    let told = agent.play(|step| {
+    let played = agent.play(|step| step.get(count())).unwrap();
+    assert_eq!((played.number, played.result, played.retries), (None, 1.into(), 0));
+    let played = agent.play(|step| {
         step.put(count(), 2)?;
         step.pop()
     });
-    assert_eq!((told.unwrap().number, storage.moves()), (None, 0));
+    assert_eq!((played.unwrap().number, storage.moves()), (None, 0));
     assert_eq!(agent.play(|step| step.push(&Move::new())).unwrap().number, Some(n(1)));
     // A commit is done as it is asked for, as that of C.
     assert_eq!(agent.step().unwrap().commit(), Ok(n(2)));
@@ -334,17 +334,17 @@ fn a_play_ends_with_its_patience() {
     };
     assert_eq!(one.play_with(Patience::new().tries(3), &mut hopeless), Err(stale(count())));
     assert_eq!(one.play_with(Patience::new().tries(0), &mut hopeless), Err(stale(count())));
-    let begun = std::time::Instant::now();
+    let start = std::time::Instant::now();
     let timeout = std::time::Duration::from_millis(20);
     assert_eq!(one.play_with(Patience::new().timeout(timeout), &mut hopeless), Err(stale(count())));
-    assert!(begun.elapsed() >= timeout && tries > 4);
+    assert!(start.elapsed() >= timeout && tries > 4);
     assert_eq!(u64::from(storage.moves()), tries);
-    let told = one.play_with(Patience::new().tries(1), |step| step.put("seen", step.get(count())?)).unwrap();
-    assert_eq!((told.number, told.retries), (Some(n(tries + 1)), 0));
+    let result = one.play_with(Patience::new().tries(1), |step| step.put("seen", step.get(count())?)).unwrap();
+    assert_eq!((result.number, result.retries), (Some(n(tries + 1)), 0));
 }
 
 #[test]
-fn a_loop_by_hand_begins_again_at_conflicts() {
+fn a_manual_loop_retries_conflicts() {
     let storage = open(&[(count(), 0.into())]);
     std::thread::scope(|threads| {
         for mut agent in storage.agents(4).unwrap() {

@@ -19,7 +19,7 @@ fn n(number: u64) -> MoveNumber {
 }
 
 #[test]
-fn agents_come_back_when_they_are_let_go_also_by_a_panic() {
+fn dropped_agents_are_returned_also_by_a_panic() {
     let storage = Storage::open([(count(), 0.into())], 10).unwrap();
     let mut agent = storage.agent(0).unwrap();
     agent.play(|step| step.inc(count(), 1)).unwrap();
@@ -37,7 +37,7 @@ fn agents_come_back_when_they_are_let_go_also_by_a_panic() {
 }
 
 #[test]
-fn what_an_abandoned_agent_fired_is_missing() {
+fn moves_of_an_abandoned_agent_are_missing() {
     let storage = Storage::open([], 10).unwrap();
     let mut agent = storage.agent(0).unwrap();
     agent.play(|step| step.put(count(), 1)).unwrap();
@@ -58,7 +58,7 @@ fn an_agent_of_another_storage_is_handed_back() {
 }
 
 #[test]
-fn a_storage_that_was_closed_goes_on() {
+fn a_closed_storage_continues() {
     let storage = Storage::open([(count(), 1.into())], 2).unwrap();
     let mut agent = storage.agent(0).unwrap();
     assert_eq!(storage.next(5).err(), Some(Error::NoJournal));
@@ -78,8 +78,8 @@ fn a_storage_that_was_closed_goes_on() {
 
 #[test]
 fn refusals_say_what_is_wrong() {
-    let told = Storage::open([], 0).err().unwrap();
-    assert_eq!(told.to_string(), "the capacity is 0, and has to be 1 to 1048576");
+    let error = Storage::open([], 0).err().unwrap();
+    assert_eq!(error.to_string(), "the capacity is 0, and has to be 1 to 1048576");
     let twice = Storage::open([(count(), 1.into()), (count(), 2.into())], 1).unwrap_err();
     assert!(matches!(&twice, Error::Refused(why) if !why.is_empty()), "{twice}");
     let storage = Storage::open([], 10).unwrap();
@@ -90,14 +90,14 @@ fn refusals_say_what_is_wrong() {
     assert!(matches!(&moved, Error::Refused(why) if !why.is_empty()), "{moved}");
     let nested = |depth| (0..depth).fold(Element::Num(1), |it, _| Element::List(vec![it]));
     for depth in [9, 10, 40, 200] {
-        let told = agent.step().unwrap().put("x", nested(depth)).unwrap_err();
-        assert_eq!(told, Error::Refused("lists nest at most 8 deep".to_owned()), "{depth}");
+        let error = agent.step().unwrap().put("x", nested(depth)).unwrap_err();
+        assert_eq!(error, Error::Refused("lists nest at most 8 deep".to_owned()), "{depth}");
         let at = Location::new("x").arg("a { \"list\" \\").arg(nested(depth));
-        assert_eq!(agent.read(&[at]).unwrap_err(), told);
+        assert_eq!(agent.read(&[at]).unwrap_err(), error);
     }
     agent.step().unwrap().put("x", nested(8)).unwrap();
-    let told = agent.step().unwrap().put(Location::new("no name"), nested(8)).unwrap_err();
-    assert!(told.to_string().contains("name"), "{told}");
+    let error = agent.step().unwrap().put(Location::new("no name"), nested(8)).unwrap_err();
+    assert!(error.to_string().contains("name"), "{error}");
     let places: Vec<Location> = (0..257).map(|i| Location::new("f").arg(i)).collect();
     assert_eq!(agent.read(&places), Err(Error::Many(Limit::Places(Some(257)))));
     assert_eq!(agent.step().unwrap().get_each(&places).err(), Some(Error::Many(Limit::Places(None))));
@@ -140,7 +140,7 @@ fn moves_are_composed_and_aggregated_without_a_storage() {
 }
 
 #[test]
-fn a_storage_goes_on_from_an_agent_that_has_seen_its_full_end() {
+fn a_storage_continues_from_an_agent_at_its_full_end() {
     let storage = Storage::open([(count(), 1.into())], 2).unwrap();
     let (mut one, other) = (storage.agent(0).unwrap(), storage.agent(1).unwrap());
     for number in 1..=2 {
@@ -159,7 +159,7 @@ fn a_storage_goes_on_from_an_agent_that_has_seen_its_full_end() {
 }
 
 #[test]
-fn an_agent_that_was_given_back_is_taken_and_goes_on() {
+fn a_returned_agent_is_checked_out_and_continues() {
     let storage = Storage::open([], 10).unwrap();
     assert_eq!(storage.take(3).err(), Some(Error::NotGiven(3.into())));
     let mut agent = storage.agent(3).unwrap();
@@ -290,7 +290,7 @@ fn recorded_steps(mut agent: Agent, values: &[Value]) -> Vec<String> {
 }
 
 #[test]
-fn journals_have_what_gets_return() {
+fn journals_record_what_gets_return() {
     let values = values();
     let state = values.iter().zip(0..).map(|(it, number)| (place(number), it.clone()));
     let storage = Storage::open(state, 1_000).unwrap();
@@ -324,7 +324,7 @@ fn recorded(storage: &Storage, mut agent: Agent) -> usize {
 }
 
 #[test]
-fn storages_that_go_on_record_as_those_before() {
+fn continued_storages_record_as_before() {
     let storage = Storage::open([(count(), 3.into())], 4).unwrap();
     assert_eq!(recorded(&storage, storage.agent(0).unwrap()), 0);
     storage.set_recording(true);

@@ -34,8 +34,8 @@ fn agents_by_turns_see_all_moves_and_lose_none() {
             assert_eq!(state, [(count(), i64::try_from(number.get()).unwrap().into())]);
         }
         if wanted % 7 == 0 {
-            let told = agents[draw.below(20) as usize].read(&[count()]).unwrap();
-            assert_eq!((told.number.get(), told.values), (wanted as u64, vec![wanted.into()]));
+            let result = agents[draw.below(20) as usize].read(&[count()]).unwrap();
+            assert_eq!((result.number.get(), result.values), (wanted as u64, vec![wanted.into()]));
         }
     }
     assert_eq!(agents.iter().map(Agent::won).sum::<u32>(), 1_000);
@@ -46,7 +46,7 @@ fn agents_by_turns_see_all_moves_and_lose_none() {
 }
 
 #[test]
-fn what_was_followed_to_stays() {
+fn a_followed_state_stays() {
     let storage = storage(100);
     let (mut one, mut other) = (storage.agent(0).unwrap(), storage.agent(1).unwrap());
     raise(&mut one);
@@ -55,9 +55,9 @@ fn what_was_followed_to_stays() {
     // It was in no step, but whoever peeks without a poll has the state that it saw before.
     assert_eq!(one.peek(&[count()]).unwrap().number, 1);
     assert_eq!(one.scan("count").unwrap().1, [(count(), 1.into())]);
-    let told = one.read(&[count()]).unwrap();
+    let result = one.read(&[count()]).unwrap();
     raise(&mut other);
-    assert_eq!((told.number, one.peek(&[count()]).unwrap()), (2.into(), told));
+    assert_eq!((result.number, one.peek(&[count()]).unwrap()), (2.into(), result));
 }
 
 #[test]
@@ -231,7 +231,7 @@ fn time_of(count: usize) -> Duration {
     let rounds = (0..3).map(|_| {
         let storage = Storage::open([], 10_000).unwrap();
         let (mut agents, mut put) = (storage.agents(count).unwrap(), PreparedMove::new());
-        let begun = Instant::now();
+        let start = Instant::now();
         for i in 0..5_000 {
             let mut step = agents[i % count].step().unwrap();
             let at = &places[i % 32];
@@ -239,7 +239,7 @@ fn time_of(count: usize) -> Duration {
             step.push_prepared(put.clear().put(at, next).unwrap()).unwrap();
             step.commit().unwrap();
         }
-        begun.elapsed()
+        start.elapsed()
     });
     rounds.min().unwrap()
 }

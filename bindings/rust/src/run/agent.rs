@@ -6,7 +6,7 @@ use crate::holder::Holder;
 use crate::number::{AgentNumber, MoveNumber};
 use crate::play::{Attempt, Outcome, Patience, Played};
 use crate::run::parts::Core;
-use crate::run::seat::{Lent, Seat};
+use crate::run::seat::{Seat, SeatStep};
 use crate::step::Step;
 use crate::value::{Location, Value};
 use std::fmt;
@@ -52,14 +52,14 @@ impl RunAgent {
     /// - [`Error::TooLong`]: the part is full, and the state too long to open a further one.
     /// - [`Error::Memory`]: the call may be made again.
     pub fn step(&mut self) -> Result<RunStep<'_>, Error> {
-        let begun = loop {
-            if let Some(begun) = self.seat.begin(&self.core)? {
-                break begun;
+        let start = loop {
+            if let Some(start) = self.seat.begin(&self.core)? {
+                break start;
             }
             self.core.await_part()?;
         };
-        let number = begun.number;
-        Ok(RunStep { step: Step { agent: Holder::Lent(Lent::new(&self.core, &self.seat, begun)), number } })
+        let number = start.number;
+        Ok(RunStep { step: Step { agent: Holder::Seat(SeatStep::new(&self.core, &self.seat, start)), number } })
     }
 
     /// Plays the rule until it fires, as [`Agent::play`](crate::Agent::play) does.
@@ -89,7 +89,7 @@ impl RunAgent {
             match rule(&mut step) {
                 Ok(result) => Ok(Attempt::of(result, step.step)?),
                 // Its agent was returned meanwhile, whatever the rule makes of that.
-                Err(_) if step.is_past() => Ok(Attempt::Vain(Conflict::Past.into())),
+                Err(_) if step.is_past() => Ok(Attempt::Retry(Conflict::Past.into())),
                 Err(error) => Err(error),
             }
         })
@@ -119,8 +119,8 @@ impl RunAgent {
     /// - [`Error::Refused`]: a location is against the rules.
     /// - [`Error::Ended`], [`Error::Closed`], [`Error::Memory`].
     pub fn peek(&mut self, places: &[Location]) -> Result<Reading, Error> {
-        let (before, told) = self.tell(|agent| agent.peek(places))?;
-        Ok(Reading { number: told.number.behind(before), ..told })
+        let (before, result) = self.call_on_state(|agent| agent.peek(places))?;
+        Ok(Reading { number: result.number.behind(before), ..result })
     }
 
     /// Returns all locations of a function, as [`RunAgent::peek`] returns some.
@@ -129,8 +129,8 @@ impl RunAgent {
     ///
     /// [`Error::Ended`], [`Error::Closed`], [`Error::Memory`].
     pub fn scan(&mut self, name: &str) -> Result<(MoveNumber, Vec<(Location, Value)>), Error> {
-        let (before, (number, told)) = self.tell(|agent| agent.scan(name))?;
-        Ok((number.behind(before), told))
+        let (before, (number, result)) = self.call_on_state(|agent| agent.scan(name))?;
+        Ok((number.behind(before), result))
     }
 
     /// Returns all locations that have a value, as [`RunAgent::peek`] returns some.
@@ -139,14 +139,14 @@ impl RunAgent {
     ///
     /// [`Error::Ended`], [`Error::Closed`], [`Error::Memory`].
     pub fn state(&mut self) -> Result<(MoveNumber, Vec<(Location, Value)>), Error> {
-        let (before, (number, told)) = self.tell(Agent::state)?;
-        Ok((number.behind(before), told))
+        let (before, (number, result)) = self.call_on_state(Agent::state)?;
+        Ok((number.behind(before), result))
     }
 
-    fn tell<T>(&mut self, call: impl Fn(&Agent) -> Result<T, Error>) -> Result<(u64, T), Error> {
+    fn call_on_state<T>(&mut self, call: impl Fn(&Agent) -> Result<T, Error>) -> Result<(u64, T), Error> {
         loop {
-            if let Some(told) = self.seat.tell(&self.core, &call)? {
-                return Ok(told);
+            if let Some(result) = self.seat.call_on_state(&self.core, &call)? {
+                return Ok(result);
             }
             self.core.await_part()?;
         }
@@ -183,21 +183,21 @@ pub struct RunStep<'a> {
 }
 
 impl RunStep<'_> {
-    fn lent(&self) -> Option<&Lent<'_>> {
+    fn seat_step(&self) -> Option<&SeatStep<'_>> {
         match &self.step.agent {
-            Holder::Lent(lent) => Some(lent),
+            Holder::Seat(seat_step) => Some(seat_step),
             Holder::Own(_) => None,
         }
     }
 
     /// The number of the part in which it began, which is that of its segment.
     pub fn part(&self) -> u64 {
-        self.lent().map_or(0, |it| it.part().number)
+        self.seat_step().map_or(0, |it| it.part().number)
     }
 
     /// Whether its agent was returned, as its part has ended.
     fn is_past(&self) -> bool {
-        self.lent().is_some_and(|it| it.with(|_| Ok(())) == Err(Conflict::Past.into()))
+        self.seat_step().is_some_and(|it| it.with(|_| Ok(())) == Err(Conflict::Past.into()))
     }
 
     /// Commits as [`Step::commit`] does, and returns the number of the move.

@@ -14,18 +14,18 @@ const MOST: u64 = 100_000_000;
 
 /// Which file it is, and how many bytes it has.
 #[derive(Clone, Copy, PartialEq, Eq)]
-struct Known {
+struct FileId {
     device: u64,
     inode: u64,
     length: u64,
 }
 
-impl Known {
-    fn of(it: &Metadata) -> Known {
-        Known { device: it.dev(), inode: it.ino(), length: it.len() }
+impl FileId {
+    fn of(it: &Metadata) -> FileId {
+        FileId { device: it.dev(), inode: it.ino(), length: it.len() }
     }
 
-    fn is_same_file(self, other: Known) -> bool {
+    fn is_same_file(self, other: FileId) -> bool {
         (self.device, self.inode) == (other.device, other.inode)
     }
 }
@@ -37,7 +37,7 @@ pub(crate) struct RunFolder {
     lock: File,
     end: End,
     /// The file of the last segment, once there is one.
-    last: Option<(PathBuf, Known)>,
+    last: Option<(PathBuf, FileId)>,
 }
 
 impl RunFolder {
@@ -111,7 +111,7 @@ impl RunFolder {
         self.expect_there()?;
         let made = self.path.join(NEW);
         self.drop_new()?;
-        if let Err(error) = written(&made, text) {
+        if let Err(error) = write_file(&made, text) {
             let _ = self.drop_new(); // the disk may be full of it
             return Err(error.into());
         }
@@ -124,7 +124,7 @@ impl RunFolder {
 
     fn know_last(&mut self, last: &Segment) -> Result<(), Error> {
         let path = self.path.join(last.name());
-        let known = Known::of(&fs::symlink_metadata(&path)?);
+        let known = FileId::of(&fs::symlink_metadata(&path)?);
         self.last = Some((path, known));
         Ok(())
     }
@@ -139,22 +139,22 @@ impl RunFolder {
     /// Checks that the path leads to this folder, with the lock and the last segment.
     fn expect_there(&self) -> Result<(), Error> {
         let next = self.end.counts.parts;
-        let gone = |error: io::Error| match error.kind() {
+        let missing = |error: io::Error| match error.kind() {
             io::ErrorKind::NotFound => {
                 damaged(next, format!("{}: what the run has written was removed", self.path.display()))
             }
             _ => error.into(),
         };
-        let at_path = Known::of(&fs::metadata(&self.path).map_err(gone)?);
-        if !at_path.is_same_file(Known::of(&self.folder.metadata()?)) {
+        let at_path = FileId::of(&fs::metadata(&self.path).map_err(missing)?);
+        if !at_path.is_same_file(FileId::of(&self.folder.metadata()?)) {
             return Err(damaged(next, format!("{} was moved or replaced", self.path.display())));
         }
-        let lock = Known::of(&fs::symlink_metadata(self.path.join(LOCK)).map_err(gone)?);
-        if !lock.is_same_file(Known::of(&self.lock.metadata()?)) {
+        let lock = FileId::of(&fs::symlink_metadata(self.path.join(LOCK)).map_err(missing)?);
+        if !lock.is_same_file(FileId::of(&self.lock.metadata()?)) {
             return Err(damaged(next, format!("the lock in {} was replaced", self.path.display())));
         }
         match &self.last {
-            Some((path, known)) if Known::of(&fs::symlink_metadata(path).map_err(gone)?) != *known => {
+            Some((path, known)) if FileId::of(&fs::symlink_metadata(path).map_err(missing)?) != *known => {
                 Err(damaged(next.saturating_sub(1), "its file was replaced, or has another size".to_owned()))
             }
             _ => Ok(()),
@@ -169,7 +169,7 @@ impl Drop for RunFolder {
     }
 }
 
-fn written(path: &Path, text: &[u8]) -> io::Result<()> {
+fn write_file(path: &Path, text: &[u8]) -> io::Result<()> {
     let mut file = File::options().write(true).create_new(true).mode(0o600).open(path)?;
     file.write_all(text)?;
     file.sync_all()

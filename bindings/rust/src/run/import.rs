@@ -4,7 +4,7 @@ use crate::error::Error;
 use crate::journal::JournalError;
 use crate::run::MOVES;
 use crate::run::folder::{RunFolder, real, sync_folder};
-use crate::run::writer::apart;
+use crate::run::writer::on_own_thread;
 use crate::storage::Storage;
 use std::fs::{self, File};
 use std::io::{self, BufRead, BufReader, Seek, SeekFrom, Write};
@@ -31,20 +31,20 @@ pub fn import_run(file: impl AsRef<Path>, folder: impl AsRef<Path>) -> Result<(C
         return Err(Error::File { kind: io::ErrorKind::AlreadyExists, why });
     }
     let mut source = File::open(file)?;
-    let made = beside(&path)?;
-    let told = apart(|| imported(&mut source, &made)).and_then(|told| {
+    let made = import_path(&path)?;
+    let result = on_own_thread(|| import_parts(&mut source, &made)).and_then(|result| {
         fs::rename(&made, &path)?;
         sync_folder(path.parent().unwrap_or(Path::new("/")))?;
-        Ok(told)
+        Ok(result)
     });
-    if told.is_err() && !matches!(told, Err(Error::InUse)) {
+    if result.is_err() && !matches!(result, Err(Error::InUse)) {
         let _ = fs::remove_dir_all(&made);
     }
-    told
+    result
 }
 
 /// Returns the folder in which the run is made; what an import that was killed has left there is removed.
-fn beside(path: &Path) -> Result<PathBuf, Error> {
+fn import_path(path: &Path) -> Result<PathBuf, Error> {
     let name = path.file_name().ok_or_else(|| io::Error::from(io::ErrorKind::InvalidFilename))?;
     let made = path.with_file_name(format!(".{}.import", name.to_string_lossy()));
     match RunFolder::reopen(&made) {
@@ -56,7 +56,7 @@ fn beside(path: &Path) -> Result<PathBuf, Error> {
 }
 
 /// Saves the complete parts of the file.
-fn imported(source: &mut File, made: &Path) -> Result<(Counts, u64), Error> {
+fn import_parts(source: &mut File, made: &Path) -> Result<(Counts, u64), Error> {
     let (mut folder, mut end) = (None, 0);
     let fault = each_part(source, |text, more| {
         let folder = match &mut folder {
@@ -74,7 +74,7 @@ fn imported(source: &mut File, made: &Path) -> Result<(Counts, u64), Error> {
         return Err(fault.unwrap_or(AuditError::Journal { part: 0, fault: JournalError::Cut }).into());
     };
     if let Some(fault) = fault
-        && (!is_of_a_crash(fault) || has_header_behind(source, end)?)
+        && (!is_of_a_crash(fault) || has_header_after(source, end)?)
     {
         return Err(fault.into());
     }
@@ -89,11 +89,11 @@ fn each_part(
     let (mut input, mut auditor) = (BufReader::with_capacity(1 << 16, source), Auditor::new());
     let (mut part, mut before) = (Vec::new(), Counts::default());
     loop {
-        let begun = part.len();
+        let start = part.len();
         if input.read_until(b'\n', &mut part)? == 0 {
             return Ok(auditor.finish().err());
         }
-        if let Err(error) = auditor.write_all(&part[begun..]) {
+        if let Err(error) = auditor.write_all(&part[start..]) {
             return Ok(Some(error.downcast::<AuditError>()?));
         }
         let now = auditor.counts();
@@ -119,7 +119,7 @@ fn is_of_a_crash(fault: AuditError) -> bool {
 }
 
 /// Whether a line after the one at this place begins as the header of a part does.
-fn has_header_behind(source: &mut File, start: u64) -> io::Result<bool> {
+fn has_header_after(source: &mut File, start: u64) -> io::Result<bool> {
     source.seek(SeekFrom::Start(start))?;
     let mut lines = BufReader::new(source).split(b'\n').skip(1);
     lines.try_fold(false, |found, line| Ok(found || line?.starts_with(HEADER)))

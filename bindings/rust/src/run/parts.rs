@@ -45,7 +45,7 @@ struct State {
 }
 
 impl State {
-    fn goes_on(&self) -> Result<(), Error> {
+    fn expect_running(&self) -> Result<(), Error> {
         match &self.ended {
             Some(ended) => Err(Error::Ended(ended.clone())),
             None if self.is_closing => Err(Error::Closed),
@@ -113,8 +113,8 @@ impl Core {
         self.lock().saved
     }
 
-    pub(crate) fn goes_on(&self) -> Result<(), Error> {
-        self.lock().goes_on()
+    pub(crate) fn expect_running(&self) -> Result<(), Error> {
+        self.lock().expect_running()
     }
 
     // The calls of agents. Whoever has the lock of a seat takes that of the state, and never the other way round.
@@ -122,7 +122,7 @@ impl Core {
     /// Returns a seat with this number, which no agent in use has.
     pub(crate) fn seat(&self, number: AgentNumber) -> Result<Arc<Seat>, Error> {
         let mut state = self.lock();
-        state.goes_on()?;
+        state.expect_running()?;
         match state.seats.entry(number) {
             Entry::Occupied(_) => Err(Error::NumberTaken(number)),
             Entry::Vacant(free) => {
@@ -135,7 +135,7 @@ impl Core {
     /// Returns seats with the numbers from 0 up, all of them or none.
     pub(crate) fn seats(&self, count: usize) -> Result<Vec<Arc<Seat>>, Error> {
         let mut state = self.lock();
-        state.goes_on()?;
+        state.expect_running()?;
         if let Some((taken, _)) = state.seats.iter().find(|(number, _)| usize::from(**number) < count) {
             return Err(Error::NumberTaken(*taken));
         }
@@ -152,7 +152,7 @@ impl Core {
     /// Returns an agent in the newest part; none if that has ended.
     pub(crate) fn enter(&self, number: AgentNumber) -> Result<Option<(Agent, Arc<Part>)>, Error> {
         let mut state = self.lock();
-        state.goes_on()?;
+        state.expect_running()?;
         let Some(last) = state.parts.back_mut().filter(|it| !it.part.has_ended()) else {
             return Ok(None);
         };
@@ -165,7 +165,7 @@ impl Core {
     }
 
     /// An agent of the part has come back, or is lost.
-    pub(crate) fn came_back(&self, part: &Part) {
+    pub(crate) fn note_return(&self, part: &Part) {
         let mut state = self.lock();
         if let Some(it) = state.parts.iter_mut().find(|it| it.part.number == part.number) {
             it.out -= 1;
@@ -195,7 +195,7 @@ impl Core {
     }
 
     /// Opens a part after the agent's own, which is full, unless too many wait for the writer.
-    pub(crate) fn go_on(&self, agent: &Agent, part: &Part) -> Result<(), Error> {
+    pub(crate) fn open_next(&self, agent: &Agent, part: &Part) -> Result<(), Error> {
         let mut state = self.lock();
         let is_behind = state.parts.len() > WAITING;
         let Some(last) = state.parts.back_mut().filter(|it| it.part.number == part.number && !part.has_ended()) else {
@@ -216,7 +216,7 @@ impl Core {
     pub(crate) fn await_part(&self) -> Result<(), Error> {
         let mut state = self.lock();
         loop {
-            state.goes_on()?;
+            state.expect_running()?;
             let is_behind = state.parts.len() > WAITING;
             if state.parts.back().is_some_and(|it| !(it.part.has_ended() || it.is_full && is_behind)) {
                 return Ok(());
@@ -230,7 +230,7 @@ impl Core {
     /// Ends the newest part, if it has moves, and waits until all up to it are on the disk.
     pub(crate) fn flush(&self) -> Result<Counts, Error> {
         let mut state = self.lock();
-        state.goes_on()?;
+        state.expect_running()?;
         let newest = state.parts.back().map(|it| Arc::clone(&it.part));
         let Some(newest) = newest else { return Ok(state.saved) };
         let is_empty = newest.storage.moves() == 0;
@@ -320,7 +320,7 @@ impl Core {
     /// Opens a part after one that has ended at rest and whose journal was closed; returns whether it is the last one. None if
     /// the
     /// state is too long, so that the part goes on until it is full.
-    pub(crate) fn go_on_at_rest(&self, part: &Part) -> Result<Option<bool>, Error> {
+    pub(crate) fn open_next_at_rest(&self, part: &Part) -> Result<Option<bool>, Error> {
         let mut state = self.lock();
         let is_closing = state.is_closing;
         let Some(last) = state.parts.back_mut().filter(|it| it.part.number == part.number) else {

@@ -32,7 +32,7 @@ struct Place {
 }
 
 /// A step that was begun.
-pub(crate) struct Begun {
+pub(crate) struct StepStart {
     pub(crate) number: u32,
     pub(crate) part: Arc<Part>,
     step: u64,
@@ -66,15 +66,15 @@ impl Seat {
     }
 
     /// Begins a step in the newest part; returns none if that has ended, or is full. A step that was forgotten ends.
-    pub(crate) fn begin(&self, core: &Core) -> Result<Option<Begun>, Error> {
+    pub(crate) fn begin(&self, core: &Core) -> Result<Option<StepStart>, Error> {
         let mut place = self.lock();
         place.end_step(core);
-        let Some(player) = self.come_in(&mut place, core)? else { return Ok(None) };
+        let Some(player) = self.enter_part(&mut place, core)? else { return Ok(None) };
         let number = player.agent.begin()?;
         let part = Arc::clone(&player.part);
         if number == core.moves() {
             player.agent.slots.end_step();
-            core.go_on(&player.agent, &part)?;
+            core.open_next(&player.agent, &part)?;
             return Ok(None);
         }
         core.end_heavy(&part);
@@ -84,17 +84,17 @@ impl Seat {
         }
         place.steps += 1;
         place.is_in_step = true;
-        Ok(Some(Begun { number, part, step: place.steps }))
+        Ok(Some(StepStart { number, part, step: place.steps }))
     }
 
     /// Polls, and returns how many moves of the run it has then seen; none if the newest part has ended, or is full.
     pub(crate) fn follow(&self, core: &Core) -> Result<Option<u64>, Error> {
         let mut place = self.lock();
         place.end_step(core);
-        let Some(player) = self.come_in(&mut place, core)? else { return Ok(None) };
-        let number = player.agent.looked()?;
+        let Some(player) = self.enter_part(&mut place, core)? else { return Ok(None) };
+        let number = player.agent.poll()?;
         if number == core.moves() {
-            core.go_on(&player.agent, &player.part)?;
+            core.open_next(&player.agent, &player.part)?;
             return Ok(None);
         }
         Ok(Some(player.part.before + u64::from(number)))
@@ -103,20 +103,20 @@ impl Seat {
     /// Makes a call on the agent's own state in the newest part. Returns the number of moves before that part with the result;
     /// none
     /// if the part has ended.
-    pub(crate) fn tell<T>(
+    pub(crate) fn call_on_state<T>(
         &self,
         core: &Core,
         call: impl FnOnce(&Agent) -> Result<T, Error>,
     ) -> Result<Option<(u64, T)>, Error> {
         let mut place = self.lock();
         place.end_step(core);
-        let Some(player) = self.come_in(&mut place, core)? else { return Ok(None) };
+        let Some(player) = self.enter_part(&mut place, core)? else { return Ok(None) };
         Ok(Some((player.part.before, call(&player.agent)?)))
     }
 
     /// Returns the agent, in a part that hasn't ended; one in a part that has ended is returned to it first.
-    fn come_in<'a>(&self, place: &'a mut Place, core: &Core) -> Result<Option<&'a mut Player>, Error> {
-        core.goes_on()?;
+    fn enter_part<'a>(&self, place: &'a mut Place, core: &Core) -> Result<Option<&'a mut Player>, Error> {
+        core.expect_running()?;
         if place.player.as_ref().is_some_and(|it| it.part.has_ended()) {
             place.give_back(core);
         }
@@ -132,8 +132,8 @@ impl Seat {
     /// Returns the agent to its storage, if it is in the part, and in no step unless that has taken too long.
     pub(crate) fn take_back(&self, core: &Core, part: &Part, is_late: bool) {
         let mut place = self.lock();
-        let is_there = place.player.as_ref().is_some_and(|it| it.part.number == part.number);
-        if is_there && (is_late || !place.is_in_step) {
+        let is_in_part = place.player.as_ref().is_some_and(|it| it.part.number == part.number);
+        if is_in_part && (is_late || !place.is_in_step) {
             place.give_back(core);
         }
     }
@@ -148,7 +148,7 @@ impl Seat {
         let mut place = self.lock();
         if let Some(Player { agent, part }) = place.player.take() {
             agent.abandon();
-            core.came_back(&part);
+            core.note_return(&part);
         }
     }
 }
@@ -170,16 +170,16 @@ impl Place {
     fn give_back(&mut self, core: &Core) {
         if let Some(Player { agent, part }) = self.player.take() {
             drop(agent);
-            core.came_back(&part);
+            core.note_return(&part);
         }
     }
 }
 
 /// The agent of a seat, as long as a step goes on.
-pub(crate) struct Lent<'a> {
+pub(crate) struct SeatStep<'a> {
     core: &'a Core,
     seat: &'a Seat,
-    begun: Begun,
+    start: StepStart,
     /// About how many bytes of text it has pushed and read.
     size: Cell<usize>,
     /// Whether a pushed move may have partial updates.
@@ -188,10 +188,10 @@ pub(crate) struct Lent<'a> {
     names_more: Cell<bool>,
 }
 
-impl<'a> Lent<'a> {
-    pub(crate) fn new(core: &'a Core, seat: &'a Seat, begun: Begun) -> Lent<'a> {
+impl<'a> SeatStep<'a> {
+    pub(crate) fn new(core: &'a Core, seat: &'a Seat, start: StepStart) -> SeatStep<'a> {
         let (is_partial, names_more) = (Cell::new(false), Cell::new(false));
-        Lent { core, seat, begun, size: Cell::new(0), is_partial, names_more }
+        SeatStep { core, seat, start, size: Cell::new(0), is_partial, names_more }
     }
 
     pub(crate) fn number(&self) -> AgentNumber {
@@ -199,15 +199,15 @@ impl<'a> Lent<'a> {
     }
 
     pub(crate) fn part(&self) -> &Part {
-        &self.begun.part
+        &self.start.part
     }
 
     /// Calls the agent; [`Conflict::Past`] if it was returned since.
     pub(crate) fn with<T>(&self, call: impl FnOnce(&Agent) -> Result<T, Error>) -> Result<T, Error> {
         let place = self.seat.lock();
         match &place.player {
-            Some(player) if place.is_in_step && place.steps == self.begun.step => call(&player.agent),
-            _ => Err(self.core.goes_on().err().unwrap_or(Conflict::Past.into())),
+            Some(player) if place.is_in_step && place.steps == self.start.step => call(&player.agent),
+            _ => Err(self.core.expect_running().err().unwrap_or(Conflict::Past.into())),
         }
     }
 
@@ -230,14 +230,14 @@ impl<'a> Lent<'a> {
     /// Commits in its part.
     pub(crate) fn commit(&self) -> Result<u32, Error> {
         let part = self.part();
-        let told = self.with(|agent| {
+        let result = self.with(|agent| {
             if self.size.get() >= short() || (self.names_more.get() && agent.is_recording()) {
                 expect_call(agent)?;
             }
             part.count_receipts(1 + u64::from(agent.is_recording()));
             commit(agent)
         });
-        match told {
+        match result {
             Ok(number) => {
                 self.core.fired(part);
                 Ok(number)
@@ -248,10 +248,10 @@ impl<'a> Lent<'a> {
     }
 }
 
-impl Drop for Lent<'_> {
+impl Drop for SeatStep<'_> {
     fn drop(&mut self) {
         let mut place = self.seat.lock();
-        if place.steps == self.begun.step {
+        if place.steps == self.start.step {
             place.end_step(self.core);
         }
     }

@@ -27,13 +27,13 @@ impl End {
 
     /// Returns the next segment, with this text.
     pub(crate) fn following(&self, more: Counts, text: &[u8]) -> Segment {
-        let mut digest = self.begun(more, text.len() as u64);
+        let mut digest = self.digest_start(more, text.len() as u64);
         digest.update(text);
         Segment { before: self.clone(), more, digest: digest.hex() }
     }
 
     /// Returns the digest of all that comes before the text of the next segment.
-    fn begun(&self, more: Counts, length: u64) -> Sha256 {
+    fn digest_start(&self, more: Counts, length: u64) -> Sha256 {
         let (End { counts, digest: before }, Counts { moves, calls, .. }) = (self, more);
         let mut digest = Sha256::new();
         digest.update(format!("{before} {} {} {moves} {calls} {length}\n", counts.parts, counts.moves).as_bytes());
@@ -41,9 +41,9 @@ impl End {
     }
 
     /// Returns the segment after this end, whose file has the name.
-    fn named(&self, name: &str) -> Result<Segment, Error> {
+    fn segment_named(&self, name: &str) -> Result<Segment, Error> {
         let next = self.counts.parts;
-        let Some((number, more, digest)) = parsed(name) else {
+        let Some((number, more, digest)) = parse_name(name) else {
             return Err(damaged(next, format!("{name:?} is no name of a segment")));
         };
         if number != next {
@@ -92,8 +92,8 @@ impl Segment {
         self.read(folder, &mut io::sink())?; // the digest comes first
         let mut wanted = auditor.counts();
         wanted.add(self.more);
-        let told = self.read(folder, auditor).and_then(|()| Ok(auditor.finish()?));
-        match told {
+        let result = self.read(folder, auditor).and_then(|()| Ok(auditor.finish()?));
+        match result {
             Ok(counts) if counts == wanted => Ok(()),
             Ok(_) => {
                 Err(damaged(self.number(), "its text has other numbers of moves or events than its name".to_owned()))
@@ -110,7 +110,7 @@ impl Segment {
             io::ErrorKind::NotFound => damaged(self.number(), "its file is gone".to_owned()),
             _ => error.into(),
         })?;
-        let mut digest = self.before.begun(self.more, file.metadata()?.len());
+        let mut digest = self.before.digest_start(self.more, file.metadata()?.len());
         let mut piece = vec![0; PIECE];
         loop {
             let length = file.read(&mut piece)?;
@@ -139,7 +139,7 @@ pub(crate) fn segments(folder: &Path) -> Result<Vec<Segment>, Error> {
     names.sort();
     let (mut all, mut end) = (Vec::new(), End::start());
     for name in names {
-        let segment = end.named(&name)?;
+        let segment = end.segment_named(&name)?;
         end = segment.end();
         all.push(segment);
     }
@@ -155,7 +155,7 @@ pub(crate) fn is_name(name: &str) -> bool {
 }
 
 /// The number of a segment, how much it has, and the digest.
-fn parsed(name: &str) -> Option<(u64, Counts, &str)> {
+fn parse_name(name: &str) -> Option<(u64, Counts, &str)> {
     let mut words = name.strip_suffix(SUFFIX)?.split('-');
     let [number, moves, calls, digest] = [words.next()?, words.next()?, words.next()?, words.next()?];
     let is_digest = digest.len() == 64 && digest.bytes().all(|it| matches!(it, b'0'..=b'9' | b'a'..=b'f'));
@@ -163,11 +163,11 @@ fn parsed(name: &str) -> Option<(u64, Counts, &str)> {
     if words.next().is_some() || !is_digest || !is_number {
         return None;
     }
-    Some((number.parse().ok()?, Counts { parts: 1, calls: whole(calls)?, moves: whole(moves)? }, digest))
+    Some((number.parse().ok()?, Counts { parts: 1, calls: parse_number(calls)?, moves: parse_number(moves)? }, digest))
 }
 
 /// The number that is written so.
-fn whole(text: &str) -> Option<u64> {
+fn parse_number(text: &str) -> Option<u64> {
     let number: u64 = text.parse().ok()?;
     (number.to_string() == text).then_some(number)
 }

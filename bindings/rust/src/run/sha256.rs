@@ -37,8 +37,8 @@ impl Sha256 {
             if self.rest.len() < BLOCK {
                 return;
             }
-            let whole = std::mem::take(&mut self.rest);
-            self.compress(&whole);
+            let complete = std::mem::take(&mut self.rest);
+            self.compress(&complete);
         }
         let mut blocks = bytes.chunks_exact(BLOCK);
         blocks.by_ref().for_each(|it| self.compress(it));

@@ -46,7 +46,7 @@ pub(crate) fn save_parts(core: &Core, folder: RunFolder) {
 fn save(core: &Core, part: &Part, folder: &mut RunFolder) -> Result<bool, Error> {
     let journal = part.storage.close()?;
     let calls = events(journal.as_bytes())?;
-    let Some(is_last) = core.go_on_at_rest(part)? else { return Ok(false) };
+    let Some(is_last) = core.open_next_at_rest(part)? else { return Ok(false) };
     if !is_last || calls > 0 {
         folder.save(journal.as_bytes(), Counts { parts: 1, calls, moves: part.storage.moves().into() })?;
     }
@@ -64,7 +64,7 @@ fn cause(error: Error) -> EndCause {
 }
 
 /// Does what writes files in a thread of its own, in which a file that becomes too large is an error and kills nobody.
-pub(crate) fn apart<T: Send>(work: impl FnOnce() -> T + Send) -> T {
+pub(crate) fn on_own_thread<T: Send>(work: impl FnOnce() -> T + Send) -> T {
     let work = || {
         hold_size_signal();
         work()

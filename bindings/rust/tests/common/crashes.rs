@@ -20,7 +20,7 @@ enum Change {
 
 /// How much a state has: how many segments were reported as saved, and the files, which are none if the folder is none.
 pub struct Left {
-    pub told: u64,
+    pub answered: u64,
     pub files: Option<Vec<(String, Vec<u8>)>>,
 }
 
@@ -33,7 +33,7 @@ struct Disk {
     pending: Vec<Change>,
     is_made: bool,
     is_there: bool,
-    told: u64,
+    answered: u64,
 }
 
 impl Disk {
@@ -41,7 +41,7 @@ impl Disk {
         let words: Vec<_> = line.split(' ').collect();
         let name = words[1].to_owned();
         match (words[0], words[1]) {
-            ("told", number) => self.told = number.parse().unwrap(),
+            ("told", number) => self.answered = number.parse().unwrap(),
             ("mkdir", _) => self.is_made = true,
             ("create", _) => {
                 self.now.insert(name.clone(), self.files.len());
@@ -111,9 +111,9 @@ fn left(text: &[u8], file: File, draw: &mut Draw) -> Vec<u8> {
 pub fn crashed(calls: &[&str], folder: &Path, notes_folder: bool, draw: &mut Draw) -> Left {
     let mut disk = Disk::default();
     calls.iter().for_each(|it| disk.note(it, notes_folder));
-    let told = disk.told;
+    let answered = disk.answered;
     if !disk.is_there && draw.below(2) == 0 {
-        return Left { told, files: None };
+        return Left { answered, files: None };
     }
     let some = draw.below(disk.pending.len() as u64 + 1) as usize;
     let count = [0, disk.pending.len(), some][draw.below(3) as usize];
@@ -125,5 +125,5 @@ pub fn crashed(calls: &[&str], folder: &Path, notes_folder: bool, draw: &mut Dra
         let text = if text.len() < file.written { vec![b'x'; file.written] } else { text };
         (name.clone(), left(&text, file, draw))
     });
-    Left { told, files: Some(files.collect()) }
+    Left { answered, files: Some(files.collect()) }
 }

@@ -4,19 +4,19 @@ use std::cell::{Cell, UnsafeCell};
 use std::ptr;
 
 /// The room that a thread's first call has for its text.
-const FIRST_ROOM: usize = 1024;
+const FIRST_SIZE: usize = 1024;
 /// The most room that a thread keeps for its next call.
-const KEPT_ROOM: usize = 64 * FIRST_ROOM;
+const LARGEST_BUFFER: usize = 64 * FIRST_SIZE;
 
 /// A slot that never moves, and is freed when it is dropped.
-pub(crate) struct Held(Box<UnsafeCell<sys::Slot>>);
+pub(crate) struct OwnedSlot(Box<UnsafeCell<sys::Slot>>);
 
 // SAFETY: A slot goes from one thread to another with what holds it; it isn't Sync, so no two threads call with it at once.
-unsafe impl Send for Held {}
+unsafe impl Send for OwnedSlot {}
 
-impl Held {
-    pub(crate) fn empty() -> Held {
-        Held(Box::new(UnsafeCell::new(sys::Slot { full: false, at: ptr::null_mut() })))
+impl OwnedSlot {
+    pub(crate) fn empty() -> OwnedSlot {
+        OwnedSlot(Box::new(UnsafeCell::new(sys::Slot { full: false, at: ptr::null_mut() })))
     }
 
     /// For one call: none of the library's calls keeps the pointer.
@@ -35,32 +35,32 @@ impl Held {
     }
 }
 
-impl Drop for Held {
+impl Drop for OwnedSlot {
     fn drop(&mut self) {
         self.free();
     }
 }
 
 /// Makes a call that writes a text, again with more room if there is too little; returns its code with the text.
-pub(crate) fn told(mut call: impl FnMut(*mut u8, usize, *mut usize) -> i32) -> (i32, Vec<u8>) {
+pub(crate) fn text_of_call(mut call: impl FnMut(*mut u8, usize, *mut usize) -> i32) -> (i32, Vec<u8>) {
     thread_local! {
-        static KEPT: Cell<Vec<u8>> = const { Cell::new(Vec::new()) };
+        static BUFFER: Cell<Vec<u8>> = const { Cell::new(Vec::new()) };
     }
     // In the destructors of a thread's locals nothing is kept any more.
-    let mut text = KEPT.try_with(Cell::take).unwrap_or_default();
+    let mut text = BUFFER.try_with(Cell::take).unwrap_or_default();
     if text.is_empty() {
-        text.resize(FIRST_ROOM, 0);
+        text.resize(FIRST_SIZE, 0);
     }
     loop {
         let mut written = 0;
         let code = call(text.as_mut_ptr(), text.len(), &raw mut written);
         if code != sys::SMALL {
-            if text.len() > KEPT_ROOM {
+            if text.len() > LARGEST_BUFFER {
                 text.truncate(written);
                 return (code, text);
             }
             let answer = text[..written].to_vec();
-            let _ = KEPT.try_with(|kept| kept.set(text));
+            let _ = BUFFER.try_with(|buffer| buffer.set(text));
             return (code, answer);
         }
         text.resize(written, 0);
