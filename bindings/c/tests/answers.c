@@ -18,7 +18,7 @@ static void end_all(void) {
 }
 
 static void answered(struct asm_agent *agent, const char *answer) {
-    TELLS(ASM_DONE, answer, asm_answer(agent, OUT));
+    WRITES(ASM_DONE, answer, asm_answer(agent, OUT));
 }
 
 /* Locations that aren't read leave the answer before them unchanged. */

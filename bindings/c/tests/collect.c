@@ -27,7 +27,7 @@ static int add(char *text, int at, const char *format, unsigned a, unsigned b) {
     return at + snprintf(text + at, (size_t)(LONGEST - at), format, a, b);
 }
 
-static void told(const model *m, char *text) {
+static void state_text(const model *m, char *text) {
     int at = add(text, 0, "{'set':[", 0, 0);
     const char *comma = "";
     for (unsigned e = 0; e < ELEMENTS; e++)
@@ -47,9 +47,9 @@ static void told(const model *m, char *text) {
 
 static void is_seen(uint32_t number) {
     char values[LONGEST], text[LONGEST + 64];
-    told(&levels[top], values);
+    state_text(&levels[top], values);
     snprintf(text, sizeof text, "{'number':%" PRIu32 ",'values':[%s]}", number, values);
-    TELLS(ASM_DONE, text, asm_see(&agent, &step, TEXT("[['s'],['b'],['c']]"), OUT));
+    WRITES(ASM_DONE, text, asm_see(&agent, &step, TEXT("[['s'],['b'],['c']]"), OUT));
 }
 
 /* One instruction, and its effect on the model; returns whether it has a result. */
@@ -120,7 +120,7 @@ static void one_round(uint32_t number) {
 }
 
 /* The counts that aren't 0, as a bag. */
-static void told_bag(const unsigned *counts, char *text) {
+static void bag_text(const unsigned *counts, char *text) {
     int at = add(text, 0, "{'bag':[", 0, 0);
     const char *comma = "";
     for (unsigned e = 0; e < WIDE; e++)
@@ -158,12 +158,12 @@ static void add_and_remove(unsigned e) {
 
 static void is_bag(const unsigned *counts, uint32_t number, bool fired) {
     char bag[LONGEST], text[LONGEST + 64];
-    told_bag(counts, bag);
+    bag_text(counts, bag);
     snprintf(text, sizeof text, "{'number':%" PRIu32 ",'values':[%s]}", number, bag);
     if (fired)
-        TELLS(ASM_DONE, text, asm_peek(&agent, TEXT("[['b']]"), OUT));
+        WRITES(ASM_DONE, text, asm_peek(&agent, TEXT("[['b']]"), OUT));
     else
-        TELLS(ASM_DONE, text, asm_see(&agent, &step, TEXT("[['b']]"), OUT));
+        WRITES(ASM_DONE, text, asm_see(&agent, &step, TEXT("[['b']]"), OUT));
 }
 
 /* A bag of many elements, below every second one of those that the step adds or removes. */
@@ -174,7 +174,7 @@ static void collect_into_a_bag(void) {
     asm_numbers numbers;
     for (unsigned e = 0; e < WIDE; e += 2)
         counts[e] = 2;
-    told_bag(counts, bag);
+    bag_text(counts, bag);
     snprintf(init, sizeof init, "[[['b'],%s]]", bag);
     open_with(init, 1, &storage);
     REQUIRE(asm_agent(&storage, 0, &agent) == ASM_DONE);
@@ -209,9 +209,9 @@ int main(void) {
     char values[LONGEST], text[LONGEST + 64];
     uint32_t follows;
     REQUIRE(asm_follow(&agent, &follows) == ASM_DONE && follows == MOVES);
-    told(&levels[0], values);
+    state_text(&levels[0], values);
     snprintf(text, sizeof text, "{'number':%d,'values':[%s]}", MOVES, values);
-    TELLS(ASM_DONE, text, asm_peek(&agent, TEXT("[['s'],['b'],['c']]"), OUT));
+    WRITES(ASM_DONE, text, asm_peek(&agent, TEXT("[['s'],['b'],['c']]"), OUT));
     REQUIRE(asm_give(&storage, &agent) == ASM_DONE);
     char *journal = journal_of(&storage);
     is_legal(journal, MOVES, MOVES);

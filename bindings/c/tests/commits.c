@@ -12,19 +12,19 @@ static void one_receipt(void) {
     push("[['put',['x'],8],['inc',['c'],2]]");
     gets("['x']", 0, "8");
     gets("['y']", 0, "9");
-    TELLS(ASM_DONE, "[[['c'],2]]", asm_step_scan(&agents[0], &step, TEXT("c"), OUT));
+    WRITES(ASM_DONE, "[[['c'],2]]", asm_step_scan(&agents[0], &step, TEXT("c"), OUT));
     push("[['inc',['x'],1],['add',['s'],2]]");
     gets("['x']", 0, "9");
-    TELLS(ASM_DONE, "{'number':0,'values':[7]}", asm_peek(&agents[0], TEXT("[['x']]"), OUT));
+    WRITES(ASM_DONE, "{'number':0,'values':[7]}", asm_peek(&agents[0], TEXT("[['x']]"), OUT));
     ANSWERS(ASM_DONE, asm_stands(&agents[0], TEXT("[[['x'],0]]"), OUT));
     REQUIRE(asm_follow(&agents[0], &number) == ASM_DONE && number == 0);
     gets("['s']", 0, "{'set':[1,2]}");
-    TELLS(ASM_DONE, "{'number':0,'values':[2,null]}",
-          asm_see(&agents[0], &step, TEXT("[['c'],['none']]"), OUT));
-    TELLS(ASM_DONE,
-          "{'fire':[['inc',['c'],2],['add',['s'],2],['put',['x'],9]],"
-          "'reads':[[['s'],0],[['x'],0],[['y'],0]]}",
-          asm_offer(&step, OUT));
+    WRITES(ASM_DONE, "{'number':0,'values':[2,null]}",
+           asm_see(&agents[0], &step, TEXT("[['c'],['none']]"), OUT));
+    WRITES(ASM_DONE,
+           "{'fire':[['inc',['c'],2],['add',['s'],2],['put',['x'],9]],"
+           "'reads':[[['s'],0],[['x'],0],[['y'],0]]}",
+           asm_offer(&step, OUT));
     fired(1);
     journal_is("{'agent':0,'call':{'fire':[['inc',['c'],2],['add',['s'],2],['put',['x'],9]],"
                "'reads':[[['s'],0],[['x'],0],[['y'],0]]},'reply':{'fired':1}}\n",
@@ -38,21 +38,21 @@ static void offers(void) {
     const char *offer = "{'fire':[['inc',['c'],3]],'reads':[[['c'],0],[['none'],0]]}";
     asm_numbers numbers;
     begin_with(8);
-    TELLS(ASM_DONE, "{'fire':[],'reads':[]}", asm_offer(&step, OUT));
+    WRITES(ASM_DONE, "{'fire':[],'reads':[]}", asm_offer(&step, OUT));
     push("[['inc',['c'],1]]");
-    TELLS(ASM_DONE, "{'fire':[['inc',['c'],1]],'reads':[]}", asm_offer(&step, OUT));
+    WRITES(ASM_DONE, "{'fire':[['inc',['c'],1]],'reads':[]}", asm_offer(&step, OUT));
     push("[['inc',['c'],2]]");
     gets("['none']", 0, "null");
-    TELLS(ASM_DONE, "[[['x'],7]]", asm_step_scan(&agents[0], &step, TEXT("x"), OUT));
-    TELLS(ASM_DONE, offer, asm_offer(&step, OUT));
+    WRITES(ASM_DONE, "[[['x'],7]]", asm_step_scan(&agents[0], &step, TEXT("x"), OUT));
+    WRITES(ASM_DONE, offer, asm_offer(&step, OUT));
     REQUIRE(asm_try_fire(&agents[1], TEXT(offer), &numbers) == ASM_DONE);
     REQUIRE(asm_try_fire(&agents[1], TEXT(offer), &numbers) == ASM_STALE);
     /* It is of the step's number, whatever was fired since. */
     refused(ASM_STALE, "{'stale':['c']}");
-    TELLS(ASM_DONE, offer, asm_offer(&step, OUT));
+    WRITES(ASM_DONE, offer, asm_offer(&step, OUT));
     pop();
-    TELLS(ASM_DONE, "{'fire':[['inc',['c'],1]],'reads':[[['c'],0],[['none'],0]]}",
-          asm_offer(&step, OUT));
+    WRITES(ASM_DONE, "{'fire':[['inc',['c'],1]],'reads':[[['c'],0],[['none'],0]]}",
+           asm_offer(&step, OUT));
     refused(ASM_STALE, "{'stale':['c']}");
     begins_at(1);
     fired(2);
@@ -94,7 +94,7 @@ static void stale_reads(void) {
 }
 
 /* A step that is begun again drops what was read, pushed and popped. */
-static void begun_again(void) {
+static void step_begins_again(void) {
     begin_with(8);
     gets("['x']", 0, "7");
     push("[['add',['s'],2]]");
@@ -127,7 +127,7 @@ static void follows_on(void) {
     REQUIRE(asm_follow(&agents[0], &number) == ASM_DONE);
 }
 
-static void looks_on(void) { ANSWERS(ASM_DONE, asm_stands(&agents[0], TEXT("[]"), OUT)); }
+static void polls_agent(void) { ANSWERS(ASM_DONE, asm_stands(&agents[0], TEXT("[]"), OUT)); }
 
 static void fires_stale(void) {
     asm_numbers numbers;
@@ -152,7 +152,8 @@ static void begins_another(void) {
  * step unchanged. A pop and a commit still work: the commit names everything at the step's
  * number. */
 static void moved_agents(void) {
-    void (*moves[])(void) = {reads_on, follows_on, looks_on, fires_stale, fires_on, begins_another};
+    void (*moves[])(void) = {reads_on,    follows_on, polls_agent,
+                             fires_stale, fires_on,   begins_another};
     for (size_t i = 0; i < sizeof moves / sizeof *moves; i++) {
         begin_with(8);
         gets("['x']", 0, "7");
@@ -160,7 +161,7 @@ static void moved_agents(void) {
         push("[['inc',['c'],1]]");
         reads_on();
         follows_on();
-        looks_on();
+        polls_agent();
         gets("['x']", 0, "7");
         fire(&agents[1], "[['put',['y'],1]]");
         REQUIRE(asm_learn(&agents[0], &agents[1]) == ASM_DONE && asm_seen(&agents[0]) == 1);
@@ -206,8 +207,8 @@ static void shared_steps(void) {
     gets("['x']", 0, "7");
     ANSWERS(ASM_DONE, asm_push(&agents[1], &step, TEXT("[['inc',['x'],1]]"), OUT));
     gets("['x']", 0, "8");
-    TELLS(ASM_DONE, "{'number':0,'values':[8,0]}",
-          asm_get(&agents[1], &step, TEXT("[['x'],['c']]"), OUT));
+    WRITES(ASM_DONE, "{'number':0,'values':[8,0]}",
+           asm_get(&agents[1], &step, TEXT("[['x'],['c']]"), OUT));
     fire(&agents[1], "[['put',['y'],1]]");
     REQUIRE(asm_follow(&agents[1], &number) == ASM_DONE && number == 1);
     ANSWERS(ASM_MOVED, asm_get(&agents[1], &step, TEXT("[['x']]"), OUT));
@@ -257,8 +258,8 @@ static void agents_behind(void) {
     REQUIRE(asm_learn(&agents[1], &agents[0]) == ASM_DONE && asm_seen(&agents[1]) == 1);
     is_behind();
     REQUIRE(asm_follow(&agents[1], &number) == ASM_DONE && number == 1);
-    TELLS(ASM_DONE, "{'number':1,'values':[70]}",
-          asm_get(&agents[1], &step, TEXT("[['x']]"), OUT));
+    WRITES(ASM_DONE, "{'number':1,'values':[70]}",
+           asm_get(&agents[1], &step, TEXT("[['x']]"), OUT));
     ANSWERS(ASM_DONE, asm_push(&agents[1], &step, TEXT("[['inc',['x'],1]]"), OUT));
     gets("['x']", 1, "71");
     /* One that is behind may commit: it polls first, and everything is named at the step's
@@ -274,7 +275,7 @@ static void agents_behind(void) {
     gets("['x']", 2, "71");
     fire(&agents[0], "[['put',['x'],7]]");
     REQUIRE(asm_commit(&third, &step, &numbers) == ASM_STALE && step.slot.full);
-    TELLS(ASM_DONE, "{'stale':['x']}", asm_answer(&third, OUT));
+    WRITES(ASM_DONE, "{'stale':['x']}", asm_answer(&third, OUT));
     asm_free_agent(&third);
     end_all();
 }
@@ -357,12 +358,12 @@ static void steady_memory(void) {
         if (round == ROUNDS / 10)
             before = kilobytes();
         gets("['x']", 0, "7");
-        TELLS(ASM_DONE, "[[['c'],0]]", asm_step_scan(&agents[0], &step, TEXT("c"), OUT));
+        WRITES(ASM_DONE, "[[['c'],0]]", asm_step_scan(&agents[0], &step, TEXT("c"), OUT));
         push("[['add',['s'],2]]");
         gets("['s']", 0, "{'set':[1,2]}");
         pop();
-        looks_on();
-        TELLS(ASM_DONE, opening, asm_state(&agents[0], &number, OUT));
+        polls_agent();
+        WRITES(ASM_DONE, opening, asm_state(&agents[0], &number, OUT));
         if (round % 8 == 0)
             begins_at(0);
         REQUIRE(round < LONG || round < ROUNDS || kilobytes() - before < 256);
@@ -375,7 +376,7 @@ int main(void) {
     offers();
     empty_steps();
     stale_reads();
-    begun_again();
+    step_begins_again();
     moved_agents();
     full_storages();
     shared_steps();

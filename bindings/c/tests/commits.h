@@ -41,7 +41,7 @@ static inline void gets(const char *location, uint32_t number, const char *value
     char locations[64], text[128];
     snprintf(locations, sizeof locations, "[%s]", location);
     snprintf(text, sizeof text, "{'number':%" PRIu32 ",'values':[%s]}", number, value);
-    TELLS(ASM_DONE, text, asm_get(&agents[0], &step, TEXT(locations), OUT));
+    WRITES(ASM_DONE, text, asm_get(&agents[0], &step, TEXT(locations), OUT));
 }
 
 /* asm_commit or asm_commit_recorded. */
@@ -57,7 +57,7 @@ static inline void refused_by(commit_call *commit, int32_t wanted, const char *a
     REQUIRE(is_same(agents[0], was[0]) && is_same(step, was[1]));
     REQUIRE(asm_depth(&step) == depth && asm_won(&agents[0]) == won);
     if (answer)
-        TELLS(ASM_DONE, answer, asm_answer(&agents[0], OUT));
+        WRITES(ASM_DONE, answer, asm_answer(&agents[0], OUT));
 }
 
 static inline void refused(int32_t wanted, const char *answer) {
@@ -74,7 +74,7 @@ static inline void fired_by(commit_call *commit, uint32_t move) {
     REQUIRE(!step.slot.full && step.slot.at == NULL && asm_depth(&step) == 0);
     REQUIRE(asm_won(&agents[0]) == won + 1 && asm_seen(&agents[0]) == move);
     snprintf(answer, sizeof answer, "{'fired':%" PRIu32 "}", move);
-    TELLS(ASM_DONE, answer, asm_answer(&agents[0], OUT));
+    WRITES(ASM_DONE, answer, asm_answer(&agents[0], OUT));
     ANSWERS(ASM_EMPTY, asm_get(&agents[0], &step, TEXT("[]"), OUT));
     REQUIRE(asm_pop(&step) == ASM_EMPTY);
 }
@@ -92,7 +92,7 @@ static inline void records_nothing(int32_t wanted, const char *last_answer) {
     REQUIRE(is_same(agents[0], was[0]) && is_same(step, was[1]) && asm_depth(&step) == depth);
     REQUIRE(asm_won(&agents[0]) == won && asm_seen(&agents[0]) == seen);
     if (last_answer)
-        TELLS(ASM_DONE, last_answer, asm_answer(&agents[0], OUT));
+        WRITES(ASM_DONE, last_answer, asm_answer(&agents[0], OUT));
     else
         ANSWERS(ASM_NO_ANSWER, asm_answer(&agents[0], OUT));
 }
@@ -103,9 +103,9 @@ static inline void journal_is(const char *events, uint64_t calls, uint32_t moves
     REQUIRE(asm_give(&storage, &agents[1]) == ASM_DONE);
     char *journal = journal_of(&storage);
     is_legal(journal, calls, moves);
-    const char *told = strchr(journal, '\n') + 1;
-    if (strcmp(told, json(events))) {
-        fprintf(stderr, "%s: told\n%swanted\n%s", __FILE__, told, json(events));
+    const char *found = strchr(journal, '\n') + 1;
+    if (strcmp(found, json(events))) {
+        fprintf(stderr, "%s: found\n%swanted\n%s", __FILE__, found, json(events));
         exit(1);
     }
     free(journal);

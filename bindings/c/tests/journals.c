@@ -21,7 +21,7 @@ static void closes(size_t first) {
     REQUIRE(asm_give(&storage, &agents[first]) == ASM_DONE && !agents[first].slot.full);
     REQUIRE(asm_give(&storage, &agents[!first]) == ASM_DONE && !agents[!first].slot.full);
     REQUIRE(asm_close(&storage, &number) == ASM_DONE && number == 0);
-    TELLS(ASM_DONE, journal, asm_journal(&storage, OUT));
+    WRITES(ASM_DONE, journal, asm_journal(&storage, OUT));
     asm_free_storage(&storage);
 }
 
@@ -69,15 +69,15 @@ static void illegal(void) {
         "{'agent':0,'call':{'read':[]},'reply':{'number':0,'values':[]}}\n";
     uint64_t line = 9;
     checked(text, ASM_ILLEGAL, 1, 0);
-    TELLS(ASM_DONE, "[]", asm_replay(TEXT(text), OUT, &line));
+    WRITES(ASM_DONE, "[]", asm_replay(TEXT(text), OUT, &line));
     REQUIRE(line == 0);
     line = 9;
-    TELLS(ASM_DONE,
-          "{'agents':1,'capacity':2,'events':2,'init':[],'trace':1}\n"
-          "{'agent':0,'call':{'fire':[],'reads':[]},'event':0,'reply':{'fired':1},'updates':[]}\n"
-          "{'agent':0,'call':{'read':[]},'event':1,'reply':{'number':0,'values':[]},"
-          "'right':{'differs':[],'number':1}}\n",
-          asm_trace(TEXT(text), OUT, &line));
+    WRITES(ASM_DONE,
+           "{'agents':1,'capacity':2,'events':2,'init':[],'trace':1}\n"
+           "{'agent':0,'call':{'fire':[],'reads':[]},'event':0,'reply':{'fired':1},'updates':[]}\n"
+           "{'agent':0,'call':{'read':[]},'event':1,'reply':{'number':0,'values':[]},"
+           "'right':{'differs':[],'number':1}}\n",
+           asm_trace(TEXT(text), OUT, &line));
     REQUIRE(line == 0);
 }
 
@@ -86,7 +86,8 @@ int main(void) {
     closes(0);
     closes(1);
     checked(journal, ASM_DONE, 2, 1);
-    TELLS(ASM_DONE, "[[['s'],{'set':[1,'two']}],[['x'],9]]", asm_replay(TEXT(journal), OUT, &line));
+    WRITES(ASM_DONE, "[[['s'],{'set':[1,'two']}],[['x'],9]]",
+           asm_replay(TEXT(journal), OUT, &line));
     REQUIRE(line == 0);
     for (size_t i = 0; i < sizeof no_journals / sizeof *no_journals; i++)
         refused(&no_journals[i]);

@@ -154,7 +154,7 @@ static void peek_all(struct asm_agent *agent, size_t count) {
 }
 
 /* The agent's own state has the functions f and g, whose pairs have this length each. */
-static void tell_all(struct asm_agent *agent, size_t count, size_t length) {
+static void write_names(struct asm_agent *agent, size_t count, size_t length) {
     uint32_t number;
     size_t both;
     REQUIRE(scanned(agent, "f") == length && scanned(agent, "g") == length);
@@ -173,14 +173,14 @@ static size_t open_function(struct asm_storage *storage, struct asm_agent *agent
 }
 
 /* The functions of a state are reported, for values of the opening state and of moves. */
-static void tell_functions(size_t count) {
+static void write_functions(size_t count) {
     struct asm_storage storage = {0};
     struct asm_agent agents[2] = {0};
     size_t length = open_function(&storage, agents, count);
     write_all(&agents[0], "g", count);
     write_all(&agents[0], "f", count / 2);
     REQUIRE(followed(&agents[1]) == followed(&agents[0]));
-    tell_all(&agents[1], count, length);
+    write_names(&agents[1], count, length);
     for (size_t i = 0; i < 2; i++)
         asm_free_agent(&agents[i]);
     asm_free_storage(&storage);
@@ -197,7 +197,7 @@ static void grow(struct asm_agent *agent, struct asm_step *step, bool is_push, c
 }
 
 /* The length of the text of the function, as it is seen through the step. */
-static size_t got(struct asm_agent *agent, struct asm_step *step, const char *name) {
+static size_t count_values(struct asm_agent *agent, struct asm_step *step, const char *name) {
     size_t length;
     REQUIRE(asm_step_scan(agent, step, bytes(name), strlen(name), NULL, 0, &length) == ASM_SMALL);
     return length;
@@ -217,12 +217,13 @@ static void play_step(size_t count) {
     grow(&agents[0], &step, true, put, "g", count);
     grow(&agents[0], &step, false, inc, "f", count);
     grow(&agents[0], &step, false, inc, "f", count < TWICE ? count : TWICE);
-    REQUIRE(got(&agents[0], &step, "f") == length && got(&agents[0], &step, "g") == length);
+    REQUIRE(count_values(&agents[0], &step, "f") == length &&
+            count_values(&agents[0], &step, "g") == length);
     REQUIRE(asm_pop_move(&step, &move) == ASM_DONE && asm_depth(&step) == 0);
     REQUIRE(asm_push_move(&agents[0], &step, &move, NULL, 0, &written) == ASM_DONE);
     REQUIRE(asm_commit(&agents[0], &step, &numbers) == ASM_DONE && numbers.fired == 1);
     REQUIRE(followed(&agents[1]) == 1);
-    tell_all(&agents[1], count, length);
+    write_names(&agents[1], count, length);
     asm_free_move(&move);
     for (size_t i = 0; i < 2; i++)
         asm_free_agent(&agents[i]);
@@ -233,7 +234,7 @@ static void functions_of_each_size(void) {
     static const size_t sizes[] = {0,    1,    2,    15,   16,   17,   63,   64,   65,    255,   256,
                                    257, 1023, 1024, 1025, 2047, 2048, 4095, 4096, 4097, 65536, 100000};
     for (size_t i = 0; i < sizeof sizes / sizeof *sizes; i++) {
-        tell_functions(sizes[i]);
+        write_functions(sizes[i]);
         if (sizes[i] <= LARGEST_STEP)
             play_step(sizes[i]);
     }

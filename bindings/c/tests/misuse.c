@@ -59,7 +59,7 @@ const uint8_t *bytes(const text *t) { return *t->bytes ? (const uint8_t *)t->byt
 
 world *latest(story *s) { return &s->worlds[s->moves]; }
 
-bool goes_on(const text *move, world *w) {
+bool applies_to(const text *move, world *w) {
     if (move->does == RAISE_X && w->x < 0)
         return false;
     w->x += move->does == RAISE_X;
@@ -77,14 +77,14 @@ uint32_t any_capacity(void) { return below(4) ? 1 + below(MOVES) : below(2) * 10
 
 bool is_capacity(uint32_t capacity) { return 1 <= capacity && capacity <= 1048576; }
 
-void storage_is_made(unsigned at, unsigned capacity, world opening) {
+void makes_storage_at(unsigned at, unsigned capacity, world opening) {
     opening.x_at = opening.y_at = opening.s_at = opening.v_at = 0;
     accounts[at] = (account){.kind = STORAGE, .storage = opened};
     stories[opened] = (story){.capacity = capacity, .worlds = {opening}};
     opened++;
 }
 
-void stands_from(unsigned at, unsigned least) {
+void opens_at(unsigned at, unsigned least) {
     uint8_t out[ROOM];
     unsigned number = 0;
     size_t written;
@@ -93,7 +93,7 @@ void stands_from(unsigned at, unsigned least) {
     out[written] = 0;
     REQUIRE(sscanf((const char *)out, "{\"number\":%u,\"values\":[]}", &number) == 1);
     REQUIRE(least <= number && number <= stories[accounts[at].storage].moves);
-    accounts[at].stood = number;
+    accounts[at].version = number;
 }
 
 world opening_world(const text *state) { return (world){.x = state->x, .y = -1, .s = state->s}; }
@@ -109,31 +109,32 @@ static void opens(unsigned at) {
         return;
     REQUIRE(asm_open(bytes(t), strlen(t->bytes), capacity, ANY(at)) == wanted);
     if (wanted == ASM_DONE)
-        storage_is_made(at, capacity, opening_world(t));
+        makes_storage_at(at, capacity, opening_world(t));
 }
 
 /* ASM_NUMBER if an agent with one of this many numbers, from this one up, was made. */
-static int32_t was_made(unsigned storage, unsigned number, unsigned count) {
+static int32_t code_of_making(unsigned storage, unsigned number, unsigned count) {
     for (unsigned i = number; i < number + count; i++)
         if (stories[storage].made[i])
             return ASM_NUMBER;
     return ASM_DONE;
 }
 
-static void agent_is_made(unsigned at, unsigned storage, unsigned number) {
+static void makes_agent_at(unsigned at, unsigned storage, unsigned number) {
     stories[storage].made[number] = true;
     accounts[at] = (account){.kind = AGENT, .storage = storage, .number = number};
 }
 
 static void makes_agent(unsigned of, unsigned at) {
     unsigned number = below(8) ? below(NUMBERS) : 256;
-    int32_t wanted = number >= 256                  ? ASM_AGENTS
-                     : accounts[at].kind            ? ASM_TAKEN
-                     : accounts[of].kind != STORAGE ? ASM_EMPTY
-                                                    : was_made(accounts[of].storage, number, 1);
+    int32_t wanted = number >= 256       ? ASM_AGENTS
+                     : accounts[at].kind ? ASM_TAKEN
+                     : accounts[of].kind != STORAGE
+                         ? ASM_EMPTY
+                         : code_of_making(accounts[of].storage, number, 1);
     REQUIRE(asm_agent(ANY(of), number, ANY(at)) == wanted);
     if (wanted == ASM_DONE)
-        agent_is_made(at, accounts[of].storage, number);
+        makes_agent_at(at, accounts[of].storage, number);
 }
 
 static void makes_agents(unsigned of, unsigned at) {
@@ -143,12 +144,13 @@ static void makes_agents(unsigned of, unsigned at) {
         return;
     for (unsigned i = 0; i < count; i++)
         is_any_full |= accounts[at + i].kind != NOTHING;
-    int32_t wanted = is_any_full                    ? ASM_TAKEN
-                     : accounts[of].kind != STORAGE ? ASM_EMPTY
-                                                    : was_made(accounts[of].storage, 0, count);
+    int32_t wanted = is_any_full ? ASM_TAKEN
+                     : accounts[of].kind != STORAGE
+                         ? ASM_EMPTY
+                         : code_of_making(accounts[of].storage, 0, count);
     REQUIRE(asm_agents(ANY(of), count ? ANY(at) : NULL, count) == wanted);
     for (unsigned i = 0; wanted == ASM_DONE && i < count; i++)
-        agent_is_made(at + i, accounts[of].storage, i);
+        makes_agent_at(at + i, accounts[of].storage, i);
 }
 
 static void reads(unsigned at) {
@@ -158,7 +160,7 @@ static void reads(unsigned at) {
     REQUIRE(asm_read(ANY(at), bytes(t), strlen(t->bytes)) == wanted);
     a->is_answered |= wanted == ASM_DONE;
     if (wanted == ASM_DONE)
-        a->stood = stories[a->storage].moves;
+        a->version = stories[a->storage].moves;
 }
 
 /* Scans on which a fire depends: none, of x, and of y and another function, as both began. */
@@ -168,7 +170,7 @@ static const char *const scans[] = {"[]", "[[\"x\",0]]", "[[\"y\",0],[\"z\",0]]"
 static int32_t fire_answer(const text *t, const story *s, unsigned over, world *w) {
     if ((t->x >= 0 && w->x_at > (unsigned)t->x) || (over == 1 && w->x_at) || (over == 2 && w->y_at))
         return ASM_STALE;
-    if (!goes_on(t, w))
+    if (!applies_to(t, w))
         return ASM_CLASH;
     if (s->moves == s->capacity)
         return ASM_FULL;
@@ -199,7 +201,7 @@ static void fires(unsigned at) {
     a->is_answered = true;
     if (wanted == ASM_DONE)
         was_fired(a, w);
-    stands_from(at, a->stood);
+    opens_at(at, a->version);
 }
 
 static void answers(unsigned at) {
@@ -233,7 +235,7 @@ static void gives(unsigned to, unsigned at) {
                                                              : ASM_DONE;
     REQUIRE(asm_give(ANY(to), ANY(at)) == wanted);
     if (wanted == ASM_DONE) {
-        stories[a->storage].given[a->number] = (given){true, a->is_answered, a->fired, a->stood};
+        stories[a->storage].given[a->number] = (given){true, a->is_answered, a->fired, a->version};
         stories[a->storage].is_closed = false;
         accounts[at] = (account){.kind = NOTHING};
     }
@@ -242,10 +244,10 @@ static void gives(unsigned to, unsigned at) {
 static void takes(unsigned of, unsigned at) {
     unsigned number = below(8) ? below(NUMBERS) : 256;
     story *s = &stories[accounts[of].storage];
-    bool is_there = number < NUMBERS && s->given[number].is_there;
+    bool was_returned = number < NUMBERS && s->given[number].was_returned;
     int32_t wanted = accounts[at].kind              ? ASM_TAKEN
                      : accounts[of].kind != STORAGE ? ASM_EMPTY
-                     : is_there                     ? ASM_DONE
+                     : was_returned                 ? ASM_DONE
                                                     : ASM_NO_AGENT;
     REQUIRE(asm_take(ANY(of), number, ANY(at)) == wanted);
     if (wanted == ASM_DONE) {
@@ -254,9 +256,9 @@ static void takes(unsigned of, unsigned at) {
                                  .storage = accounts[of].storage,
                                  .number = number,
                                  .fired = was.fired,
-                                 .stood = was.stood,
+                                 .version = was.version,
                                  .is_answered = was.is_answered};
-        s->given[number].is_there = false;
+        s->given[number].was_returned = false;
         s->is_closed = false;
     }
 }
@@ -264,11 +266,11 @@ static void takes(unsigned of, unsigned at) {
 static void closes(unsigned at) {
     story *s = &stories[accounts[at].storage];
     uint32_t number = 9, missing = 0;
-    unsigned told = 0;
+    unsigned returned = 0;
     for (unsigned i = 0; i < NUMBERS; i++)
-        told |= s->given[i].is_there ? s->given[i].fired : 0;
+        returned |= s->given[i].was_returned ? s->given[i].fired : 0;
     for (unsigned i = s->moves; i > 0; i--)
-        if (!(told >> (i - 1) & 1))
+        if (!(returned >> (i - 1) & 1))
             missing = i;
     int32_t wanted = accounts[at].kind != STORAGE ? ASM_EMPTY : missing ? ASM_MISSING : ASM_DONE;
     REQUIRE(asm_close(ANY(at), &number) == wanted);
@@ -326,8 +328,10 @@ static void judges(uint8_t *journal, size_t len) {
 static void writes(unsigned at) {
     uint8_t journal[ROOM];
     size_t written = 9, room = below(4) ? sizeof journal : 0;
-    bool is_there = stories[accounts[at].storage].is_closed;
-    int32_t wanted = accounts[at].kind != STORAGE ? ASM_EMPTY : is_there ? ASM_DONE : ASM_NO_JOURNAL;
+    bool has_journal = stories[accounts[at].storage].is_closed;
+    int32_t wanted = accounts[at].kind != STORAGE ? ASM_EMPTY
+                     : has_journal                ? ASM_DONE
+                                                  : ASM_NO_JOURNAL;
     int32_t code = asm_journal(ANY(at), room ? journal : NULL, room, &written);
     REQUIRE(code == wanted || (wanted == ASM_DONE && code == ASM_SMALL && written > room));
     REQUIRE((written > 0) == (wanted == ASM_DONE));
@@ -398,9 +402,9 @@ int main(int argc, char **argv) {
             REQUIRE(slots[i].full == (accounts[i].kind != NOTHING));
             REQUIRE(asm_depth(ANY(i)) == accounts[i].depth);
             if (accounts[i].kind == AGENT) {
-                unsigned stood = accounts[i].stood;
-                stands_from(i, stood);
-                REQUIRE(accounts[i].stood == stood);
+                unsigned version = accounts[i].version;
+                opens_at(i, version);
+                REQUIRE(accounts[i].version == version);
             }
         }
     }

@@ -45,12 +45,12 @@ typedef struct layer {
 
 /* What a slot must hold: nothing, a storage, an agent with its number and a bit for each move
  * that it fired, a step, a location, a move or an audit, that was fed the first byte of a header
- * or none; of which storage. `stood` is the version of the agent's own state, or the version at
+ * or none; of which storage. `version` is the version of the agent's own state, or the version at
  * which the step began. A location is a tracked read if no pushed move had put what was seen. */
 typedef struct account {
     enum { NOTHING, STORAGE, AGENT, STEP, LOCATION, MOVE, AUDIT } kind;
-    unsigned storage, number, fired, stood, depth;
-    bool is_answered, has_got[PLACES];
+    unsigned storage, number, fired, version, depth;
+    bool is_answered, has_read[PLACES];
     layer layers[DEEPEST];
     unsigned place;
     gathered move;
@@ -59,8 +59,8 @@ typedef struct account {
 
 /* An agent that was returned, if it was, with a bit for each move of which it has the receipt. */
 typedef struct given {
-    bool is_there, is_answered;
-    unsigned fired, stood;
+    bool was_returned, is_answered;
+    unsigned fired, version;
 } given;
 
 /* Of a storage: which agents were made, and the accounts of those that were returned; how many
@@ -86,10 +86,10 @@ typedef struct text {
 } text;
 
 /* A code, and the text that is written with it if there is room for it, if one is. */
-typedef struct told {
+typedef struct outcome {
     int32_t code;
     const char *text;
-} told;
+} outcome;
 
 typedef struct buffer {
     uint8_t out[ROOM];
@@ -117,13 +117,13 @@ const uint8_t *bytes(const text *t);
 world *latest(story *s);
 
 /* Computes the world after this move. Returns false if x has no number to be raised. */
-bool goes_on(const text *move, world *w);
+bool applies_to(const text *move, world *w);
 
 /* Records a fired move, after which the world is this one. */
 void was_fired(account *agent, world after);
 
 /* A storage with this opening world, of which nothing was written, is in the slot now. */
-void storage_is_made(unsigned at, unsigned capacity, world opening);
+void makes_storage_at(unsigned at, unsigned capacity, world opening);
 
 /* Any capacity, of which some are refused. */
 uint32_t any_capacity(void);
@@ -131,7 +131,7 @@ bool is_capacity(uint32_t capacity);
 
 /* Records the version of an agent's own state, which is at least this one: a fire may advance
  * it, but needn't. */
-void stands_from(unsigned at, unsigned least);
+void opens_at(unsigned at, unsigned least);
 
 /* A state of these values, of which nothing was written. */
 world opening_world(const text *state);
@@ -144,7 +144,7 @@ const char *text_of_v(world w);
 buffer any_buffer(void);
 
 /* Requires of a call the predicted code and text. Returns false if the text didn't fit. */
-bool is_written(int32_t code, told wanted, const buffer *b);
+bool is_written(int32_t code, outcome wanted, const buffer *b);
 
 /* The version of the agent's own state. */
 world own_world(const account *agent);

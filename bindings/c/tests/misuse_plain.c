@@ -62,40 +62,41 @@ static const char *parts_of(world w, unsigned place, asm_value *value) {
 }
 
 /* Requires the predicted code, bytes and value. Returns false if the bytes didn't fit. */
-static bool is_value(int32_t code, told wanted, const buffer *b, asm_value value, asm_value told) {
+static bool is_value(int32_t code, outcome wanted, const buffer *b, asm_value value,
+                     asm_value from) {
     bool fits = is_written(code, wanted, b);
     if (!fits || wanted.code != ASM_DONE)
-        told = (asm_value){0, 0};
-    REQUIRE(value.kind == told.kind && value.number == told.number);
+        from = (asm_value){0, 0};
+    REQUIRE(value.kind == from.kind && value.number == from.number);
     return fits;
 }
 
 static void peeks_at(unsigned at, unsigned of_place) {
     const account *a = &accounts[at], *l = &accounts[of_place];
     buffer b = any_buffer();
-    asm_value value = {9, 9}, told_value = {0, 0};
+    asm_value value = {9, 9}, expected_value = {0, 0};
     uint32_t number = 9;
-    told wanted = {a->kind != AGENT || l->kind != LOCATION ? ASM_EMPTY : ASM_DONE, NULL};
+    outcome wanted = {a->kind != AGENT || l->kind != LOCATION ? ASM_EMPTY : ASM_DONE, NULL};
     if (wanted.code == ASM_DONE)
-        wanted.text = parts_of(own_world(a), l->place, &told_value);
+        wanted.text = parts_of(own_world(a), l->place, &expected_value);
     int32_t code = asm_peek_at(ANY(at), ANY(of_place), &number, &value, OUT(b));
-    bool fits = is_value(code, wanted, &b, value, told_value);
-    REQUIRE(number == (fits && wanted.code == ASM_DONE ? a->stood : 0));
+    bool fits = is_value(code, wanted, &b, value, expected_value);
+    REQUIRE(number == (fits && wanted.code == ASM_DONE ? a->version : 0));
 }
 
 static void gets_at(unsigned at, unsigned of_step, unsigned of_place) {
     const account *a = &accounts[at], *l = &accounts[of_place];
     account *s = &accounts[of_step];
     buffer b = any_buffer();
-    asm_value value = {9, 9}, told_value = {0, 0};
-    told wanted = {l->kind != LOCATION ? ASM_EMPTY : step_code(a, s, ASM_DONE), NULL};
+    asm_value value = {9, 9}, expected_value = {0, 0};
+    outcome wanted = {l->kind != LOCATION ? ASM_EMPTY : step_code(a, s, ASM_DONE), NULL};
     if (wanted.code == ASM_DONE)
-        wanted.text = parts_of(top_of(s).seen, l->place, &told_value);
+        wanted.text = parts_of(top_of(s).seen, l->place, &expected_value);
     int32_t code = asm_get_at(ANY(at), ANY(of_step), ANY(of_place), &value, OUT(b));
     layer top = wanted.code == ASM_DONE ? top_of(s) : (layer){0};
     bool is_put = l->place == Y_PLACE ? top.puts : l->place == V_PLACE && top.puts_v;
-    if (is_value(code, wanted, &b, value, told_value) && wanted.code == ASM_DONE)
-        s->has_got[l->place] |= !is_put;
+    if (is_value(code, wanted, &b, value, expected_value) && wanted.code == ASM_DONE)
+        s->has_read[l->place] |= !is_put;
 }
 
 /* Instructions: those that are done use one place alone, and a put of v one of its values. */
@@ -187,13 +188,13 @@ int32_t code_of_two(unsigned at, unsigned from) {
 static void takes_state(unsigned at, unsigned from) {
     account *a = &accounts[at], *b = &accounts[from];
     int32_t wanted = code_of_two(at, from);
-    unsigned stood = a->stood;
+    unsigned version = a->version;
     REQUIRE(asm_take_state(ANY(at), ANY(from)) == wanted);
-    if (wanted != ASM_DONE || b->stood <= stood)
+    if (wanted != ASM_DONE || b->version <= version)
         return;
-    a->stood = b->stood;
-    b->stood = stood;
-    REQUIRE(asm_seen(ANY(at)) >= a->stood);
+    a->version = b->version;
+    b->version = version;
+    REQUIRE(asm_seen(ANY(at)) >= a->version);
 }
 
 /* Does the move on what is seen: the text of a clash, if there is one. */
@@ -231,7 +232,7 @@ static void grows_by(unsigned at, unsigned of_step, unsigned of_move, bool is_pu
     const account *a = &accounts[at], *m = &accounts[of_move];
     account *s = &accounts[of_step];
     buffer b = any_buffer();
-    told wanted = {m->kind != MOVE ? ASM_EMPTY : step_code(a, s, ASM_DONE), NULL};
+    outcome wanted = {m->kind != MOVE ? ASM_EMPTY : step_code(a, s, ASM_DONE), NULL};
     layer next = {0};
     if (wanted.code == ASM_DONE) {
         next = top_of(s);

@@ -3,7 +3,7 @@
 
 buffer any_buffer(void) { return (buffer){.room = below(3) ? ROOM : below(12), .written = 9}; }
 
-bool is_written(int32_t code, told wanted, const buffer *b) {
+bool is_written(int32_t code, outcome wanted, const buffer *b) {
     size_t length = wanted.text ? strlen(wanted.text) : 0;
     REQUIRE(b->written == length);
     REQUIRE(code == (length > b->room ? ASM_SMALL : wanted.code));
@@ -51,7 +51,7 @@ static const char *pairs(world w, bool has_both, bool has_x, bool has_y) {
 static const char *const names[] = {"x", "y", "", "xy", "z\xff", "\"x\""};
 enum { NAMES = sizeof names / sizeof *names, BAD_NAME = 4 };
 
-world own_world(const account *agent) { return stories[agent->storage].worlds[agent->stood]; }
+world own_world(const account *agent) { return stories[agent->storage].worlds[agent->version]; }
 
 static void follows(unsigned at) {
     account *a = &accounts[at];
@@ -59,28 +59,28 @@ static void follows(unsigned at) {
     REQUIRE(asm_follow(ANY(at), &number) == (a->kind == AGENT ? ASM_DONE : ASM_EMPTY));
     REQUIRE(number == moves);
     if (a->kind == AGENT)
-        a->stood = moves;
+        a->version = moves;
 }
 
 static void peeks(unsigned at) {
     const text *t = any_text();
     const account *a = &accounts[at];
     buffer b = any_buffer();
-    told wanted = {a->kind != AGENT ? ASM_EMPTY : t->locations, NULL};
+    outcome wanted = {a->kind != AGENT ? ASM_EMPTY : t->locations, NULL};
     if (wanted.code == ASM_DONE)
-        wanted.text = values(a->stood, t, own_world(a));
+        wanted.text = values(a->version, t, own_world(a));
     is_written(asm_peek(ANY(at), bytes(t), strlen(t->bytes), OUT(b)), wanted, &b);
 }
 
-static void looks_at_state(unsigned at) {
+static void reads_state(unsigned at) {
     const account *a = &accounts[at];
     buffer b = any_buffer();
     uint32_t number = 9;
-    told wanted = {a->kind != AGENT ? ASM_EMPTY : ASM_DONE, NULL};
+    outcome wanted = {a->kind != AGENT ? ASM_EMPTY : ASM_DONE, NULL};
     if (wanted.code == ASM_DONE)
         wanted.text = pairs(own_world(a), true, true, true);
     is_written(asm_state(ANY(at), &number, OUT(b)), wanted, &b);
-    REQUIRE(number == (wanted.text ? a->stood : 0));
+    REQUIRE(number == (wanted.text ? a->version : 0));
 }
 
 static void scans(unsigned at) {
@@ -88,29 +88,29 @@ static void scans(unsigned at) {
     unsigned name = below(NAMES);
     buffer b = any_buffer();
     uint32_t number = 9;
-    told wanted = {a->kind != AGENT ? ASM_EMPTY : name == BAD_NAME ? ASM_SHAPE : ASM_DONE, NULL};
+    outcome wanted = {a->kind != AGENT ? ASM_EMPTY : name == BAD_NAME ? ASM_SHAPE : ASM_DONE, NULL};
     if (wanted.code == ASM_DONE)
         wanted.text = pairs(own_world(a), false, name == 0, name == 1);
     is_written(asm_scan(ANY(at), *names[name] ? (const uint8_t *)names[name] : NULL,
                         strlen(names[name]), &number, OUT(b)),
                wanted, &b);
-    REQUIRE(number == (wanted.text ? a->stood : 0));
+    REQUIRE(number == (wanted.text ? a->version : 0));
 }
 
-static void stands(unsigned at) {
+static void validates(unsigned at) {
     const text *t = any_text();
     account *a = &accounts[at];
     buffer b = any_buffer();
     bool is_read = a->kind == AGENT && t->reads == ASM_DONE;
     bool is_looked = is_read && (t->x < 0 || (unsigned)t->x <= asm_seen(ANY(at)));
-    told wanted = {a->kind != AGENT       ? ASM_EMPTY
-                   : is_read && !is_looked ? ASM_AHEAD
-                                          : t->reads,
-                   NULL};
+    outcome wanted = {a->kind != AGENT        ? ASM_EMPTY
+                      : is_read && !is_looked ? ASM_AHEAD
+                                              : t->reads,
+                      NULL};
     if (is_looked)
-        a->stood = stories[a->storage].moves;
+        a->version = stories[a->storage].moves;
     if (is_looked && t->x >= 0 && own_world(a).x_at > (unsigned)t->x)
-        wanted = (told){ASM_STALE, "{\"stale\":[\"x\"]}"};
+        wanted = (outcome){ASM_STALE, "{\"stale\":[\"x\"]}"};
     is_written(asm_stands(ANY(at), bytes(t), strlen(t->bytes), OUT(b)), wanted, &b);
 }
 
@@ -124,8 +124,8 @@ static void begins(unsigned at, unsigned of_step) {
     REQUIRE(number == (wanted == ASM_DONE ? stories[a->storage].moves : 0));
     if (wanted != ASM_DONE)
         return;
-    a->stood = number;
-    *s = (account){.kind = STEP, .storage = a->storage, .stood = number};
+    a->version = number;
+    *s = (account){.kind = STEP, .storage = a->storage, .version = number};
 }
 
 /* The code that reports whether the slots have an agent and a step. */
@@ -136,12 +136,12 @@ static int32_t both(const account *a, const account *s) {
 layer top_of(const account *s) {
     if (s->depth > 0)
         return s->layers[s->depth - 1];
-    return (layer){.seen = stories[s->storage].worlds[s->stood]};
+    return (layer){.seen = stories[s->storage].worlds[s->version]};
 }
 
 int32_t step_code(const account *a, const account *s, int32_t read) {
     int32_t code = both(a, s);
-    return code ? code : read ? read : a->stood != s->stood ? ASM_MOVED : ASM_DONE;
+    return code ? code : read ? read : a->version != s->version ? ASM_MOVED : ASM_DONE;
 }
 
 static void gets(unsigned at, unsigned of_step) {
@@ -149,15 +149,15 @@ static void gets(unsigned at, unsigned of_step) {
     const account *a = &accounts[at];
     account *s = &accounts[of_step];
     buffer b = any_buffer();
-    told wanted = {step_code(a, s, t->locations), NULL};
+    outcome wanted = {step_code(a, s, t->locations), NULL};
     if (wanted.code == ASM_DONE)
-        wanted.text = values(s->stood, t, top_of(s).seen);
-    bool is_got = below(3);
-    int32_t code = (is_got ? asm_get : asm_see)(ANY(at), ANY(of_step), bytes(t),
-                                                strlen(t->bytes), OUT(b));
-    if (is_written(code, wanted, &b) && wanted.text && is_got) {
-        s->has_got[X_PLACE] |= t->asks;
-        s->has_got[Y_PLACE] |= t->asks && !top_of(s).puts;
+        wanted.text = values(s->version, t, top_of(s).seen);
+    bool gets_value = below(3);
+    int32_t code =
+        (gets_value ? asm_get : asm_see)(ANY(at), ANY(of_step), bytes(t), strlen(t->bytes), OUT(b));
+    if (is_written(code, wanted, &b) && wanted.text && gets_value) {
+        s->has_read[X_PLACE] |= t->asks;
+        s->has_read[Y_PLACE] |= t->asks && !top_of(s).puts;
     }
 }
 
@@ -166,7 +166,7 @@ static void gets_all(unsigned at, unsigned of_step) {
     account *s = &accounts[of_step];
     unsigned name = below(NAMES);
     buffer b = any_buffer();
-    told wanted = {step_code(a, s, name == BAD_NAME ? ASM_SHAPE : ASM_DONE), NULL};
+    outcome wanted = {step_code(a, s, name == BAD_NAME ? ASM_SHAPE : ASM_DONE), NULL};
     if (wanted.code == ASM_DONE)
         wanted.text = pairs(top_of(s).seen, false, name == 0, name == 1);
     int32_t code =
@@ -174,8 +174,8 @@ static void gets_all(unsigned at, unsigned of_step) {
                     strlen(names[name]), OUT(b));
     if (is_written(code, wanted, &b) && wanted.text) {
         /* A scan covers its function's locations, present or not. */
-        s->has_got[X_PLACE] |= name == 0;
-        s->has_got[Y_PLACE] |= name == 1;
+        s->has_read[X_PLACE] |= name == 0;
+        s->has_read[Y_PLACE] |= name == 1;
     }
 }
 
@@ -184,7 +184,7 @@ static void grows(unsigned at, unsigned of_step, bool is_push) {
     const account *a = &accounts[at];
     account *s = &accounts[of_step];
     buffer b = any_buffer();
-    told wanted = {step_code(a, s, t->move), NULL};
+    outcome wanted = {step_code(a, s, t->move), NULL};
     layer next = {0};
     if (wanted.code == ASM_DONE) {
         next = top_of(s);
@@ -198,8 +198,8 @@ static void grows(unsigned at, unsigned of_step, bool is_push) {
         next.puts |= t->does == PUT_Y;
         if (is_push && s->depth == DEEPEST)
             wanted.code = ASM_DEEP;
-        else if (!goes_on(t, &next.seen))
-            wanted = (told){ASM_CLASH, "{\"clash\":[[\"x\"],\"Kind\"]}"};
+        else if (!applies_to(t, &next.seen))
+            wanted = (outcome){ASM_CLASH, "{\"clash\":[[\"x\"],\"Kind\"]}"};
     }
     int32_t code = (is_push ? asm_push : asm_extend)(ANY(at), ANY(of_step), bytes(t),
                                                      strlen(t->bytes), OUT(b));
@@ -218,8 +218,8 @@ static void pops(unsigned at) {
     /* That the popped moves were accepted revealed something about the locations that they
      * update in part. */
     const gathered own = top_of(s).own;
-    s->has_got[X_PLACE] |= own.raises > 0;
-    s->has_got[S_PLACE] |= own.adds || own.removes;
+    s->has_read[X_PLACE] |= own.raises > 0;
+    s->has_read[S_PLACE] |= own.adds || own.removes;
     s->depth--;
 }
 
@@ -237,13 +237,13 @@ static void offers(unsigned at) {
 /* The answer to the commit on the latest world, which is changed to the one after it. */
 static int32_t commit_answer(const account *s, const story *of, world *w) {
     layer top = top_of(s);
-    if ((s->has_got[X_PLACE] || top.raising > 1) && w->x_at > s->stood)
+    if ((s->has_read[X_PLACE] || top.raising > 1) && w->x_at > s->version)
         return ASM_STALE;
-    if (s->has_got[Y_PLACE] && w->y_at > s->stood)
+    if (s->has_read[Y_PLACE] && w->y_at > s->version)
         return ASM_STALE;
-    if ((s->has_got[S_PLACE] || top.changing > 1) && w->s_at > s->stood)
+    if ((s->has_read[S_PLACE] || top.changing > 1) && w->s_at > s->version)
         return ASM_STALE;
-    if (s->has_got[V_PLACE] && w->v_at > s->stood)
+    if (s->has_read[V_PLACE] && w->v_at > s->version)
         return ASM_STALE;
     if (of->moves == of->capacity)
         return ASM_FULL;
@@ -276,10 +276,10 @@ void commits(unsigned at, unsigned of_step) {
         was_fired(a, w);
         *s = (account){.kind = NOTHING};
     }
-    stands_from(at, a->stood);
+    opens_at(at, a->version);
 }
 
-static void goes_on_in(unsigned at, unsigned next) {
+static void opens_next(unsigned at, unsigned next) {
     uint32_t capacity = any_capacity();
     const account *a = &accounts[at];
     const story *s = &stories[a->storage];
@@ -292,35 +292,35 @@ static void goes_on_in(unsigned at, unsigned next) {
         return;
     REQUIRE(asm_next(ANY(at), capacity, ANY(next)) == wanted);
     if (wanted == ASM_DONE)
-        storage_is_made(next, capacity, s->worlds[s->closed]);
+        makes_storage_at(next, capacity, s->worlds[s->closed]);
 }
 
 /* The same from an agent's own state. */
-static void goes_on_from(unsigned at, unsigned next) {
+static void opens_next_from_agent(unsigned at, unsigned next) {
     uint32_t capacity = any_capacity();
     const account *a = &accounts[at];
-    int32_t wanted = accounts[next].kind                         ? ASM_TAKEN
-                     : a->kind != AGENT                          ? ASM_EMPTY
-                     : a->stood != stories[a->storage].capacity  ? ASM_NOT_FULL
-                     : !is_capacity(capacity)                    ? ASM_CAPACITY
-                                                                 : ASM_DONE;
+    int32_t wanted = accounts[next].kind                          ? ASM_TAKEN
+                     : a->kind != AGENT                           ? ASM_EMPTY
+                     : a->version != stories[a->storage].capacity ? ASM_NOT_FULL
+                     : !is_capacity(capacity)                     ? ASM_CAPACITY
+                                                                  : ASM_DONE;
     if (wanted == ASM_DONE && opened == STORAGES)
         return;
     REQUIRE(asm_go_on(ANY(at), capacity, ANY(next)) == wanted);
     if (wanted == ASM_DONE)
-        storage_is_made(next, capacity, own_world(a));
+        makes_storage_at(next, capacity, own_world(a));
 }
 
 /* An audit accepts the beginning of a line, and no line feed. */
 static void audits(unsigned at) {
     account *a = &accounts[at];
-    asm_audit_numbers told = {9, 9, 9};
+    asm_audit_numbers audited = {9, 9, 9};
     size_t len = below(3), taken = 9;
     bool has_room = a->kind == NOTHING || a->kind == AUDIT;
-    REQUIRE(asm_audit(ANY(at), len ? (const uint8_t *)"{\"" : NULL, len, &taken, &told) ==
+    REQUIRE(asm_audit(ANY(at), len ? (const uint8_t *)"{\"" : NULL, len, &taken, &audited) ==
             (has_room ? ASM_DONE : ASM_TAKEN));
     REQUIRE(taken == (has_room ? len : 0));
-    REQUIRE(told.parts == 0 && told.calls == 0 && told.moves == 0);
+    REQUIRE(audited.parts == 0 && audited.calls == 0 && audited.moves == 0);
     if (a->kind == NOTHING)
         *a = (account){.kind = AUDIT};
     if (a->kind == AUDIT)
@@ -329,23 +329,24 @@ static void audits(unsigned at) {
 
 static void ends_audit(unsigned at) {
     const account *a = &accounts[at];
-    asm_audit_numbers told = {9, 9, 9};
+    asm_audit_numbers audited = {9, 9, 9};
     buffer b = any_buffer();
-    REQUIRE(asm_audited(ANY(at), &told) ==
-            (a->kind != AUDIT ? ASM_EMPTY : a->has_begun ? ASM_NOT_JSON : ASM_CUT));
-    REQUIRE(told.parts == 0 && told.moves == 0);
-    REQUIRE(told.calls == (a->kind == AUDIT && a->has_begun));
+    REQUIRE(asm_audited(ANY(at), &audited) == (a->kind != AUDIT ? ASM_EMPTY
+                                               : a->has_begun   ? ASM_NOT_JSON
+                                                                : ASM_CUT));
+    REQUIRE(audited.parts == 0 && audited.moves == 0);
+    REQUIRE(audited.calls == (a->kind == AUDIT && a->has_begun));
     is_written(asm_audit_state(ANY(at), OUT(b)),
-               (struct told){a->kind == AUDIT ? ASM_NO_PART : ASM_EMPTY, NULL}, &b);
+               (struct outcome){a->kind == AUDIT ? ASM_NO_PART : ASM_EMPTY, NULL}, &b);
 }
 
 static void aggregates(void) {
     const text *state = any_text(), *t = any_text();
     world w = opening_world(state);
     buffer b = any_buffer();
-    told wanted = {state->state ? state->state : t->move, NULL};
-    if (wanted.code == ASM_DONE && !goes_on(t, &w))
-        wanted = (told){ASM_CLASH, "{\"clash\":[[\"x\"],\"Kind\"]}"};
+    outcome wanted = {state->state ? state->state : t->move, NULL};
+    if (wanted.code == ASM_DONE && !applies_to(t, &w))
+        wanted = (outcome){ASM_CLASH, "{\"clash\":[[\"x\"],\"Kind\"]}"};
     else if (wanted.code == ASM_DONE)
         wanted.text = pairs(w, false, t->does == RAISE_X, t->does == PUT_Y);
     is_written(
@@ -357,15 +358,15 @@ static void composes(void) {
     const text *first = any_text(), *second = any_text();
     int raises = (first->does == RAISE_X) + (second->does == RAISE_X);
     bool puts = first->does == PUT_Y || second->does == PUT_Y;
-    char raise[32] = "", both_do[ROOM];
+    char raise[32] = "", composed[ROOM];
     buffer b = any_buffer();
-    told wanted = {first->move ? first->move : second->move, NULL};
+    outcome wanted = {first->move ? first->move : second->move, NULL};
     if (raises)
         snprintf(raise, sizeof raise, "[\"inc\",[\"x\"],%d]", raises);
-    snprintf(both_do, sizeof both_do, "[%s%s%s]", raise, raises && puts ? "," : "",
+    snprintf(composed, sizeof composed, "[%s%s%s]", raise, raises && puts ? "," : "",
              puts ? "[\"put\",[\"y\",1],2]" : "");
     if (wanted.code == ASM_DONE)
-        wanted.text = both_do;
+        wanted.text = composed;
     is_written(asm_compose(bytes(first), strlen(first->bytes), bytes(second), strlen(second->bytes),
                            OUT(b)),
                wanted, &b);
@@ -406,11 +407,11 @@ void calls_any_step(unsigned at, unsigned other) {
         break;
     case 1:
         peeks(at);
-        looks_at_state(at);
+        reads_state(at);
         scans(at);
         break;
     case 2:
-        stands(at);
+        validates(at);
         break;
     case 3:
     case 4:
@@ -421,8 +422,8 @@ void calls_any_step(unsigned at, unsigned other) {
         offers(below(2) ? at : fitting(at, other));
         break;
     case 6:
-        goes_on_in(at, other);
-        goes_on_from(at, other);
+        opens_next(at, other);
+        opens_next_from_agent(at, other);
         if (below(4) == 0)
             audits(at);
         ends_audit(at);

@@ -4,17 +4,17 @@
 
 static void each_kind(void) {
     begin_all();
-    for (int is_got = 0; is_got < 2; is_got++) {
-        tells(is_got, B, ASM_KIND_BAG, 0, "{'bag':[['e',2]]}");
-        tells(is_got, F, ASM_KIND_BOOL, 0, "");
-        tells(is_got, L, ASM_KIND_LIST, 0, "{'list':[1,'two']}");
-        tells(is_got, N, ASM_KIND_NUM, INT64_MIN, "");
-        tells(is_got, S, ASM_KIND_SET, 0, "{'set':[1]}");
-        tells(is_got, T, ASM_KIND_TEXT, 0, "h\xc3\xbc");
-        tells(is_got, W, ASM_KIND_TEXT, 0, "");
-        tells(is_got, X, ASM_KIND_NUM, 7, "");
-        tells(is_got, Y, ASM_KIND_BOOL, 1, "");
-        tells(is_got, U, ASM_KIND_UNDEF, 0, "");
+    for (int gets_value = 0; gets_value < 2; gets_value++) {
+        peeks_value(gets_value, B, ASM_KIND_BAG, 0, "{'bag':[['e',2]]}");
+        peeks_value(gets_value, F, ASM_KIND_BOOL, 0, "");
+        peeks_value(gets_value, L, ASM_KIND_LIST, 0, "{'list':[1,'two']}");
+        peeks_value(gets_value, N, ASM_KIND_NUM, INT64_MIN, "");
+        peeks_value(gets_value, S, ASM_KIND_SET, 0, "{'set':[1]}");
+        peeks_value(gets_value, T, ASM_KIND_TEXT, 0, "h\xc3\xbc");
+        peeks_value(gets_value, W, ASM_KIND_TEXT, 0, "");
+        peeks_value(gets_value, X, ASM_KIND_NUM, 7, "");
+        peeks_value(gets_value, Y, ASM_KIND_BOOL, 1, "");
+        peeks_value(gets_value, U, ASM_KIND_UNDEF, 0, "");
     }
     end_all();
 }
@@ -41,8 +41,8 @@ static void each_verb(void) {
     gets(X, ASM_KIND_NUM, INT64_MIN + 7, "");
     gets(Y, ASM_KIND_BOOL, 0, "");
     gets(U, ASM_KIND_NUM, INT64_MAX, "");
-    TELLS(ASM_DONE, "{'number':0,'values':['/\xc3\xbc']}",
-          asm_get(&agents[0], &step, TEXT("[['t']]"), OUT));
+    WRITES(ASM_DONE, "{'number':0,'values':['/\xc3\xbc']}",
+           asm_get(&agents[0], &step, TEXT("[['t']]"), OUT));
     end_all();
 }
 
@@ -66,12 +66,12 @@ static void a_move_stays(void) {
     gets(X, ASM_KIND_NUM, 8, "");
     REQUIRE(asm_commit(&agents[0], &step, &numbers) == ASM_DONE && numbers.fired == 1);
     ANSWERS(ASM_EMPTY, asm_get_at(&agents[0], &step, &at[X], &(asm_value){9, 9}, OUT));
-    TELLS(ASM_DONE, "{'fired':1}", asm_answer(&agents[0], OUT));
+    WRITES(ASM_DONE, "{'fired':1}", asm_answer(&agents[0], OUT));
     end_all();
 }
 
 /* The commit names the tracked reads, and an agent whose state has moved on begins again. */
-static void what_is_got_is_named(void) {
+static void read_locations_are_named(void) {
     asm_numbers numbers;
     uint32_t number;
     asm_value value = {9, 9};
@@ -85,7 +85,7 @@ static void what_is_got_is_named(void) {
     gets(X, ASM_KIND_NUM, 7, "");
     fire(&agents[1], "[['put',['y'],1]]");
     REQUIRE(asm_commit(&agents[0], &step, &numbers) == ASM_STALE);
-    TELLS(ASM_DONE, "{'stale':['y']}", asm_answer(&agents[0], OUT));
+    WRITES(ASM_DONE, "{'stale':['y']}", asm_answer(&agents[0], OUT));
     REQUIRE(asm_follow(&agents[0], &number) == ASM_DONE && number == 3);
     ANSWERS(ASM_MOVED, asm_get_at(&agents[0], &step, &at[X], &value, OUT));
     REQUIRE(is_value(value, 0, 0));
@@ -101,8 +101,8 @@ static void what_is_got_is_named(void) {
 static void clashes(void) {
     begin_all();
     does(Y, ASM_INC, ASM_KIND_NUM, 1, "", 0);
-    TELLS(ASM_CLASH, "{'clash':[['y'],'Kind']}", asm_push_move(&agents[0], &step, &move, OUT));
-    TELLS(ASM_CLASH, "{'clash':[['y'],'Kind']}", asm_extend_move(&agents[0], &step, &move, OUT));
+    WRITES(ASM_CLASH, "{'clash':[['y'],'Kind']}", asm_push_move(&agents[0], &step, &move, OUT));
+    WRITES(ASM_CLASH, "{'clash':[['y'],'Kind']}", asm_extend_move(&agents[0], &step, &move, OUT));
     REQUIRE(asm_depth(&step) == 0);
     asm_free_move(&move);
     does(Y, ASM_PUT, ASM_KIND_NUM, 1, "", 0);
@@ -263,7 +263,7 @@ int main(void) {
     each_kind();
     each_verb();
     a_move_stays();
-    what_is_got_is_named();
+    read_locations_are_named();
     clashes();
     out_of_range();
     order_of_codes();

@@ -45,8 +45,8 @@ static inline bool is_value(asm_value value, int32_t kind, int64_t number) {
 }
 
 /* With this room, the call returns the value, or the room that its text needs. */
-static inline void tells_in(size_t room, bool gets, size_t place, asm_value wanted,
-                            const char *text) {
+static inline void peeks_value_in(size_t room, bool gets, size_t place, asm_value wanted,
+                                  const char *text) {
     asm_value value = {9, 9};
     uint32_t number = 9;
     size_t length = strlen(text), written = 99;
@@ -62,16 +62,17 @@ static inline void tells_in(size_t room, bool gets, size_t place, asm_value want
 }
 
 /* What is seen at the location through the step, or in the agent's own state at 0 moves. */
-static inline void tells(bool gets, size_t place, int32_t kind, int64_t number, const char *text) {
+static inline void peeks_value(bool gets, size_t place, int32_t kind, int64_t number,
+                               const char *text) {
     asm_slot was[3] = {agents[0].slot, step.slot, at[place].slot};
     if (*text)
-        tells_in(strlen(text) - 1, gets, place, (asm_value){kind, number}, text);
-    tells_in(strlen(text), gets, place, (asm_value){kind, number}, text);
+        peeks_value_in(strlen(text) - 1, gets, place, (asm_value){kind, number}, text);
+    peeks_value_in(strlen(text), gets, place, (asm_value){kind, number}, text);
     REQUIRE(is_same(agents[0], was[0]) && is_same(step, was[1]) && is_same(at[place], was[2]));
 }
 
 static inline void gets(size_t place, int32_t kind, int64_t number, const char *text) {
-    tells(true, place, kind, number, text);
+    peeks_value(true, place, kind, number, text);
 }
 
 /* Puts an instruction into the move. */

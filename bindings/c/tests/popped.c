@@ -76,7 +76,7 @@ static void a_popped_move(void) {
 
 /* The step no longer depends on what is popped, except on tracked reads; and a move of no
  * instructions is one. */
-static void what_a_popped_move_leaves(void) {
+static void state_after_a_pop(void) {
     asm_numbers numbers;
     asm_slot was;
     begin_all();
@@ -203,7 +203,7 @@ int main(void) {
     each_value_by_json();
     no_values();
     a_popped_move();
-    what_a_popped_move_leaves();
+    state_after_a_pop();
     large_moves();
     puts("passed");
     return 0;

@@ -12,7 +12,7 @@
 enum { AGENTS = 8, EACH = 12500, CALLS = AGENTS * EACH };
 
 typedef struct call {
-    uint64_t begun, ended;
+    uint64_t started, ended;
     bool fired;
 } call;
 
@@ -20,7 +20,7 @@ typedef struct worker {
     pthread_t thread;
     struct asm_agent agent;
     unsigned number;
-    size_t told;
+    size_t ordered;
     call calls[EACH];
 } worker;
 
@@ -43,7 +43,7 @@ static bool is_out_of_order(const call *calls, size_t count) {
     for (size_t i = count; i-- > 0;) {
         if (calls[i].fired)
             later = least(later, here);
-        if (later < calls[i].begun)
+        if (later < calls[i].started)
             return true;
         if (calls[i].fired) {
             later = least(later, calls[i].ended);
@@ -92,12 +92,12 @@ static void *work(void *argument) {
     pthread_barrier_wait(&start);
     for (unsigned turn = 0; turn < EACH;) {
         asm_numbers numbers = {0, 0, 0};
-        uint64_t begun = now();
+        uint64_t started = now();
         int32_t code = make(w, turn + w->number, &numbers);
         uint64_t ended = now();
         REQUIRE(code == ASM_DONE || code == ASM_STALE || code == ASM_BUSY);
         if (code != ASM_BUSY)
-            w->calls[turn++] = (call){begun, ended, numbers.fired != 0};
+            w->calls[turn++] = (call){started, ended, numbers.fired != 0};
     }
     return NULL;
 }
@@ -106,7 +106,7 @@ static void run_threads(struct asm_storage *storage) {
     REQUIRE(!pthread_barrier_init(&start, NULL, AGENTS));
     for (unsigned i = 0; i < AGENTS; i++) {
         workers[i].number = i;
-        workers[i].told = 0;
+        workers[i].ordered = 0;
         REQUIRE(asm_agent(storage, i, &workers[i].agent) == ASM_DONE);
         REQUIRE(!pthread_create(&workers[i].thread, NULL, work, &workers[i]));
     }
@@ -127,8 +127,8 @@ static void take_order(char *journal) {
         REQUIRE(end != NULL);
         *end = 0;
         REQUIRE(sscanf(line, "{\"agent\":%u,", &agent) == 1 && agent < AGENTS);
-        REQUIRE(workers[agent].told < EACH);
-        order[i] = workers[agent].calls[workers[agent].told++];
+        REQUIRE(workers[agent].ordered < EACH);
+        order[i] = workers[agent].calls[workers[agent].ordered++];
         REQUIRE(order[i].fired == (strstr(line, "\"reply\":{\"fired\":") != NULL));
         line = end + 1;
     }
@@ -148,6 +148,6 @@ int main(int count, char **words) {
         free(journal);
         asm_free_storage(&storage);
     }
-    printf("passed: %ld calls of %d agents stand in an order of real time\n", calls, AGENTS);
+    printf("passed: %ld calls of %d agents have an order of real time\n", calls, AGENTS);
     return 0;
 }

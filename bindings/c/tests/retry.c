@@ -14,7 +14,7 @@ static unsigned refused;
 #define AGAIN(call) (again((call)) ? (call) : last_code)
 
 /* The same with a call on the step, which is unchanged if there was no memory. */
-#define ON_STEP(call) (again((call)) && is_as_it_was() ? (call) : last_code)
+#define ON_STEP(call) (again((call)) && is_unchanged() ? (call) : last_code)
 
 static int32_t last_code;
 static struct asm_storage storage;
@@ -47,7 +47,7 @@ static bool answers(struct asm_agent *agent, const char *wanted) {
 }
 
 /* The locations were read at the step's beginning. */
-static bool is_as_it_was(void) {
+static bool is_unchanged(void) {
     uint8_t out[ROOM];
     size_t written;
     REQUIRE(step.slot.full && asm_depth(&step) == depth);
@@ -86,7 +86,7 @@ static void play(void) {
 }
 
 /* Polls the agent's own state, which follows the one move, and makes no receipt. */
-static void look(struct asm_agent *agent) {
+static void read_agent(struct asm_agent *agent) {
     uint8_t out[ROOM];
     size_t written;
     uint32_t number;
@@ -122,7 +122,7 @@ static void push(const char *move, const char *left) {
             ASM_DONE);
     depth++;
     seen = left;
-    is_as_it_was();
+    is_unchanged();
 }
 
 static void run_step(void) {
@@ -136,7 +136,7 @@ static void run_step(void) {
     REQUIRE(ON_STEP(asm_extend(&agents[0], &step, TEXT(more), out, sizeof out, &written)) ==
             ASM_DONE);
     seen = "{'number':1,'values':[22,{'set':[1,3]}]}";
-    is_as_it_was();
+    is_unchanged();
     REQUIRE(ON_STEP(asm_push(&agents[0], &step, TEXT(bad), out, sizeof out, &written)) ==
             ASM_CLASH);
     REQUIRE(has(out, written, "{'clash':[['x'],'Kind']}"));
@@ -205,7 +205,7 @@ static void run_united(void) {
             ASM_DONE);
     depth = 1;
     seen = "{'number':1,'values':[14,{'set':[1,3,'two']}]}";
-    is_as_it_was();
+    is_unchanged();
     REQUIRE(AGAIN(asm_pop(&step)) == ASM_DONE);
     depth = 0;
     seen = "{'number':1,'values':[8,{'set':[1,3,'two']}]}";
@@ -218,14 +218,14 @@ static void run_united(void) {
 /* Pops what was pushed last into the move; both are unchanged if there was no memory. */
 static void pop_move(const char *left) {
     asm_slot was = move.slot;
-    if (again(asm_pop_move(&step, &move)) && is_as_it_was()) {
+    if (again(asm_pop_move(&step, &move)) && is_unchanged()) {
         REQUIRE(is_same(move, was));
         last_code = asm_pop_move(&step, &move);
     }
     REQUIRE(last_code == ASM_DONE && move.slot.full);
     depth--;
     seen = left;
-    is_as_it_was();
+    is_unchanged();
 }
 
 /* A step without text, which is abandoned. */
@@ -244,7 +244,7 @@ static void run_plain(void) {
             ASM_DONE);
     depth = 1;
     seen = "{'number':1,'values':[10,{'set':[1,3,'two']}]}";
-    is_as_it_was();
+    is_unchanged();
     REQUIRE(ON_STEP(asm_extend_move(&agents[0], &step, &move, out, sizeof out, &written)) ==
             ASM_DONE);
     seen = "{'number':1,'values':[12,{'set':[1,3,'two']}]}";
@@ -297,7 +297,7 @@ static void compute(void) {
 
 /* An agent that was returned is checked out again, as often as there was no memory, and
  * returned. */
-static void take_again(void) {
+static void check_out_again(void) {
     struct asm_agent agent = {0};
     asm_slot was = storage.slot;
     if (again(asm_take(&storage, 1, &agent))) {
@@ -313,14 +313,14 @@ static void audit(const uint8_t *journal, size_t len, uint64_t calls, uint64_t m
                   const char *left) {
     uint8_t out[ROOM];
     struct asm_audit slot = {0};
-    asm_audit_numbers told;
+    asm_audit_numbers audited;
     size_t written, taken = 0;
     for (size_t at = 0; at < len; at += taken)
-        REQUIRE(!again(asm_audit(&slot, journal + at, len - at, &taken, &told)) ||
+        REQUIRE(!again(asm_audit(&slot, journal + at, len - at, &taken, &audited)) ||
                 taken < len - at);
-    REQUIRE(last_code == ASM_DONE && told.parts == 1);
-    REQUIRE(AGAIN(asm_audited(&slot, &told)) == ASM_DONE);
-    REQUIRE(told.parts == 1 && told.calls == calls && told.moves == moves);
+    REQUIRE(last_code == ASM_DONE && audited.parts == 1);
+    REQUIRE(AGAIN(asm_audited(&slot, &audited)) == ASM_DONE);
+    REQUIRE(audited.parts == 1 && audited.calls == calls && audited.moves == moves);
     REQUIRE(AGAIN(asm_audit_state(&slot, out, sizeof out, &written)) == ASM_DONE);
     REQUIRE(has(out, written, left));
     asm_free_audit(&slot);
@@ -336,7 +336,7 @@ static void close_all(struct asm_storage *of, size_t count, uint64_t calls, uint
     for (size_t i = count; i > 0; i--)
         REQUIRE(AGAIN(asm_give(of, &agents[i - 1])) == ASM_DONE);
     if (of == &storage)
-        take_again();
+        check_out_again();
     REQUIRE(AGAIN(asm_moves(of, &number)) == ASM_DONE && number == moves);
     REQUIRE(AGAIN(asm_close(of, &number)) == ASM_DONE && number == 0);
     REQUIRE(AGAIN(asm_journal(of, journal, sizeof journal, &len)) == ASM_DONE);
@@ -350,7 +350,7 @@ static void close_all(struct asm_storage *of, size_t count, uint64_t calls, uint
 }
 
 /* A full storage continues with its agent's own state. */
-static void go_on_full(void) {
+static void continue_after_full(void) {
     struct asm_storage full = {0}, next = {0};
     struct asm_agent agent = {0};
     asm_numbers numbers;
@@ -375,7 +375,7 @@ static void go_on_full(void) {
 }
 
 /* The run continues in a storage that opens with the state at the end of the first. */
-static void go_on(const char *left) {
+static void continue_from_agent(const char *left) {
     struct asm_storage next = {0};
     asm_slot was = storage.slot;
     if (again(asm_next(&storage, 4, &next))) {
@@ -432,13 +432,13 @@ int main(int argc, char **argv) {
     const char *left = "[[['s'],{'set':[1,3]}],[['x'],22],[['y'],'why']]";
     open_all();
     play();
-    look(&agents[1]);
+    read_agent(&agents[1]);
     run_plain();
     run_step();
     compute();
     close_all(&storage, 3, 6, 2, left);
-    go_on(left);
-    go_on_full();
+    continue_from_agent(left);
+    continue_after_full();
     record();
     if (argc > 1)
         printf("%s %u\n", argv[1], refused);

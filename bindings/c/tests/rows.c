@@ -56,16 +56,16 @@ static void aggregates(const group *g) {
         snprintf(text, sizeof text, "{'clash':[" AT ",'%s']}", g->cause);
     else
         snprintf(text, sizeof text, "[[" AT ",%s]]", g->value);
-    TELLS(g->cause ? ASM_CLASH : ASM_DONE, text, asm_aggregate(TEXT(state), TEXT(move), OUT));
+    WRITES(g->cause ? ASM_CLASH : ASM_DONE, text, asm_aggregate(TEXT(state), TEXT(move), OUT));
 }
 
-/* The composition of two moves, with an old value on which both fire, if there is one. `kept` is
- * what a step with both fires there, if that is no composition: what one of them alone does is
+/* The composition of two moves, with an old value on which both fire, if there is one. `unchanged`
+ * is what a step with both fires there, if that is no composition: what one of them alone does is
  * unchanged. */
 typedef struct row {
     const char *first, *second;
     int32_t code;
-    const char *composed, *old, *kept;
+    const char *composed, *old, *unchanged;
 } row;
 
 #define CLASH(cause) ASM_CLASH, "{'clash':[" AT ",'" cause "']}", NULL, NULL
@@ -104,11 +104,11 @@ static void composes(const row *r) {
     char first[LONGEST], second[LONGEST];
     snprintf(first, sizeof first, "[%s]", r->first);
     snprintf(second, sizeof second, "[%s]", r->second);
-    TELLS(r->code, r->composed, asm_compose(TEXT(first), TEXT(second), OUT));
+    WRITES(r->code, r->composed, asm_compose(TEXT(first), TEXT(second), OUT));
 }
 
 /* Overwrites the state, of one location, with the updates of the move; the text has no '. */
-static void go_on(char *state, const char *move) {
+static void continue_in(char *state, const char *move) {
     uint8_t out[LONGEST];
     size_t written;
     REQUIRE(asm_aggregate(TEXT(state), TEXT(move), out, sizeof out, &written) == ASM_DONE);
@@ -145,7 +145,7 @@ static void commits(const row *r, const char *state, const char *left) {
     char *journal = journal_of(&storage);
     is_legal(journal, 1, 1);
     snprintf(call, sizeof call, "\n{'agent':0,'call':{'fire':%s,",
-             r->kept ? r->kept : r->composed);
+             r->unchanged ? r->unchanged : r->composed);
     REQUIRE(strstr(journal, json(call)) != NULL);
     free(journal);
     asm_free_storage(&storage);
@@ -157,10 +157,10 @@ static void do_the_same(const row *r) {
     strcpy(in_turn, json(opening));
     strcpy(at_once, json(opening));
     snprintf(move, sizeof move, "[%s]", r->first);
-    go_on(in_turn, move);
+    continue_in(in_turn, move);
     snprintf(move, sizeof move, "[%s]", r->second);
-    go_on(in_turn, move);
-    go_on(at_once, r->composed);
+    continue_in(in_turn, move);
+    continue_in(at_once, r->composed);
     REQUIRE(!strcmp(in_turn, at_once));
     commits(r, opening, in_turn);
 }
@@ -179,16 +179,16 @@ static void refusals(void) {
     ANSWERS(ASM_SHAPE, asm_compose(TEXT(wrong), TEXT(cut), OUT));
     ANSWERS(ASM_NOT_JSON, asm_compose(TEXT("[]"), TEXT(cut), OUT));
     ANSWERS(ASM_SHAPE, asm_compose(TEXT("[]"), TEXT(wrong), OUT));
-    TELLS(ASM_DONE, "[]", asm_aggregate(TEXT("[]"), TEXT("[]"), OUT));
-    TELLS(ASM_DONE, "[[['s'],{'set':[1,2]}],[['x'],null],[['x',0],'a']]",
-          asm_aggregate(TEXT(state),
-                        TEXT("[['put',['x',0],'a'],['add',['s'],2],['put',['x'],null]]"), OUT));
-    TELLS(
+    WRITES(ASM_DONE, "[]", asm_aggregate(TEXT("[]"), TEXT("[]"), OUT));
+    WRITES(ASM_DONE, "[[['s'],{'set':[1,2]}],[['x'],null],[['x',0],'a']]",
+           asm_aggregate(TEXT(state),
+                         TEXT("[['put',['x',0],'a'],['add',['s'],2],['put',['x'],null]]"), OUT));
+    WRITES(
         ASM_CLASH, "{'clash':[['s'],'Mixed']}",
         asm_aggregate(TEXT(state), TEXT("[['inc',['z'],1],['inc',['s'],1],['add',['s'],2]]"), OUT));
-    TELLS(ASM_CLASH, "{'clash':[['s'],'Two']}",
-          asm_compose(TEXT("[['put',['z'],1],['put',['z'],2]]"),
-                      TEXT("[['put',['s'],1],['put',['s'],2]]"), OUT));
+    WRITES(ASM_CLASH, "{'clash':[['s'],'Two']}",
+           asm_compose(TEXT("[['put',['z'],1],['put',['z'],2]]"),
+                       TEXT("[['put',['s'],1],['put',['s'],2]]"), OUT));
     char *at = most + sprintf(most, "[");
     for (int i = 0; i < 4096; i++)
         at += sprintf(at, "%s[\"put\",[\"w\",%d],1]", i ? "," : "", i);

@@ -119,7 +119,7 @@ static const struct row {
         size_t length = strlen(wanted), room = length, written = 9;                                \
         uint8_t *out = buffer_of(room);                                                            \
         int32_t code = (call);                                                                     \
-        is_told(code, ASM_DONE, (wanted), out, written, __FILE__, __LINE__);                       \
+        answers_with(code, ASM_DONE, (wanted), out, written, __FILE__, __LINE__);                  \
         free(out);                                                                                 \
         out = buffer_of(room = length ? length - 1 : 0);                                           \
         REQUIRE(length == 0 || ((call) == ASM_SMALL && written == length));                        \

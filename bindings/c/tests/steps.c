@@ -44,7 +44,7 @@ typedef struct picture {
 } picture;
 
 /* It gets the locations; so they must have been read before. */
-static picture look(void) {
+static picture read_picture(void) {
     picture p;
     size_t written;
     memset(&p, 0, sizeof p);
@@ -60,11 +60,11 @@ static picture look(void) {
 /* The calls leave the step, its slot and the agent unchanged. */
 #define KEEPS(calls)                                                                               \
     do {                                                                                           \
-        picture before = look();                                                                   \
+        picture before = read_picture();                                                           \
         asm_slot slots[2] = {agents[0].slot, step.slot};                                           \
         calls;                                                                                     \
         REQUIRE(is_same(agents[0], slots[0]) && is_same(step, slots[1]));                          \
-        picture after = look();                                                                    \
+        picture after = read_picture();                                                            \
         REQUIRE(!memcmp(&before, &after, sizeof before));                                          \
     } while (0)
 
@@ -187,9 +187,9 @@ static int32_t get_places(int from, int count, size_t room) {
 
 static void gets(void) {
     begin_all();
-    TELLS(ASM_DONE, "{'number':0,'values':[7,null,7,{'set':[1]}]}",
-          asm_get(&agents[0], &step, TEXT("[['x'],['z'],['x'],['s']]"), OUT));
-    TELLS(ASM_DONE, "{'number':0,'values':[]}", asm_get(&agents[0], &step, TEXT("[]"), OUT));
+    WRITES(ASM_DONE, "{'number':0,'values':[7,null,7,{'set':[1]}]}",
+           asm_get(&agents[0], &step, TEXT("[['x'],['z'],['x'],['s']]"), OUT));
+    WRITES(ASM_DONE, "{'number':0,'values':[]}", asm_get(&agents[0], &step, TEXT("[]"), OUT));
     KEEPS({
         ANSWERS(ASM_NOT_JSON, asm_get(&agents[0], &step, NULL, 0, OUT));
         ANSWERS(ASM_NOT_JSON, asm_get(&agents[0], &step, TEXT("[['x']"), OUT));
@@ -221,12 +221,12 @@ static int32_t see_places(int from, int count) {
 /* What is seen is what a get would return, of any number of locations, and takes no place. */
 static void sees(void) {
     begin_all();
-    look();
+    read_picture();
     REQUIRE(push("[['inc',['x'],1],['put',['z'],'last']]") == ASM_DONE);
     KEEPS({
-        TELLS(ASM_DONE, "{'number':0,'values':[8,'last',8,{'set':[1]},null]}",
-              asm_see(&agents[0], &step, TEXT("[['x'],['z'],['x'],['s'],['none']]"), OUT));
-        TELLS(ASM_DONE, "{'number':0,'values':[]}", asm_see(&agents[0], &step, TEXT("[]"), OUT));
+        WRITES(ASM_DONE, "{'number':0,'values':[8,'last',8,{'set':[1]},null]}",
+               asm_see(&agents[0], &step, TEXT("[['x'],['z'],['x'],['s'],['none']]"), OUT));
+        WRITES(ASM_DONE, "{'number':0,'values':[]}", asm_see(&agents[0], &step, TEXT("[]"), OUT));
         ANSWERS(ASM_NOT_JSON, asm_see(&agents[0], &step, NULL, 0, OUT));
         ANSWERS(ASM_NOT_JSON, asm_see(&agents[0], &step, TEXT("[['x']"), OUT));
         ANSWERS(ASM_SHAPE, asm_see(&agents[0], &step, TEXT("['x']"), OUT));
@@ -264,18 +264,18 @@ static void gets_all(void) {
     asm_numbers numbers;
     uint32_t number;
     begin_all();
-    TELLS(ASM_DONE, "[[['y',1],'one'],[['y',2],'two']]",
-          asm_step_scan(&agents[0], &step, TEXT("y"), OUT));
-    TELLS(ASM_DONE, "[]", asm_step_scan(&agents[0], &step, TEXT("nothing"), OUT));
-    TELLS(ASM_DONE, "[]", asm_step_scan(&agents[0], &step, NULL, 0, OUT));
+    WRITES(ASM_DONE, "[[['y',1],'one'],[['y',2],'two']]",
+           asm_step_scan(&agents[0], &step, TEXT("y"), OUT));
+    WRITES(ASM_DONE, "[]", asm_step_scan(&agents[0], &step, TEXT("nothing"), OUT));
+    WRITES(ASM_DONE, "[]", asm_step_scan(&agents[0], &step, NULL, 0, OUT));
     REQUIRE(push("[['put',['y',2],null],['put',['y',0],0],['put',['z'],1]]") == ASM_DONE);
-    TELLS(ASM_DONE, "[[['y',0],0],[['y',1],'one']]",
-          asm_step_scan(&agents[0], &step, TEXT("y"), OUT));
+    WRITES(ASM_DONE, "[[['y',0],0],[['y',1],'one']]",
+           asm_step_scan(&agents[0], &step, TEXT("y"), OUT));
     REQUIRE(push("[['put',['y',2],2],['put',['y',1],null]]") == ASM_DONE);
-    TELLS(ASM_DONE, "[[['y',0],0],[['y',2],2]]", asm_step_scan(&agents[0], &step, TEXT("y"), OUT));
+    WRITES(ASM_DONE, "[[['y',0],0],[['y',2],2]]", asm_step_scan(&agents[0], &step, TEXT("y"), OUT));
     REQUIRE(asm_pop(&step) == ASM_DONE && asm_pop(&step) == ASM_DONE);
     begins(&agents[0], &step, ASM_DONE);
-    look();
+    read_picture();
     /* Five are tracked reads by now, and one place more is taken by the function, which is
      * scanned twice. */
     ANSWERS(ASM_DONE, asm_push(&agents[0], &step, bytes(move), strlen(move), OUT));
@@ -305,16 +305,16 @@ static void pushes(void) {
     ANSWERS(ASM_DONE, asm_push(&agents[0], &step, TEXT("[['put',['x'],10]]"), OUT));
     ANSWERS(ASM_DONE, asm_extend(&agents[0], &step, TEXT("[['inc',['x'],5]]"), OUT));
     REQUIRE(asm_depth(&step) == 1);
-    TELLS(ASM_DONE, "{'number':0,'values':[15]}", asm_get(&agents[0], &step, TEXT(x), OUT));
+    WRITES(ASM_DONE, "{'number':0,'values':[15]}", asm_get(&agents[0], &step, TEXT(x), OUT));
     REQUIRE(push("[['inc',['x'],-1],['put',['z'],null]]") == ASM_DONE && asm_depth(&step) == 2);
     REQUIRE(extend("[['inc',['x'],-1],['add',['s'],2]]") == ASM_DONE && asm_depth(&step) == 2);
-    TELLS(ASM_DONE, "{'number':0,'values':[13,{'set':[1,2]}]}",
-          asm_get(&agents[0], &step, TEXT("[['x'],['s']]"), OUT));
+    WRITES(ASM_DONE, "{'number':0,'values':[13,{'set':[1,2]}]}",
+           asm_get(&agents[0], &step, TEXT("[['x'],['s']]"), OUT));
     REQUIRE(asm_pop(&step) == ASM_DONE && asm_depth(&step) == 1);
-    TELLS(ASM_DONE, "{'number':0,'values':[15,{'set':[1]}]}",
-          asm_get(&agents[0], &step, TEXT("[['x'],['s']]"), OUT));
+    WRITES(ASM_DONE, "{'number':0,'values':[15,{'set':[1]}]}",
+           asm_get(&agents[0], &step, TEXT("[['x'],['s']]"), OUT));
     REQUIRE(asm_pop(&step) == ASM_DONE && asm_depth(&step) == 0 && asm_pop(&step) == ASM_NO_PUSH);
-    TELLS(ASM_DONE, "{'number':0,'values':[7]}", asm_get(&agents[0], &step, TEXT(x), OUT));
+    WRITES(ASM_DONE, "{'number':0,'values':[7]}", asm_get(&agents[0], &step, TEXT(x), OUT));
     /* Without a pushed move an extension is one. */
     REQUIRE(extend("[]") == ASM_DONE && asm_depth(&step) == 1);
     REQUIRE(asm_seen(&agents[0]) == 0 && asm_won(&agents[0]) == 0);
@@ -329,14 +329,14 @@ typedef int32_t grow(struct asm_agent *, struct asm_step *, const uint8_t *, siz
 static void refused(grow *call) {
     struct asm_agent *agent = &agents[0];
     KEEPS({
-        TELLS(ASM_CLASH, "{'clash':[['x'],'Two']}",
-              call(agent, &step, TEXT("[['put',['x'],1],['put',['x'],2]]"), OUT));
-        TELLS(ASM_CLASH, "{'clash':[['x'],'Kind']}",
-              call(agent, &step, TEXT("[['put',['z'],1],['add',['x'],1]]"), OUT));
-        TELLS(ASM_CLASH, "{'clash':[['b'],'Short']}",
-              call(agent, &step, TEXT("[['bagremove',['b'],'e',4294967295]]"), OUT));
-        TELLS(ASM_CLASH, "{'clash':[['x'],'Large']}",
-              call(agent, &step, TEXT("[['inc',['x'],9223372036854775807]]"), OUT));
+        WRITES(ASM_CLASH, "{'clash':[['x'],'Two']}",
+               call(agent, &step, TEXT("[['put',['x'],1],['put',['x'],2]]"), OUT));
+        WRITES(ASM_CLASH, "{'clash':[['x'],'Kind']}",
+               call(agent, &step, TEXT("[['put',['z'],1],['add',['x'],1]]"), OUT));
+        WRITES(ASM_CLASH, "{'clash':[['b'],'Short']}",
+               call(agent, &step, TEXT("[['bagremove',['b'],'e',4294967295]]"), OUT));
+        WRITES(ASM_CLASH, "{'clash':[['x'],'Large']}",
+               call(agent, &step, TEXT("[['inc',['x'],9223372036854775807]]"), OUT));
         ANSWERS(ASM_NOT_JSON, call(agent, &step, NULL, 0, OUT));
         ANSWERS(ASM_NOT_JSON, call(agent, &step, TEXT("[["), OUT));
         ANSWERS(ASM_SHAPE, call(agent, &step, TEXT("[['put',['x']]]"), OUT));
@@ -346,7 +346,7 @@ static void refused(grow *call) {
 
 static void refusals(void) {
     begin_all();
-    look();
+    read_picture();
     refused(asm_push);
     refused(asm_extend);
     REQUIRE(push("[['inc',['x'],1],['put',['z'],0]]") == ASM_DONE);
@@ -365,7 +365,7 @@ static void refusals(void) {
 
 static void depths(void) {
     begin_all();
-    look();
+    read_picture();
     for (uint32_t i = 0; i < 64; i++)
         REQUIRE(asm_depth(&step) == i && push("[['inc',['x'],1]]") == ASM_DONE);
     KEEPS({
@@ -373,13 +373,14 @@ static void depths(void) {
         ANSWERS(ASM_DEEP, asm_push(&agents[0], &step, TEXT("[]"), OUT));
     });
     REQUIRE(extend("[['inc',['x'],1]]") == ASM_DONE && asm_depth(&step) == 64);
-    TELLS(ASM_DONE, "{'number':0,'values':[72]}", asm_get(&agents[0], &step, TEXT("[['x']]"), OUT));
+    WRITES(ASM_DONE, "{'number':0,'values':[72]}",
+           asm_get(&agents[0], &step, TEXT("[['x']]"), OUT));
     REQUIRE(asm_pop(&step) == ASM_DONE && asm_depth(&step) == 63);
     REQUIRE(push("[['put',['x'],0]]") == ASM_DONE);
     for (int i = 0; i < 1000; i++)
         REQUIRE(extend("[['inc',['x'],1]]") == ASM_DONE);
-    TELLS(ASM_DONE, "{'number':0,'values':[1000]}",
-          asm_get(&agents[0], &step, TEXT("[['x']]"), OUT));
+    WRITES(ASM_DONE, "{'number':0,'values':[1000]}",
+           asm_get(&agents[0], &step, TEXT("[['x']]"), OUT));
     REQUIRE(asm_depth(&step) == 64);
     for (uint32_t i = 64; i > 0; i--)
         REQUIRE(asm_depth(&step) == i && asm_pop(&step) == ASM_DONE);
@@ -389,7 +390,7 @@ static void depths(void) {
 /* The one move has 4,096 instructions at most, in one push or in all. */
 static void many_instructions(void) {
     begin_all();
-    look();
+    read_picture();
     const char *all = puts_to(4096);
     ANSWERS(ASM_DONE, asm_push(&agents[0], &step, bytes(all), strlen(all), OUT));
     KEEPS({

@@ -23,7 +23,7 @@ static void holds(uint32_t moves) {
 
 static void reads(struct asm_agent *agent, const char *locations, const char *answer) {
     REQUIRE(asm_read(agent, TEXT(locations)) == ASM_DONE);
-    TELLS(ASM_DONE, answer, asm_answer(agent, OUT));
+    WRITES(ASM_DONE, answer, asm_answer(agent, OUT));
 }
 
 static int32_t fire_of(struct asm_agent *agent, const char *call) {
@@ -65,7 +65,7 @@ static void wide_move(const struct wide *w) {
     } else {
         REQUIRE(code == ASM_CLASH && numbers.fired == 0);
         snprintf(answer, sizeof answer, "{'clash':[['w',%d],'Two']}", w->clash);
-        TELLS(ASM_DONE, answer, asm_answer(&agents[1], OUT));
+        WRITES(ASM_DONE, answer, asm_answer(&agents[1], OUT));
     }
     for (int i = 0; i < 3; i++) {
         snprintf(locations, sizeof locations, "[['w',%d]]", places[i]);
@@ -98,7 +98,7 @@ static char *append_drawn(char *at, uint32_t seed, bool is_wide) {
 
 /* The same moves are answered alike with no read, with one that is never stale, and if they are
  * wide, until the storage is full. */
-static void judged_alike(void) {
+static void judged_equally(void) {
     struct asm_storage stores[3] = {0};
     struct asm_agent ones[3] = {0};
     unsigned fired = 0, clashed = 0;
@@ -234,7 +234,7 @@ static void many_agents(void) {
 int main(void) {
     for (size_t i = 0; i < sizeof wides / sizeof *wides; i++)
         wide_move(&wides[i]);
-    judged_alike();
+    judged_equally();
     many_moves(1000);
     many_moves(16384);
     hidden_values();

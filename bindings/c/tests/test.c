@@ -125,7 +125,7 @@ static void numbers(void) {
 }
 
 /* The moves of an agent that is freed are missing, whether another agent has seen them or none. */
-static void lost_agents(void) {
+static void abandoned_agents(void) {
     const char *move = "{\"fire\":[],\"reads\":[]}";
     struct asm_storage storage = {0};
     struct asm_agent a[3] = {0};
@@ -348,7 +348,7 @@ int main(void) {
     empty_slots();
     full_slots();
     numbers();
-    lost_agents();
+    abandoned_agents();
     no_bytes();
     garbage();
     fires();

@@ -32,7 +32,7 @@ enum { UNTOUCHED = 0xA5, LONGEST = 4096 };
 
 /* With a byte of room less than the text has, the call writes nothing and returns the room;
  * then, with that room, it returns this code and writes the text. */
-#define TELLS(wanted, text, call)                                                                  \
+#define WRITES(wanted, text, call)                                                                 \
     do {                                                                                           \
         size_t length = strlen(text), room = length - 1, written = 9;                              \
         uint8_t *out = buffer_of(room);                                                            \
@@ -40,7 +40,7 @@ enum { UNTOUCHED = 0xA5, LONGEST = 4096 };
         REQUIRE(written == length && is_untouched(out, room));                                     \
         free(out);                                                                                 \
         out = buffer_of(room = length);                                                            \
-        is_told((call), (wanted), json(text), out, written, __FILE__, __LINE__);                   \
+        answers_with((call), (wanted), json(text), out, written, __FILE__, __LINE__);              \
         free(out);                                                                                 \
     } while (0)
 
@@ -80,8 +80,8 @@ static inline bool is_untouched(const uint8_t *buffer, size_t room) {
     return true;
 }
 
-static inline void is_told(int32_t code, int32_t wanted, const char *text, const uint8_t *out,
-                           size_t written, const char *file, int line) {
+static inline void answers_with(int32_t code, int32_t wanted, const char *text, const uint8_t *out,
+                                size_t written, const char *file, int line) {
     if (code == wanted && written == strlen(text) && !memcmp(out, text, written))
         return;
     fprintf(stderr, "%s: line %d: code %" PRId32 ", %.*s\n  wanted %" PRId32 ", %s\n", file, line,

@@ -21,7 +21,7 @@ static void end_at_shelf(void) {
 static void tracks(const char *fire, const char *reads) {
     char offer[256];
     snprintf(offer, sizeof offer, "{'fire':%s,'reads':%s}", fire, reads);
-    TELLS(ASM_DONE, offer, asm_offer(&step, OUT));
+    WRITES(ASM_DONE, offer, asm_offer(&step, OUT));
 }
 
 /* A move of one instruction at a location, in the slot. */
@@ -58,7 +58,7 @@ static void refused_moves(void) {
         size_t written;
         begin_at_shelf();
         if (way < 4)
-            TELLS(ASM_CLASH, "{'clash':[['b'],'Short']}", takes_two(way, OUT));
+            WRITES(ASM_CLASH, "{'clash':[['b'],'Short']}", takes_two(way, OUT));
         else
             REQUIRE(takes_two(way - 4, NULL, 0, &written) == ASM_SMALL && written > 0);
         tracks("[]", "[[['b'],0]]");
@@ -74,10 +74,11 @@ static void refused_moves(void) {
 /* A refusal reveals that the smaller locations fit, and nothing of the greater ones. */
 static void smaller_locations(void) {
     begin_at_shelf();
-    TELLS(ASM_CLASH, "{'clash':[['c'],'Kind']}",
-          asm_push(&agents[0], &step,
-                   TEXT("[['add',['s'],2],['add',['c'],1],['bagremove',['b'],'e',1],"
-                        "['put',['a'],1]]"), OUT));
+    WRITES(ASM_CLASH, "{'clash':[['c'],'Kind']}",
+           asm_push(&agents[0], &step,
+                    TEXT("[['add',['s'],2],['add',['c'],1],['bagremove',['b'],'e',1],"
+                         "['put',['a'],1]]"),
+                    OUT));
     tracks("[]", "[[['b'],0],[['c'],0]]");
     fire(&agents[1], "[['add',['s'],3],['put',['a'],2]]");
     fired(2);
@@ -88,11 +89,11 @@ static void smaller_locations(void) {
 static void refused_by_own_puts(void) {
     begin_at_shelf();
     push("[['bagadd',['b'],'f',1],['put',['c'],'none']]");
-    TELLS(ASM_CLASH, "{'clash':[['c'],'Kind']}",
-          asm_push(&agents[0], &step, TEXT("[['inc',['c'],1]]"), OUT));
+    WRITES(ASM_CLASH, "{'clash':[['c'],'Kind']}",
+           asm_push(&agents[0], &step, TEXT("[['inc',['c'],1]]"), OUT));
     tracks("[['bagadd',['b'],'f',1],['put',['c'],'none']]", "[]");
-    TELLS(ASM_CLASH, "{'clash':[['b'],'Short']}",
-          asm_extend(&agents[0], &step, TEXT("[['bagremove',['b'],'f',2]]"), OUT));
+    WRITES(ASM_CLASH, "{'clash':[['b'],'Short']}",
+           asm_extend(&agents[0], &step, TEXT("[['bagremove',['b'],'f',2]]"), OUT));
     tracks("[['bagadd',['b'],'f',1],['put',['c'],'none']]", "[[['b'],0]]");
     end_at_shelf();
 }
@@ -143,7 +144,7 @@ static void no_place(void) {
     REQUIRE(is_same(move, was));
     begins_at(0);
     takes_places(255);
-    TELLS(ASM_CLASH, "{'clash':[['b'],'Short']}", takes_two(0, OUT));
+    WRITES(ASM_CLASH, "{'clash':[['b'],'Short']}", takes_two(0, OUT));
     fire(&agents[1], "[['bagadd',['b'],'e',1]]");
     refused(ASM_STALE, "{'stale':['b']}");
     end_at_shelf();
@@ -198,7 +199,7 @@ static void pushed_again(void) {
 }
 
 /* The changes of two moves of the group may amount to nothing, and need its value all the same. */
-static void resting_groups(void) {
+static void groups_of_dependencies(void) {
     begin_at_shelf();
     push("[['inc',['c'],1],['put',['a'],1]]");
     ANSWERS(ASM_DONE, asm_extend(&agents[0], &step,
@@ -239,9 +240,9 @@ static void recorded_reads(void) {
     push("[['inc',['x'],1]]");
     push("[['inc',['x'],1],['put',['y'],5]]");
     gets("['y']", 0, "5");
-    TELLS(ASM_DONE, "[[['c'],0]]", asm_step_scan(&agents[0], &step, TEXT("c"), OUT));
-    TELLS(ASM_CLASH, "{'clash':[['s'],'Kind']}",
-          asm_push(&agents[0], &step, TEXT("[['inc',['s'],1]]"), OUT));
+    WRITES(ASM_DONE, "[[['c'],0]]", asm_step_scan(&agents[0], &step, TEXT("c"), OUT));
+    WRITES(ASM_CLASH, "{'clash':[['s'],'Kind']}",
+           asm_push(&agents[0], &step, TEXT("[['inc',['s'],1]]"), OUT));
     fired_by(asm_commit_recorded, 1);
     begins_at(1);
     gets("['x']", 1, "9");
@@ -267,7 +268,7 @@ static void recorded_reads(void) {
 }
 
 /* A check refuses the journal of a recorded step once a value in it is another. */
-static void recorded_lies(void) {
+static void false_records(void) {
     uint64_t calls = 9;
     uint32_t moves = 9;
     begin_with(8);
@@ -287,7 +288,7 @@ static void recorded_lies(void) {
 
 /* If the agent's own state has moved on, or another agent's state is there, the step is begun
  * again. */
-static void recorded_elsewhere(void) {
+static void records_of_other_locations(void) {
     uint32_t number;
     begin_with(8);
     gets("['x']", 0, "7");
@@ -318,7 +319,7 @@ static void recorded_elsewhere(void) {
 }
 
 /* The agent's state is at the step's number, and after a fire of its own. */
-static void recorded_behind(void) {
+static void records_of_older_versions(void) {
     begin_with(8);
     gets("['x']", 0, "7");
     fire(&agents[0], "[['put',['y'],1]]");
@@ -347,7 +348,7 @@ static void recorded_places(void) {
         begins_at(1 + scans);
         takes_places(255 - (int)scans);
         if (scans)
-            TELLS(ASM_DONE, "[]", asm_step_scan(&agents[0], &step, TEXT("v"), OUT));
+            WRITES(ASM_DONE, "[]", asm_step_scan(&agents[0], &step, TEXT("v"), OUT));
         push("[['inc',['c'],1]]");
         ANSWERS(ASM_DONE, asm_extend(&agents[0], &step, TEXT("[['inc',['c'],1]]"), OUT));
         fired_by(asm_commit_recorded, 2 + scans);
@@ -368,12 +369,12 @@ int main(void) {
     no_place();
     popped_moves();
     pushed_again();
-    resting_groups();
+    groups_of_dependencies();
     no_trace();
     recorded_reads();
-    recorded_lies();
-    recorded_elsewhere();
-    recorded_behind();
+    false_records();
+    records_of_other_locations();
+    records_of_older_versions();
     recorded_places();
     puts("passed");
     return 0;

@@ -18,8 +18,8 @@ static struct asm_move move;
 static int64_t values[MOVES + 1][PLACES];
 static uint32_t moves, written_at[PLACES], answered;
 static struct view {
-    uint32_t seen, won, stood, begun;
-    bool has_step, has_got[PLACES];
+    uint32_t seen, won, version, step_version;
+    bool has_step, has_read[PLACES];
 } views[AGENTS];
 
 static void begin_all(void) {
@@ -53,7 +53,7 @@ static uint64_t below(uint64_t bound) {
 }
 
 /* The agent's own state, with the values of its version. */
-static uint32_t stands(size_t agent) {
+static uint32_t version_of(size_t agent) {
     uint32_t number = 9;
     size_t written;
     for (size_t i = 0; i < PLACES; i++) {
@@ -67,7 +67,7 @@ static uint32_t stands(size_t agent) {
 }
 
 static void is_as_modelled(size_t agent) {
-    REQUIRE(stands(agent) == views[agent].stood);
+    REQUIRE(version_of(agent) == views[agent].version);
     REQUIRE(asm_seen(&agents[agent]) == views[agent].seen);
     REQUIRE(asm_won(&agents[agent]) == views[agent].won);
 }
@@ -77,12 +77,12 @@ static void takes(size_t taker, size_t other) {
     struct view *a = &views[taker], *b = &views[other];
     asm_slot was[2] = {agents[taker].slot, agents[other].slot};
     uint64_t misses[2] = {asm_misses(&agents[taker]), asm_misses(&agents[other])};
-    uint32_t stood = a->stood;
+    uint32_t version = a->version;
     REQUIRE(asm_take_state(&agents[taker], &agents[other]) == ASM_DONE);
     a->seen = b->seen > a->seen ? b->seen : a->seen;
-    if (stood < b->stood) {
-        a->stood = b->stood;
-        b->stood = stood;
+    if (version < b->version) {
+        a->version = b->version;
+        b->version = version;
     }
     is_as_modelled(taker);
     is_as_modelled(other);
@@ -94,9 +94,9 @@ static void begins(size_t agent) {
     struct view *a = &views[agent];
     uint32_t number = 9;
     REQUIRE(asm_begin(&agents[agent], &steps[agent], &number) == ASM_DONE && number == moves);
-    a->seen = a->stood = a->begun = moves;
+    a->seen = a->version = a->step_version = moves;
     a->has_step = true;
-    memset(a->has_got, 0, sizeof a->has_got);
+    memset(a->has_read, 0, sizeof a->has_read);
     is_as_modelled(agent);
 }
 
@@ -105,9 +105,9 @@ static bool sees(size_t agent, size_t place, asm_value *value) {
     struct view *a = &views[agent];
     size_t written;
     int32_t code = asm_get_at(&agents[agent], &steps[agent], &at[place], value, NULL, 0, &written);
-    REQUIRE(code == (a->stood == a->begun ? ASM_DONE : ASM_MOVED));
-    REQUIRE(code == ASM_MOVED || value->number == values[a->begun][place]);
-    a->has_got[place] |= code == ASM_DONE;
+    REQUIRE(code == (a->version == a->step_version ? ASM_DONE : ASM_MOVED));
+    REQUIRE(code == ASM_MOVED || value->number == values[a->step_version][place]);
+    a->has_read[place] |= code == ASM_DONE;
     return code == ASM_DONE;
 }
 
@@ -126,7 +126,7 @@ static void is_answered(size_t agent) {
     asm_free_step(&steps[agent]);
     a->has_step = false;
     a->seen = moves;
-    a->stood = stands(agent);
+    a->version = version_of(agent);
     is_as_modelled(agent);
 }
 
@@ -143,7 +143,7 @@ static void commits(size_t agent, size_t place) {
     asm_free_move(&move);
     bool is_stale = false;
     for (size_t i = 0; i < PLACES; i++)
-        is_stale |= views[agent].has_got[i] && written_at[i] > views[agent].begun;
+        is_stale |= views[agent].has_read[i] && written_at[i] > views[agent].step_version;
     REQUIRE(asm_commit(&agents[agent], &steps[agent], &numbers) ==
             (is_stale ? ASM_STALE : ASM_DONE));
     if (!is_stale)
@@ -209,13 +209,13 @@ static void open_steps(void) {
     begins(0);
     REQUIRE(sees(0, 1, &value));
     takes(1, 0);
-    REQUIRE(views[0].stood == 0 && views[1].stood == 1 && !sees(0, 1, &value));
+    REQUIRE(views[0].version == 0 && views[1].version == 1 && !sees(0, 1, &value));
     ANSWERS(ASM_MOVED, asm_push(&agents[0], &steps[0], TEXT("[['inc',['x',1],1]]"), OUT));
     ANSWERS(ASM_MOVED, asm_get(&agents[0], &steps[0], TEXT("[]"), OUT));
     REQUIRE(asm_get_at(&agents[1], &steps[0], &at[1], &value, NULL, 0, &written) == ASM_DONE);
     ANSWERS(ASM_DONE, asm_push(&agents[1], &steps[0], TEXT("[['inc',['x',1],5]]"), OUT));
     REQUIRE(asm_follow(&agents[0], &number) == ASM_DONE && number == 1);
-    views[0].stood = 1;
+    views[0].version = 1;
     REQUIRE(asm_get_at(&agents[0], &steps[0], &at[1], &value, NULL, 0, &written) == ASM_DONE);
     REQUIRE(value.number == values[1][1] + 5);
     takes(0, 1);

@@ -22,7 +22,7 @@ static void also(size_t place, int32_t verb, int64_t number) {
 
 /* The push of the united move clashes with this text. */
 static void clashes(const char *text) {
-    TELLS(ASM_CLASH, text, asm_push_move(&agents[0], &step, &move, OUT));
+    WRITES(ASM_CLASH, text, asm_push_move(&agents[0], &step, &move, OUT));
 }
 
 /* Both do at once what they do: increments of both count, and an update that both have does

@@ -4,7 +4,7 @@
 
 /* Puts, and partial updates of one move alone, depend on nothing: what a rival writes there
  * stays. */
-static void resting_on_nothing(void) {
+static void moves_without_reads(void) {
     begin_with(8);
     push("[['inc',['c'],1],['put',['x'],1]]");
     fire(&agents[1], "[['inc',['c'],5],['put',['x'],70],['put',['y'],70]]");
@@ -32,15 +32,15 @@ static void resting_on_nothing(void) {
 
 /* What two moves change is named without a get, if the first has partial updates alone there:
  * whether the second is pushed or extends it, puts, or changes it back. */
-static void resting_locations(void) {
+static void dependency_locations(void) {
     static const char *const seconds[] = {"[['inc',['c'],1]]", "[['inc',['c'],-1]]",
                                           "[['put',['c'],5],['put',['y'],0]]"};
     for (int is_push = 0; is_push < 2; is_push++)
         for (size_t i = 0; i < sizeof seconds / sizeof *seconds; i++) {
             begin_with(8);
             push("[['inc',['c'],1]]");
-            ANSWERS(ASM_DONE, (is_push ? asm_push : asm_extend)(&agents[0], &step,
-                                                                TEXT(seconds[i]), OUT));
+            ANSWERS(ASM_DONE,
+                    (is_push ? asm_push : asm_extend)(&agents[0], &step, TEXT(seconds[i]), OUT));
             fire(&agents[1], "[['inc',['c'],1]]");
             refused(ASM_STALE, "{'stale':['c']}");
             end_all();
@@ -67,23 +67,23 @@ static void sees(const char *location, const char *value) {
     char locations[64], text[128];
     snprintf(locations, sizeof locations, "[%s]", location);
     snprintf(text, sizeof text, "{'number':0,'values':[%s]}", value);
-    TELLS(ASM_DONE, text, asm_see(&agents[0], &step, TEXT(locations), OUT));
+    WRITES(ASM_DONE, text, asm_see(&agents[0], &step, TEXT(locations), OUT));
 }
 
 /* What is only seen is named by nothing, through pushed moves too; once a get reads it as well,
  * it is. */
 static void seen(void) {
-    for (int is_got = 0; is_got < 2; is_got++) {
+    for (int gets_value = 0; gets_value < 2; gets_value++) {
         begin_with(8);
         sees("['x']", "7");
         push("[['inc',['c'],1],['put',['y'],1]]");
         sees("['c']", "1");
         sees("['y']", "1");
-        if (is_got)
+        if (gets_value)
             gets("['x']", 0, "7");
         fire(&agents[1], "[['put',['x'],70],['inc',['c'],5],['put',['y'],70]]");
         sees("['x']", "7");
-        if (is_got)
+        if (gets_value)
             refused(ASM_STALE, "{'stale':['x']}");
         else
             fired(2);
@@ -92,17 +92,17 @@ static void seen(void) {
 }
 
 static void scans(const char *name, const char *wanted) {
-    TELLS(ASM_DONE, wanted, asm_step_scan(&agents[0], &step, TEXT(name), OUT));
+    WRITES(ASM_DONE, wanted, asm_step_scan(&agents[0], &step, TEXT(name), OUT));
 }
 
 /* A step depends on all locations of a function that was scanned, also those without a value,
  * until it is begun again: a write to any of them, whatever its effect there, makes the commit
  * stale. */
-static void whole_functions(void) {
+static void scanned_functions(void) {
     static const char *const writes[] = {"[['put',['x'],7]]", "[['put',['x'],null]]",
                                          "[['put',['x',1],null]]", "[['put',['x','a'],1]]"};
-    static const char *const written[] = {"{'stale':['x']}", "{'stale':['x']}",
-                                          "{'stale':['x',1]}", "{'stale':['x','a']}"};
+    static const char *const written[] = {"{'stale':['x']}", "{'stale':['x']}", "{'stale':['x',1]}",
+                                          "{'stale':['x','a']}"};
     for (size_t i = 0; i < sizeof writes / sizeof *writes; i++) {
         begin_with(8);
         scans("x", "[[['x'],7]]");
@@ -164,12 +164,12 @@ static void fires_over_functions(void) {
     const char *put = "{'fire':[['put',['y'],1]],'reads':[[['c'],0]]}";
     uint32_t number;
     begin_with(8);
-    TELLS(ASM_DONE, "[[['x'],7]]", asm_scan(&agents[0], TEXT("x"), &number, OUT));
+    WRITES(ASM_DONE, "[[['x'],7]]", asm_scan(&agents[0], TEXT("x"), &number, OUT));
     REQUIRE(number == 0);
     fires_over(ASM_AHEAD, &agents[0], put, "[['x',0],['none',1]]", 0);
     fire(&agents[1], "[['put',['x',1],null],['put',['xx'],1]]");
     fires_over(ASM_STALE, &agents[0], put, "[['y',0],['x',0]]", 0);
-    TELLS(ASM_DONE, "{'stale':['x',1]}", asm_answer(&agents[0], OUT));
+    WRITES(ASM_DONE, "{'stale':['x',1]}", asm_answer(&agents[0], OUT));
     fires_over(ASM_DONE, &agents[0], put, "[['y',0],['x',1],['none',0]]", 2);
     fires_over(ASM_NOT_JSON, &agents[0], put, "[", 0);
     fires_over(ASM_SHAPE, &agents[0], put, "[['x']]", 0);
@@ -200,8 +200,8 @@ static void clashes_at_the_commit(void) {
     ANSWERS(ASM_MOVED, asm_push(&agents[0], &step, TEXT("[]"), OUT));
     /* Begun again, it is the push that clashes. */
     begins_at(1);
-    TELLS(ASM_CLASH, "{'clash':[['b'],'Short']}",
-          asm_push(&agents[0], &step, TEXT("[['bagremove',['b'],'e',1]]"), OUT));
+    WRITES(ASM_CLASH, "{'clash':[['b'],'Short']}",
+           asm_push(&agents[0], &step, TEXT("[['bagremove',['b'],'e',1]]"), OUT));
     begins_at(1);
     push("[['inc',['c'],1]]");
     fire(&agents[1], "[['put',['c'],'none'],['bagadd',['b'],'e',1]]");
@@ -252,8 +252,8 @@ static void gets_each(int count) {
 
 static void raises_each(bool is_push, int count) {
     const char *move = each("[\"inc\",[\"w\",%d],1]", count);
-    ANSWERS(ASM_DONE, (is_push ? asm_push : asm_extend)(&agents[0], &step, bytes(move),
-                                                        strlen(move), OUT));
+    ANSWERS(ASM_DONE,
+            (is_push ? asm_push : asm_extend)(&agents[0], &step, bytes(move), strlen(move), OUT));
 }
 
 /* More than 256 locations would be named: 256 tracked reads, and one location that two moves
@@ -298,7 +298,7 @@ static void many_scanned(void) {
 }
 
 /* As many locations are named as the moves depend on and gets read, each counted once. */
-static void many_rested_on(void) {
+static void many_dependencies(void) {
     begins_wide();
     /* One move of any number of increments depends on nothing. */
     raises_each(true, 300);
@@ -314,7 +314,7 @@ static void many_rested_on(void) {
     raises_each(true, 257);
     raises_each(false, 257);
     refused(ASM_MANY, NULL);
-    TELLS(ASM_DONE, "{'fired':3}", asm_answer(&agents[0], OUT));
+    WRITES(ASM_DONE, "{'fired':3}", asm_answer(&agents[0], OUT));
     begins_at(3);
     raises_each(true, 256);
     raises_each(true, 256);
@@ -339,16 +339,16 @@ static void many_rested_on(void) {
 }
 
 int main(void) {
-    resting_on_nothing();
-    resting_locations();
+    moves_without_reads();
+    dependency_locations();
     gets_below();
     seen();
-    whole_functions();
+    scanned_functions();
     fires_over_functions();
     clashes_at_the_commit();
     many_named();
     many_scanned();
-    many_rested_on();
+    many_dependencies();
     puts("passed");
     return 0;
 }

@@ -28,21 +28,21 @@ static void follows_to(struct asm_agent *agent, uint32_t wanted) {
 static void own_states(void) {
     uint32_t number = 9;
     begin_all();
-    TELLS(ASM_DONE, "{'number':0,'values':[7,null,{'set':[1]}]}",
-          asm_peek(&agents[0], TEXT("[['x'],['z'],['s']]"), OUT));
+    WRITES(ASM_DONE, "{'number':0,'values':[7,null,{'set':[1]}]}",
+           asm_peek(&agents[0], TEXT("[['x'],['z'],['s']]"), OUT));
     fire(&agents[1], "[['inc',['x'],1],['put',['y',1],null]]");
     fire(&agents[1], "[['put',['z'],{'bag':[['e',2]]}]]");
-    TELLS(ASM_DONE, "{'number':0,'values':[7]}", asm_peek(&agents[0], TEXT("[['x']]"), OUT));
-    TELLS(ASM_DONE, opening, asm_state(&agents[0], &number, OUT));
+    WRITES(ASM_DONE, "{'number':0,'values':[7]}", asm_peek(&agents[0], TEXT("[['x']]"), OUT));
+    WRITES(ASM_DONE, opening, asm_state(&agents[0], &number, OUT));
     REQUIRE(number == 0 && asm_seen(&agents[0]) == 0 && asm_misses(&agents[0]) == 0);
     follows_to(&agents[0], 2);
     REQUIRE(asm_misses(&agents[0]) == 1 && asm_won(&agents[0]) == 0);
-    TELLS(ASM_DONE, "{'number':2,'values':[8,null]}",
-          asm_peek(&agents[0], TEXT("[['x'],['y',1]]"), OUT));
-    TELLS(ASM_DONE, "[[['s'],{'set':[1]}],[['x'],8],[['y',2],'two'],[['z'],{'bag':[['e',2]]}]]",
-          asm_state(&agents[0], &number, OUT));
+    WRITES(ASM_DONE, "{'number':2,'values':[8,null]}",
+           asm_peek(&agents[0], TEXT("[['x'],['y',1]]"), OUT));
+    WRITES(ASM_DONE, "[[['s'],{'set':[1]}],[['x'],8],[['y',2],'two'],[['z'],{'bag':[['e',2]]}]]",
+           asm_state(&agents[0], &number, OUT));
     REQUIRE(number == 2);
-    TELLS(ASM_DONE, "[[['y',2],'two']]", asm_scan(&agents[0], TEXT("y"), &number, OUT));
+    WRITES(ASM_DONE, "[[['y',2],'two']]", asm_scan(&agents[0], TEXT("y"), &number, OUT));
     REQUIRE(number == 2);
     ANSWERS(ASM_NO_ANSWER, asm_answer(&agents[0], OUT));
     end_all();
@@ -57,10 +57,10 @@ static void scans_and_peeks(void) {
     follows_to(&agents[0], 0);
     fire(&agents[1], "[]");
     follows_to(&agents[0], 1);
-    TELLS(ASM_DONE, "[]", asm_scan(&agents[0], TEXT("z"), &number, OUT));
-    TELLS(ASM_DONE, "[]", asm_scan(&agents[0], NULL, 0, &number, OUT));
+    WRITES(ASM_DONE, "[]", asm_scan(&agents[0], TEXT("z"), &number, OUT));
+    WRITES(ASM_DONE, "[]", asm_scan(&agents[0], NULL, 0, &number, OUT));
     REQUIRE(number == 1);
-    TELLS(ASM_DONE, "[]", asm_scan(&agents[0], TEXT("['y',1]"), &number, OUT));
+    WRITES(ASM_DONE, "[]", asm_scan(&agents[0], TEXT("['y',1]"), &number, OUT));
     number = 9;
     REQUIRE(asm_scan(&agents[0], TEXT("y"), &number, NULL, 0, &written) == ASM_SMALL);
     REQUIRE(number == 1 && written == strlen("[[['y',1],'one'],[['y',2],'two']]"));
@@ -81,7 +81,7 @@ static void scans_and_peeks(void) {
     sprintf(at, "]");
     REQUIRE(asm_peek(&agents[0], TEXT(many), NULL, 0, &room) == ASM_SMALL);
     REQUIRE(room == strlen("{'number':1,'values':['one','two']}") + 298 * strlen("null,"));
-    TELLS(ASM_DONE, "{'number':1,'values':[]}", asm_peek(&agents[0], TEXT("[]"), OUT));
+    WRITES(ASM_DONE, "{'number':1,'values':[]}", asm_peek(&agents[0], TEXT("[]"), OUT));
     end_all();
 }
 
@@ -95,24 +95,24 @@ static const char *reads_of(int count) {
     return text;
 }
 
-static void standing_reads(void) {
+static void valid_reads(void) {
     const char *both = "[[['y',1],0],[['x'],0]]";
     begin_all();
     ANSWERS(ASM_DONE, asm_stands(&agents[0], TEXT(both), OUT));
     fire(&agents[1], "[['put',['s'],7]]");
     ANSWERS(ASM_DONE, asm_stands(&agents[0], TEXT(both), OUT));
     REQUIRE(asm_seen(&agents[0]) == 1);
-    TELLS(ASM_DONE, "{'number':1,'values':[7]}", asm_peek(&agents[0], TEXT("[['s']]"), OUT));
+    WRITES(ASM_DONE, "{'number':1,'values':[7]}", asm_peek(&agents[0], TEXT("[['s']]"), OUT));
     fire(&agents[1], "[['put',['y',1],'one']]");
-    TELLS(ASM_STALE, "{'stale':['y',1]}", asm_stands(&agents[0], TEXT(both), OUT));
+    WRITES(ASM_STALE, "{'stale':['y',1]}", asm_stands(&agents[0], TEXT(both), OUT));
     fire(&agents[1], "[['inc',['x'],0]]");
-    TELLS(ASM_STALE, "{'stale':['x']}", asm_stands(&agents[0], TEXT(both), OUT));
+    WRITES(ASM_STALE, "{'stale':['x']}", asm_stands(&agents[0], TEXT(both), OUT));
     REQUIRE(asm_seen(&agents[0]) == 3);
     ANSWERS(ASM_DONE, asm_stands(&agents[0], TEXT("[[['x'],3],[['y',1],2]]"), OUT));
-    TELLS(ASM_STALE, "{'stale':['x']}", asm_stands(&agents[0], TEXT("[[['x'],2]]"), OUT));
+    WRITES(ASM_STALE, "{'stale':['x']}", asm_stands(&agents[0], TEXT("[[['x'],2]]"), OUT));
     ANSWERS(ASM_DONE, asm_stands(&agents[0], TEXT("[]"), OUT));
-    TELLS(ASM_STALE, "{'stale':['y',1]}",
-          asm_stands(&agents[0], bytes(reads_of(256)), strlen(reads_of(256)), OUT));
+    WRITES(ASM_STALE, "{'stale':['y',1]}",
+           asm_stands(&agents[0], bytes(reads_of(256)), strlen(reads_of(256)), OUT));
     ANSWERS(ASM_MANY, asm_stands(&agents[0], bytes(reads_of(257)), strlen(reads_of(257)), OUT));
     ANSWERS(ASM_NOT_JSON, asm_stands(&agents[0], NULL, 0, OUT));
     ANSWERS(ASM_NOT_JSON, asm_stands(&agents[0], TEXT("[[['x'],]]"), OUT));
@@ -123,21 +123,21 @@ static void standing_reads(void) {
 }
 
 /* A fire may name what was peeked, and is refused if it was written since. */
-static void fires_on_looks(void) {
+static void fires_after_polls(void) {
     asm_numbers numbers;
     begin_all();
     fire(&agents[1], "[['put',['x'],8]]");
-    TELLS(ASM_DONE, "{'number':0,'values':[7]}", asm_peek(&agents[0], TEXT("[['x']]"), OUT));
+    WRITES(ASM_DONE, "{'number':0,'values':[7]}", asm_peek(&agents[0], TEXT("[['x']]"), OUT));
     REQUIRE(asm_try_fire(&agents[0], TEXT("{'fire':[],'reads':[[['x'],0]]}"), &numbers) ==
             ASM_STALE);
-    TELLS(ASM_DONE, "{'number':1,'values':[8]}", asm_peek(&agents[0], TEXT("[['x']]"), OUT));
+    WRITES(ASM_DONE, "{'number':1,'values':[8]}", asm_peek(&agents[0], TEXT("[['x']]"), OUT));
     REQUIRE(asm_try_fire(&agents[0], TEXT("{'fire':[],'reads':[[['x'],1]]}"), &numbers) ==
             ASM_DONE);
     REQUIRE(numbers.fired == 2);
     REQUIRE(asm_learn(&agents[2], &agents[0]) == ASM_DONE && asm_seen(&agents[2]) == 2);
-    TELLS(ASM_DONE, "{'number':0,'values':[7]}", asm_peek(&agents[2], TEXT("[['x']]"), OUT));
+    WRITES(ASM_DONE, "{'number':0,'values':[7]}", asm_peek(&agents[2], TEXT("[['x']]"), OUT));
     follows_to(&agents[2], 2);
-    TELLS(ASM_DONE, "{'number':2,'values':[8]}", asm_peek(&agents[2], TEXT("[['x']]"), OUT));
+    WRITES(ASM_DONE, "{'number':2,'values':[8]}", asm_peek(&agents[2], TEXT("[['x']]"), OUT));
     /* Polls are in no journal. */
     for (size_t i = 0; i < 3; i++)
         REQUIRE(asm_give(&storage, &agents[i]) == ASM_DONE);
@@ -187,8 +187,7 @@ static void numbers_to_come(void) {
     ANSWERS(ASM_SHAPE, asm_stands(&agents[0], TEXT("[[['x'],9],['x']]"), OUT));
     REQUIRE(asm_try_fire(&agents[0], TEXT("{'fire':[7],'reads':[[['x'],9]]}"), &numbers) ==
             ASM_SHAPE);
-    snprintf(many, sizeof many, "%.*s,[[\"x\"],9]]", (int)strlen(reads_of(256)) - 1,
-             reads_of(256));
+    snprintf(many, sizeof many, "%.*s,[[\"x\"],9]]", (int)strlen(reads_of(256)) - 1, reads_of(256));
     are_ahead(&agents[0], many);
     end_all();
 }
@@ -205,7 +204,7 @@ static void numbers_of_the_storage_before(void) {
     fire(&agents[0], "[['inc',['x'],1]]");
     fire(&agents[0], "[['inc',['x'],1]]");
     follows_to(&agents[0], 2);
-    TELLS(ASM_DONE, "{'number':2,'values':[2]}", asm_peek(&agents[0], TEXT("[['x']]"), OUT));
+    WRITES(ASM_DONE, "{'number':2,'values':[2]}", asm_peek(&agents[0], TEXT("[['x']]"), OUT));
     REQUIRE(asm_give(&storage, &agents[0]) == ASM_DONE);
     REQUIRE(asm_close(&storage, &number) == ASM_DONE);
     REQUIRE(asm_next(&storage, 8, &next) == ASM_DONE);
@@ -215,7 +214,7 @@ static void numbers_of_the_storage_before(void) {
     REQUIRE(asm_try_fire(&agents[0], TEXT("{'fire':[['put',['x'],3]],'reads':[[['x'],0]]}"),
                          &numbers) == ASM_STALE);
     follows_to(&agents[0], 1);
-    TELLS(ASM_DONE, "{'number':1,'values':[3]}", asm_peek(&agents[0], TEXT("[['x']]"), OUT));
+    WRITES(ASM_DONE, "{'number':1,'values':[3]}", asm_peek(&agents[0], TEXT("[['x']]"), OUT));
     REQUIRE(asm_try_fire(&agents[0], TEXT("{'fire':[['put',['x'],4]],'reads':[[['x'],1]]}"),
                          &numbers) == ASM_DONE);
     asm_free_agent(&rival);
@@ -282,7 +281,7 @@ static bool opens_with(const char *journal, const char *state) {
 
 /* One run in three storages: each opens with the state at the end of the one before, and its
  * agents have the same numbers. The first is freed before the others fire. */
-static void a_run_goes_on(void) {
+static void storages_continue(void) {
     const char *left[] = {"[[['x'],1]]", "[[['x'],2]]", "[[['x'],3]]"};
     struct asm_storage stores[3] = {0};
     struct asm_agent agent = {0};
@@ -299,7 +298,7 @@ static void a_run_goes_on(void) {
         char *journal = journal_of(&stores[i]);
         is_legal(journal, 2, 1);
         REQUIRE(opens_with(journal, i ? left[i - 1] : "[[['x'],0]]"));
-        TELLS(ASM_DONE, left[i], asm_replay(bytes(journal), strlen(journal), OUT, &line));
+        WRITES(ASM_DONE, left[i], asm_replay(bytes(journal), strlen(journal), OUT, &line));
         if (i < 2)
             REQUIRE(asm_next(&stores[i], 1, &stores[i + 1]) == ASM_DONE);
         asm_free_storage(&stores[i]);
@@ -319,7 +318,7 @@ static void moves_after_the_journal(void) {
     fire(&agents[1], "[['put',['x'],2]]");
     REQUIRE(asm_next(&storage, 8, &next) == ASM_DONE);
     REQUIRE(asm_agent(&next, 0, &agent) == ASM_DONE);
-    TELLS(ASM_DONE, "{'number':0,'values':[1]}", asm_peek(&agent, TEXT("[['x']]"), OUT));
+    WRITES(ASM_DONE, "{'number':0,'values':[1]}", asm_peek(&agent, TEXT("[['x']]"), OUT));
     asm_free_agent(&agent);
     asm_free_storage(&next);
     end_all();
@@ -328,13 +327,13 @@ static void moves_after_the_journal(void) {
 int main(void) {
     own_states();
     scans_and_peeks();
-    standing_reads();
-    fires_on_looks();
+    valid_reads();
+    fires_after_polls();
     numbers_to_come();
     numbers_of_the_storage_before();
     refused_nexts();
     counted_moves();
-    a_run_goes_on();
+    storages_continue();
     moves_after_the_journal();
     puts("passed");
     return 0;
