@@ -159,18 +159,18 @@ class missing : public error {
 // at which line of it (code::not_json and code::shape, from 1 up; else 0).
 class audit_error : public error {
   public:
-    audit_error(folugben::code why, const asm_audit_numbers &told) : error(why, place(why, told)), told_(told) {}
-    std::uint64_t part() const noexcept { return told_.parts; }
-    std::uint64_t call() const noexcept { return code() == folugben::code::illegal ? told_.calls : 0; }
-    std::uint64_t line() const noexcept { return code() == folugben::code::illegal ? 0 : told_.calls; }
+    audit_error(folugben::code why, const asm_audit_numbers &numbers) : error(why, place(why, numbers)), numbers_(numbers) {}
+    std::uint64_t part() const noexcept { return numbers_.parts; }
+    std::uint64_t call() const noexcept { return code() == folugben::code::illegal ? numbers_.calls : 0; }
+    std::uint64_t line() const noexcept { return code() == folugben::code::illegal ? 0 : numbers_.calls; }
 
   private:
-    static std::string place(folugben::code why, const asm_audit_numbers &told) {
-        std::string text = "part " + std::to_string(told.parts);
-        if (why == folugben::code::illegal) return text + " call " + std::to_string(told.calls);
-        return told.calls == 0 ? text : text + " line " + std::to_string(told.calls);
+    static std::string place(folugben::code why, const asm_audit_numbers &counts) {
+        std::string text = "part " + std::to_string(counts.parts);
+        if (why == folugben::code::illegal) return text + " call " + std::to_string(counts.calls);
+        return counts.calls == 0 ? text : text + " line " + std::to_string(counts.calls);
     }
-    asm_audit_numbers told_;
+    asm_audit_numbers numbers_;
 };
 
 namespace detail {
@@ -223,9 +223,9 @@ template <class Handle> Handle *nothing() noexcept {
 }
 
 // A slot that never moves, and is released with its owner.
-template <class Handle> class held {
+template <class Handle> class owned_slot {
   public:
-    held() : at_(new Handle{}) {}
+    owned_slot() : at_(new Handle{}) {}
     Handle *get() const noexcept { return at_ ? at_.get() : nothing<Handle>(); }
     // Whether it wasn't moved from.
     explicit operator bool() const noexcept { return bool(at_); }
@@ -241,7 +241,7 @@ template <class Handle> class held {
 };
 
 // Makes a call that writes a text, again with more room if there is too little. The text is then the call's, with any code.
-template <class Call> code told(Call call, std::string &text) {
+template <class Call> code text_of_call(Call call, std::string &text) {
     text.resize(256);
     for (;;) {
         std::size_t written = 0;
@@ -253,30 +253,30 @@ template <class Call> code told(Call call, std::string &text) {
 
 inline bool is_refused(code it) noexcept { return it == code::not_json || it == code::shape; }
 
-inline std::string explained(std::int32_t form, std::string_view refused) {
+inline std::string explanation(std::int32_t form, std::string_view refused) {
     std::string text;
     auto call = [&](auto *out, auto room, auto *written) {
         return asm_explain(form, bytes(refused), refused.size(), out, room, written);
     };
-    if (told(call, text) == code::memory) throw std::bad_alloc();
+    if (text_of_call(call, text) == code::memory) throw std::bad_alloc();
     return nests_too_deep(refused) ? "lists nest at most 8 deep" : text;
 }
 
 // Returns the text between two others.
-inline std::string within(std::string_view before, std::string_view text, std::string_view behind) {
-    std::string whole;
-    whole.reserve(before.size() + text.size() + behind.size());
-    return whole.append(before).append(text).append(behind);
+inline std::string within(std::string_view before, std::string_view text, std::string_view after) {
+    std::string all;
+    all.reserve(before.size() + text.size() + after.size());
+    return all.append(before).append(text).append(after);
 }
 
-inline std::string explained_move(std::string_view move) {
-    return explained(ASM_FORM_MOVE, within("{\"fire\":", move, ",\"reads\":[]}"));
+inline std::string move_explanation(std::string_view move) {
+    return explanation(ASM_FORM_MOVE, within("{\"fire\":", move, ",\"reads\":[]}"));
 }
 
 // Throws for the line of a journal, counted from 1, with what is wrong with it.
 [[noreturn]] inline void fail_line(code it, std::string_view journal, std::uint64_t line) {
     for (std::uint64_t i = 1; i < line; ++i) journal.remove_prefix(std::min(journal.find('\n'), journal.size() - 1) + 1);
-    std::string why = line == 1 ? "" : explained(ASM_FORM_EVENT, journal.substr(0, journal.find('\n')));
+    std::string why = line == 1 ? "" : explanation(ASM_FORM_EVENT, journal.substr(0, journal.find('\n')));
     fail(it, "line " + std::to_string(line) + (why.empty() ? "" : ": ") + why);
 }
 
@@ -290,7 +290,7 @@ inline void done(std::int32_t it) { done(code{it}); }
 namespace detail {
 
 template <class It>
-concept whole = std::is_integral_v<It> && !std::is_same_v<It, bool> && sizeof(It) <= 8 && (std::is_signed_v<It> || sizeof(It) < 8);
+concept integer = std::is_integral_v<It> && !std::is_same_v<It, bool> && sizeof(It) <= 8 && (std::is_signed_v<It> || sizeof(It) < 8);
 
 inline void write_text(std::string &out, std::string_view text) {
     constexpr std::string_view digits = "0123456789abcdef";
@@ -326,7 +326,7 @@ class element {
   public:
     element(std::nullptr_t = nullptr) noexcept {}
     template <std::same_as<bool> Truth> element(Truth is_true) noexcept : it_(is_true) {}
-    template <detail::whole Whole> element(Whole number) noexcept : it_(static_cast<std::int64_t>(number)) {}
+    template <detail::integer Integer> element(Integer number) noexcept : it_(static_cast<std::int64_t>(number)) {}
     element(std::string text) noexcept : it_(std::move(text)) {}
     element(std::string_view text) : it_(std::string(text)) {}
     element(const char *text) : it_(std::string(text)) {}
@@ -439,9 +439,9 @@ class reader {
     }
     template <class Number> Number number() {
         Number it{};
-        const auto told = std::from_chars(left_.data(), left_.data() + left_.size(), it);
-        if (told.ec != std::errc()) expect("a number");
-        left_.remove_prefix(static_cast<std::size_t>(told.ptr - left_.data()));
+        const auto parsed = std::from_chars(left_.data(), left_.data() + left_.size(), it);
+        if (parsed.ec != std::errc()) expect("a number");
+        left_.remove_prefix(static_cast<std::size_t>(parsed.ptr - left_.data()));
         return it;
     }
     std::string text() {
@@ -496,8 +496,8 @@ class reader {
         constexpr std::string_view letters = "\"\\/bfnrt", meant = "\"\\/\b\f\n\r\t";
         if (skip("u00")) {
             unsigned it = 0;
-            const auto told = std::from_chars(left_.data(), left_.data() + (left_.size() < 2 ? left_.size() : 2), it, 16);
-            if (told.ptr != left_.data() + 2 || it > 0x7f) expect("two digits");
+            const auto parsed = std::from_chars(left_.data(), left_.data() + (left_.size() < 2 ? left_.size() : 2), it, 16);
+            if (parsed.ptr != left_.data() + 2 || it > 0x7f) expect("two digits");
             left_.remove_prefix(2);
             out += static_cast<char>(it);
             return;
@@ -617,10 +617,10 @@ class location {
     location() = default;
     void prepare(std::string_view json) {
         const code it{asm_location(detail::bytes(json), json.size(), slot_.get())};
-        if (detail::is_refused(it)) detail::fail(it, detail::explained(ASM_FORM_LOCATIONS, detail::within("[", json, "]")));
+        if (detail::is_refused(it)) detail::fail(it, detail::explanation(ASM_FORM_LOCATIONS, detail::within("[", json, "]")));
         detail::done(it);
     }
-    detail::held<struct asm_location> slot_;
+    detail::owned_slot<struct asm_location> slot_;
 };
 
 // An operand of an instruction: an element, the value of a location, a set or a bag; sets and bags can only be put. It has no copy
@@ -629,11 +629,11 @@ class operand {
   public:
     operand(std::nullptr_t) noexcept {}
     template <std::same_as<bool> Truth> operand(Truth is_true) noexcept : kind_(ASM_KIND_BOOL), number_(is_true) {}
-    template <detail::whole Whole> operand(Whole number) noexcept : kind_(ASM_KIND_NUM), number_(number) {}
+    template <detail::integer Integer> operand(Integer number) noexcept : kind_(ASM_KIND_NUM), number_(number) {}
     operand(std::string_view text) noexcept : kind_(ASM_KIND_TEXT), text_(text) {}
     operand(const char *text) noexcept : operand(std::string_view(text)) {}
     operand(const std::string &text) noexcept : operand(std::string_view(text)) {}
-    operand(const value &told) noexcept : kind_(told.head_.kind), number_(told.head_.number), text_(told.bytes_) {}
+    operand(const value &from) noexcept : kind_(from.head_.kind), number_(from.head_.number), text_(from.bytes_) {}
     operand(const element &it) : kind_(it.kind()), number_(it.is_true() ? 1 : it.number()), text_(it.text()) {
         if (kind_ == ASM_KIND_LIST) own_ = detail::json_of(it.items());
     }
@@ -650,7 +650,7 @@ class operand {
     // Returns where and why the JSON is refused.
     std::string refusal() const {
         if (kind_ < ASM_KIND_LIST) return {};
-        return detail::explained(ASM_FORM_MOVE, detail::within("{\"fire\":[[\"put\",[\"at\"],", text(), "]],\"reads\":[]}"));
+        return detail::explanation(ASM_FORM_MOVE, detail::within("{\"fire\":[[\"put\",[\"at\"],", text(), "]],\"reads\":[]}"));
     }
     code into(struct asm_move *move, const location &at, asm_verb verb, std::uint32_t amount) const noexcept {
         return code{asm_instruct(move, at.get(), verb, kind_, number_, detail::bytes(text()), text().size(), amount)};
@@ -713,7 +713,7 @@ class instructions {
         detail::done(it, detail::is_refused(it) ? what.refusal() : std::string());
         return *this;
     }
-    detail::held<struct asm_move> slot_;
+    detail::owned_slot<struct asm_move> slot_;
     std::size_t size_ = 0;
 };
 
@@ -723,13 +723,13 @@ class storage;
 namespace detail {
 
 struct shared {
-    held<struct asm_storage> storage;
+    owned_slot<struct asm_storage> storage;
     std::mutex lock;
-    std::vector<held<struct asm_agent>> waiting; // agents that were freed when there was no memory to return them
+    std::vector<owned_slot<struct asm_agent>> waiting; // agents that were freed when there was no memory to return them
     bool is_recording = false;                   // what agents that are made or checked out do; under the lock
 
     shared() { waiting.reserve(256); }
-    void give(held<struct asm_agent> agent) noexcept {
+    void give(owned_slot<struct asm_agent> agent) noexcept {
         std::lock_guard<std::mutex> guard(lock);
         if (asm_give(storage.get(), agent.get()) != ASM_DONE) waiting.push_back(std::move(agent));
     }
@@ -766,8 +766,8 @@ class seat {
     // Returns its storage, for comparisons.
     const shared *storage() const noexcept { return storage_; }
     void give() noexcept {
-        claim(nowhere);
-        held<struct asm_agent> last = std::move(slot_); // what its steps find from now on is empty
+        claim(no_thread);
+        owned_slot<struct asm_agent> last = std::move(slot_); // what its steps find from now on is empty
         if (of_ && last.get()->slot.full) of_->give(std::move(last));
         of_.reset();
     }
@@ -797,7 +797,7 @@ class seat {
     }
 
   private:
-    static constexpr std::uintptr_t nowhere = 0, taking = 1;
+    static constexpr std::uintptr_t no_thread = 0, claiming = 1;
     struct last {
         const shared *storage = nullptr;
         std::weak_ptr<seat> agent;
@@ -820,7 +820,7 @@ class seat {
     void claim(std::uintptr_t thread) const noexcept {
         if (thread_.load(std::memory_order_relaxed) == thread) return;
         for (;;) {
-            std::uintptr_t was = thread_.load(std::memory_order_relaxed) & ~taking;
+            std::uintptr_t was = thread_.load(std::memory_order_relaxed) & ~claiming;
             if (thread_.compare_exchange_strong(was, thread, std::memory_order_acquire, std::memory_order_relaxed)) return;
             std::this_thread::yield();
         }
@@ -840,7 +840,7 @@ class seat {
     }
     void take_state(seat &other) const noexcept {
         std::uintptr_t thread = here();
-        if (!other.thread_.compare_exchange_strong(thread, thread | taking, std::memory_order_acquire, std::memory_order_relaxed)) return;
+        if (!other.thread_.compare_exchange_strong(thread, thread | claiming, std::memory_order_acquire, std::memory_order_relaxed)) return;
         if (other.has_acted_.load(std::memory_order_relaxed) && other.steps_.load(std::memory_order_relaxed) == 0) {
             // An agent that was returned or abandoned is refused, and nothing is done.
             (void)asm_take_state(slot_.get(), other.slot_.get());
@@ -849,10 +849,10 @@ class seat {
         other.thread_.store(here(), std::memory_order_release);
     }
 
-    held<struct asm_agent> slot_;
+    owned_slot<struct asm_agent> slot_;
     std::shared_ptr<shared> of_;
     const shared *storage_;
-    mutable std::atomic<std::uintptr_t> thread_{nowhere}; // of the last call
+    mutable std::atomic<std::uintptr_t> thread_{no_thread}; // of the last call
     std::atomic<std::uint32_t> steps_{0};                 // that haven't ended
     std::atomic<bool> has_acted_{false}, is_behind_{false}, is_recording_{false};
 };
@@ -883,7 +883,7 @@ class open_step {
 // Returns the answer to the last answered call of an agent.
 inline std::string answer(struct asm_agent *agent) {
     std::string text;
-    done(told([&](auto *out, auto room, auto *written) { return asm_answer(agent, out, room, written); }, text));
+    done(text_of_call([&](auto *out, auto room, auto *written) { return asm_answer(agent, out, room, written); }, text));
     return text;
 }
 
@@ -959,11 +959,11 @@ class step {
     struct asm_agent *get_agent() const noexcept { return open_.get_agent(); }
     template <class Call, class ByText> code grow(Call call, ByText by_text, const instructions &move, std::string &text) noexcept;
     template <class Call> void grow_json(Call call, std::string_view move);
-    template <class Call> std::string tell_json(Call call, std::string_view locations);
+    template <class Call> std::string read_json_by(Call call, std::string_view locations);
     // Throws the conflict of the last commit.
     [[noreturn]] void fail_conflict();
     detail::open_step open_;
-    detail::held<struct asm_step> slot_;
+    detail::owned_slot<struct asm_step> slot_;
     outcome last_;
     std::uint32_t number_ = 0;
 };
@@ -1018,9 +1018,9 @@ class agent {
     [[nodiscard]] code try_begin(step &it) noexcept {
         if (!it.slot_) return code::empty;
         begin_turn();
-        const code begun{asm_begin(get(), it.slot_.get(), &it.number_)};
-        if (begun == code::done) it.open_ = detail::open_step(seat_);
-        return begun;
+        const code result{asm_begin(get(), it.slot_.get(), &it.number_)};
+        if (result == code::done) it.open_ = detail::open_step(seat_);
+        return result;
     }
     step begin() {
         step it;
@@ -1033,7 +1033,7 @@ class agent {
     // fired.
     template <class Rule> auto play(Rule &&rule, patience most = {}) -> played<std::invoke_result_t<Rule &, step &>> {
         using result = std::invoke_result_t<Rule &, step &>;
-        const auto begun = std::chrono::steady_clock::now();
+        const auto start = std::chrono::steady_clock::now();
         for (unsigned tries = 0;; ++tries) {
             step it = begin();
             std::uint32_t number = 0;
@@ -1041,10 +1041,10 @@ class agent {
                 rule(it);
                 if (ends(it, number)) return {number, tries};
             } else {
-                result told = rule(it);
-                if (ends(it, number)) return {number, tries, std::forward<result>(told)};
+                result value = rule(it);
+                if (ends(it, number)) return {number, tries, std::forward<result>(value)};
             }
-            const bool is_late = std::chrono::steady_clock::now() - begun >= most.timeout;
+            const bool is_late = std::chrono::steady_clock::now() - start >= most.timeout;
             if (is_late || (most.tries != 0 && tries + 1 >= most.tries)) it.fail_conflict();
             back_off(tries);
         }
@@ -1059,7 +1059,7 @@ class agent {
     }
     [[nodiscard]] code try_peek(const location &at, std::uint32_t &number, value &what) noexcept {
         if (const code it = catch_up(); it != code::done) return it;
-        return told_value(
+        return value_of_call(
             [&](asm_value *head, auto *out, auto room, auto *written) {
                 return asm_peek_at(get(), at.get(), &number, head, out, room, written);
             },
@@ -1077,7 +1077,7 @@ class agent {
         detail::done(catch_up());
         std::string text;
         std::uint32_t number = 0;
-        detail::done(detail::told([&](auto *out, auto room, auto *written) { return asm_state(get(), &number, out, room, written); },
+        detail::done(detail::text_of_call([&](auto *out, auto room, auto *written) { return asm_state(get(), &number, out, room, written); },
                                   text));
         return text;
     }
@@ -1086,7 +1086,7 @@ class agent {
     std::string scan_json(std::string_view name, std::uint32_t &number) {
         detail::done(catch_up());
         std::string text;
-        detail::done(detail::told(
+        detail::done(detail::text_of_call(
             [&](auto *out, auto room, auto *written) {
                 return asm_scan(get(), detail::bytes(name), name.size(), &number, out, room, written);
             },
@@ -1099,7 +1099,7 @@ class agent {
     std::string read_json(std::string_view locations) {
         begin_turn();
         const code it{asm_read(get(), detail::bytes(locations), locations.size())};
-        if (detail::is_refused(it)) detail::fail(it, detail::explained(ASM_FORM_LOCATIONS, locations));
+        if (detail::is_refused(it)) detail::fail(it, detail::explanation(ASM_FORM_LOCATIONS, locations));
         detail::done(it);
         return answer();
     }
@@ -1114,7 +1114,7 @@ class agent {
     std::uint32_t fire_json(std::string_view call, std::string_view scans = "[]") {
         asm_numbers numbers{};
         const code it = try_fire_json(call, scans, numbers);
-        if (detail::is_refused(it)) detail::fail(it, detail::explained(ASM_FORM_MOVE, call));
+        if (detail::is_refused(it)) detail::fail(it, detail::explanation(ASM_FORM_MOVE, call));
         if (it == code::stale || it == code::clash) detail::fail(it, answer());
         if (it == code::ahead) throw error(it, detail::ahead_of(seen()));
         detail::done(it);
@@ -1124,12 +1124,12 @@ class agent {
     // move that comes in between.
     void stands_json(std::string_view reads) {
         std::string text;
-        const code it = detail::told(
+        const code it = detail::text_of_call(
             [&](auto *out, auto room, auto *written) {
                 return asm_stands(get(), detail::bytes(reads), reads.size(), out, room, written);
             },
             text);
-        if (detail::is_refused(it)) text = detail::explained(ASM_FORM_MOVE, detail::within("{\"fire\":[],\"reads\":", reads, "}"));
+        if (detail::is_refused(it)) text = detail::explanation(ASM_FORM_MOVE, detail::within("{\"fire\":[],\"reads\":", reads, "}"));
         if (it == code::ahead) text = detail::ahead_of(seen());
         detail::done(it, std::move(text));
     }
@@ -1166,10 +1166,10 @@ class agent {
         if (seat_) seat_->give();
         seat_.reset();
     }
-    template <class Call> static code told_value(Call call, value &what) noexcept try {
+    template <class Call> static code value_of_call(Call call, value &what) noexcept try {
         std::string bytes;
         asm_value head{};
-        const code it = detail::told([&](auto *out, auto room, auto *written) { return call(&head, out, room, written); }, bytes);
+        const code it = detail::text_of_call([&](auto *out, auto room, auto *written) { return call(&head, out, room, written); }, bytes);
         if (it == code::done) what = value(head, std::move(bytes));
         return it;
     } catch (const std::bad_alloc &) {
@@ -1193,7 +1193,7 @@ class agent {
 };
 
 inline code step::try_get(const location &at, value &what) noexcept {
-    return agent::told_value(
+    return agent::value_of_call(
         [&](asm_value *head, auto *out, auto room, auto *written) {
             return asm_get_at(get_agent(), slot_.get(), at.get(), head, out, room, written);
         },
@@ -1207,31 +1207,31 @@ inline value step::get(const location &at) {
     return what;
 }
 
-template <class Call> std::string step::tell_json(Call call, std::string_view locations) {
+template <class Call> std::string step::read_json_by(Call call, std::string_view locations) {
     std::string text;
-    const code it = detail::told(
+    const code it = detail::text_of_call(
         [&](auto *out, auto room, auto *written) {
             return call(get_agent(), slot_.get(), detail::bytes(locations), locations.size(), out, room, written);
         },
         text);
-    if (detail::is_refused(it)) detail::fail(it, detail::explained(ASM_FORM_LOCATIONS, locations));
+    if (detail::is_refused(it)) detail::fail(it, detail::explanation(ASM_FORM_LOCATIONS, locations));
     detail::done(it);
     return text;
 }
 
-inline std::string step::get_json(std::string_view locations) { return tell_json(asm_get, locations); }
-inline std::string step::see_json(std::string_view locations) { return tell_json(asm_see, locations); }
+inline std::string step::get_json(std::string_view locations) { return read_json_by(asm_get, locations); }
+inline std::string step::see_json(std::string_view locations) { return read_json_by(asm_see, locations); }
 
 inline std::string step::offer_json() {
     std::string text;
     auto call = [&](auto *out, auto room, auto *written) { return asm_offer(slot_.get(), out, room, written); };
-    detail::done(detail::told(call, text));
+    detail::done(detail::text_of_call(call, text));
     return text;
 }
 
 inline std::string step::scan_json(std::string_view name) {
     std::string text;
-    const code it = detail::told(
+    const code it = detail::text_of_call(
         [&](auto *out, auto room, auto *written) {
             return asm_step_scan(get_agent(), slot_.get(), detail::bytes(name), name.size(), out, room, written);
         },
@@ -1244,7 +1244,7 @@ template <class Call, class ByText>
 code step::grow(Call call, ByText by_text, const instructions &move, std::string &text) noexcept try {
     // A move without instructions has no slot that holds it.
     const std::string_view none = "[]";
-    return detail::told(
+    return detail::text_of_call(
         [&](auto *out, auto room, auto *written) {
             return move.size() == 0
                        ? by_text(get_agent(), slot_.get(), detail::bytes(none), none.size(), out, room, written)
@@ -1264,13 +1264,13 @@ inline code step::try_extend(const instructions &move, std::string &text) noexce
 
 template <class Call> void step::grow_json(Call call, std::string_view move) {
     std::string text;
-    const code it = detail::told(
+    const code it = detail::text_of_call(
         [&](auto *out, auto room, auto *written) {
             return call(get_agent(), slot_.get(), detail::bytes(move), move.size(), out, room, written);
         },
         text);
     if (detail::is_refused(it))
-        text = detail::explained_move(move);
+        text = detail::move_explanation(move);
     detail::done(it, std::move(text));
 }
 
@@ -1311,19 +1311,19 @@ struct legality {
 };
 
 inline legality check(std::string_view journal) {
-    legality told{};
-    const code it{asm_check(detail::bytes(journal), journal.size(), &told.calls, &told.moves)};
-    if (detail::is_refused(it)) detail::fail_line(it, journal, told.calls);
+    legality verdict{};
+    const code it{asm_check(detail::bytes(journal), journal.size(), &verdict.calls, &verdict.moves)};
+    if (detail::is_refused(it)) detail::fail_line(it, journal, verdict.calls);
     if (it != code::illegal) detail::done(it);
-    told.is_legal = it == code::done;
-    return told;
+    verdict.is_legal = it == code::done;
+    return verdict;
 }
 
 // Returns the state [PAIR, ..] after the moves of a journal, which isn't checked.
 inline std::string replay_json(std::string_view journal) {
     std::string text;
     std::uint64_t line = 0;
-    const code it = detail::told(
+    const code it = detail::text_of_call(
         [&](auto *out, auto room, auto *written) {
             return asm_replay(detail::bytes(journal), journal.size(), out, room, written, &line);
         },
@@ -1336,14 +1336,14 @@ inline std::string replay_json(std::string_view journal) {
 // Returns the updates [PAIR, ..] of the move [INSTR, ..] on the state [PAIR, ..]; throws `clash`.
 inline std::string aggregate_json(std::string_view state, std::string_view move) {
     std::string text;
-    const code it = detail::told(
+    const code it = detail::text_of_call(
         [&](auto *out, auto room, auto *written) {
             return asm_aggregate(detail::bytes(state), state.size(), detail::bytes(move), move.size(), out, room, written);
         },
         text);
     if (detail::is_refused(it)) {
-        text = detail::explained(ASM_FORM_STATE, state);
-        if (text.empty()) text = detail::explained_move(move);
+        text = detail::explanation(ASM_FORM_STATE, state);
+        if (text.empty()) text = detail::move_explanation(move);
     }
     detail::done(it, text);
     return text;
@@ -1352,21 +1352,21 @@ inline std::string aggregate_json(std::string_view state, std::string_view move)
 // Returns the one move [INSTR, ..] that does what the first and then the second do; throws `clash`, and code::large.
 inline std::string compose_json(std::string_view first, std::string_view second) {
     std::string text;
-    const code it = detail::told(
+    const code it = detail::text_of_call(
         [&](auto *out, auto room, auto *written) {
             return asm_compose(detail::bytes(first), first.size(), detail::bytes(second), second.size(), out, room, written);
         },
         text);
     if (detail::is_refused(it)) {
-        text = detail::explained_move(first);
-        if (text.empty()) text = detail::explained_move(second);
+        text = detail::move_explanation(first);
+        if (text.empty()) text = detail::move_explanation(second);
     }
     detail::done(it, text);
     return text;
 }
 
 // Returns where and why a text of the form is refused; empty if it isn't.
-inline std::string explain(asm_form form, std::string_view text) { return detail::explained(form, text); }
+inline std::string explain(asm_form form, std::string_view text) { return detail::explanation(form, text); }
 
 // The state of an abstract state machine, on which the agents of many threads fire moves without locks.
 class storage {
@@ -1374,7 +1374,7 @@ class storage {
     // Opens a storage with the state [PAIR, ..], for 1 to 1,048,576 moves.
     storage(std::string_view init, std::uint32_t capacity) : shared_(std::make_shared<detail::shared>()) {
         const code it{asm_open(detail::bytes(init), init.size(), capacity, shared_->storage.get())};
-        if (detail::is_refused(it)) detail::fail(it, detail::explained(ASM_FORM_STATE, init));
+        if (detail::is_refused(it)) detail::fail(it, detail::explanation(ASM_FORM_STATE, init));
         detail::expect_capacity(it, capacity);
         detail::done(it);
     }
@@ -1394,7 +1394,7 @@ class storage {
         if (it == code::agents) detail::fail_range(it, "the agent's number", number, 0, 255);
         detail::done(it);
         seat->record(own().is_recording);
-        return made(std::move(seat));
+        return from_seat(std::move(seat));
     }
 
     // Checks out the agent with this number that was returned, with all that it had; code::no_agent if none was, or it was
@@ -1405,7 +1405,7 @@ class storage {
         detail::done(own().give_waiting());
         detail::done(asm_take(own().storage.get(), number, seat->get()));
         seat->record(own().is_recording);
-        return made(std::move(seat));
+        return from_seat(std::move(seat));
     }
 
     std::uint32_t moves() const {
@@ -1424,7 +1424,7 @@ class storage {
         const code it{asm_close(own().storage.get(), &number)};
         if (it == code::missing) throw missing(number);
         detail::done(it);
-        detail::done(detail::told(
+        detail::done(detail::text_of_call(
             [&](auto *out, auto room, auto *written) { return asm_journal(own().storage.get(), out, room, written); }, text));
         return text;
     }
@@ -1446,7 +1446,7 @@ class storage {
         if (!shared_) detail::fail(code::empty, {});
         return *shared_;
     }
-    static agent made(std::shared_ptr<detail::seat> seat) {
+    static agent from_seat(std::shared_ptr<detail::seat> seat) {
         agent it(std::move(seat));
         return it;
     }
@@ -1472,17 +1472,17 @@ class auditor {
     // Reads the bytes, all of them with code::done; with any other code `taken` of them. `told` has the counts so far, or those
     // of
     // the fault. After code::memory the bytes that weren't taken may be passed again.
-    [[nodiscard]] code try_feed(std::span<const std::uint8_t> bytes, std::size_t &taken, asm_audit_numbers &told) noexcept {
+    [[nodiscard]] code try_feed(std::span<const std::uint8_t> bytes, std::size_t &taken, asm_audit_numbers &counts) noexcept {
         taken = 0;
         if (!slot_) return code::empty;
         if (fault_ == code::done) {
-            const code it{asm_audit(slot_.get(), bytes.data(), bytes.size(), &taken, &told)};
+            const code it{asm_audit(slot_.get(), bytes.data(), bytes.size(), &taken, &counts)};
             if (it == code::done || it == code::memory) return it;
             fault_ = it;
-            at_ = told;
-            if (it == code::long_line) at_.parts = whole_parts(); // which comes without numbers
+            at_ = counts;
+            if (it == code::long_line) at_.parts = complete_parts(); // which comes without numbers
         }
-        told = at_;
+        counts = at_;
         return fault_;
     }
     // Reads the bytes; throws `audit_error` at the first fault; and std::bad_alloc, after which it isn't known how many bytes
@@ -1490,8 +1490,8 @@ class auditor {
     // taken.
     void feed(std::span<const std::uint8_t> bytes) {
         std::size_t taken = 0;
-        asm_audit_numbers told{};
-        judge(try_feed(bytes, taken, told), told);
+        asm_audit_numbers counts{};
+        judge(try_feed(bytes, taken, counts), counts);
     }
     void feed(std::string_view bytes) { feed(std::span(detail::bytes(bytes), bytes.size())); }
 
@@ -1499,18 +1499,18 @@ class auditor {
     asm_audit_numbers counts() {
         if (!slot_) detail::fail(code::empty, {});
         std::size_t taken = 0;
-        asm_audit_numbers told{};
-        detail::done(asm_audit(slot_.get(), nullptr, 0, &taken, &told));
-        return told;
+        asm_audit_numbers numbers{};
+        detail::done(asm_audit(slot_.get(), nullptr, 0, &taken, &numbers));
+        return numbers;
     }
     // Returns the same of a run that ends here; throws `audit_error` if its last part or line isn't complete. More may be fed.
     asm_audit_numbers end() {
-        asm_audit_numbers told{};
+        asm_audit_numbers counts{};
         if (!slot_) detail::fail(code::empty, {});
         if (fault_ != code::done) judge(fault_, at_);
-        const code it{asm_audited(slot_.get(), &told)};
-        judge(it == code::empty ? code::cut : it, told);
-        return told;
+        const code it{asm_audited(slot_.get(), &counts)};
+        judge(it == code::empty ? code::cut : it, counts);
+        return counts;
     }
     // Return the state after the moves so far, and the same as [PAIR, ..]; code::no_part before a part has begun.
     std::vector<entry> state() { return detail::entries(state_json()); }
@@ -1518,22 +1518,22 @@ class auditor {
         if (!slot_) detail::fail(code::empty, {});
         std::string text;
         auto call = [&](auto *out, auto room, auto *written) { return asm_audit_state(slot_.get(), out, room, written); };
-        const code it = detail::told(call, text);
+        const code it = detail::text_of_call(call, text);
         detail::done(it == code::empty ? code::no_part : it);
         return text;
     }
 
   private:
-    std::uint64_t whole_parts() noexcept {
+    std::uint64_t complete_parts() noexcept {
         std::size_t taken = 0;
-        asm_audit_numbers told{};
-        return asm_audit(slot_.get(), nullptr, 0, &taken, &told) == ASM_DONE ? told.parts : 0;
+        asm_audit_numbers counts{};
+        return asm_audit(slot_.get(), nullptr, 0, &taken, &counts) == ASM_DONE ? counts.parts : 0;
     }
-    static void judge(code it, const asm_audit_numbers &told) {
+    static void judge(code it, const asm_audit_numbers &counts) {
         if (it == code::memory) throw std::bad_alloc();
-        if (it != code::done) throw audit_error(it, told);
+        if (it != code::done) throw audit_error(it, counts);
     }
-    detail::held<struct asm_audit> slot_;
+    detail::owned_slot<struct asm_audit> slot_;
     code fault_ = code::done;
     asm_audit_numbers at_{};
 };

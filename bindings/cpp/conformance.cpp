@@ -131,9 +131,9 @@ class replayer {
     }
     std::string begin(const words &of) {
         folugben::step it = agent(of).begin();
-        const std::uint32_t begun = it.number();
+        const std::uint32_t start = it.number();
         steps_.insert_or_assign(number(of[0]), std::move(it));
-        return std::to_string(begun);
+        return std::to_string(start);
     }
     // Commits; if the agent has moved on, without recording, as nothing was done then.
     std::string commit(const words &of) {
@@ -159,36 +159,36 @@ class replayer {
             if (!agent.get()->slot.full && recorded_.contains(number)) all += recorded_.at(number);
         return all;
     }
-    static std::string values(const std::string &told) {
-        const auto at = told.find("\"values\":") + 9;
-        return told.substr(at, told.size() - at - 1);
+    static std::string values(const std::string &reading) {
+        const auto at = reading.find("\"values\":") + 9;
+        return reading.substr(at, reading.size() - at - 1);
     }
     std::string peek(const words &of) {
-        std::string told;
-        folugben::detail::done(folugben::detail::told(
+        std::string answer;
+        folugben::detail::done(folugben::detail::text_of_call(
             [&](auto *out, auto room, auto *written) {
                 return asm_peek(agent(of).get(), folugben::detail::bytes(of[1]), of[1].size(), out, room, written);
             },
-            told), refused_shape(of[1]));
-        return told;
+            answer), refused_shape(of[1]));
+        return answer;
     }
     static std::string refused_shape(const std::string &locations) { return folugben::explain(ASM_FORM_LOCATIONS, locations); }
     std::string audit(const std::string &run) {
         folugben::auditor auditor;
         auditor.feed(run);
-        const asm_audit_numbers told = auditor.end();
-        return list({told.calls, told.moves, told.parts});
+        const asm_audit_numbers counts = auditor.end();
+        return list({counts.calls, counts.moves, counts.parts});
     }
     std::string check(const std::string &journal, std::uint64_t recorded) {
-        const folugben::legality told = folugben::check(journal);
-        if (told.is_legal) return list({told.calls - recorded, told.moves});
-        refused_ = {"ILLEGAL", "", list({told.calls})};
+        const folugben::legality verdict = folugben::check(journal);
+        if (verdict.is_legal) return list({verdict.calls - recorded, verdict.moves});
+        refused_ = {"ILLEGAL", "", list({verdict.calls})};
         return "";
     }
     std::string scan(const words &of) {
         std::uint32_t at = 0;
-        std::string told = agent(of).scan_json(text(of[1]), at);
-        return at == number(of[2]) ? told : "at " + std::to_string(at);
+        std::string answer = agent(of).scan_json(text(of[1]), at);
+        return at == number(of[2]) ? answer : "at " + std::to_string(at);
     }
     static asm_form form(const std::string &name) {
         static const std::map<std::string, asm_form> forms = {{"LOCATIONS", ASM_FORM_LOCATIONS}, {"MOVE", ASM_FORM_MOVE},
@@ -214,7 +214,7 @@ class replayer {
         {"next", [this](const words &of) { return open(storage_.value().next(number(of[0]))); }},
         {"agent", [this](const words &of) { return make(of, storage_.value().make_agent(number(of[0]))); }},
         {"take", [this](const words &of) { return make(of, storage_.value().take(number(of[0]))); }},
-        {"give", [this](const words &of) { { folugben::agent gone = std::move(agent(of)); } return "null"; }},
+        {"give", [this](const words &of) { { folugben::agent moved = std::move(agent(of)); } return "null"; }},
         {"learn", [this](const words &of) { return agent(of).learn(agents_.at(number(of[1]))), "null"; }},
         {"read", [this](const words &of) { return agent(of).read_json(of[1]); }},
         {"peek", [this](const words &of) { return peek(of); }},
@@ -230,7 +230,7 @@ class replayer {
         {"misses", [this](const words &of) { return std::to_string(agent(of).misses()); }},
         {"moves", [this](const words &) { return std::to_string(storage_.value().moves()); }},
         {"begin", [this](const words &of) { return begin(of); }},
-        {"end", [this](const words &of) { { folugben::step gone = std::move(step(of)); } return ""; }},
+        {"end", [this](const words &of) { { folugben::step moved = std::move(step(of)); } return ""; }},
         {"get", [this](const words &of) { return values(step(of).get_json(of[1])); }},
         {"see", [this](const words &of) { return values(step(of).see_json(of[1])); }},
         {"get_all", [this](const words &of) { return step(of).scan_json(text(of[1])); }},
@@ -252,18 +252,18 @@ class replayer {
 };
 
 // Whether an error is the one that is wanted, as far as that says.
-bool is_refused_so(const refusal &told, const std::string &wanted) {
-    for (const auto &[key, is] : {std::pair{"error", "\"" + told.name + "\""}, {"numbers", told.numbers}}) {
+bool is_refused_as(const refusal &actual, const std::string &wanted) {
+    for (const auto &[key, is] : {std::pair{"error", "\"" + actual.name + "\""}, {"numbers", actual.numbers}}) {
         const std::string begin = std::string("\"") + key + "\":";
         const auto at = wanted.find(begin);
         if (at != std::string::npos && (is.empty() || !wanted.substr(at + begin.size()).starts_with(is))) return false;
     }
     const auto at = wanted.find("\"said\":");
-    return at == std::string::npos || folugben::detail::reader(wanted.substr(at + 7)).text() == told.said;
+    return at == std::string::npos || folugben::detail::reader(wanted.substr(at + 7)).text() == actual.said;
 }
 
 // How many calls of the table were answered as they should be.
-int replayed(const std::string &path, bool is_recording) {
+int replay(const std::string &path, bool is_recording) {
     std::ifstream file(path);
     replayer calls(is_recording);
     std::string line, name;
@@ -277,10 +277,10 @@ int replayed(const std::string &path, bool is_recording) {
             wanted = of.back();
             of.pop_back();
         }
-        const std::string told = calls.answer(call, of);
+        const std::string answer = calls.answer(call, of);
         const bool is_error = wanted.starts_with("{\"error\":");
-        if (is_error ? !told.empty() || !is_refused_so(calls.refused(), wanted) : told != wanted) {
-            std::printf("%s:%d: %.300s\n  answered %s, %s %s %s\n", path.c_str(), number, line.c_str(), told.c_str(),
+        if (is_error ? !answer.empty() || !is_refused_as(calls.refused(), wanted) : answer != wanted) {
+            std::printf("%s:%d: %.300s\n  answered %s, %s %s %s\n", path.c_str(), number, line.c_str(), answer.c_str(),
                         calls.refused().name.c_str(), calls.refused().said.c_str(), calls.refused().numbers.c_str());
             return -1;
         }
@@ -296,12 +296,12 @@ int main(int count, char **of) {
     int all = 0;
     for (const char *name : {"moves", "calls", "steps", "journals"}) {
         for (const bool is_recording : {false, true}) {
-            const int told = replayed(folder + "/" + name + ".jsonl", is_recording);
-            if (told < 20) {
-                std::printf("%s: %d calls%s\n", name, told, is_recording ? ", recorded" : "");
+            const int calls = replay(folder + "/" + name + ".jsonl", is_recording);
+            if (calls < 20) {
+                std::printf("%s: %d calls%s\n", name, calls, is_recording ? ", recorded" : "");
                 return 1;
             }
-            all += told;
+            all += calls;
         }
     }
     std::printf("%d calls answered as in the table\n", all);

@@ -44,11 +44,11 @@ int main() {
     for (std::uint32_t i = 0; i < AGENTS; ++i) threads.emplace_back(work, storage.make_agent(i), i);
     for (auto &thread : threads) thread.join();
 
-    auto told = folugben::check(storage.close());
+    auto verdict = folugben::check(storage.close());
     std::int64_t sum = 0;
     folugben::agent reader = storage.make_agent(AGENTS);
     reader.follow();
     for (const auto &at : accounts()) sum += reader.peek(at).number();
-    std::printf("%u moves, %s, sum %lld\n", told.moves, told.is_legal ? "legal" : "illegal", static_cast<long long>(sum));
-    return told.is_legal && sum == 100 * ACCOUNTS && told.moves == AGENTS * TRANSFERS ? 0 : 1;
+    std::printf("%u moves, %s, sum %lld\n", verdict.moves, verdict.is_legal ? "legal" : "illegal", static_cast<long long>(sum));
+    return verdict.is_legal && sum == 100 * ACCOUNTS && verdict.moves == AGENTS * TRANSFERS ? 0 : 1;
 }

@@ -43,9 +43,9 @@ int main() {
         auditor.feed(part.close());
         part = std::move(next);
     }
-    asm_audit_numbers told = auditor.end();
+    asm_audit_numbers counts = auditor.end();
     std::string state = auditor.state_json();
-    std::printf("%llu moves, %llu parts, %s\n", static_cast<unsigned long long>(told.moves),
-                static_cast<unsigned long long>(told.parts), state.c_str());
-    return told.moves == MOVES * PARTS && told.parts == PARTS && state == R"([[["count"],3000]])" ? 0 : 1;
+    std::printf("%llu moves, %llu parts, %s\n", static_cast<unsigned long long>(counts.moves),
+                static_cast<unsigned long long>(counts.parts), state.c_str());
+    return counts.moves == MOVES * PARTS && counts.parts == PARTS && state == R"([[["count"],3000]])" ? 0 : 1;
 }

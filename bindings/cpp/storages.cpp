@@ -12,7 +12,7 @@
 
 namespace {
 
-void agents_come_back_when_they_are_destroyed() {
+void destroyed_agents_are_returned() {
     folugben::storage storage(COUNT, 10);
     {
         folugben::agent agent = storage.make_agent(0);
@@ -23,17 +23,17 @@ void agents_come_back_when_they_are_destroyed() {
         moved = storage.make_agent(1);
         moved.play(empty_move);
     }
-    auto told = folugben::check(storage.close());
-    WANTED(told.is_legal && told.calls == 3 && told.moves == 3);
+    auto verdict = folugben::check(storage.close());
+    WANTED(verdict.is_legal && verdict.calls == 3 && verdict.moves == 3);
     folugben::storage next = storage.next(5);
     WANTED(next.moves() == 0 && storage.moves() == 3);
-    folugben::agent lost = storage.make_agent(2);
-    lost.play(empty_move);
-    lost.abandon();
+    folugben::agent abandoned = storage.make_agent(2);
+    abandoned.play(empty_move);
+    abandoned.abandon();
     WANTED(REFUSED(folugben::missing, storage.close()).number() == 4);
 }
 
-void storages_go_on_from_agents() {
+void storages_continue_from_agents() {
     folugben::storage storage(COUNT, 2);
     folugben::agent agent = storage.make_agent(0);
     folugben::location count("count");
@@ -52,7 +52,7 @@ void storages_go_on_from_agents() {
     WANTED(later.peek(count).number() == 10 && storage.moves() == 2);
 }
 
-void agents_that_came_back_are_taken() {
+void returned_agents_are_checked_out() {
     folugben::storage storage(COUNT, 10);
     WANTED(REFUSED(folugben::error, storage.take(4)).code() == code::no_agent);
     storage.make_agent(4).play(empty_move);
@@ -63,8 +63,8 @@ void agents_that_came_back_are_taken() {
         WANTED(REFUSED(folugben::missing, storage.close()).number() == 1);
         agent.play(empty_move);
     }
-    auto told = folugben::check(storage.close());
-    WANTED(told.is_legal && told.calls == 2 && told.moves == 2);
+    auto verdict = folugben::check(storage.close());
+    WANTED(verdict.is_legal && verdict.calls == 2 && verdict.moves == 2);
 }
 
 // Two parts: 2 calls and 2 moves, and 1 call without a move.
@@ -92,8 +92,8 @@ void runs_are_audited_as_their_bytes_come() {
         lines += byte == '\n';
         WANTED(auditor.counts().parts == (lines < 3 ? 0u : lines < 5 ? 1u : 2u));
     }
-    asm_audit_numbers told = auditor.end();
-    WANTED(told.parts == 2 && told.calls == 3 && told.moves == 2 && auditor.state_json() == R"([[["count"],9]])");
+    asm_audit_numbers counts = auditor.end();
+    WANTED(counts.parts == 2 && counts.calls == 3 && counts.moves == 2 && auditor.state_json() == R"([[["count"],9]])");
     auditor.feed("\"");
     WANTED(REFUSED(folugben::audit_error, auditor.end()).code() == code::not_json);
 
@@ -105,25 +105,25 @@ void runs_are_audited_as_their_bytes_come() {
     WANTED(moved.end().calls == 3);
 }
 
-void the_first_fault_of_a_run_is_told_with_its_place() {
+void the_first_fault_of_a_run_is_reported_with_its_place() {
     const std::string run = two_parts();
     auto with = [&](const std::string &from, const char *to) {
         return std::string(run).replace(run.find(from), from.size(), to);
     };
     auto fault = [](const std::string &of) {
         folugben::auditor auditor;
-        auto told = REFUSED(folugben::audit_error, { auditor.feed(of); auditor.end(); });
-        WANTED(REFUSED(folugben::audit_error, auditor.feed("\n")).code() == told.code());
-        WANTED(REFUSED(folugben::audit_error, auditor.end()).part() == told.part());
-        return told;
+        auto error = REFUSED(folugben::audit_error, { auditor.feed(of); auditor.end(); });
+        WANTED(REFUSED(folugben::audit_error, auditor.feed("\n")).code() == error.code());
+        WANTED(REFUSED(folugben::audit_error, auditor.end()).part() == error.part());
+        return error;
     };
     auto illegal = fault(with("\"fired\":2", "\"fired\":3"));
     WANTED(illegal.code() == code::illegal && illegal.part() == 0 && illegal.call() == 1 && illegal.line() == 0);
     WANTED(std::string(illegal.text()) == "part 0 call 1");
     auto shape = fault(with("\"read\"", "\"reed\""));
     WANTED(shape.code() == code::shape && shape.part() == 1 && shape.line() == 2 && shape.text() == "part 1 line 2");
-    auto apart = fault(run + run);
-    WANTED(apart.code() == code::apart && apart.part() == 2 && apart.text() == "part 2");
+    auto separate = fault(run + run);
+    WANTED(separate.code() == code::apart && separate.part() == 2 && separate.text() == "part 2");
     auto spaces = fault(run + std::string((1 << 24) + 1, ' '));
     WANTED(spaces.code() == code::not_json && spaces.part() == 2 && spaces.line() == 1);
     WANTED(!folugben::meaning(code::apart).empty() && folugben::meaning(code::apart) != folugben::meaning(code{99}));
@@ -132,13 +132,13 @@ void the_first_fault_of_a_run_is_told_with_its_place() {
     std::vector<std::uint8_t> bytes(run.begin(), run.end());
     bytes.insert(bytes.end(), {'[', ']', '\n', '\n'});
     std::size_t taken = 0;
-    asm_audit_numbers told{};
-    WANTED(auditor.try_feed(bytes, taken, told) == code::shape && taken == run.size() + 2 && told.parts == 2 && told.calls == 1);
-    WANTED(auditor.try_feed({}, taken, told) == code::shape && taken == 0 && auditor.counts().calls == 3);
+    asm_audit_numbers counts{};
+    WANTED(auditor.try_feed(bytes, taken, counts) == code::shape && taken == run.size() + 2 && counts.parts == 2 && counts.calls == 1);
+    WANTED(auditor.try_feed({}, taken, counts) == code::shape && taken == 0 && auditor.counts().calls == 3);
 }
 
 // A step goes on with its agent's slot, wherever the agent is.
-void steps_go_on_where_their_agents_move() {
+void steps_stay_valid_when_their_agents_are_moved() {
     folugben::storage storage(COUNT, 10), other(R"([[["count"],100]])", 10);
     folugben::location count("count");
     const std::string up = R"([["inc",["count"],1]])";
@@ -168,7 +168,7 @@ void steps_go_on_where_their_agents_move() {
 // What was moved from refuses each call, and may be assigned to.
 void moved_objects_are_empty() {
     auto is_empty = [](auto call) { WANTED(refused<folugben::error>(call, __LINE__).code() == code::empty); };
-    folugben::storage storage(COUNT, 10), next(COUNT, 5), gone = std::move(next);
+    folugben::storage storage(COUNT, 10), next(COUNT, 5), released = std::move(next);
     is_empty([&] { next.make_agent(0); });
     is_empty([&] { next.take(0); });
     is_empty([&] { next.moves(); });
@@ -194,16 +194,16 @@ void moved_objects_are_empty() {
     folugben::step step = left.begin(), moved = std::move(step);
     folugben::instructions move, full;
     full.put(other, 1);
-    folugben::instructions kept = std::move(full);
+    folugben::instructions owner = std::move(full);
     is_empty([&] { step.get(other); });
-    is_empty([&] { step.push(kept); });
+    is_empty([&] { step.push(owner); });
     is_empty([&] { step.pop(); });
     is_empty([&] { step.offer_json(); });
     is_empty([&] { step.commit(); });
     WANTED(step.depth() == 0 && left.try_begin(step) == code::empty);
     is_empty([&] { full.put(other, 2); });
     is_empty([&] { move.put(count, 1); });
-    moved.push(kept);
+    moved.push(owner);
     WANTED(moved.try_pop_move(full) == code::empty && moved.depth() == 1);
     step = left.begin();
     full = moved.pop_move();
@@ -264,24 +264,24 @@ std::vector<std::string> recorded_steps(folugben::agent agent, std::uint64_t num
     const auto below = [&](std::uint64_t most) { return (draw = draw * 6364136223846793005u + 1442695040888963407u) / 65536 % most; };
     for (int i = 0; i < 200; ++i) {
         folugben::step step = agent.begin();
-        std::map<std::uint64_t, std::string> got;
+        std::map<std::uint64_t, std::string> values_by_place;
         for (std::uint64_t left = below(4); left > 0; --left) {
             const std::uint64_t at = below(VALUES.size());
             const std::string text = step.get_json(within("[", place(at), "]"));
-            got[at] = json(step.get(folugben::location::of_json(place(at))));
-            WANTED(text == reading(step.number(), got[at]));
+            values_by_place[at] = json(step.get(folugben::location::of_json(place(at))));
+            WANTED(text == reading(step.number(), values_by_place[at]));
         }
         const std::string to = within(R"([["put",)", place(below(VALUES.size())), ",");
         step.push_json(within(to, VALUES[below(VALUES.size())], "]]"));
         std::string places, values;
-        for (const auto &[at, value] : got) {
+        for (const auto &[at, value] : values_by_place) {
             places.append(places.empty() ? "" : ",").append(place(at));
             values.append(values.empty() ? "" : ",").append(value);
         }
         std::string line = within(R"({"agent":)", std::to_string(number), R"(,"call":{"read":[)");
         lines.push_back(line.append(places).append(R"(]},"reply":)").append(reading(step.number(), values)).append("}"));
-        const folugben::outcome told = step.try_commit();
-        WANTED(told || (told.is_conflict() && told.code != code::moved));
+        const folugben::outcome result = step.try_commit();
+        WANTED(result || (result.is_conflict() && result.code != code::moved));
     }
     return lines;
 }
@@ -294,7 +294,7 @@ std::vector<std::string> lines_of(const std::string &journal, const std::string 
     return lines;
 }
 
-void journals_have_what_gets_return() {
+void journals_record_what_gets_return() {
     std::string state;
     for (std::size_t i = 0; i < VALUES.size(); ++i) state.append(within(i ? ",[" : "[", place(i), ",")).append(VALUES[i]).append("]");
     folugben::storage storage(within("[", state, "]"), 1000);
@@ -335,7 +335,7 @@ void moved_commits_are_conflicts() {
         if (tries++ < 2) go_on();
     });
     WANTED(played.number == 5 && played.retries == 2);
-    const auto leave = [](folugben::agent gone) { (void)gone; };
+    const auto leave = [](folugben::agent released) { (void)released; };
     leave(std::move(agent));
     leave(std::move(rival));
     const std::string read = R"({"agent":0,"call":{"read":[["count"]]},"reply":{"number":4,"values":[7]}})";
@@ -356,15 +356,15 @@ void moved_commits_are_conflicts() {
 } // namespace
 
 int main() {
-    agents_come_back_when_they_are_destroyed();
-    storages_go_on_from_agents();
-    agents_that_came_back_are_taken();
+    destroyed_agents_are_returned();
+    storages_continue_from_agents();
+    returned_agents_are_checked_out();
     runs_are_audited_as_their_bytes_come();
-    the_first_fault_of_a_run_is_told_with_its_place();
-    steps_go_on_where_their_agents_move();
+    the_first_fault_of_a_run_is_reported_with_its_place();
+    steps_stay_valid_when_their_agents_are_moved();
     moved_objects_are_empty();
     threads_take_agents();
-    journals_have_what_gets_return();
+    journals_record_what_gets_return();
     moved_commits_are_conflicts();
     std::puts("passed");
 }

@@ -45,7 +45,7 @@ void steps_fire_as_one_move() {
     WANTED(agent.fire_json(R"({"fire":[["inc",["count"],1]],"reads":[[["count"],1]]})") == 2);
 }
 
-void values_are_told_by_their_kinds() {
+void values_are_read_by_their_kinds() {
     folugben::storage storage("[]", 10);
     folugben::agent agent = storage.make_agent(0);
     folugben::location at("x");
@@ -72,12 +72,12 @@ void lists_sets_and_bags_are_operands() {
                   .add(set, folugben::operand::of_json(ASM_KIND_LIST, R"({"list":[true]})")));
     WANTED(step.get(at).text() == R"({"bag":[["e",2]]})" && step.get(set).text() == R"({"set":[1,{"list":[true]}]})");
     // What was returned is put unchanged.
-    for (const char *told : {"null", "true", "-7", R"("a text")", R"({"list":[1]})", R"({"set":[]})", R"({"bag":[[1,2]]})"}) {
-        step.push_json(std::string(R"([["put",["x"],)") + told + "]]");
+    for (const char *text : {"null", "true", "-7", R"("a text")", R"({"list":[1]})", R"({"set":[]})", R"({"bag":[[1,2]]})"}) {
+        step.push_json(std::string(R"([["put",["x"],)") + text + "]]");
         folugben::value value = step.get(at);
         step.push(move.clear().put(at, 0));
         step.push(move.clear().put(at, value));
-        WANTED(step.get(at) == value && step.get_json(R"([["x"]])") == std::string(R"({"number":0,"values":[)") + told + "]}");
+        WANTED(step.get(at) == value && step.get_json(R"([["x"]])") == std::string(R"({"number":0,"values":[)") + text + "]}");
     }
     folugben::error nested = REFUSED(
         folugben::error, move.put(at, folugben::operand::of_json(ASM_KIND_SET, R"({"set":[{"set":[]}]})")));
@@ -138,7 +138,7 @@ void sets_bags_and_scans_are_read() {
 }
 
 // A loop by hand begins again at a conflict, and at nothing else.
-void conflicts_mean_again() {
+void conflicts_are_played_again() {
     folugben::storage storage(R"([[["bag"],{"bag":[["e",1]]}]])", 100);
     folugben::agent one = storage.make_agent(0), other = storage.make_agent(1);
     const folugben::location bag("bag"), free("free");
@@ -187,9 +187,9 @@ void plays_return_what_their_rules_do() {
     WANTED(played.number == 2 && played.retries == 1 && *played.result == 8);
     folugben::played<void> none = agent.play(empty_move);
     WANTED(none.number == 3 && none.retries == 0);
-    int kept = 0;
-    auto by_reference = agent.play([&](folugben::step &) -> int & { return kept; });
-    WANTED(&by_reference.result == &kept);
+    int referent = 0;
+    auto by_reference = agent.play([&](folugben::step &) -> int & { return referent; });
+    WANTED(&by_reference.result == &referent);
 }
 
 void moves_are_popped_seen_and_offered() {
@@ -231,11 +231,11 @@ void moves_are_united() {
     step.push(other.unite(popped));
     WANTED(other.size() == 3 && step.get(n).number() == 5 && step.get(set).as_set() == folugben::set{1});
     WANTED(one.try_unite(one) == code::empty && one.size() == 2);
-    folugben::instructions many, gone = std::move(none);
+    folugben::instructions many, moved = std::move(none);
     for (int i = 0; i < 4095; ++i) many.inc(n, 1);
     WANTED(REFUSED(folugben::error, many |= one).code() == code::long_move && many.size() == 4095);
     WANTED(many.inc(n, 1).size() == 4096 && many.try_unite(none) == code::empty && none.try_unite(one) == code::empty);
-    WANTED(gone.try_unite(folugben::instructions()) == code::done && step.commit() == 1);
+    WANTED(moved.try_unite(folugben::instructions()) == code::done && step.commit() == 1);
 }
 
 void stale_and_short_steps_are_played_again() {
@@ -278,8 +278,8 @@ void plays_end_with_their_patience() {
     WANTED(REFUSED(folugben::conflict, agent.play(loses, {.timeout = 0ns})).code() == code::stale && storage.moves() == 4);
     WANTED(agent.play([&](folugben::step &it) { it.push(folugben::instructions().inc(count, 1)); }, {.tries = 1}).retries == 0);
     // A rule that pushes nothing fires nothing, and says so; a commit is done as it is asked for.
-    const auto looked = agent.play([&](folugben::step &it) { return it.get(count).number(); });
-    WANTED(!looked.has_fired() && looked.number == 0 && looked.result == 12 && storage.moves() == 5);
+    const auto seen = agent.play([&](folugben::step &it) { return it.get(count).number(); });
+    WANTED(!seen.has_fired() && seen.number == 0 && seen.result == 12 && storage.moves() == 5);
     WANTED(agent.play([](folugben::step &) {}).retries == 0 && agent.play(empty_move).has_fired());
     WANTED(agent.begin().try_commit().number == 7);
     folugben::step stale = agent.begin();
@@ -290,7 +290,7 @@ void plays_end_with_their_patience() {
     WANTED(!outcome && outcome.is_conflict() && outcome.code == code::stale && outcome.number == 0);
 }
 
-void refusals_say_which_limit_and_range() {
+void refusals_name_the_limit_and_range() {
     folugben::storage storage("[]", 10);
     folugben::agent agent = storage.make_agent(0);
     auto said = [](auto call) { return refused<folugben::error>(call, __LINE__).text(); };
@@ -310,7 +310,7 @@ void refusals_say_which_limit_and_range() {
     WANTED(said([&] { folugben::instructions().put(folugben::location("f"), nested); }) == "lists nest at most 8 deep");
 }
 
-void refusals_say_what_is_wrong() {
+void refusals_name_the_fault() {
     WANTED(REFUSED(folugben::error, folugben::storage("[]", 0)).code() == code::capacity);
     WANTED(!REFUSED(folugben::error, folugben::storage("[", 1)).text().empty());
     WANTED(!REFUSED(folugben::error, folugben::location("no name")).text().empty());
@@ -331,17 +331,17 @@ void refusals_say_what_is_wrong() {
 
 int main() {
     steps_fire_as_one_move();
-    values_are_told_by_their_kinds();
+    values_are_read_by_their_kinds();
     lists_sets_and_bags_are_operands();
     elements_are_in_the_order_of_the_storage();
     sets_bags_and_scans_are_read();
-    conflicts_mean_again();
+    conflicts_are_played_again();
     plays_return_what_their_rules_do();
     moves_are_popped_seen_and_offered();
     moves_are_united();
     stale_and_short_steps_are_played_again();
     plays_end_with_their_patience();
-    refusals_say_which_limit_and_range();
-    refusals_say_what_is_wrong();
+    refusals_name_the_limit_and_range();
+    refusals_name_the_fault();
     std::puts("passed");
 }

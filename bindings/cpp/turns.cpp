@@ -48,11 +48,11 @@ void agents_by_turns_see_all_moves_and_lose_none() {
             }
         }
     }
-    const auto told = folugben::check(storage.close());
-    WANTED(told.is_legal && told.moves == 1000);
+    const auto verdict = folugben::check(storage.close());
+    WANTED(verdict.is_legal && verdict.moves == 1000);
 }
 
-void what_was_followed_to_stays() {
+void a_followed_state_stays() {
     folugben::storage storage(ZERO, 100);
     folugben::agent one = storage.make_agent(0), other = storage.make_agent(1);
     folugben::location count("count");
@@ -69,20 +69,20 @@ void the_own_state_never_goes_back() {
     folugben::storage storage(ZERO, 500);
     auto agents = agents_of(storage, 0, 5);
     folugben::location count("count");
-    std::vector<std::uint32_t> shown(5);
+    std::vector<std::uint32_t> versions(5);
     draw random(8);
     for (int i = 0; i < 400; ++i) {
         const std::size_t it = random() % 5;
         switch (random() % 4) {
-        case 0: shown[it] = agents[it].follow(); break;
+        case 0: versions[it] = agents[it].follow(); break;
         case 1: raise(agents[it]); break;
-        case 2: shown[it] = agents[it].begin().number(); break;
+        case 2: versions[it] = agents[it].begin().number(); break;
         default: break;
         }
         std::uint32_t number = 0;
         folugben::value value;
-        WANTED(agents[it].try_peek(count, number, value) == code::done && value.number() == number && number >= shown[it]);
-        shown[it] = number;
+        WANTED(agents[it].try_peek(count, number, value) == code::done && value.number() == number && number >= versions[it]);
+        versions[it] = number;
     }
 }
 
@@ -152,8 +152,8 @@ void agents_go_between_threads_by_turns() {
     reader.follow();
     WANTED(reader.peek(folugben::location("count")).number() == fired);
     { folugben::agent given = std::move(reader); }
-    const auto told = folugben::check(storage.close());
-    WANTED(told.is_legal && told.moves == fired);
+    const auto verdict = folugben::check(storage.close());
+    WANTED(verdict.is_legal && verdict.moves == fired);
 }
 
 // Plays at the end of a thread, when its objects are destroyed.
@@ -193,9 +193,9 @@ void many_storages_take_turns_in_one_thread() {
         WANTED(again.moves() == 3);
     }
     folugben::storage storage(ZERO, 5);
-    folugben::agent lost = storage.make_agent(0), other = storage.make_agent(1);
-    raise(lost);
-    lost.abandon();
+    folugben::agent abandoned = storage.make_agent(0), other = storage.make_agent(1);
+    raise(abandoned);
+    abandoned.abandon();
     WANTED(raise(other) == 2);
 }
 
@@ -208,14 +208,14 @@ double time_of(std::uint32_t count) {
         std::vector<folugben::location> places;
         for (int i = 0; i < 32; ++i) places.emplace_back("x", i);
         folugben::instructions move;
-        const auto begun = std::chrono::steady_clock::now();
+        const auto start = std::chrono::steady_clock::now();
         for (std::size_t i = 0; i < 5000; ++i) {
             folugben::step step = agents[i % count].begin();
             const auto &at = places[i % 32];
             step.push(move.clear().put(at, step.get(at).number() + 1));
             step.commit();
         }
-        const std::chrono::duration<double> time = std::chrono::steady_clock::now() - begun;
+        const std::chrono::duration<double> time = std::chrono::steady_clock::now() - start;
         shortest = time.count() < shortest ? time.count() : shortest;
     }
     return shortest;
@@ -232,7 +232,7 @@ void many_agents_by_turns_take_hardly_longer_than_one() {
 
 int main() {
     agents_by_turns_see_all_moves_and_lose_none();
-    what_was_followed_to_stays();
+    a_followed_state_stays();
     the_own_state_never_goes_back();
     open_steps_keep_their_state();
     agents_go_between_threads_by_turns();
