@@ -190,7 +190,7 @@ inline const std::uint8_t *bytes(std::string_view text) noexcept { return reinte
 
 // Throws for a number that is out of its range.
 [[noreturn]] inline void fail_range(code it, std::string_view what, std::uint64_t number, std::uint64_t least, std::uint64_t most) {
-    throw error(it, std::string(what) + " is " + std::to_string(number) + ", and has to be " + std::to_string(least) + " to " +
+    throw error(it, std::string(what) + " is " + std::to_string(number) + ", and must be " + std::to_string(least) + " to " +
                                  std::to_string(most));
 }
 inline void expect_capacity(code it, std::uint32_t capacity) {

@@ -294,9 +294,9 @@ void refusals_name_the_limit_and_range() {
     folugben::storage storage("[]", 10);
     folugben::agent agent = storage.make_agent(0);
     auto said = [](auto call) { return refused<folugben::error>(call, __LINE__).text(); };
-    WANTED(said([] { folugben::storage("[]", 0); }) == "the capacity is 0, and has to be 1 to 1048576");
-    WANTED(said([&] { storage.make_agent(256); }) == "the agent's number is 256, and has to be 0 to 255");
-    WANTED(said([&] { folugben::instructions().bag_add(folugben::location("b"), 1, 0); }) == "the amount is 0, and has to be 1 to 4294967295");
+    WANTED(said([] { folugben::storage("[]", 0); }) == "the capacity is 0, and must be 1 to 1048576");
+    WANTED(said([&] { storage.make_agent(256); }) == "the agent's number is 256, and must be 0 to 255");
+    WANTED(said([&] { folugben::instructions().bag_add(folugben::location("b"), 1, 0); }) == "the amount is 0, and must be 1 to 4294967295");
     WANTED(said([&] { agent.fire_json(R"({"fire":[],"reads":[[["x"],3]]})"); }) == "a number is above the 0 moves that the agent has seen");
     std::string many = "[[\"x\"]";
     for (int i = 0; i < 256; ++i) many += ",[\"x\"," + std::to_string(i) + "]";

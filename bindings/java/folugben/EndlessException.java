@@ -14,7 +14,7 @@ public final class EndlessException extends RuntimeException {
 
     EndlessException(List<Integer> works, int turns) {
         super(String.format(Locale.ROOT,
-                "%s still at work after %,d turns: does one wait for another?",
+                "%s still running after %,d turns: does one wait for another?",
                 works.size() == 1 ? "agent " + works.get(0) + " is"
                                   : works.stream().map(String::valueOf).collect(
                                           Collectors.joining(", ", "agents ", " are")),

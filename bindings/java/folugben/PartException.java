@@ -14,7 +14,7 @@ public final class PartException extends ConflictException {
 
     /** Returns that of a call in a part that is over. */
     static PartException full() {
-        return new PartException(Code.FULL, "the run goes on in its next part");
+        return new PartException(Code.FULL, "the run continues in its next part");
     }
 
     /** Returns that of a number of a part that is over. */

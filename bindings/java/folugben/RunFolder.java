@@ -120,7 +120,7 @@ final class RunFolder implements AutoCloseable {
                     .filter(it -> !it.equals(NEW) && !it.equals(LOCK)).toList();
             if (names.stream().anyMatch(it -> it.endsWith(Segment.SUFFIX)))
                 throw new FileAlreadyExistsException(
-                        path.toString(), null, "there is a run, with which Run.resume goes on");
+                        path.toString(), null, "there is a run, which Run.resume continues");
             if (!names.isEmpty())
                 throw new FileAlreadyExistsException(path.toString(), null, "the folder isn't empty");
         }
@@ -255,7 +255,7 @@ final class RunFolder implements AutoCloseable {
             int number = Native.getLastError();
             return number == Posix.WOULD_WAIT
                     ? new FileSystemException(path.getParent().toString(), null,
-                            "another run is at work in the folder")
+                            "another run uses the folder")
                     : Posix.fault(path, "locked", number);
         }
 

@@ -154,7 +154,7 @@ record Segment(long number, long first, long moves, long events, String digest) 
             if (!hex(all).equals(digest))
                 throw new DamagedException(number, "its text isn't the one that was saved");
         } catch (NoSuchFileException missing) {
-            throw new DamagedException(number, "its file is gone");
+            throw new DamagedException(number, "its file is missing");
         }
     }
 }

@@ -145,7 +145,7 @@ class RunWriter(RunFolder):
         except BaseException as error:
             self.close()
             if isinstance(error, BlockingIOError):
-                raise BlockingIOError(error.errno, "another run is at work in the folder", str(path)) from None
+                raise BlockingIOError(error.errno, "another run uses the folder", str(path)) from None
             raise
 
     @classmethod

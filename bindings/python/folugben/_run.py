@@ -91,7 +91,7 @@ class Run:
 
         Raises:
             FileNotFoundError: there is no run.
-            BlockingIOError: another run is at work in the folder.
+            BlockingIOError: another run uses the folder.
             DamagedError: a segment is missing, or isn't the one that was saved.
             BadJournalError: a segment isn't legal.
             NotADirectoryError: it is a file, as version 0.2 wrote runs, which `import_run` imports.

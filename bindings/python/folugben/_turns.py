@@ -122,7 +122,7 @@ class Turns:
 
     def _endless(self, alive: list[int]) -> EndlessError:
         who = f"agent {alive[0]} is" if len(alive) == 1 else f"agents {', '.join(map(str, alive))} are"
-        return EndlessError(f"{who} still at work after {self._most:,} turns: does one wait for another?")
+        return EndlessError(f"{who} still running after {self._most:,} turns: does one wait for another?")
 
 
 class Player:

@@ -118,7 +118,7 @@ impl OutOfRange {
 impl fmt::Display for OutOfRange {
     fn fmt(&self, f: &mut fmt::Formatter<'_>) -> fmt::Result {
         let OutOfRange { what, value, least, most } = self;
-        write!(f, "{what} is {value}, and has to be {least} to {most}")
+        write!(f, "{what} is {value}, and must be {least} to {most}")
     }
 }
 

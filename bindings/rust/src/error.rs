@@ -57,7 +57,7 @@ pub enum Error {
     Closed,
     /// The run ended at a part that couldn't be saved, and what this part and later ones have is lost.
     Ended(Ended),
-    /// Another run, of this process or another one, is at work in the folder.
+    /// Another run, of this process or another one, uses the folder.
     InUse,
     /// A segment of a run is missing, or isn't the one that was saved.
     Damaged {
@@ -118,7 +118,7 @@ impl fmt::Display for Error {
             Error::OtherStorage => f.write_str("the agent is of another storage"),
             Error::Closed => f.write_str("the run was closed"),
             Error::Ended(ended) => ended.fmt(f),
-            Error::InUse => f.write_str("another run is at work in the folder"),
+            Error::InUse => f.write_str("another run uses the folder"),
             Error::Damaged { segment, why } => write!(f, "segment {segment}: {why}"),
             Error::Audit(error) => error.fmt(f),
             Error::File { why, .. } | Error::Refused(why) => f.write_str(why),

@@ -151,7 +151,7 @@ impl RunOptions {
     ///
     /// - [`Error::File`]: of the kind `NotFound` if there is no run, of the kind `NotADirectory` if the path leads to a file,
     ///   which [`import_run`] may import; or the folder can't be read or written.
-    /// - [`Error::InUse`]: another run is at work in the folder.
+    /// - [`Error::InUse`]: another run uses the folder.
     /// - [`Error::Damaged`]: a segment is missing, or isn't the one that was saved.
     /// - [`Error::Audit`]: a segment isn't legal.
     /// - [`Error::Range`]: the number of moves is out of its range.
@@ -229,7 +229,7 @@ impl Default for RunOptions {
 ///
 /// A run that is dropped is closed, but no error is reported: so [`Run::close`] it. If a part can't be saved, the run
 /// ends: each further call on it and its agents is [`Error::Ended`] with the part. What was saved before is complete.
-#[must_use = "a run is closed when it is let go"]
+#[must_use = "a run is closed when it is dropped"]
 pub struct Run {
     core: Arc<Core>,
     writer: Option<JoinHandle<()>>,

@@ -186,7 +186,7 @@ fn prepared_moves_do_what_moves_do() {
     let mut gathered = PreparedMove::new();
     gathered.put(&t, "text").unwrap().inc(&n, -4).unwrap().add(&s, 1).unwrap().bag_add(&b, true, 3).unwrap();
     let result = gathered.bag_add(&b, 1, 0).err().unwrap();
-    assert_eq!(result.to_string(), "the amount is 0, and has to be 1 to 4294967295");
+    assert_eq!(result.to_string(), "the amount is 0, and must be 1 to 4294967295");
     assert_eq!(gathered.len(), 4);
     agent.play(|step| step.push_prepared(&gathered)).unwrap();
     gathered.clear().remove(&s, 1).unwrap().bag_remove(&b, true, 1).unwrap();

@@ -79,7 +79,7 @@ fn a_closed_storage_continues() {
 #[test]
 fn refusals_say_what_is_wrong() {
     let error = Storage::open([], 0).err().unwrap();
-    assert_eq!(error.to_string(), "the capacity is 0, and has to be 1 to 1048576");
+    assert_eq!(error.to_string(), "the capacity is 0, and must be 1 to 1048576");
     let twice = Storage::open([(count(), 1.into()), (count(), 2.into())], 1).unwrap_err();
     assert!(matches!(&twice, Error::Refused(why) if !why.is_empty()), "{twice}");
     let storage = Storage::open([], 10).unwrap();

@@ -117,7 +117,7 @@ final class ExploreTests {
         expectBroken(explorer.invariant(holds).explore().finding().orElseThrow(),
                 ExploreTests::counting, works, holds);
         thrown(EndlessException.class,
-                "agents 0, 1 are still at work after 200 turns: does one wait for another?",
+                "agents 0, 1 are still running after 200 turns: does one wait for another?",
                 () -> of(List.of(waits, waits)).turns(200).explore());
     }
 

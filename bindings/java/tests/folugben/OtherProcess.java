@@ -58,7 +58,7 @@ final class OtherProcess {
         switch (words[0]) {
             case "resume" -> {
                 Throwable error = ResumeTests.faultOf(() -> Run.resume(path));
-                System.exit(error.getMessage().endsWith("another run is at work in the folder") ? 3 : 4);
+                System.exit(error.getMessage().endsWith("another run uses the folder") ? 3 : 4);
             }
             case "fill" -> RunEndTests.fill(path);
             default -> play(path);

@@ -71,10 +71,10 @@ final class ResumeTests {
     private static void isRefused(Path path, Path link) {
         Throwable error = faultOf(() -> Run.resume(link));
         equal(error.getClass(), FileSystemException.class);
-        equal(error.getMessage(), path + ": another run is at work in the folder");
+        equal(error.getMessage(), path + ": another run uses the folder");
         Throwable there = faultOf(() -> Run.open(opening(), link));
         equal(there.getClass(), FileAlreadyExistsException.class);
-        equal(there.getMessage(), path + ": there is a run, with which Run.resume goes on");
+        equal(there.getMessage(), path + ": there is a run, which Run.resume continues");
     }
 
     private static void onePathIsOneRun(Path path) throws Exception {

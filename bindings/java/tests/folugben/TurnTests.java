@@ -200,7 +200,7 @@ final class TurnTests {
             };
             Interleave.Work<Agent, Object> ends = agent -> "told";
             thrown(EndlessException.class,
-                    "agent 0 is still at work after 1,000 turns: does one wait for another?",
+                    "agent 0 is still running after 1,000 turns: does one wait for another?",
                     () -> Interleave.play(List.of(one, two), List.of(waits, ends), 3, 1000));
             Thread.currentThread().interrupt();
             thrown(CancellationException.class, "the play was interrupted",

@@ -200,7 +200,7 @@ fn expect_empty(path: &Path) -> Result<(), Error> {
     for entry in fs::read_dir(path)? {
         let name = entry?.file_name();
         if name.to_str().is_some_and(is_name) {
-            return exists("there is a run, with which Run::resume goes on");
+            return exists("there is a run, which Run::resume continues");
         }
         is_empty = is_empty && (name == NEW || name == LOCK);
     }

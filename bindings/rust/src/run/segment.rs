@@ -107,7 +107,7 @@ impl Segment {
     fn read(&self, folder: &Path, output: &mut dyn Write) -> Result<(), Error> {
         let opened = File::options().read(true).custom_flags(NO_FOLLOW).open(folder.join(self.name()));
         let mut file = opened.map_err(|error| match error.kind() {
-            io::ErrorKind::NotFound => damaged(self.number(), "its file is gone".to_owned()),
+            io::ErrorKind::NotFound => damaged(self.number(), "its file is missing".to_owned()),
             _ => error.into(),
         })?;
         let mut digest = self.before.digest_start(self.more, file.metadata()?.len());
