@@ -24,7 +24,7 @@ class Folders(Rooms):
             agent.play(raised)
             with self.assertRaises(FileExistsError):
                 Run(self.path, INIT)
-            with self.assertRaisesRegex(BlockingIOError, "another run is at work"):
+            with self.assertRaisesRegex(BlockingIOError, "another run uses the folder"):
                 Run.resume(self.path)
             code = "import sys, folugben; folugben.Run.resume(sys.argv[1])"
             ran = run_python(code, self.path)
