@@ -177,7 +177,7 @@ class RunWriter(RunFolder):
 
         Raises:
             FileNotFoundError: there is no run.
-            BlockingIOError: another run is at work there.
+            BlockingIOError: another run uses the folder.
             DamagedError: the names aren't those of a run.
         """
         with RunFolder(path) as folder:
