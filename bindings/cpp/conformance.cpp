@@ -98,8 +98,8 @@ class replayer {
         refused_ = {"MISSING", "", list({error.number()})};
         return "";
     } catch (const folugben::error &error) {
-        const bool is_told = error.code() == code::stale || error.code() == code::clash || error.code() == code::large;
-        if (is_told) return error.text();
+        const bool has_answer = error.code() == code::stale || error.code() == code::clash || error.code() == code::large;
+        if (has_answer) return error.text();
         refused_ = {name_of(error.code()), error.text(), ""};
         if (error.text().starts_with("line ")) {
             const std::string line = error.text().substr(5, error.text().find(':') - 5);

@@ -102,19 +102,19 @@ void elements_are_in_the_order_of_the_storage() {
 void sets_bags_and_scans_are_read() {
     folugben::storage storage("[]", 10);
     folugben::agent agent = storage.make_agent(0);
-    const std::string odd = "\"\\/\b\f\n\r\t\x01\x1f\x7f \xc3\xa4\xf0\x9f\x8c\x8d";
-    const folugben::list list = {nullptr, true, -7, odd, folugben::list{folugben::list{}}};
+    const std::string special = "\"\\/\b\f\n\r\t\x01\x1f\x7f \xc3\xa4\xf0\x9f\x8c\x8d";
+    const folugben::list list = {nullptr, true, -7, special, folugben::list{folugben::list{}}};
     const folugben::set set(list.begin(), list.end());
-    const folugben::bag bag = {{odd, 1}, {list, UINT32_MAX}};
-    const folugben::location at_list("it", "list"), at_set("it", "set"), at_bag("it", "bag", odd, -1, true, nullptr), at_text("it", list);
+    const folugben::bag bag = {{special, 1}, {list, UINT32_MAX}};
+    const folugben::location at_list("it", "list"), at_set("it", "set"), at_bag("it", "bag", special, -1, true, nullptr), at_text("it", list);
     auto played = agent.play([&](folugben::step &step) {
         folugben::instructions move;
-        step.push(move.put(at_list, list).put(at_set, set).put(at_bag, bag).put(at_text, odd));
+        step.push(move.put(at_list, list).put(at_set, set).put(at_bag, bag).put(at_text, special));
         step.push(folugben::instructions().add(at_set, 5).bag_add(at_bag, "e", 3));
         return step.get(at_bag).as_bag();
     });
     WANTED(played.number == 1 && played.retries == 0 && played.result.size() == 3 && played.result.at("e") == 3);
-    WANTED(agent.follow() == 1 && agent.peek(at_list).as_element() == folugben::element(list) && agent.peek(at_text).text() == odd);
+    WANTED(agent.follow() == 1 && agent.peek(at_list).as_element() == folugben::element(list) && agent.peek(at_text).text() == special);
     folugben::set more = set;
     more.insert(5);
     WANTED(agent.peek(at_set).as_set() == more && agent.peek(at_bag).as_bag().at(list) == UINT32_MAX);

@@ -102,14 +102,14 @@ static void validates(unsigned at) {
     account *a = &accounts[at];
     buffer b = any_buffer();
     bool is_read = a->kind == AGENT && t->reads == ASM_DONE;
-    bool is_looked = is_read && (t->x < 0 || (unsigned)t->x <= asm_seen(ANY(at)));
+    bool is_seen = is_read && (t->x < 0 || (unsigned)t->x <= asm_seen(ANY(at)));
     outcome wanted = {a->kind != AGENT        ? ASM_EMPTY
-                      : is_read && !is_looked ? ASM_AHEAD
+                      : is_read && !is_seen ? ASM_AHEAD
                                               : t->reads,
                       NULL};
-    if (is_looked)
+    if (is_seen)
         a->version = stories[a->storage].moves;
-    if (is_looked && t->x >= 0 && own_world(a).x_at > (unsigned)t->x)
+    if (is_seen && t->x >= 0 && own_world(a).x_at > (unsigned)t->x)
         wanted = (outcome){ASM_STALE, "{\"stale\":[\"x\"]}"};
     is_written(asm_stands(ANY(at), bytes(t), strlen(t->bytes), OUT(b)), wanted, &b);
 }

@@ -53,7 +53,7 @@ public final class Agent extends AgentCalls implements Actor {
             if (code == Code.MANY)
                 throw ManyException.places(
                         JsonReader.locations(locations).size(), "locations are read");
-            FolugbenException.expectRead(held(code), Storage.Form.LOCATIONS, call);
+            FolugbenException.expectRead(expectNotReturned(code), Storage.Form.LOCATIONS, call);
             unfired++;
             String answer = lastAnswer();
             player.reads(locations);
@@ -215,7 +215,7 @@ public final class Agent extends AgentCalls implements Actor {
         byte[] call = Texts.utf8(locations, "locations");
         synchronized (slot) {
             Calls.Result result = slot.peek(call);
-            FolugbenException.expectRead(held(result.code()), Storage.Form.LOCATIONS, call);
+            FolugbenException.expectRead(expectNotReturned(result.code()), Storage.Form.LOCATIONS, call);
             player.reads(locations);
             player.observe(values(result.text()));
             return result.text();
@@ -233,7 +233,7 @@ public final class Agent extends AgentCalls implements Actor {
     public Peeked peek(PreparedLocation location) {
         Turns.Player player = Turns.Player.call(this);
         synchronized (slot) {
-            look(location, player);
+            peekInto(location, player);
             return new Peeked(room.number(0), room.readValue());
         }
     }
@@ -246,7 +246,7 @@ public final class Agent extends AgentCalls implements Actor {
     public long peekNumber(PreparedLocation location) {
         Turns.Player player = Turns.Player.call(this);
         synchronized (slot) {
-            look(location, player);
+            peekInto(location, player);
             return room.kind() == Room.NUM ? room.number() : room.readValue().asLong();
         }
     }
@@ -332,9 +332,9 @@ public final class Agent extends AgentCalls implements Actor {
             FolugbenException.expect(Code.OTHER);
         // Of two with one number, one of which was returned, the locks have no other order.
         synchronized (LEARNING) {
-            withBoth(other, () -> {
+            withLocks(other, () -> {
                 Code code = Code.of(Calls.asm_learn(slot.at, other.slot.at));
-                other.held(code);
+                other.expectNotReturned(code);
                 expect(code);
             });
         }

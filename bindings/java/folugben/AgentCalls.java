@@ -15,7 +15,7 @@ abstract sealed class AgentCalls permits Agent {
     /** Whether commits add a receipt of what their step read; with its lock. */
     private boolean isRecording;
     /** Throws if this code says that it was returned; to be called with its lock. */
-    Code held(Code code) {
+    Code expectNotReturned(Code code) {
         if (code != Code.EMPTY || slot.isFull())
             return code;
         if (isPast())
@@ -29,7 +29,7 @@ abstract sealed class AgentCalls permits Agent {
     }
     /** Throws if the code of a call on it isn't DONE. */
     void expect(Code code) {
-        FolugbenException.expect(held(code));
+        FolugbenException.expect(expectNotReturned(code));
     }
     /** Returns the values of a reading, without the number. */
     static String values(String reading) {
@@ -103,7 +103,7 @@ abstract sealed class AgentCalls permits Agent {
         }
     }
     /** Returns whether it was neither returned nor abandoned. */
-    boolean isHeld() {
+    boolean isCheckedOut() {
         synchronized (slot) {
             return slot.isFull();
         }
@@ -124,10 +124,10 @@ abstract sealed class AgentCalls permits Agent {
         if (chain != null)
             chain.expectRunning();
     }
-    void look(PreparedLocation location, Turns.Player player) {
+    void peekInto(PreparedLocation location, Turns.Player player) {
         Objects.requireNonNull(location, "location");
         synchronized (location.slot) {
-            location.expect(held(slot.peek(location)));
+            location.expect(expectNotReturned(slot.peek(location)));
         }
         player.reads(location);
         player.observe(room);
@@ -154,11 +154,11 @@ abstract sealed class AgentCalls permits Agent {
     void takeState() {
         Agent other = storage.plays((Agent) this);
         if (other != null && other.number != number)
-            withBoth(other, () -> slot.takeState(other.slot));
+            withLocks(other, () -> slot.takeState(other.slot));
     }
 
     /** Does the work with the locks of both, taken in the order of their numbers. */
-    void withBoth(Agent other, Runnable work) {
+    void withLocks(Agent other, Runnable work) {
         boolean isFirst = number < other.number;
         synchronized (isFirst ? slot : other.slot) {
             synchronized (isFirst ? other.slot : slot) {
@@ -187,7 +187,7 @@ abstract sealed class AgentCalls permits Agent {
                 throw ManyException.places(JsonReader.reads(reads).size(), "locations are named");
             if (result.code() == Code.AHEAD)
                 throw FolugbenException.ahead(reads, Calls.asm_seen(slot.at));
-            FolugbenException.expectReads(held(result.code()), reads);
+            FolugbenException.expectReads(expectNotReturned(result.code()), reads);
             return new Actor.Reply(result.code(), 0, 0, 0, null);
         }
     }

@@ -173,9 +173,9 @@ final class Calls {
 
     static native int asm_take(long storage, int number, long agent);
 
-    static native int asm_audit(long audit, long bytes, long len, long taken, long told);
+    static native int asm_audit(long audit, long bytes, long len, long taken, long numbers);
 
-    static native int asm_audited(long audit, long told);
+    static native int asm_audited(long audit, long numbers);
 
     static native int asm_audit_state(long audit, long out, long room, long written);
 

@@ -18,7 +18,7 @@ final class PartWriter {
     /** How many parts may be over and not written before agents wait, besides the next. */
     private static final int BEHIND = 1;
     /** The longest time between two checks for the first move of a part, in ms. */
-    private static final long LOOK = 50;
+    private static final long LONGEST_DELAY = 50;
     /** How long an agent may stay, in ms, in a step of a part that is full, or ends at rest. */
     private static final long PATIENCE = 100;
 
@@ -165,13 +165,13 @@ final class PartWriter {
                 run.takeBack(head, isClosing(), left <= 0);
             if (head.isComplete())
                 return;
-            awaitChange(seen, head.isOver() ? Math.max(left, 0) : look());
+            awaitChange(seen, head.isOver() ? Math.max(left, 0) : checkDelay());
         }
     }
 
     /** Returns after how many ms to check again if a part must end; 0 for never. */
-    private long look() {
-        return every == 0 ? 0 : Math.min(LOOK, Math.max(1, every / 4_000_000));
+    private long checkDelay() {
+        return every == 0 ? 0 : Math.min(LONGEST_DELAY, Math.max(1, every / 4_000_000));
     }
 
     private synchronized long seen() {
@@ -185,31 +185,31 @@ final class PartWriter {
 
     /** Writes the next part, which is complete; returns whether a further one comes. */
     private boolean write() {
-        Part whole = head;
-        ByteBuffer journal = whole.storage.closeJournal(room);
-        boolean isLast = whole.next() == null && isClosing();
-        if (whole.next() == null && !isLast)
-            whole.openNextAtRest();
+        Part ended = head;
+        ByteBuffer journal = ended.storage.closeJournal(room);
+        boolean isLast = ended.next() == null && isClosing();
+        if (ended.next() == null && !isLast)
+            ended.openNextAtRest();
         long events = events(journal);
         try {
             if (!isLast || events > 0)
-                add(whole, journal, events);
+                add(ended, journal, events);
         } catch (IOException fault) {
             throw new UncheckedIOException(fault);
         }
         if (isLast)
             return false;
-        whole.storage.close();
+        ended.storage.close();
         free.count(journal.limit());
-        head = whole.next();
+        head = ended.next();
         wake();
         return true;
     }
 
-    private void add(Part whole, ByteBuffer journal, long events) throws IOException {
-        Part next = whole.next();
-        long end = next == null ? whole.before() + whole.storage.moves() : next.before();
-        folder.save(journal.duplicate(), end - whole.before(), events);
+    private void add(Part ended, ByteBuffer journal, long events) throws IOException {
+        Part next = ended.next();
+        long end = next == null ? ended.before() + ended.storage.moves() : next.before();
+        folder.save(journal.duplicate(), end - ended.before(), events);
         saved = end;
         parts++;
     }

@@ -139,10 +139,10 @@ final class Replica {
     /**
      * Returns the journals of what the log has after a saved segment.
      *
-     * @throws SharedLog.BehindException if further segments were saved meanwhile
+     * @throws SharedLog.OutdatedException if further segments were saved meanwhile
      */
     static List<byte[]> rest(SharedLog log, Segment last)
-            throws IOException, SharedLog.BehindException {
+            throws IOException, SharedLog.OutdatedException {
         Replica replica = new Replica(log, log.ended(last));
         List<byte[]> journals = new ArrayList<>();
         try {
@@ -210,7 +210,7 @@ final class Replica {
 
         /** Takes back an agent of this process; one of an era that has ended is released. */
         void leave(Agent agent) {
-            if (!agent.isHeld())
+            if (!agent.isCheckedOut())
                 return;
             agent.close();
             free.add(agent.number());

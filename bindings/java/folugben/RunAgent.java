@@ -219,7 +219,7 @@ public final class RunAgent implements Actor {
         if (own == null)
             return;
         long fired = own.won();
-        if (own.isHeld())
+        if (own.isCheckedOut())
             own.storage().give(own);
         won += fired;
         own = null;

@@ -60,7 +60,7 @@ final class RunImport implements AutoCloseable {
                 case CUT, NOT_JSON, SHAPE -> true;
                 default -> false;
             };
-            if (complete == 0 || !isCut || hasHeaderBehind(file))
+            if (complete == 0 || !isCut || hasHeaderAfter(file))
                 throw fault;
         }
         return new Run.Imported(counts, Files.size(file) - complete);
@@ -113,7 +113,7 @@ final class RunImport implements AutoCloseable {
     }
 
     /** Returns whether a line after the first incomplete one begins as a part's header. */
-    private boolean hasHeaderBehind(Path file) throws IOException {
+    private boolean hasHeaderAfter(Path file) throws IOException {
         byte[] header = "{\"agents\":".getBytes(StandardCharsets.US_ASCII);
         try (InputStream in = new BufferedInputStream(Files.newInputStream(file), 1 << 16)) {
             in.skipNBytes(complete);

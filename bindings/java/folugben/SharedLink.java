@@ -56,10 +56,10 @@ final class SharedLink {
         return reach(log -> {
             if (isClosed)
                 throw FolugbenException.closed("the run was closed");
-            boolean isHeld = log.hold(agent);
-            if (isHeld)
+            boolean isLocked = log.hold(agent);
+            if (isLocked)
                 held.add(agent);
-            return isHeld;
+            return isLocked;
         });
     }
 
@@ -101,12 +101,12 @@ final class SharedLink {
     }
 
     List<SharedLog.LogEntry> exchange(Exchange calls, long applied)
-            throws IOException, SharedLog.BehindException {
-        SharedLog.BehindException[] behind = new SharedLog.BehindException[1];
+            throws IOException, SharedLog.OutdatedException {
+        SharedLog.OutdatedException[] behind = new SharedLog.OutdatedException[1];
         List<SharedLog.LogEntry> placed = reach(log -> {
             try {
                 return log.exchange(calls.calls(), applied);
-            } catch (SharedLog.BehindException error) {
+            } catch (SharedLog.OutdatedException error) {
                 behind[0] = error;
                 return null;
             } finally {

@@ -63,7 +63,7 @@ final class SharedLog {
     }
 
     /** Calls that this process hasn't applied were dropped from the log, as they are saved. */
-    static final class BehindException extends Exception {
+    static final class OutdatedException extends Exception {
         private static final long serialVersionUID = 1;
     }
 
@@ -178,9 +178,9 @@ final class SharedLog {
      *
      * <p>Each is appended at the next place. The returned calls are durable.
      *
-     * @throws BehindException if the log doesn't have the next one any more
+     * @throws OutdatedException if the log doesn't have the next one any more
      */
-    List<LogEntry> exchange(List<Call> calls, long applied) throws IOException, BehindException {
+    List<LogEntry> exchange(List<Call> calls, long applied) throws IOException, OutdatedException {
         List<LogEntry> found = new ArrayList<>();
         for (Object[] row :
                 database.append(calls.stream().map(Call::row).toList(), applied, READ))
@@ -189,7 +189,7 @@ final class SharedLog {
                             (String) row[5])));
         // Of calls that were appended twice the later place stays empty.
         if (!found.isEmpty() && found.get(0).place > applied + 1)
-            expectNotBehind(applied);
+            expectUpToDate(applied);
         return found;
     }
 
@@ -201,12 +201,12 @@ final class SharedLog {
         return number(database.run(sql, values).get(0)[0]);
     }
 
-    private void expectNotBehind(long applied) throws IOException, BehindException {
+    private void expectUpToDate(long applied) throws IOException, OutdatedException {
         long dropped = asked("select coalesce(max(last_place), 0) from segment where number <="
                         + " (select max(number) from segment) - ?",
                 KEPT);
         if (dropped > applied)
-            throw new BehindException();
+            throw new OutdatedException();
     }
 
     /**

@@ -212,7 +212,7 @@ public final class SharedRun implements AutoCloseable {
                     try {
                         Replica.rest(log, last).forEach(rest::read);
                         return null;
-                    } catch (SharedLog.BehindException behind) {
+                    } catch (SharedLog.OutdatedException behind) {
                         // Further segments were saved meanwhile.
                     }
                 }

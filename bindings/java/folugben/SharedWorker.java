@@ -62,12 +62,12 @@ final class SharedWorker {
 
     SharedWorker(SharedLog log) throws IOException {
         link = new SharedLink(log);
-        boolean isBegun = false;
+        boolean hasStarted = false;
         try {
             replica = new Replica(log, log.last());
-            isBegun = true;
+            hasStarted = true;
         } finally {
-            if (!isBegun)
+            if (!hasStarted)
                 link.close();
         }
         thread = new Thread(this::work, "folugben " + log.target());
@@ -256,7 +256,7 @@ final class SharedWorker {
         List<SharedLog.LogEntry> placed;
         try {
             placed = exchange(batch);
-        } catch (SharedLog.BehindException behind) {
+        } catch (SharedLog.OutdatedException behind) {
             rejoin();
             return;
         }
@@ -308,7 +308,7 @@ final class SharedWorker {
     }
 
     private List<SharedLog.LogEntry> exchange(List<Waiter> first)
-            throws IOException, SharedLog.BehindException {
+            throws IOException, SharedLog.OutdatedException {
         return link.exchange(new SharedLink.Exchange() {
             /** First the new ones; over another connection all calls that may be there. */
             private List<Waiter> batch = first;

@@ -64,7 +64,7 @@ abstract sealed class StepCalls permits Step {
                             -> call.call(
                                     agent.slot.at, step, at, text.length, out, length, written));
             size += result.text().length();
-            agent.held(result.code());
+            agent.expectNotReturned(result.code());
             return result;
         }
     }
@@ -87,7 +87,7 @@ abstract sealed class StepCalls permits Step {
                                          -> Calls.asm_get_at(agent.slot.at, step, location.slot.at,
                                                  room.value(), out, length, written));
             ManyException.expectPlaces(code);
-            location.expect(agent.held(code));
+            location.expect(agent.expectNotReturned(code));
         }
         size += room.written();
         player.reads(location);
@@ -136,7 +136,7 @@ abstract sealed class StepCalls permits Step {
                                                     -> call.call(agent.slot.at, step, move.slot.at,
                                                             out, length, written)));
             }
-            agent.held(result.code());
+            agent.expectNotReturned(result.code());
         }
         FolugbenException.expectNoObjection(result);
         ManyException.expectMove(result.code(), "the one move of all that are pushed");
@@ -148,7 +148,7 @@ abstract sealed class StepCalls permits Step {
             long step = slot().at;
             Calls.Result result = room.resultOf(
                     (text, out, length, written) -> Calls.asm_offer(step, out, length, written));
-            FolugbenException.expect(agent.held(result.code()));
+            FolugbenException.expect(agent.expectNotReturned(result.code()));
             return result.text();
         }
     }
@@ -164,14 +164,14 @@ abstract sealed class StepCalls permits Step {
         this.agent = agent;
         room = agent.slot.room;
         slot = agent.slot.takeStep(self());
-        boolean isBegun = false;
+        boolean hasStarted = false;
         try {
             agent.expect(agent.slot.begin(slot));
             number = room.number(0);
             before = agent.before();
-            isBegun = true;
+            hasStarted = true;
         } finally {
-            if (!isBegun)
+            if (!hasStarted)
                 drop();
         }
     }
@@ -238,7 +238,7 @@ abstract sealed class StepCalls permits Step {
             synchronized (into.slot) {
                 into.bytes = size;
                 namesMore = true;
-                Code code = agent.held(into.takePopped(step));
+                Code code = agent.expectNotReturned(into.takePopped(step));
                 ManyException.expectMove(code, "the one move of those that are popped");
                 FolugbenException.expect(code);
             }

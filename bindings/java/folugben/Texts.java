@@ -60,8 +60,8 @@ final class Texts {
      * library.
      */
     static String oneValue(String text, String name) {
-        int end = behindValue(text, behindSpace(unicode(text, name), 0));
-        if (end < 0 || behindSpace(text, end) < text.length())
+        int end = afterValue(text, afterSpace(unicode(text, name), 0));
+        if (end < 0 || afterSpace(text, end) < text.length())
             throw FolugbenException.notJson(name);
         return text;
     }
@@ -72,7 +72,7 @@ final class Texts {
         int depth = 0;
         for (int at = 0; at >= 0 && at < text.length();)
             switch (text.charAt(at)) {
-                case '"' -> at = behindString(text, at);
+                case '"' -> at = afterString(text, at);
                 case '[', '{' -> {
                     deepest = Math.max(deepest, ++depth);
                     at++;
@@ -86,19 +86,19 @@ final class Texts {
         return deepest;
     }
 
-    private static int behindSpace(String text, int at) {
+    private static int afterSpace(String text, int at) {
         while (at < text.length() && " \t\n\r".indexOf(text.charAt(at)) >= 0) at++;
         return at;
     }
 
     /** Returns the index after the value that begins here; -1 if none begins here, or ends. */
-    private static int behindValue(String text, int at) {
+    private static int afterValue(String text, int at) {
         int depth = 0;
         do {
             if (at >= text.length())
                 return -1;
             switch (text.charAt(at)) {
-                case '"' -> at = behindString(text, at);
+                case '"' -> at = afterString(text, at);
                 case '[', '{' -> {
                     depth++;
                     at++;
@@ -107,13 +107,13 @@ final class Texts {
                     depth--;
                     at++;
                 }
-                default -> at = depth > 0 ? at + 1 : behindWord(text, at);
+                default -> at = depth > 0 ? at + 1 : afterWord(text, at);
             }
         } while (at >= 0 && depth > 0);
         return depth < 0 ? -1 : at;
     }
 
-    private static int behindString(String text, int at) {
+    private static int afterString(String text, int at) {
         for (at++; at < text.length(); at++) {
             char unit = text.charAt(at);
             if (unit == '"')
@@ -129,7 +129,7 @@ final class Texts {
      *
      * <p>That is up to a space or a sign that separates values.
      */
-    private static int behindWord(String text, int at) {
+    private static int afterWord(String text, int at) {
         int end = at;
         while (end < text.length() && " \t\n\r,:[]{}\"".indexOf(text.charAt(end)) < 0) end++;
         return end > at ? end : -1;

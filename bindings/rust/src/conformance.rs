@@ -308,13 +308,13 @@ fn matches_wanted(answer: &Answer, wanted: &str) -> bool {
         Refusal::Untyped => return false,
     };
     let Some(Json::Object(mut wanted)) = read(wanted.as_bytes()) else { return false };
-    let is_said = match (wanted.remove("said").and_then(Json::text), refusal) {
+    let is_reported = match (wanted.remove("said").and_then(Json::text), refusal) {
         (Some(said), Refusal::Call(error)) => error.to_string() == said,
         _ => true,
     };
     let wanted_numbers: Option<Vec<u64>> =
         wanted.remove("numbers").and_then(Json::list).map(|it| it.into_iter().filter_map(Json::number).collect());
-    is_said
+    is_reported
         && wanted.remove("error").and_then(Json::text).as_deref() == Some(name)
         && wanted_numbers.is_none_or(|it| it == numbers)
 }

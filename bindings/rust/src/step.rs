@@ -53,7 +53,7 @@ impl Step<'_> {
     ///
     /// Those of [`Step::get`].
     pub fn get_each(&self, places: &[Location]) -> Result<Vec<Value>, Error> {
-        self.look(sys::asm_get, places)
+        self.read_locations(sys::asm_get, places)
     }
 
     /// Returns what [`Step::get_each`] returns, of any number of locations; tracks nothing.
@@ -64,10 +64,10 @@ impl Step<'_> {
     ///
     /// [`Error::Refused`], [`Error::Memory`].
     pub fn see(&self, places: &[Location]) -> Result<Vec<Value>, Error> {
-        self.look(sys::asm_see, places)
+        self.read_locations(sys::asm_see, places)
     }
 
-    fn look(&self, call: ByText, places: &[Location]) -> Result<Vec<Value>, Error> {
+    fn read_locations(&self, call: ByText, places: &[Location]) -> Result<Vec<Value>, Error> {
         let text = places.json();
         // SAFETY: the slots are of one agent and its step, which this thread alone has, and the texts and numbers outlive the call.
         let (code, output) = self.text_of_call(|slot, step, out, room, written| unsafe {

@@ -219,9 +219,9 @@ unsafe extern "C" {
         bytes: *const u8,
         len: usize,
         taken: *mut usize,
-        told: *mut AuditNumbers,
+        numbers: *mut AuditNumbers,
     ) -> i32;
-    pub(crate) fn asm_audited(audit: *mut Slot, told: *mut AuditNumbers) -> i32;
+    pub(crate) fn asm_audited(audit: *mut Slot, numbers: *mut AuditNumbers) -> i32;
     pub(crate) fn asm_audit_state(audit: *mut Slot, out: *mut u8, room: usize, written: *mut usize) -> i32;
     pub(crate) fn asm_aggregate(
         state: *const u8,

@@ -67,8 +67,8 @@ fn a_byte_at_a_time_counts_and_state_follow_the_lines() {
         let value = [None, Some(0), Some(1), Some(2), Some(3), Some(3), Some(3), Some(10)][lines as usize];
         let state = value.map(|it: i64| vec![(count(), it.into())]);
         assert_eq!(auditor.state().unwrap(), state);
-        let is_whole = byte == b'\n' && (lines == 4 || lines == 7);
-        assert_eq!(auditor.finish().is_ok(), is_whole, "line {lines}");
+        let is_complete = byte == b'\n' && (lines == 4 || lines == 7);
+        assert_eq!(auditor.finish().is_ok(), is_complete, "line {lines}");
     }
 }
 
@@ -114,7 +114,7 @@ fn a_write_returns_how_much_it_took_before_a_fault() {
 }
 
 #[test]
-fn a_line_may_be_longer_than_a_whole_journal_that_is_checked() {
+fn a_line_may_be_longer_than_a_complete_journal_that_is_checked() {
     let mut auditor = Auditor::new();
     auditor.write_all(&vec![b' '; 16_777_217]).unwrap();
     let error = auditor.write_all(b"\n").unwrap_err();

@@ -134,19 +134,19 @@ fn a_run_that_is_killed_300_times_is_resumed() {
 
 /// Saves some segments, and notes how many are reported as saved.
 fn notes(path: &Path) {
-    let tell = |parts: u64| {
+    let report = |parts: u64| {
         use std::io::Write;
         let mut log = fs::File::options().append(true).create(true).open(env::var("SHIM_LOG").unwrap()).unwrap();
         log.write_all(format!("told {parts} \n").as_bytes()).unwrap();
     };
     let run = opened(path);
-    tell(run.saved().parts);
+    report(run.saved().parts);
     let mut agent = run.agent(0).unwrap();
     for _ in 0..6 {
         for _ in 0..3 {
             add_one(&mut agent).unwrap();
         }
-        tell(run.flush().unwrap().parts);
+        report(run.flush().unwrap().parts);
     }
 }
 
@@ -168,7 +168,7 @@ fn fail(times: u64, notes_folder: bool) -> u64 {
         for _ in 0..30 {
             let at = draw.below(calls.len() as u64 + 1) as usize;
             let left = crashes::crashed(&calls[..at], room.path(), notes_folder, &mut draw);
-            lost += u64::from(!is_whole(&left, copy.path()));
+            lost += u64::from(!is_complete(&left, copy.path()));
             tried += 1;
         }
     }
@@ -176,7 +176,7 @@ fn fail(times: u64, notes_folder: bool) -> u64 {
 }
 
 /// Whether a run goes on with all that was reported as saved.
-fn is_whole(left: &crashes::Left, path: &Path) -> bool {
+fn is_complete(left: &crashes::AfterCrash, path: &Path) -> bool {
     let _ = fs::remove_dir_all(path);
     if let Some(files) = &left.files {
         fs::create_dir(path).unwrap();

@@ -121,8 +121,8 @@ fn resume_with(room: &Room, text: &str, calls: u64, moves: u64) -> [Option<Error
     let before = room.segments()[1].file_name().unwrap().to_str().unwrap()[13..77].to_owned();
     let line = format!("{before} 2 5 {moves} {calls} {}\n", text.len());
     fs::write(room.path().join("both"), line + text).unwrap();
-    let told = Command::new("sha256sum").arg(room.path().join("both")).output().unwrap();
-    let digest = String::from_utf8(told.stdout).unwrap()[..64].to_owned();
+    let output = Command::new("sha256sum").arg(room.path().join("both")).output().unwrap();
+    let digest = String::from_utf8(output.stdout).unwrap()[..64].to_owned();
     fs::remove_file(&last).unwrap();
     fs::write(last.with_file_name(format!("{}{moves}-{calls}-{digest}.journal", &name[..9])), text).unwrap();
     [Check::All, Check::Last].map(|check| Run::resume(room.path(), check).err())
@@ -254,7 +254,7 @@ fn a_run_of_one_file_is_imported() {
 }
 
 #[test]
-fn a_folder_that_cannot_be_written_ends_the_run_and_what_was_saved_stays() {
+fn an_unwritable_folder_ends_the_run_and_saved_moves_stay() {
     let room = Room::new("full");
     let run = open(&room, 3);
     let mut agent = run.agent(0).unwrap();

@@ -11,11 +11,11 @@ use std::time::Duration;
 fn an_abandoned_agent_is_reported_when_a_part_ends_at_rest() {
     let room = Room::new("lost-at-rest");
     let run = open(&room, 20);
-    let mut lost = run.agent(9).unwrap();
+    let mut abandoned = run.agent(9).unwrap();
     for _ in 0..21 {
-        add_one(&mut lost).unwrap();
+        add_one(&mut abandoned).unwrap();
     }
-    lost.abandon();
+    abandoned.abandon();
     let ended = run.flush().unwrap_err();
     let Error::Ended(Ended { part, cause, .. }) = &ended else { panic!("{ended}") };
     assert_eq!((*part, cause), (2, &EndCause::Missing(MoveNumber::new(1))));
@@ -28,12 +28,12 @@ fn an_abandoned_agent_ends_the_run_and_saved_moves_stay() {
     let room = Room::new("lost");
     let run = open(&room, 5);
     let agent = |number| run.agent(number).unwrap();
-    let (mut lost, mut left, mut slow) = (agent(0), agent(1), agent(2));
+    let (mut abandoned, mut left, mut slow) = (agent(0), agent(1), agent(2));
     for _ in 0..6 {
         add_one(&mut left).unwrap();
     }
-    assert_eq!(add_one(&mut lost), Ok(7));
-    lost.abandon();
+    assert_eq!(add_one(&mut abandoned), Ok(7));
+    abandoned.abandon();
     let mut step = slow.step().unwrap();
     step.put(count(), 0).unwrap();
     for _ in 0..3 {

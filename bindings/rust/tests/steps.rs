@@ -304,7 +304,7 @@ fn reads_and_fires_by_name_work_without_steps() {
 }
 
 #[test]
-fn a_rule_that_pushes_nothing_fires_nothing_and_says_so() {
+fn a_rule_that_pushes_nothing_fires_nothing_and_reports_so() {
     let storage = open(&[(count(), 1.into())]);
     let mut agent = storage.agent(0).unwrap();
     let played = agent.play(|step| step.get(count())).unwrap();

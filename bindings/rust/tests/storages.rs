@@ -265,7 +265,7 @@ fn recorded_steps(mut agent: Agent, values: &[Value]) -> Vec<String> {
     let mut draw = Draw(77 + u64::from(number.get()));
     let mut one = || {
         let mut step = agent.step().unwrap();
-        let mut got = BTreeMap::new();
+        let mut returned = BTreeMap::new();
         for _ in 0..draw.below(4) {
             let at = place(draw.below(most));
             let value = match draw.below(3) {
@@ -273,14 +273,14 @@ fn recorded_steps(mut agent: Agent, values: &[Value]) -> Vec<String> {
                 1 => step.get_each(slice::from_ref(&at)).unwrap().remove(0),
                 _ => step.get_at(&Prepared::new(&at).unwrap()).unwrap(),
             };
-            got.insert(at.args().to_vec(), value);
+            returned.insert(at.args().to_vec(), value);
         }
         let value = values[usize::try_from(draw.below(most)).unwrap()].clone();
         step.put(place(draw.below(most)), value).unwrap();
         let read: Vec<_> = step.offer().unwrap().1.into_iter().map(|(at, _)| at.args().to_vec()).collect();
-        assert_eq!(read.len(), got.len());
+        assert_eq!(read.len(), returned.len());
         let places: Vec<_> = read.iter().map(|it| format!("[\"x\",{}]", json_of(it))).collect();
-        let seen: Vec<_> = read.iter().map(|it| json(&got[it])).collect();
+        let seen: Vec<_> = read.iter().map(|it| json(&returned[it])).collect();
         let (at, places, seen) = (step.number(), places.join(","), seen.join(","));
         assert!(step.commit().map_or_else(|error| error.is_retry(), |_| true));
         let reply = format!("{{\"number\":{at},\"values\":[{seen}]}}");

@@ -143,7 +143,7 @@ final class ConformanceTests {
     private int recorded() {
         return agents.entrySet()
                 .stream()
-                .filter(it -> !it.getValue().isHeld())
+                .filter(it -> !it.getValue().isCheckedOut())
                 .mapToInt(it -> recorded.getOrDefault(it.getKey(), 0))
                 .sum();
     }

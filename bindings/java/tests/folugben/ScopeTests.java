@@ -180,7 +180,7 @@ final class ScopeTests {
             return reads;
         }
 
-        private static Value got(Step step, Location at, int way) {
+        private static Value readBy(Step step, Location at, int way) {
             if (way == 0)
                 return step.get(at);
             if (way == 1) {
@@ -202,10 +202,10 @@ final class ScopeTests {
         /** Commits a random step: what its gets returned if the agent was answered; else null. */
         private static Map<Location, Value> step(Agent agent, List<Location> places, Randoms random) {
             try (Step step = agent.step()) {
-                Map<Location, Value> got = new HashMap<>();
+                Map<Location, Value> values = new HashMap<>();
                 for (int left = random.below(4); left > 0; left--) {
                     Location at = places.get(random.below(places.size()));
-                    got.put(at, got(step, at, random.below(4)));
+                    values.put(at, readBy(step, at, random.below(4)));
                 }
                 for (int left = random.below(3); left > 0; left--)
                     try {
@@ -213,7 +213,7 @@ final class ScopeTests {
                     } catch (ClashException | LargeException refused) {
                         // The step depends on what was refused.
                     }
-                return step.tryCommit().code() == Code.MOVED ? null : got;
+                return step.tryCommit().code() == Code.MOVED ? null : values;
             }
         }
 
@@ -229,10 +229,10 @@ final class ScopeTests {
                     for (int number = 0; number < 4; number++) {
                         Agent agent = storage.agent(number);
                         Randoms random = new Randoms(10 * round + number);
-                        List<Map<Location, Value>> got = new ArrayList<>();
-                        all.add(got);
+                        List<Map<Location, Value>> values = new ArrayList<>();
+                        all.add(values);
                         threads.add(new Thread(() -> {
-                            for (int i = 0; i < 100; i++) got.add(step(agent, places, random));
+                            for (int i = 0; i < 100; i++) values.add(step(agent, places, random));
                             agent.close();
                         }));
                     }

@@ -87,7 +87,7 @@ final class SharedKills {
     }
 
     /** Each answered move is in the run once, with its number, and each state has the sum. */
-    private String kept() {
+    private String checkRun() {
         List<String> marks = new ArrayList<>();
         byte[] text = SharedTests.saved(target);
         for (String journal : new String(text, StandardCharsets.UTF_8).split("(?m)(?=^\\{\"agents\":)"))
@@ -121,7 +121,7 @@ final class SharedKills {
             throws Exception {
         SharedKills own = new SharedKills(target, agents, times);
         own.kill(kills, processes, server);
-        return own.kept();
+        return own.checkRun();
     }
 
     /** Kills as the words say. */

@@ -234,7 +234,7 @@ public final class Test {
         PlainTests.all();
         ScopeTests.all();
         ScopeTests.RecordTests.all();
-        OddTests.all();
+        MisuseTests.all();
         AuditTests.all();
         TurnTests.all();
         TakeTests.all();

@@ -222,9 +222,9 @@ public final class EngineTests {
                       Value.of(101))),
                 false);
         Machine universe = new Universe(1, 1, 1);
-        Map<Location, Value> apart = Map.of(Location.of("made", 0), Value.of(1),
+        Map<Location, Value> scattered = Map.of(Location.of("made", 0), Value.of(1),
                 Location.of("parent", 0), Value.of("root"), Location.of("parent", 1), Value.of(7));
-        equal(universe.holds(apart), false);
+        equal(universe.holds(scattered), false);
         equal(universe.holds(Map.of(Location.of("made", 0), Value.of(2), Location.of("parent", 0),
                       Value.of("root"))),
                 false);

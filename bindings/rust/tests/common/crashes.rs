@@ -19,7 +19,7 @@ enum Change {
 }
 
 /// How much a state has: how many segments were reported as saved, and the files, which are none if the folder is none.
-pub struct Left {
+pub struct AfterCrash {
     pub answered: u64,
     pub files: Option<Vec<(String, Vec<u8>)>>,
 }
@@ -32,7 +32,7 @@ struct Disk {
     names: BTreeMap<String, usize>,
     pending: Vec<Change>,
     is_made: bool,
-    is_there: bool,
+    is_named: bool,
     answered: u64,
 }
 
@@ -55,7 +55,7 @@ impl Disk {
                 }
             }
             ("flush", ".") => {}
-            ("flush", "..") => self.is_there = self.is_made,
+            ("flush", "..") => self.is_named = self.is_made,
             ("flush", _) => {
                 let file = &mut self.files[self.now[&name]];
                 file.flushed = file.written;
@@ -108,12 +108,12 @@ fn left(text: &[u8], file: File, draw: &mut Draw) -> Vec<u8> {
 }
 
 /// A state that these calls may leave. The texts are those of the folder in which the calls were made.
-pub fn crashed(calls: &[&str], folder: &Path, notes_folder: bool, draw: &mut Draw) -> Left {
+pub fn crashed(calls: &[&str], folder: &Path, notes_folder: bool, draw: &mut Draw) -> AfterCrash {
     let mut disk = Disk::default();
     calls.iter().for_each(|it| disk.note(it, notes_folder));
     let answered = disk.answered;
-    if !disk.is_there && draw.below(2) == 0 {
-        return Left { answered, files: None };
+    if !disk.is_named && draw.below(2) == 0 {
+        return AfterCrash { answered, files: None };
     }
     let some = draw.below(disk.pending.len() as u64 + 1) as usize;
     let count = [0, disk.pending.len(), some][draw.below(3) as usize];
@@ -125,5 +125,5 @@ pub fn crashed(calls: &[&str], folder: &Path, notes_folder: bool, draw: &mut Dra
         let text = if text.len() < file.written { vec![b'x'; file.written] } else { text };
         (name.clone(), left(&text, file, draw))
     });
-    Left { answered, files: Some(files.collect()) }
+    AfterCrash { answered, files: Some(files.collect()) }
 }

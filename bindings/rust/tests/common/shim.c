@@ -20,8 +20,8 @@ static char names[1024][256];
 static long calls, flushes;
 
 static long number(const char *name) {
-    const char *told = getenv(name);
-    return told ? atol(told) : -1;
+    const char *value = getenv(name);
+    return value ? atol(value) : -1;
 }
 
 static void note(const char *call, const char *one, const char *other) {
@@ -78,9 +78,9 @@ int close(int fd) {
 
 ssize_t write(int fd, const void *data, size_t length) {
     ssize_t count = REAL(write)(fd, data, length);
-    char told[32];
-    snprintf(told, sizeof told, "%zd", count);
-    if (count > 0 && name_of(fd)) note("write", name_of(fd), told);
+    char size[32];
+    snprintf(size, sizeof size, "%zd", count);
+    if (count > 0 && name_of(fd)) note("write", name_of(fd), size);
     return count;
 }
 

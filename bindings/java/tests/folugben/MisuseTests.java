@@ -22,11 +22,11 @@ import java.util.concurrent.Callable;
 import java.util.function.Consumer;
 
 /** Tests of odd use: nothing is lost or mixed up by it, and errors say what is wrong. */
-final class OddTests {
+final class MisuseTests {
     private static final Location X = Location.of("x");
     private static final Location Y = Location.of("y");
 
-    private OddTests() {}
+    private MisuseTests() {}
 
     /** A list that returns other items each time that it is asked. */
     private static <T> List<T> changing(T first, T later) {
@@ -262,7 +262,7 @@ final class OddTests {
     /** Loads the classes of this package itself, and takes all others from its parent. */
     private static final class Own extends ClassLoader {
         Own() {
-            super(OddTests.class.getClassLoader());
+            super(MisuseTests.class.getClassLoader());
         }
 
         @Override
