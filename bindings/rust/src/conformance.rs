@@ -188,6 +188,14 @@ impl Replayer {
             "seen" => return Ok(self.agent(number)?.seen().to_string()),
             "won" => return Ok(self.agent(number)?.won().to_string()),
             "misses" => return Ok(self.agent(number)?.misses().to_string()),
+            other => return self.of_step(other, number, words),
+        }
+        Ok("null".to_owned())
+    }
+
+    fn of_step(&mut self, name: &str, number: u8, mut words: impl Iterator<Item = Json>) -> Answer {
+        let mut next = || words.next().unwrap();
+        match name {
             "begin" => {
                 let step = self.agent(number)?.step()?;
                 let start = step.number();

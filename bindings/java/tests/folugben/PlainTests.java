@@ -227,51 +227,59 @@ final class PlainTests {
                 Agent agent = storage.agent(0); PreparedLocation x = X.prepare();
                 Move move = new Move()) {
             try (Step step = agent.step()) {
-                refused(Code.NO_PUSH, step::popMove);
-                step.push(Instruction.put(X, 2));
-                step.push(Instruction.inc(X, 3), Instruction.add(S, Element.list(1)));
-                step.extend(Instruction.inc(X, 4), Instruction.add(S, "two"));
-                equal(step.popMove(move.put(x, "dropped")), move);
-                equal(step.depth(), 1);
-                equal(move.size(), 1);
-                equal(step.get(List.of(X, S)), List.of(Element.of(2), Value.set()));
-                step.push(move.inc(x, 10));
-                equal(move.size(), 2);
-                equal(step.get(List.of(X, S)),
-                        List.of(Element.of(19), Value.set(Element.list(1), "two")));
-                try (Move last = step.popMove()) {
-                    step.extend(last);
-                    equal(step.depth(), 1);
-                    equal(step.getNumber(x), 19L);
-                    step.extend(last.clear().put(x, Value.bag(Map.of("e", 2))));
-                    equal(step.get(x), Value.bag(Map.of("e", 2)));
-                }
-                equal(step.commit(), 1);
-                refused(Code.EMPTY, step::popMove);
+                popAndPushAgain(step, move, x);
             }
             try (Step step = agent.step()) {
-                refused(Code.CLASH, () -> step.push(move));
-                step.push(Instruction.put(S, Value.set()), Instruction.put(X, 1));
-                for (int half = 0; half < 2; half++) {
-                    Instruction[] adds = new Instruction[3000];
-                    for (int i = 0; i < 3000; i++) adds[i] = Instruction.add(S, 3000 * half + i);
-                    if (half == 0)
-                        step.push(adds);
-                    else
-                        step.extend(adds);
-                }
-                refused(Code.LONG_MOVE, () -> step.popMove(move));
-                equal(step.depth(), 2);
-                equal(move.size(), 2);
-                step.pop();
-                step.push(move);
-                equal(step.getNumber(x), 18L);
-                Move closed = new Move();
-                closed.close();
-                refused(Code.EMPTY, () -> step.popMove(closed));
-                equal(step.depth(), 2);
+                pushInAnotherStep(step, move, x);
             }
         }
+    }
+
+    private static void popAndPushAgain(Step step, Move move, PreparedLocation x) {
+        refused(Code.NO_PUSH, step::popMove);
+        step.push(Instruction.put(X, 2));
+        step.push(Instruction.inc(X, 3), Instruction.add(S, Element.list(1)));
+        step.extend(Instruction.inc(X, 4), Instruction.add(S, "two"));
+        equal(step.popMove(move.put(x, "dropped")), move);
+        equal(step.depth(), 1);
+        equal(move.size(), 1);
+        equal(step.get(List.of(X, S)), List.of(Element.of(2), Value.set()));
+        step.push(move.inc(x, 10));
+        equal(move.size(), 2);
+        equal(step.get(List.of(X, S)),
+                List.of(Element.of(19), Value.set(Element.list(1), "two")));
+        try (Move last = step.popMove()) {
+            step.extend(last);
+            equal(step.depth(), 1);
+            equal(step.getNumber(x), 19L);
+            step.extend(last.clear().put(x, Value.bag(Map.of("e", 2))));
+            equal(step.get(x), Value.bag(Map.of("e", 2)));
+        }
+        equal(step.commit(), 1);
+        refused(Code.EMPTY, step::popMove);
+    }
+
+    private static void pushInAnotherStep(Step step, Move move, PreparedLocation x) {
+        refused(Code.CLASH, () -> step.push(move));
+        step.push(Instruction.put(S, Value.set()), Instruction.put(X, 1));
+        for (int half = 0; half < 2; half++) {
+            Instruction[] adds = new Instruction[3000];
+            for (int i = 0; i < 3000; i++) adds[i] = Instruction.add(S, 3000 * half + i);
+            if (half == 0)
+                step.push(adds);
+            else
+                step.extend(adds);
+        }
+        refused(Code.LONG_MOVE, () -> step.popMove(move));
+        equal(step.depth(), 2);
+        equal(move.size(), 2);
+        step.pop();
+        step.push(move);
+        equal(step.getNumber(x), 18L);
+        Move closed = new Move();
+        closed.close();
+        refused(Code.EMPTY, () -> step.popMove(closed));
+        equal(step.depth(), 2);
     }
 
     /** Handles that are closed, or whose step or agent is over. */

@@ -213,19 +213,7 @@ final class RunEndTests {
                 return null;
             });
             agent.fire(both.subList(1, 2), List.of());
-            // Of both texts no read can be recorded.
-            agent.record(true);
-            List<Location> texts = List.of(text, Location.of("u"));
-            try (Step step = agent.step()) {
-                step.get(texts);
-                equal(refused(Code.LONG_LINE, step::commit).getClass(), kind);
-            }
-            try (Step step = agent.step()) {
-                for (Location it : texts)
-                    refused(Code.CLASH, () -> step.push(Instruction.inc(it, 1)));
-                equal(refused(Code.LONG_LINE, step::commit).getClass(), kind);
-            }
-            agent.record(false);
+            recordedReadsAreTooLong(agent, List.of(text, Location.of("u")));
             RunTests.count(agent);
             // The state is too long for the next part: the move that comes there is refused.
             equal(refused(Code.LONG_LINE, agent::step).getClass(), kind);
@@ -233,6 +221,21 @@ final class RunEndTests {
             equal(Auditor.audit(path).moves(), 0L);
         }
         equal(Auditor.audit(path).moves(), 4L);
+    }
+
+    /** The reads of both texts can't be recorded. */
+    private static void recordedReadsAreTooLong(RunAgent agent, List<Location> texts) {
+        agent.record(true);
+        try (Step step = agent.step()) {
+            step.get(texts);
+            equal(refused(Code.LONG_LINE, step::commit).getClass(), LargeException.class);
+        }
+        try (Step step = agent.step()) {
+            for (Location it : texts)
+                refused(Code.CLASH, () -> step.push(Instruction.inc(it, 1)));
+            equal(refused(Code.LONG_LINE, step::commit).getClass(), LargeException.class);
+        }
+        agent.record(false);
     }
 
     private static void numbersAreFreedAtTheEnd(Path path) {

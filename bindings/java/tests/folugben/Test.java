@@ -63,6 +63,16 @@ public final class Test {
         storage.agent(7).close();
         refused(Code.NUMBER, () -> storage.agent(7));
         String journal = storage.closeJournal();
+        codesOfJournals(journal);
+        refusedAt(Code.NOT_JSON, 0, ": cut off after byte 1",
+                () -> new Storage("[", 1));
+        storage.close();
+        refused(Code.EMPTY, () -> storage.agent(1));
+        other.close();
+        stranger.close();
+    }
+
+    private static void codesOfJournals(String journal) {
         equal(Storage.check(journal), new Storage.Checked(1, 1));
         refusedAt(Code.CUT, 0, "",
                 () -> Storage.check(journal.substring(0, journal.length() - 1)));
@@ -80,12 +90,6 @@ public final class Test {
         equal(trace.get(0).endsWith("\"trace\":1}"), true);
         String message = "\"right\":{\"fired\":1},\"updates\":[";
         equal(trace.get(1).contains(message), true);
-        refusedAt(Code.NOT_JSON, 0, ": cut off after byte 1",
-                () -> new Storage("[", 1));
-        storage.close();
-        refused(Code.EMPTY, () -> storage.agent(1));
-        other.close();
-        stranger.close();
     }
 
     /** The moves of an agent that is abandoned are missing, seen or not. */
