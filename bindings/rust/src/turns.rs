@@ -5,8 +5,8 @@
 //!
 //! 1. *A thread makes a call on an agent's slots only while the slots name that thread.* The first call in another thread has
 //!    them name that one, which waits while their state is taken.
-//! 2. *A state is taken only from an agent whose slots name the taker's own thread*, and no call of which is at work there. 3.
-//! *Only the state of an agent whose last call was a commit, a fire or the end of a step is taken.* So no step is in it, and
+//! 2. *A state is taken only from an agent whose slots name the taker's own thread*, and no call of which is at work there.
+//! 3. *Only the state of an agent whose last call was a commit, a fire or the end of a step is taken.* So no step is in it, and
 //!    what an agent has followed to is what it peeks at, whatever other agents do.
 use crate::owned_slot::OwnedSlot;
 use crate::sys;
