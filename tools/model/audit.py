@@ -30,9 +30,10 @@ class Audit:
     The counts are how many calls, moves and complete parts it has.
     """
 
-    def __init__(self) -> None:
+    def __init__(self, part: int = 0) -> None:
+        """Begin an audit whose first part has this number."""
         self.calls = self.moves = self.parts = 0
-        self.current_part = -1
+        self.current_part = part - 1
         self.header: Header | None = None
         self.storage = Storage({}, 0)
         self.lines = 0
@@ -182,25 +183,52 @@ class WindowPart:
         return "".join(f"{it}\n" for it in self.lines)
 
 
-def trace_lines(text: bytes, window: Window) -> str:
-    """Return what is written; raise how it ends otherwise."""
-    audit = Audit()
+def text_after_parts(text: bytes, number: int) -> bytes:
+    """Return the text behind the first parts of a run, as many as the number.
+
+    Each is a header and as many lines as it counts events, which are not read.
+    """
+    for part in range(number):
+        if not text:
+            raise AuditEnd(2, f"the run has {part} parts" if part else "part 0 journal cut")
+        line, feed, rest = text.partition(b"\n")
+        audit = Audit(part)
+        audit.take(line, is_ended=bool(feed))
+        assert audit.header is not None
+        for _ in range(audit.header.events):
+            event, feed, rest = rest.partition(b"\n")
+            if len(event) > MAX_LINE:
+                raise AuditEnd(2, "input too large")
+            if not feed:
+                raise AuditEnd(2, f"part {part} journal cut")
+        text = rest
+    if number and not text:
+        raise AuditEnd(2, f"the run has {number} parts")
+    return text
+
+
+def part_lines(text: bytes, window: Window) -> str:
+    """Return what is written of the part with which the text begins."""
+    audit = Audit(window.part)
     opened: WindowPart | None = None
     *ended, last = text.split(b"\n")
     for line in ended:
         audit.take(line)
         if opened is not None:
             opened.note(line)
-        elif audit.current_part == window.part:
+        else:
             assert audit.header is not None
             opened = WindowPart(window, audit.header)
-        if opened is not None and opened.is_over():
+        if opened.is_over():
             return opened.text()
     if last:
         audit.take(last, is_ended=False)
-    if audit.header is None or not audit.is_between():
-        raise AuditEnd(2, f"part {max(audit.current_part, 0)} journal cut")
-    raise AuditEnd(2, f"the run has {audit.parts} parts")
+    raise AuditEnd(2, f"part {window.part} journal cut")
+
+
+def trace_lines(text: bytes, window: Window) -> str:
+    """Return what is written; raise how it ends otherwise."""
+    return part_lines(text_after_parts(text, window.part), window)
 
 
 def trace_window(text: bytes, window: Window) -> tuple[int, str]:

@@ -1,131 +1,64 @@
 -- Events and headers that are read from the input, and what is reported if they aren't.
-use Rattle.std.proofs.Common.{◌≡◌, ◌≢◌, ◌+◌, ◌≤◌, ◌<◌, ◌⊎◌, ℕ, Bool, true, false, List, [], ◌∷◌, ◌++◌, length, Result, Ok, Err, IfOk, refl, sym, ap, subst, ◌∙◌, inl, inr, append-nil, arith}
-use Rattle.std.specs.Io.KnownBytes.{IsAtEnd}
+use Rattle.std.proofs.Common.{◌≡◌, ◌+◌, ◌≤◌, ◌<◌, ◌⊎◌, ℕ, suc, Bool, true, false, List, [], ◌++◌, Ok, Err, sym, ap, subst, ◌∙◌, inl, inr, append-nil, append_assoc, arith}
+use Rattle.std.specs.Io.KnownBytes.{Consumes, IsAtEnd}
+use Rattle.asm_aggregate.specs.Standard.{standard_part}
 use Rattle.asm_update.specs.State.{State}
+use Rattle.asm_state.specs.FollowsFrom.{FollowsFrom}
 use Rattle.asm_storage.specs.declared.history.Event.{Event}
+use Rattle.asm_journal.specs.Reading.{HasNoLineFeed, HasLine}
+use Rattle.asm_journal.specs.declared.error.JournalError.TheVariants as journal_error
+use Rattle.asm_journal.specs.declared.parsing.Header.{Header}
 use Rattle.asm_audit.specs.declared.error.AuditError.{AuditError}
 use Rattle.asm_audit.specs.declared.part_auditor.PartAuditor.{PartAuditor}
-use Rattle.asm_audit.specs.PartAuditor.{BreaksHeaderOf, IsJudged, IsNotTaken}
-use Rattle.asm_aggregate.specs.Standard.{standard_part}
-use Rattle.asm_driver.specs.Audit.{IsBadRun, refusal_of_audit}
+use Rattle.asm_audit.specs.PartAuditor.{HasHeader, BreaksHeaderOf, IsJudged, IsNotTaken}
+use Rattle.asm_audit.specs.Text.{HasLineFeed}
+use Rattle.asm_audit.proofs.Extended.{ended, line_before}
+use Rattle.asm_audit.proofs.OneVerdict.{no_line}
+use Rattle.asm_driver.specs.Audit.{refusal_of_audit}
 use Rattle.asm_driver.specs.Ports.{Known}
 use Rattle.asm_driver.specs.Lines.{IsLineAt}
-use Rattle.asm_driver.specs.Parts.{IsOpenedFirst, IsOpenedNext, IsNotOpenedNext, IsPartRead, AreParts, IsAt, IsOneLine, IsEventRead}
-use Rattle.asm_driver.specs.Window.{IsBadWindow, IsInside, IsNoWindow, IsPartOpened, IsUpTo}
+use Rattle.asm_driver.specs.Parts.{HasHeaderLine, HasSegments, IsSkipping, IsPartRead, IsAt, IsOneLine, IsBadAlone, IsBadBehind, IsEventRead}
+use Rattle.asm_driver.specs.Window.{end_in, IsBadWindow, IsInside, IsNoWindow, IsHeaderRead, IsPartOpened}
 use Rattle.asm_driver.specs.declared.program.refusal.Refusal.{Refusal}
 use Rattle.asm_driver.specs.declared.program.refusal.Refusal.TheVariants as refusal
 use Rattle.asm_driver.specs.declared.program.words.Window.{Window}
-use Rattle.asm_driver.proofs.PartLines.{IsLineOf, first_read, first_refused, event_read, event_refused, parts_read, few_parts_reported, next_read, next_refused}
-use Rattle.asm_audit.proofs.OneVerdict.{no_line}
+use Rattle.asm_driver.proofs.PartLines.{skipping_more, skipping_inside, skipping_cut, header_refused, part_opened, event_read, event_refused}
 use Rattle.asm_driver.proofs.LinesTaken.{reported_at, line_ended, line_one}
 use Rattle.asm_driver.proofs.Watching.{no_read}
-use Rattle.asm_driver.proofs.Windows.{refused_window, inside_parts, inside_part, no_parts}
+use Rattle.asm_driver.proofs.Windows.{refused_window, inside_part}
 
--- ---- an event
+-- ---- a header
 
--- what holds in any case holds of an answer
-pub if_ok : {T E P : Type 0} (r : Result T E) → P → IfOk r (λ _. P)
-if_ok (Ok x) p = p
-if_ok (Err e) p = tt
+-- the line of a header has its line feed, and nothing behind that
+header_line : (left : Known) (behind line : List ℕ) (h : Header) → IsLineAt left behind line → HasHeader line h →
+    HasHeaderLine h line []
+header_line left behind line h here (d, after, has, form) = (
+  d,
+  subst (λ (t : List ℕ). HasLine t d []) (append-nil line)
+      (line_before line [] d after (line_ended left behind line d after here has) has),
+  form,
+)
 
-pub event_reported : (had left : Known) (failed : Bool) (text line behind : List ℕ) (old new : PartAuditor) (A : State)
-    (es : List Event) → IsAt had left (text ++ line) behind → IsLineAt left behind line → failed ≡ false →
-    IsPartRead old.number text old A es → old.taken < old.limits.events → (e : Event) →
-    IsJudged standard_part line e old new true → IsEventRead had left failed text behind new A es (Ok e)
-event_reported had left failed text line behind old new A es at here noted read less e t =
-    let more = event_read old.number text old A es read read.few less line new e
-    (line_ended left behind line t.value t.rest here t.has) t in (
-      noted,
-      (
-        text ++ line,
-        at,
-        subst (λ n. IsPartRead n (text ++ line) new A (es ++ e ∷ [])) (sym t.number) more,
-      ),
-    )
+module _ (had left : Known) (failed : Bool) (text line behind : List ℕ) (at : IsAt had left (text ++ line) behind)
+    (here : IsLineAt left behind line) (noted : failed ≡ false) where
+  pub header_read : (h : Header) → HasHeader line h → IsHeaderRead had left failed text behind h
+  header_read h is = (noted, (line, at, line_one left behind line here, header_line left behind line h here is))
 
-pub event_unread : (had left : Known) (failed : Bool) (text line behind : List ℕ) (old new : PartAuditor) (A : State)
-    (es : List Event) → IsAt had left (text ++ line) behind → IsLineAt left behind line → failed ≡ false →
-    IsPartRead old.number text old A es → old.taken < old.limits.events → (e : AuditError) →
-    IsNotTaken standard_part line old e → IsEventRead had left failed text behind new A es (Err (refusal_of_audit e))
-event_unread had left failed text line behind old new A es at here noted read less e none =
-    reported_at had left failed text IsBadRun (refusal_of_audit e) line behind at here (noted ∙ sym (no_read e))
-    (λ rest is. event_refused old.number text old A es read read.few less line rest e is none)
-
--- ---- the first segment
-
-pub first_opened : (had left : Known) (failed : Bool) (line behind : List ℕ) (o : PartAuditor) → IsAt had left line behind →
-    IsLineAt left behind line → failed ≡ false → o.number ≡ 0 → IsOpenedFirst line o →
-    IsPartOpened had left failed behind o
-first_opened had left failed line behind o at here noted zero (h, ((d, after, has, form), limits, taken, stands)) =
-    let read = first_read line o (line_ended left behind line d after here has) zero
-    (h, ((d, after, has, form), limits, taken, stands)) in (
-      noted,
-      taken,
-      (
-        [],
-        line,
-        read.0,
-        at,
-        subst (λ n. AreParts n []) (sym zero) no_parts,
-        line_one left behind line here,
-        subst (λ n. IsPartRead n line o read.0 []) (sym zero) read.1,
-      ),
-    )
-
-pub first_reported : (w : Window) (had left : Known) (failed : Bool) (line behind : List ℕ) (e : AuditError) →
-    IsAt had left line behind → IsLineAt left behind line → failed ≡ false → BreaksHeaderOf 0 line e →
-    IsNoWindow w had left failed (refusal_of_audit e)
-first_reported w had left failed line behind e at here noted breaks =
-    refused_window w had left failed [] (refusal_of_audit e) (inside_parts w [] 0 no_parts (omega arith))
-    (reported_at had left failed [] IsBadRun (refusal_of_audit e) line behind at here (noted ∙ sym (no_read e))
-    (λ rest is. first_refused line rest e is breaks))
-
--- ---- a further segment
-
-module _ (had left : Known) (failed : Bool) (text line behind : List ℕ) (old : PartAuditor) (A : State) (es : List Event)
-    (at : IsAt had left (text ++ line) behind) (here : IsLineAt left behind line) (noted : failed ≡ false)
-    (read : IsPartRead old.number text old A es) (whole : old.limits.events ≤ old.taken)
-    (other : old.number < 4294967295) where
-  pub next_opened : (o : PartAuditor) → o.number ≡ old.number + 1 → IsOpenedNext line old o →
-      IsPartOpened had left failed behind o
-  next_opened o number (h, ((d, after, has, form), limits, taken, stands), on) =
-      let more = next_read old.number text old A es read read.few whole other line o
-      (line_ended left behind line d after here has) number (h, ((d, after, has, form), limits, taken, stands), on) in (
-        noted,
-        taken,
-        (
-          text,
-          line,
-          more.0,
-          at,
-          subst (λ n. AreParts n text) (sym number) (parts_read old.number text old A es read read.few whole other),
-          line_one left behind line here,
-          subst (λ n. IsPartRead n (text ++ line) o more.0 []) (sym number) more.1,
-        ),
-      )
-
-  module _ (w : Window) (before : old.number < w.part) where
-    pub next_inside : IsInside w text
-    next_inside =
-        inside_parts w text (old.number + 1) (parts_read old.number text old A es read read.few whole other)
-        (omega (arith, before))
-
-    -- the line is no header of it
-    pub next_reported : (e : AuditError) → line ≢ [] → IsNotOpenedNext (old.number + 1) line old e →
+  module _ (w : Window) (number : ℕ) (most : number ≤ w.part) (has : HasSegments number text []) where
+    pub header_unread : (e : AuditError) → (line ≡ [] → number ≡ 0) → BreaksHeaderOf number line e →
         IsNoWindow w had left failed (refusal_of_audit e)
-    next_reported e some is =
-        refused_window w had left failed text (refusal_of_audit e) next_inside
-        (reported_at had left failed text IsBadRun (refusal_of_audit e) line behind at here (noted ∙ sym (no_read e)) refused)
-      where
-        refused : (rest : List ℕ) → IsLineOf line rest → IsBadRun (text ++ (line ++ rest)) (refusal_of_audit e)
-        refused rest (inl before_rest) = next_refused old.number text old A es read read.few whole other line rest e before_rest is
-        refused rest (inr (none, end)) = absurd (some none)
+    header_unread e some breaks = (
+      text,
+      inl (number, has, most),
+      reported_at had left failed text (IsBadWindow w) (refusal_of_audit e) line behind at here (noted ∙ sym (no_read e))
+          (λ rest is. header_refused w number text has most line rest is some e breaks),
+    )
 
     -- there is none
-    pub none_reported : line ≡ [] → IsNoWindow w had left failed (refusal.FewParts (old.number + 1))
-    none_reported none = (
+    pub none_reported : line ≡ [] → 0 < number → IsNoWindow w had left failed (refusal.FewParts number)
+    none_reported none some = (
       text,
-      next_inside,
+      inl (number, has, most),
       record {
         line = [];
         behind = behind;
@@ -135,29 +68,87 @@ module _ (had left : Known) (failed : Bool) (text line behind : List ℕ) (old :
         noted = noted;
       },
     ) where
-      few : (t : List ℕ) → t ≡ text → IsBadWindow w t (refusal.FewParts (old.number + 1))
-      few t is = subst (λ (x : List ℕ). IsBadWindow w x (refusal.FewParts (old.number + 1))) (sym is)
-          (few_parts_reported old.number text old A es read read.few whole other w before)
+      few : IsBadWindow w (text ++ []) (refusal.FewParts number)
+      few = (some, most, subst (λ (t : List ℕ). HasSegments number t []) (sym (append-nil text)) has)
 
-      by_end : IsLineAt left behind line → (IsAtEnd left × (behind ≡ []) × IsBadWindow w (text ++ []) (refusal.FewParts (old.number + 1)))
-          ⊎ ((more : List ℕ) → IsBadWindow w (text ++ more) (refusal.FewParts (old.number + 1)))
+      by_end : IsLineAt left behind line → (IsAtEnd left × (behind ≡ []) × IsBadWindow w (text ++ []) (refusal.FewParts number))
+          ⊎ ((more : List ℕ) → IsBadWindow w (text ++ more) (refusal.FewParts number))
       by_end (inl (body, ends)) = absurd (no_line body [] (sym none ∙ ends.0))
-      by_end (inr (open_line, nothing, end)) = inl (end, nothing, few (text ++ []) (append-nil text))
+      by_end (inr (open_line, nothing, end)) = inl (end, nothing, few)
+
+-- the header of the window's segment
+pub opened : (had left : Known) (failed : Bool) (number : ℕ) (text behind : List ℕ) (h : Header) (o : PartAuditor) →
+    IsHeaderRead had left failed text behind h → HasSegments number text [] → o.number ≡ number → o.limits ≡ h.limits →
+    o.taken ≡ 0 → FollowsFrom standard_part h.init o.state [] → IsPartOpened had left failed number behind o
+opened had left failed number text behind h o (noted, (line, at, one, first)) has known limits taken stands = (
+  noted,
+  taken,
+  (text, line, h.init, at, has, one, part_opened number text line h o has first known limits taken stands),
+)
+
+-- ---- a line that is passed
+
+pub within_window : (w : Window) (number n : ℕ) (h : Header) (text : List ℕ) → IsSkipping number h n text → n < h.limits.events →
+    number < w.part → IsInside w text
+within_window w number n h text s less before =
+    let i = skipping_inside number n h text s less in inr (inl (number, i.0, i.1, i.2, before))
+
+module _ (had left : Known) (failed : Bool) (text line behind : List ℕ) (at : IsAt had left (text ++ line) behind)
+    (here : IsLineAt left behind line) (noted : failed ≡ false) (number n : ℕ) (h : Header) (s : IsSkipping number h n text)
+  where
+    pub line_skipped : HasLineFeed line → IsSkipping number h (n + 1) (text ++ line)
+    line_skipped feed = let next : suc n ≡ n + 1 = omega arith in subst (λ k. IsSkipping number h k (text ++ line)) next (by_end here) where
+      by_end : IsLineAt left behind line → IsSkipping number h (suc n) (text ++ line)
+      by_end (inl (body, ends)) = skipping_more number n h text s line body ends
+      by_end (inr (none, nothing, end)) = absurd (ended line feed.0 feed.1 feed.2 none)
+
+    pub line_missing : (w : Window) → number < w.part → n < h.limits.events → HasNoLineFeed line →
+        IsNoWindow w had left failed (refusal.BadPart number journal_error.Cut)
+    line_missing w before less none = (
+      text,
+      within_window w number n h text s less before,
+      record {
+        line = line;
+        behind = behind;
+        consumed = subst (Consumes had left) (append_assoc text line behind) at;
+        one = inl none;
+        reported = inl (by_end here);
+        noted = noted;
+      },
+    ) where
+      by_end : IsLineAt left behind line → IsAtEnd left × (behind ≡ []) × IsBadWindow w (text ++ line) (refusal.BadPart number journal_error.Cut)
+      by_end (inl (body, ends)) = absurd (ended line body [] ends none)
+      by_end (inr (open_line, nothing, end)) = (end, nothing, skipping_cut number n h text s less w before line none)
+
+-- ---- an event
+
+pub event_reported : (had left : Known) (failed : Bool) (number : ℕ) (text line behind : List ℕ) (old new : PartAuditor)
+    (A : State) (es : List Event) → IsAt had left (text ++ line) behind → IsLineAt left behind line → failed ≡ false →
+    IsPartRead number text old A es → old.taken < old.limits.events → (e : Event) →
+    IsJudged standard_part line e old new true → IsEventRead had left failed number text behind new A es (Ok e)
+event_reported had left failed number text line behind old new A es at here noted read less e t = (
+  noted,
+  (
+    text ++ line,
+    at,
+    event_read number text old A es read less line new e (line_ended left behind line t.value t.rest here t.has) t,
+  ),
+)
+
+pub event_unread : (had left : Known) (failed : Bool) (number : ℕ) (text line behind : List ℕ) (old new : PartAuditor)
+    (A : State) (es : List Event) → IsAt had left (text ++ line) behind → IsLineAt left behind line → failed ≡ false →
+    IsPartRead number text old A es → old.taken < old.limits.events → (e : AuditError) →
+    IsNotTaken standard_part line old e → IsEventRead had left failed number text behind new A es (Err (refusal_of_audit e))
+event_unread had left failed number text line behind old new A es at here noted read less e none =
+    reported_at had left failed text (IsBadBehind IsBadAlone number) (refusal_of_audit e) line behind at here (noted ∙ sym (no_read e))
+    (λ rest is. event_refused number text old A es read less line rest e is none)
 
 -- ---- events in turn
 
-pub length_none : (xs : List ℕ) → length xs ≡ 0 → xs ≡ []
-length_none [] e = refl
-length_none (x ∷ xs) e = absurd (omega (arith, e))
-
-pub length_some : (xs : List ℕ) → (length xs ≡ 0 → ⊥) → xs ≢ []
-length_some xs some none = some (ap length none)
-
 -- a refusal behind events before the window's end
-pub event_refused_window : (w : Window) (had left : Known) (failed : Bool) (number calls : ℕ) (text behind : List ℕ) (o new : PartAuditor)
-    (A : State) (es : List Event) (r : Refusal) → IsPartRead number text o A es → IsUpTo w number calls o.limits.events →
-    o.taken < calls → IsEventRead had left failed text behind new A es (Err r) → IsNoWindow w had left failed r
-event_refused_window w had left failed number calls text behind o new A es r read up_to less reported =
+pub event_refused_window : (w : Window) (had left : Known) (failed : Bool) (calls : ℕ) (text behind : List ℕ) (o new : PartAuditor)
+    (A : State) (es : List Event) (r : Refusal) → IsPartRead w.part text o A es → calls ≤ end_in w o.limits.events →
+    o.taken < calls → IsEventRead had left failed w.part text behind new A es (Err r) → IsNoWindow w had left failed r
+event_refused_window w had left failed calls text behind o new A es r read most less reported =
     let taken = read.taken in
-    refused_window w had left failed text r
-    (inside_part w number calls text o A es read up_to (omega (arith, taken, less))) reported
+    refused_window w had left failed text r (inside_part w text o A es read (omega (arith, taken, less, most))) reported

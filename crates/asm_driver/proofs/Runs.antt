@@ -54,7 +54,7 @@ memory_shown w had left failed r number (taken, inside, reported) = (
     behind = reported.behind;
     consumed = reported.consumed;
     one = reported.one;
-    reported = inr (λ more. tt);
+    reported = inr (λ more. inl tt);
     noted = reported.noted ∙ number_read r number;
   },
 )

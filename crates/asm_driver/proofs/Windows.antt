@@ -3,7 +3,6 @@ use Rattle.std.proofs.Common.{◌≡◌, ◌+◌, ◌≤◌, ◌<◌, ◌⊎◌,
 use Rattle.std.specs.Io.KnownBytes.{Consumes, IsAtEnd}
 use Rattle.asm_aggregate.specs.Standard.{standard_part}
 use Rattle.asm_update.specs.State.{State}
-use Rattle.asm_update.specs.State as plain
 use Rattle.asm_state.specs.FollowsFrom.{FollowsFrom}
 use Rattle.asm_state.specs.View.{StateView}
 use Rattle.asm_storage.specs.History.{fired_moves}
@@ -14,14 +13,12 @@ use Rattle.asm_journal.specs.Check.{machine}
 use Rattle.asm_journal.specs.Text.{line}
 use Rattle.asm_audit.specs.declared.part_auditor.PartAuditor.{PartAuditor}
 use Rattle.asm_audit.specs.PartAuditor.{history_of}
-use Rattle.asm_audit.proofs.Extended.{begun_more}
-use Rattle.asm_audit.proofs.Steps.{legal_more}
+use Rattle.asm_audit.proofs.Extended.{begun_more, line_more}
 use Rattle.asm_trace.specs.Note.{Note, IsNoteOf, AreNotesOf}
 use Rattle.asm_trace.specs.Text.{notes_text, note_json_of, IsNoteAppended}
 use Rattle.asm_trace.proofs.Noted.{notes_more, text_more, few_moves}
-use Rattle.asm_driver.specs.Audit.{IsBadRun}
 use Rattle.asm_driver.specs.Ports.{Known}
-use Rattle.asm_driver.specs.Parts.{IsPartRead, AreParts, IsAt, IsOneLine, IsToldBehind}
+use Rattle.asm_driver.specs.Parts.{HasSegments, IsPartRead, IsAt, IsOneLine, IsBadAlone, IsBadBehind, IsToldBehind}
 use Rattle.std.specs.FinMap as finite
 use Rattle.serde_json.specs.Data.{Data}
 use Rattle.serde_json.specs.Written.{has_float}
@@ -30,22 +27,23 @@ use Rattle.asm_journal.specs.Value.{IsStateForm, pair_json_of}
 use Rattle.asm_journal.proofs.Floats.{list_no_float, pair_no_float}
 use Rattle.asm_audit.specs.Step.{HasValues}
 use Rattle.asm_audit.proofs.SameState.{IsHeld, proper_held, written_held, left_held, same_values}
-use Rattle.asm_driver.specs.Window.{end_in, LiesIn, window_header, window_header_with, IsShown, HasFewCalls, IsBadWindow, IsInside, IsWindow, IsNoWindow, IsUpTo}
+use Rattle.asm_driver.specs.Window.{end_in, LiesIn, window_header, window_header_with, IsShown, HasFewCalls, IsBadWindow, IsInside, IsWindow, IsNoWindow}
 use Rattle.asm_driver.specs.declared.program.refusal.Refusal.{Refusal}
 use Rattle.asm_driver.specs.declared.program.refusal.Refusal.TheVariants as refusal
 use Rattle.asm_driver.specs.declared.program.words.Window.{Window}
 use Rattle.asm_driver.proofs.LinesTaken.{reported_anywhere}
+use Rattle.asm_driver.proofs.PartLines.{segments_more}
 
 -- ---- refusals
 
--- why a run is refused is also why it has no such window
-pub bad_window : (w : Window) (text : List ℕ) (r : Refusal) → IsBadRun text r → IsBadWindow w text r
-bad_window w text (refusal.FewCalls part calls) is = absurd is
-bad_window w text (refusal.FewParts parts) is = absurd is
-bad_window w text r is = is
+-- why the window's segment is refused is also why there is no such window
+pub bad_window : (w : Window) (text : List ℕ) (r : Refusal) → IsBadBehind IsBadAlone w.part text r → IsBadWindow w text r
+bad_window w text (refusal.FewCalls part calls) is = absurd is.3
+bad_window w text (refusal.FewParts parts) is = absurd is.3
+bad_window w text r is = inl is
 
 pub refused_window : (w : Window) (had left : Known) (failed : Bool) (text : List ℕ) (r : Refusal) → IsInside w text →
-    IsToldBehind had left failed text IsBadRun r → IsNoWindow w had left failed r
+    IsToldBehind had left failed text (IsBadBehind IsBadAlone w.part) r → IsNoWindow w had left failed r
 refused_window w had left failed text r inside reported = (
   text,
   inside,
@@ -58,49 +56,33 @@ refused_window w had left failed text r inside reported = (
     noted = reported.noted;
   },
 ) where
-  by_end : (IsAtEnd left × (reported.behind ≡ []) × IsBadRun (text ++ reported.line) r)
-      ⊎ ((more : List ℕ) → IsBadRun (text ++ (reported.line ++ more)) r) →
+  by_end : (IsAtEnd left × (reported.behind ≡ []) × IsBadBehind IsBadAlone w.part (text ++ reported.line) r)
+      ⊎ ((more : List ℕ) → IsBadBehind IsBadAlone w.part (text ++ (reported.line ++ more)) r) →
       (IsAtEnd left × (reported.behind ≡ []) × IsBadWindow w (text ++ reported.line) r)
       ⊎ ((more : List ℕ) → IsBadWindow w (text ++ (reported.line ++ more)) r)
   by_end (inl (end, nothing, is)) = inl (end, nothing, bad_window w (text ++ reported.line) r is)
   by_end (inr is) = inr (λ more. bad_window w (text ++ (reported.line ++ more)) r (is more))
 
--- complete segments
-pub inside_parts : (w : Window) (text : List ℕ) (number : ℕ) → AreParts number text → number ≤ w.part → IsInside w text
-inside_parts w text number are few = inl (number, are, few)
-
-pub no_parts : AreParts 0 []
-no_parts = record { first = plain.empty; parts = []; has = record { journals = refl; legal = tt }; numbered = refl }
-
--- and events of a further one
-pub inside_part : (w : Window) (number calls : ℕ) (text : List ℕ) (o : PartAuditor) (A : State) (es : List Event) →
-    IsPartRead number text o A es → IsUpTo w number calls o.limits.events → length es < calls → IsInside w text
-inside_part w number calls text o A es read up_to less = inr (number, o, A, es, read, few up_to, fewer up_to) where
-  few : IsUpTo w number calls o.limits.events → number ≤ w.part
-  few (inl h) = omega (arith, h)
-  few (inr h) = let same = h.0 in omega (arith, same)
-
-  fewer : IsUpTo w number calls o.limits.events → number ≡ w.part → length es < end_in w o.limits.events
-  fewer (inl h) same = absurd (omega (arith, h, same))
-  fewer (inr h) same = let most = h.1 in omega (arith, most, less)
+pub inside_part : (w : Window) (text : List ℕ) (o : PartAuditor) (A : State) (es : List Event) → IsPartRead w.part text o A es →
+    length es < end_in w o.limits.events → IsInside w text
+inside_part w text o A es read less = inr (inr (o, A, es, read, less))
 
 -- nothing is claimed of refused memory
 pub memory_window : (w : Window) (had left : Known) (failed : Bool) (bytes : List ℕ) → Consumes had left bytes →
     failed ≡ false → IsNoWindow w had left failed refusal.Memory
 memory_window w had left failed bytes consumed noted = (
   [],
-  inside_parts w [] 0 no_parts (omega arith),
-  reported_anywhere had left failed [] (IsBadWindow w) refusal.Memory bytes consumed noted (λ all. tt),
+  inl (0, refl, omega arith),
+  reported_anywhere had left failed [] (IsBadWindow w) refusal.Memory bytes consumed noted (λ all. inl tt),
 )
 
 -- the window goes beyond its segment
-pub few_calls : (w : Window) (had left : Known) (failed : Bool) (text l behind : List ℕ) (number : ℕ) (o : PartAuditor)
-    (A : State) → number ≡ w.part → AreParts number text → IsOneLine l → IsPartRead number (text ++ l) o A [] →
-    IsAt had left (text ++ l) behind → failed ≡ false → ¬ LiesIn w o.limits.events →
-    IsNoWindow w had left failed (refusal.FewCalls w.part o.limits.events)
-few_calls w had left failed text l behind number o A same are one read at noted beyond = (
+pub few_calls : (w : Window) (had left : Known) (failed : Bool) (text l behind : List ℕ) (o : PartAuditor) (A : State) →
+    HasSegments w.part text [] → IsOneLine l → IsPartRead w.part (text ++ l) o A [] → IsAt had left (text ++ l) behind →
+    failed ≡ false → ¬ LiesIn w o.limits.events → IsNoWindow w had left failed (refusal.FewCalls w.part o.limits.events)
+few_calls w had left failed text l behind o A has one read at noted beyond = (
   text,
-  inside_parts w text number are (omega (arith, same)),
+  inl (w.part, has, omega arith),
   record {
     line = l;
     behind = behind;
@@ -112,22 +94,17 @@ few_calls w had left failed text l behind number o A same are one read at noted 
   },
 ) where
   calls : (more : List ℕ) → HasFewCalls w ((text ++ l) ++ more) o.limits.events
-  calls more = record {
-    first = read.first;
-    parts = read.parts;
-    rest = read.rest ++ more;
-    has = legal_more standard_part read.first read.parts (text ++ l) read.rest more read.has;
-    number = read.numbered ∙ same;
-    v = o.limits.version;
-    h = history_of o.limits A [];
-    behind = more;
-    going = record {
-      begun = begun_more o.limits.version o.limits.events (history_of o.limits A []) read.rest [] more read.going.begun;
-      opens = read.going.opens ∙ read.opens;
-      legal = read.going.legal;
-    };
-    beyond = beyond;
-  }
+  calls more =
+      let b = read.going.begun in
+      record {
+        rest = read.rest ++ more;
+        has = segments_more w.part (text ++ l) read.rest more read.has;
+        h = record { limits = o.limits; init = A };
+        behind = b.behind ++ more;
+        line = (b.value, line_more read.rest b.value b.behind more b.line, b.header);
+        events = refl;
+        beyond = beyond;
+      }
 
 -- ---- the window
 
@@ -146,20 +123,14 @@ window_shown w had left failed text behind o A es shown notes reported at noted 
 } where
   here : (rest : List ℕ) → IsShown w (text ++ rest) reported
   here rest = record {
-    first = read.first;
-    parts = read.parts;
     rest = read.rest ++ rest;
-    has = legal_more standard_part read.first read.parts text read.rest rest read.has;
-    number = read.numbered;
+    has = segments_more w.part text read.rest rest read.has;
     v = o.limits.version;
     count = o.limits.events;
     h = history_of o.limits A (es ++ shown);
     behind = rest;
-    going = record {
-      begun = begun_more o.limits.version o.limits.events (history_of o.limits A (es ++ shown)) read.rest [] rest read.going.begun;
-      opens = read.going.opens ∙ read.opens;
-      legal = read.going.legal;
-    };
+    begun = begun_more o.limits.version o.limits.events (history_of o.limits A (es ++ shown)) read.rest [] rest read.going.begun;
+    legal = read.going.legal;
     lies = lies;
     before = es;
     shown = shown;

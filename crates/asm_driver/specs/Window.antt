@@ -1,26 +1,24 @@
 -- The trace of a window of a run.
-use Rattle.std.specs.Prelude.{◌≡◌, ◌<◌, ◌≤◌, ◌⊎◌, ℕ, Bool, false, List, [], ◌++◌, length, codes, unwrap_or}
+use Rattle.std.specs.Prelude.{◌≡◌, ◌+◌, ◌<◌, ◌≤◌, ◌⊎◌, ℕ, Bool, false, List, [], ◌++◌, length, codes, unwrap_or}
 use Rattle.std.specs.Prelude.{Result, Ok, Err}
 use Rattle.std.specs.Io.KnownBytes.{Consumes}
 use Rattle.serde_json.specs.Data.{Data, object, member, no_members}
 use Rattle.asm_aggregate.specs.Standard.{standard_part}
 use Rattle.asm_update.specs.State.{State}
-use Rattle.asm_storage.specs.History.{fired_moves}
+use Rattle.asm_storage.specs.History.{fired_moves, IsLegal}
 use Rattle.asm_storage.specs.Machine.{machine_state}
 use Rattle.asm_storage.specs.declared.history.Event.{Event}
 use Rattle.asm_storage.specs.declared.history.History.{History}
 use Rattle.asm_journal.specs.Check.{machine, machine_of}
 use Rattle.asm_journal.specs.Shape.{number_json_of}
 use Rattle.asm_journal.specs.Text.{line, state_json_of}
-use Rattle.asm_audit.specs.Audited.{IsWhole}
-use Rattle.asm_audit.specs.Chain.{last_left, HasLegal, IsGoing}
-use Rattle.asm_audit.specs.declared.progress.Counts.{Counts}
+use Rattle.asm_journal.specs.declared.parsing.Header.{Header}
+use Rattle.asm_audit.specs.Text.{IsBegun}
+use Rattle.asm_audit.specs.declared.part_auditor.PartAuditor.{PartAuditor}
 use Rattle.asm_trace.specs.Note.{Note, AreNotesOf}
 use Rattle.asm_trace.specs.Text.{notes_text}
-use Rattle.asm_driver.specs.Audit.{IsBadRun}
 use Rattle.asm_driver.specs.Ports.{Known}
-use Rattle.asm_audit.specs.declared.part_auditor.PartAuditor.{PartAuditor}
-use Rattle.asm_driver.specs.Parts.{AreParts, IsPartRead, IsAt, IsOneLine, IsToldBehind}
+use Rattle.asm_driver.specs.Parts.{HasHeaderLine, HasSegments, HasSomeLines, IsPartRead, IsAt, IsOneLine, IsBadAlone, IsNotPassed, IsBadBehind, IsToldBehind}
 use Rattle.asm_driver.specs.declared.program.refusal.Refusal.{Refusal}
 use Rattle.asm_driver.specs.declared.program.refusal.Refusal.TheVariants as refusal
 use Rattle.asm_driver.specs.declared.program.words.Window.{Window}
@@ -61,19 +59,17 @@ IsWindowText part h before shown text =
 
 -- ---- the window of a run
 
--- the text is complete legal segments that continue each other, as many as the window's number, and one more that is
--- legal up to the window's end; and this is the window's text
+-- the text is as many segments as the window's number, whatever their events are, and one more that is legal up to the
+-- window's end, from the state with which its header opens; and this is the window's text
 pub record IsShown (w : Window) (text reported : List ℕ) : Type 0 where
-  pub first : State
-  pub parts : List History
   pub rest : List ℕ
-  pub has : HasLegal standard_part first parts text rest
-  pub number : length parts ≡ w.part
+  pub has : HasSegments w.part text rest
   pub v : ℕ
   pub count : ℕ
   pub h : History
   pub behind : List ℕ
-  pub going : IsGoing standard_part (last_left standard_part first parts) v count h rest behind
+  pub begun : IsBegun v count h rest behind
+  pub legal : IsLegal (machine_of standard_part h) h.events
   pub lies : LiesIn w count
   pub before : List Event
   pub shown : List Event
@@ -82,37 +78,32 @@ pub record IsShown (w : Window) (text reported : List ℕ) : Type 0 where
   pub end : length h.events ≡ end_in w count
   pub is : IsWindowText w.part h before shown reported
 
--- the text is such segments, and the window's one has this many calls, beyond which the window goes
+-- the text is as many segments, and the window's one has this many calls, beyond which the window goes
 pub record HasFewCalls (w : Window) (text : List ℕ) (count : ℕ) : Type 0 where
-  pub first : State
-  pub parts : List History
   pub rest : List ℕ
-  pub has : HasLegal standard_part first parts text rest
-  pub number : length parts ≡ w.part
-  pub v : ℕ
-  pub h : History
+  pub has : HasSegments w.part text rest
+  pub h : Header
   pub behind : List ℕ
-  pub going : IsGoing standard_part (last_left standard_part first parts) v count h rest behind
+  pub line : HasHeaderLine h rest behind
+  pub events : h.limits.events ≡ count
   pub beyond : ¬ LiesIn w count
 
--- the text is this many complete legal segments, and none has the window's number
-abbrev pub HasFewParts : Window → List ℕ → ℕ → Type 0
-HasFewParts w text count =
-    (count ≤ w.part) × ((found : Counts) × IsWhole standard_part text found × (found.parts ≡ count))
-
--- why a run of this text has no such window
+-- why a run of this text has no such window: the window goes beyond its segment; the text is fewer segments; the
+-- window's segment is refused, or one before it can't be passed
 abbrev pub IsBadWindow : Window → List ℕ → Refusal → Type 0
 IsBadWindow w text (refusal.FewCalls part calls) = (part ≡ w.part) × HasFewCalls w text calls
-IsBadWindow w text (refusal.FewParts parts) = HasFewParts w text parts
-IsBadWindow w text r = IsBadRun text r
+IsBadWindow w text (refusal.FewParts parts) = (0 < parts) × (parts ≤ w.part) × HasSegments parts text []
+IsBadWindow w text r =
+    IsBadBehind IsBadAlone w.part text r ⊎ ((number : ℕ) × (number < w.part) × IsBadBehind IsNotPassed number text r)
 
--- the text is complete legal segments, at most as many as the window's number, and perhaps the header and the first
--- events of one more: in the window's own segment, fewer than up to the window's end
+-- the text is segments, at most as many as the window's number, and perhaps a part of one more: before the window's
+-- segment its header and some of its lines; of the window's own the header and fewer events than up to the window's end
 abbrev pub IsInside : Window → List ℕ → Type 0
 IsInside w text =
-    ((number : ℕ) × AreParts number text × (number ≤ w.part))
-    ⊎ ((number : ℕ) × (o : PartAuditor) × (A : State) × (es : List Event) × IsPartRead number text o A es
-    × (number ≤ w.part) × (number ≡ w.part → length es < end_in w o.limits.events))
+    ((number : ℕ) × HasSegments number text [] × (number ≤ w.part))
+    ⊎ ((number : ℕ) × (rest : List ℕ) × HasSegments number text rest × HasSomeLines rest [] × (number < w.part))
+    ⊎ ((o : PartAuditor) × (A : State) × (es : List Event) × IsPartRead w.part text o A es
+    × (length es < end_in w o.limits.events))
 
 -- some bytes of the input were consumed, and this is the window's text, whatever follows them
 pub record IsWindow (w : Window) (had left : Known) (failed : Bool) (reported : List ℕ) : Type 0 where
@@ -129,22 +120,30 @@ IsNoWindow w had left failed r =
 
 -- ---- on the way
 
--- this many events of the segment with this number don't go beyond the window, in a segment of this many calls
-abbrev pub IsUpTo : Window → ℕ → ℕ → ℕ → Type 0
-IsUpTo w number calls count = (number < w.part) ⊎ ((number ≡ w.part) × (calls ≤ end_in w count))
+-- the header of the next segment was read, behind complete ones
+abbrev pub IsHeaderRead : Known → Known → Bool → List ℕ → List ℕ → Header → Type 0
+IsHeaderRead had left failed text behind h =
+    (failed ≡ false) × ((line : List ℕ) × IsAt had left (text ++ line) behind × IsOneLine line × HasHeaderLine h line [])
 
--- this many events of the segment were read; or the run is refused
+-- the lines of the segment with this number were passed; or there is no window
+abbrev pub IsSkipped : Window → Known → Known → Bool → ℕ → List ℕ → Result (Unit {0}) Refusal → Type 0
+IsSkipped w had left failed number behind (Ok u) =
+    (failed ≡ false) × ((text : List ℕ) × IsAt had left text behind × HasSegments (number + 1) text [])
+IsSkipped w had left failed number behind (Err r) = IsNoWindow w had left failed r
+
+-- the header of the segment with this number was read, behind complete ones
+abbrev pub IsPartOpened : Known → Known → Bool → ℕ → List ℕ → PartAuditor → Type 0
+IsPartOpened had left failed number behind o =
+    (failed ≡ false) × (o.taken ≡ 0) × ((text line : List ℕ) × (A : State) × IsAt had left (text ++ line) behind
+    × HasSegments number text [] × IsOneLine line
+    × IsPartRead number (text ++ line) o A [])
+
+-- this many events of the window's segment were read; or it is refused
 abbrev pub IsPassed : Window → Known → Known → Bool → ℕ → List ℕ → PartAuditor → State → Result (Unit {0}) Refusal → Type 0
 IsPassed w had left failed calls behind o A (Ok u) =
     (failed ≡ false) × ((text : List ℕ) × (es : List Event) × IsAt had left text behind
-    × IsPartRead o.number text o A es × (length es ≡ calls))
+    × IsPartRead w.part text o A es × (length es ≡ calls))
 IsPassed w had left failed calls behind o A (Err r) = IsNoWindow w had left failed r
-
--- the header of the segment was read, behind complete segments
-abbrev pub IsPartOpened : Known → Known → Bool → List ℕ → PartAuditor → Type 0
-IsPartOpened had left failed behind o =
-    (failed ≡ false) × (o.taken ≡ 0) × ((text line : List ℕ) × (A : State) × IsAt had left (text ++ line) behind
-    × AreParts o.number text × IsOneLine line × IsPartRead o.number (text ++ line) o A [])
 
 -- the events up to the window's end were read, and the line of each was appended; or the run is refused
 abbrev pub AreNoted : Window → Known → Known → Bool → ℕ → List ℕ → PartAuditor → State → List Event → List ℕ → List ℕ →

@@ -10,7 +10,6 @@ ghost use Rattle.asm_driver.specs.Run.{input_of, output_of, Runs, RunsOver, HasF
 
 mod commands;
 mod explained;
-mod parts;
 mod refusal;
 mod watching;
 mod windowing;
@@ -219,8 +218,9 @@ pub fn run_noted<T: Threads + Wait + Sync, S: Source, K: Sink>(
 ///   1,073,741,824 bytes. It is read to its end, or up to its first fault or wrong answer. The text is
 ///   `legal CALLS MOVES PARTS` with status 0, or `illegal PART CALL` with status 1. With `--every N`, it also writes
 ///   `so far CALLS MOVES PARTS` after each N calls, before it reads more.
-/// - `trace` with `--part`, `--from` or `--to`: the input is such a run too, which is read up to the window's end. The
-///   text is the trace of the window with status 0, or `illegal PART CALL` with status 1.
+/// - `trace` with `--part`, `--from` or `--to`: the input is such a run too, which is read up to the window's end. Only
+///   the segment with the window is judged, from the state in its header. The text is the trace of the window with
+///   status 0, or `illegal PART CALL` with status 1.
 ///
 /// If the words ask for help, the text is the help, with status 0. If they ask for the version, it is
 /// `asm_driver 0.2.0`, with status 0.

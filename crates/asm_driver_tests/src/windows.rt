@@ -48,7 +48,7 @@ static ENDINGS: [(&[&str], Ending); 6] = [
     ),
     (
         &["asm_driver", "trace", "--part", "2"],
-        (1, 0, "illegal 1 0\n"),
+        (2, 0, "the run has 2 parts\n"),
     ),
 ];
 

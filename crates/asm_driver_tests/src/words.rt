@@ -17,7 +17,7 @@ Commands:
   run      Plays a script, which is read from standard input, and writes the report
   check    Checks a journal of at most 16777216 bytes, which is read from standard input, and writes whether it is legal; audit has no such limit
   rewrite  Rewrites a journal of at most 16777216 bytes, which is read from standard input, in version 2, and doesn't check it; audit has no such limit
-  trace    Traces a journal of at most 16777216 bytes, which is read from standard input, and writes what each call did; with an option it traces a window of a run of any length, as audit reads it, and holds the window's text in memory until its end was read
+  trace    Traces a journal of at most 16777216 bytes, which is read from standard input, and writes what each call did; with an option it traces a window of a run of any length, judges only the part with that window, from the state in its header, and holds the window's text in memory until its end was read
   explain  Explains where and why a script or a journal, which is read from standard input, is refused
   audit    Audits a run of any length, whose parts are journals and are read from standard input, and writes whether it is legal
   help     Print this message or the help of the given subcommand(s)
@@ -57,7 +57,7 @@ Options:
 "#;
 
 const TRACE_HELP: &str =
-    r#"Traces a journal of at most 16777216 bytes, which is read from standard input, and writes what each call did; with an option it traces a window of a run of any length, as audit reads it, and holds the window's text in memory until its end was read
+    r#"Traces a journal of at most 16777216 bytes, which is read from standard input, and writes what each call did; with an option it traces a window of a run of any length, judges only the part with that window, from the state in its header, and holds the window's text in memory until its end was read
 
 Usage: asm_driver trace [OPTIONS]
 

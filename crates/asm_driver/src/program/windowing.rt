@@ -1,5 +1,5 @@
 //! The trace of a window of the run on the input.
-ghost use Rattle.std.specs.Prelude.{◌≡◌, ◌≤◌, ◌<◌, ◌+◌, ℕ, false, List, [], length, IfOk, IfErr, IfSome, IfNone, string_bytes};
+ghost use Rattle.std.specs.Prelude.{◌≡◌, ◌≤◌, ◌<◌, ◌+◌, ℕ, false, List, [], length, take, drop, IfOk, IfErr, IfSome, IfNone, string_bytes};
 ghost use Rattle.serde_json.specs.View.{view};
 ghost use Rattle.asm_aggregate.specs.Standard.{standard_part};
 ghost use Rattle.asm_update.specs.State.{State as Plain};
@@ -10,19 +10,21 @@ ghost use Rattle.asm_audit.proofs.SameState.{IsHeld};
 ghost use Rattle.asm_audit.specs.PartAuditor.{history_of};
 ghost use Rattle.asm_driver.specs.Ports.{Known};
 ghost use Rattle.asm_driver.specs.Lines.{pending};
-ghost use Rattle.asm_driver.specs.Parts.{IsAt, IsPartRead, IsEventRead, IsNext};
-ghost use Rattle.asm_driver.specs.Window.{end_in, LiesIn, IsUpTo, IsPassed, IsPartOpened, AreNoted, window_header, window_header_with};
+ghost use Rattle.asm_journal.specs.Reading.{HasNoLineFeed, EndsLine};
+ghost use Rattle.asm_journal.specs.declared.parsing.Header.{Header as Head};
+ghost use Rattle.asm_driver.specs.Parts.{HasSegments, IsSkipping, IsAt, IsPartRead, IsEventRead, IsNext};
+ghost use Rattle.asm_driver.specs.Window.{end_in, LiesIn, IsHeaderRead, IsSkipped, IsPassed, IsPartOpened, AreNoted};
+ghost use Rattle.asm_driver.specs.Window.{window_header, window_header_with};
 ghost use Rattle.asm_driver.specs.Window.{IsWindow, IsNoWindow};
 ghost use Rattle.asm_driver.specs.declared.program.words.Window.{Window as Wanted};
 
 use crate::ports::line_reader::LineReader;
 use crate::ports::source::Source;
 use crate::program::commands::Ending;
-use crate::program::parts::{open_first, open_next};
 use crate::program::refusal::Refusal;
 use crate::program::words::Window;
-use asm_audit::PartAuditor;
-use asm_journal::{ToJson, push_line};
+use asm_audit::{PartAuditor, read_part_header};
+use asm_journal::{Header, JournalError, ToJson, push_line};
 use asm_play::aggregator::script_aggregator;
 use asm_storage::Event;
 use asm_trace::push_standard_note;
@@ -45,6 +47,93 @@ fn end_of(window: Window, calls: u32) -> Option<u32>
     }
 }
 
+// Return the position of the first line feed of the bytes.
+fn line_feed_in(bytes: &[u8]) -> Option<usize>
+    ensures some { IfSome result (λ end. EndsLine bytes.now (take end bytes.now) (drop (end + 1) bytes.now)) }
+    ensures none { IfNone result (HasNoLineFeed bytes.now) }
+{
+    bytes.iter().position(|b| *b == b'\n')
+}
+
+/// Read the header of the next segment, which has this number.
+fn next_header<T: Wait, S: Source>(
+    rt: &T,
+    alloc: Global,
+    number: u32,
+    lines: &mut LineReader,
+    input: &mut S,
+) -> Result<Header, Refusal>
+    requires unread { S.failed input.old ≡ false }
+    ensures same_reference { S.lender input.new ≡ S.lender input.old }
+    ensures unread { IfOk result (λ _. S.failed input.new ≡ false) }
+    ensures ok { IfOk result (λ h. (had : Known) (text : List ℕ) →
+        IsAt had (S.remaining input.old) text (pending lines.old) →
+        IsHeaderRead had (S.remaining input.new) (S.failed input.new) text (pending lines.new) h) }
+    ensures err { IfErr result (λ r. (w : Wanted) (had : Known) (text : List ℕ) → number ≤ w.part →
+        IsAt had (S.remaining input.old) text (pending lines.old) → HasSegments number text [] →
+        IsNoWindow w had (S.remaining input.new) (S.failed input.new) r) }
+{
+    lines.read(rt, input)?;
+    if 0 < number && lines.line().is_empty() {
+        return Err(Refusal::FewParts(u64::from(number)));
+    }
+    Ok(read_part_header(alloc, u64::from(number), lines.line())?)
+}
+
+/// Pass the events of the segment with this number, so many lines, whatever they are.
+fn skip_events<T: Wait, S: Source>(
+    rt: &T,
+    number: u32,
+    events: u32,
+    lines: &mut LineReader,
+    input: &mut S,
+) -> Result<(), Refusal>
+    requires unread { S.failed input.old ≡ false }
+    ensures same_reference { S.lender input.new ≡ S.lender input.old }
+    ensures unread { IfOk result (λ _. S.failed input.new ≡ false) }
+    ensures answer { (w : Wanted) (had : Known) (text : List ℕ) (h : Head) → number < w.part →
+        h.limits.events ≡ events → IsAt had (S.remaining input.old) text (pending lines.old) →
+        IsSkipping number h 0 text →
+        IsSkipped w had (S.remaining input.new) (S.failed input.new) number (pending lines.new) result }
+{
+    for _ in 0..events {
+        lines.read(rt, input)?;
+        let Some(_) = line_feed_in(lines.line()) else {
+            return Err(Refusal::BadPart {
+                part: u64::from(number),
+                fault: JournalError::Cut,
+            });
+        };
+    }
+    Ok(())
+}
+
+/// Find the segment with this number, and return an auditor of it.
+///
+/// It passes the segments before it by the number of events in their headers.
+fn find_part<T: Wait, S: Source>(
+    rt: &T,
+    alloc: Global,
+    wanted: u32,
+    lines: &mut LineReader,
+    input: &mut S,
+) -> Result<PartAuditor, Refusal>
+    requires unread { S.failed input.old ≡ false }
+    requires begins { pending lines.old ≡ [] }
+    ensures same_reference { S.lender input.new ≡ S.lender input.old }
+    ensures ok { IfOk result (IsPartOpened (S.remaining input.old) (S.remaining input.new) (S.failed input.new) wanted
+        (pending lines.new)) }
+    ensures err { IfErr result (λ r. (w : Wanted) → wanted ≡ w.part →
+        IsNoWindow w (S.remaining input.old) (S.remaining input.new) (S.failed input.new) r) }
+{
+    for number in 0..wanted {
+        let header = next_header(rt, alloc, number, lines, input)?;
+        skip_events(rt, number, header.limits.events, lines, input)?;
+    }
+    let header = next_header(rt, alloc, wanted, lines, input)?;
+    Ok(PartAuditor::new(alloc, u64::from(wanted), header)?)
+}
+
 /// Read the next event of the segment.
 fn next_event<T: Wait, S: Source>(
     rt: &T,
@@ -58,10 +147,9 @@ fn next_event<T: Wait, S: Source>(
     ensures same_reference { S.lender input.new ≡ S.lender input.old }
     ensures next { IfOk result (λ _. IsNext opened.old opened.new) }
     ensures unread { IfOk result (λ _. S.failed input.new ≡ false) }
-    ensures reported { (had : Known) (text : List ℕ) (A : Plain) (es : List Item) →
-        IsAt had (S.remaining input.old) text (pending lines.old) →
-        IsPartRead opened.old.number text opened.old A es →
-        IsEventRead had (S.remaining input.new) (S.failed input.new) text (pending lines.new) opened.new A es result }
+    ensures reported { (number : ℕ) (had : Known) (text : List ℕ) (A : Plain) (es : List Item) →
+        IsAt had (S.remaining input.old) text (pending lines.old) → IsPartRead number text opened.old A es →
+        IsEventRead had (S.remaining input.new) (S.failed input.new) number text (pending lines.new) opened.new A es result }
 {
     lines.read(rt, input)?;
     Ok(opened.take(alloc, &script_aggregator(), lines.line())?)
@@ -85,90 +173,14 @@ fn pass<T: Wait, S: Source>(
     ensures limits { IfOk result (λ _. opened.new.limits ≡ opened.old.limits) }
     ensures taken { IfOk result (λ _. opened.new.taken ≡ calls) }
     ensures reported { (w : Wanted) (had : Known) (text : List ℕ) (A : Plain) →
-        IsUpTo w opened.old.number calls opened.old.limits.events →
-        IsAt had (S.remaining input.old) text (pending lines.old) →
-        IsPartRead opened.old.number text opened.old A [] →
+        calls ≤ end_in w opened.old.limits.events → IsAt had (S.remaining input.old) text (pending lines.old) →
+        IsPartRead w.part text opened.old A [] →
         IsPassed w had (S.remaining input.new) (S.failed input.new) calls (pending lines.new) opened.new A result }
 {
     for _ in 0..calls {
         next_event(rt, alloc, opened, lines, input)?;
     }
     Ok(())
-}
-
-/// Open the segment behind a complete one.
-fn next_part<T: Wait, S: Source>(
-    rt: &T,
-    alloc: Global,
-    before: &PartAuditor,
-    lines: &mut LineReader,
-    input: &mut S,
-) -> Result<PartAuditor, Refusal>
-    requires unread { S.failed input.old ≡ false }
-    requires whole { before.now.limits.events ≤ before.now.taken }
-    requires few { before.now.number < 4294967295 }
-    ensures same_reference { S.lender input.new ≡ S.lender input.old }
-    ensures number { IfOk result (λ o. o.number ≡ before.now.number + 1) }
-    ensures ok { IfOk result (λ o. (had : Known) (text : List ℕ) (A : Plain) (es : List Item) →
-        IsAt had (S.remaining input.old) text (pending lines.old) →
-        IsPartRead before.now.number text before.now A es →
-        IsPartOpened had (S.remaining input.new) (S.failed input.new) (pending lines.new) o) }
-    ensures err { IfErr result (λ r. (w : Wanted) (had : Known) (text : List ℕ) (A : Plain) (es : List Item) →
-        before.now.number < w.part → IsAt had (S.remaining input.old) text (pending lines.old) →
-        IsPartRead before.now.number text before.now A es →
-        IsNoWindow w had (S.remaining input.new) (S.failed input.new) r) }
-{
-    lines.read(rt, input)?;
-    if lines.line().is_empty() {
-        return Err(Refusal::FewParts(before.number + 1));
-    }
-    Ok(open_next(alloc, before, lines.line())?)
-}
-
-/// Open the first segment of a run.
-fn first_part<T: Wait, S: Source>(
-    rt: &T,
-    alloc: Global,
-    lines: &mut LineReader,
-    input: &mut S,
-) -> Result<PartAuditor, Refusal>
-    requires unread { S.failed input.old ≡ false }
-    requires begins { pending lines.old ≡ [] }
-    ensures same_reference { S.lender input.new ≡ S.lender input.old }
-    ensures number { IfOk result (λ o. o.number ≡ 0) }
-    ensures ok { IfOk result (IsPartOpened (S.remaining input.old) (S.remaining input.new) (S.failed input.new)
-        (pending lines.new)) }
-    ensures err { IfErr result (λ r. (w : Wanted) →
-        IsNoWindow w (S.remaining input.old) (S.remaining input.new) (S.failed input.new) r) }
-{
-    lines.read(rt, input)?;
-    Ok(open_first(alloc, lines.line())?)
-}
-
-/// Read `wanted` complete segments, and open the next one.
-fn open_part<T: Wait, S: Source>(
-    rt: &T,
-    alloc: Global,
-    wanted: u32,
-    lines: &mut LineReader,
-    input: &mut S,
-) -> Result<PartAuditor, Refusal>
-    requires unread { S.failed input.old ≡ false }
-    requires begins { pending lines.old ≡ [] }
-    ensures same_reference { S.lender input.new ≡ S.lender input.old }
-    ensures number { IfOk result (λ o. o.number ≡ wanted) }
-    ensures ok { IfOk result (IsPartOpened (S.remaining input.old) (S.remaining input.new) (S.failed input.new)
-        (pending lines.new)) }
-    ensures err { IfErr result (λ r. (w : Wanted) → wanted ≡ w.part →
-        IsNoWindow w (S.remaining input.old) (S.remaining input.new) (S.failed input.new) r) }
-{
-    let mut opened = first_part(rt, alloc, lines, input)?;
-    for _ in 0..wanted {
-        let calls = opened.limits.events;
-        pass(rt, alloc, &mut opened, calls, lines, input)?;
-        opened = next_part(rt, alloc, &opened, lines, input)?;
-    }
-    Ok(opened)
 }
 
 /// Return the JSON header of a window, which begins behind what was read.
@@ -235,14 +247,13 @@ fn note_calls<T: Wait, S: Source>(
     requires unread { S.failed input.old ≡ false }
     requires forward { opened.old.taken ≤ end }
     requires enough { end ≤ opened.old.limits.events }
-    requires known { (text : List ℕ) × (A : Plain) × (es : List Item)
-        × IsPartRead opened.old.number text opened.old A es }
+    requires known { (number : ℕ) × (text : List ℕ) × (A : Plain) × (es : List Item)
+        × IsPartRead number text opened.old A es }
     ensures same_reference { S.lender input.new ≡ S.lender input.old }
     ensures limits { IfOk result (λ _. opened.new.limits ≡ opened.old.limits) }
     ensures reported { (w : Wanted) (had : Known) (before : List ℕ) (A : Plain) (es : List Item) →
-        opened.old.number ≡ w.part → end ≡ end_in w opened.old.limits.events →
-        IsAt had (S.remaining input.old) before (pending lines.old) →
-        IsPartRead opened.old.number before opened.old A es →
+        end ≡ end_in w opened.old.limits.events →
+        IsAt had (S.remaining input.old) before (pending lines.old) → IsPartRead w.part before opened.old A es →
         AreNoted w had (S.remaining input.new) (S.failed input.new) end (pending lines.new) opened.new A es
         (string_bytes text.old) (string_bytes text.new) result }
 {
@@ -271,7 +282,7 @@ fn window_text<T: Wait, S: Source>(
         (string_bytes text)) }
     ensures err { IfErr result (IsNoWindow window (S.remaining input.old) (S.remaining input.new) (S.failed input.new)) }
 {
-    let mut opened = open_part(rt, alloc, window.part, lines, input)?;
+    let mut opened = find_part(rt, alloc, window.part, lines, input)?;
     let Some(end) = end_of(window, opened.limits.events) else {
         return Err(Refusal::FewCalls {
             part: window.part,
@@ -288,8 +299,9 @@ fn window_text<T: Wait, S: Source>(
 
 /// Trace a window of the run on the input; return its trace, with status 0.
 ///
-/// It reads no further than the chunk of bytes in which the window ends, and judges nothing behind its end. It holds
-/// one line, the state, which it holds twice within the window, and the window's text.
+/// It judges the window's segment alone, from the state in its header, up to the window's end. It reads no further
+/// than the chunk of bytes in which that is. It holds one line, the state, which it holds twice within the window, and
+/// the window's text.
 pub(crate) fn window_input<T: Wait, S: Source>(
     rt: &T,
     alloc: Global,

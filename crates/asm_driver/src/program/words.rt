@@ -152,7 +152,7 @@ fn with_trace<'a>(alloc: Global, command: Command<'a>) -> Result<Command<'a>, Al
 {
     let trace = Command::new(alloc, "trace")
         .about(
-            "Traces a journal of at most 16777216 bytes, which is read from standard input, and writes what each call did; with an option it traces a window of a run of any length, as audit reads it, and holds the window's text in memory until its end was read",
+            "Traces a journal of at most 16777216 bytes, which is read from standard input, and writes what each call did; with an option it traces a window of a run of any length, judges only the part with that window, from the state in its header, and holds the window's text in memory until its end was read",
         )
         .arg(number_option(
             alloc,

@@ -12,14 +12,13 @@ abbrev pub invariant-loop-call : goal.invariant-loop-call
 invariant-loop-call g l = record {
   same_reference : g.S.Source.lender l.input ≡ g.S.Source.lender l.fn.input;
   noted : g.S.Source.failed l.input ≡ false;
-  number : l.opened.number ≡ l.fn.opened.number;
   limits : l.opened.limits ≡ l.fn.opened.limits;
   taken : l.opened.taken ≡ l.call;
   within : l.call ≤ l.end;
-  read : (had : Known) (before : List ℕ) (A : State) (es : List Event) →
+  read : (part : ℕ) (had : Known) (before : List ℕ) (A : State) (es : List Event) →
       IsAt had (g.S.Source.remaining l.fn.input) before (pending l.fn.lines) →
-      IsPartRead l.fn.opened.number before l.fn.opened A es →
+      IsPartRead part before l.fn.opened A es →
       (more : List ℕ) × (shown : List Event) × IsAt had (g.S.Source.remaining l.input) more (pending l.lines)
-      × IsPartRead l.opened.number more l.opened A (es ++ shown)
+      × IsPartRead part more l.opened A (es ++ shown)
       × AreNotedTo l.opened.limits.capacity A es shown l.noted (string_bytes l.fn.text) (string_bytes l.text);
 }

@@ -15,8 +15,8 @@ invariant-loop g l = record {
   limits : l.opened.limits ≡ l.fn.opened.limits;
   taken : l.opened.taken ≡ l.counter;
   within : l.counter ≤ l.calls;
-  read : (had : Known) (text : List ℕ) (A : State) → IsAt had (g.S.Source.remaining l.fn.input) text (pending l.fn.lines) →
-      IsPartRead l.fn.opened.number text l.fn.opened A [] →
+  read : (part : ℕ) (had : Known) (text : List ℕ) (A : State) → IsAt had (g.S.Source.remaining l.fn.input) text (pending l.fn.lines) →
+      IsPartRead part text l.fn.opened A [] →
       (more : List ℕ) × (es : List Event) × IsAt had (g.S.Source.remaining l.input) more (pending l.lines)
-      × IsPartRead l.opened.number more l.opened A es;
+      × IsPartRead part more l.opened A es;
 }

@@ -1,4 +1,4 @@
-use Rattle.std.proofs.Common.{◌≡◌, ◌-◌, ◌++◌, [], length, string_bytes, ap, sym, subst, ◌∙◌, inr, length-append, arith}
+use Rattle.std.proofs.Common.{◌≡◌, ◌-◌, ◌++◌, [], length, string_bytes, ap, sym, subst, ◌∙◌, length-append, arith}
 use Rattle.std.proofs.lemmas.Result.{err_from_is_err_and}
 use Rattle.serde_json.specs.Data.{Data}
 use Rattle.serde_json.specs.Written.{has_float}
@@ -16,10 +16,9 @@ pub returns-in_default-clause-err : goal.returns-in_default-clause-err
 returns-in_default-clause-err g c =
     let ok = c.in_ok-opened.ensures.ok in
     let o = ok.2 in
-    let opened = c.in_ok-opened.opened in
-    few_calls c.args.window (g.S.Source.remaining c.args.input.now) (g.S.Source.remaining c.open_part.new.input)
-    (g.S.Source.failed c.open_part.new.input) o.0 o.1 (pending c.open_part.new.lines) opened.number opened o.2
-    c.in_ok-opened.ensures.number o.4 o.5 o.6 o.3 ok.0 (rw c.in_default.is at c.end_of.ensures.none)
+    few_calls c.args.window (g.S.Source.remaining c.args.input.now) (g.S.Source.remaining c.find_part.new.input)
+    (g.S.Source.failed c.find_part.new.input) o.0 o.1 (pending c.find_part.new.lines) c.in_ok-opened.opened o.2 o.4 o.5 o.6 o.3
+    ok.0 (rw c.in_default.is at c.end_of.ensures.none)
 
 pub returns-in_err-pass-clause-err : goal.returns-in_err-pass-clause-err
 returns-in_err-pass-clause-err g c =
@@ -28,8 +27,7 @@ returns-in_err-pass-clause-err g c =
     let had = g.S.Source.remaining c.args.input.now in
     let o = c.in_ok-opened.ensures.ok.2 in
     let some = rw c.in-Some.is at c.end_of.ensures.some in
-    let up_to = inr (c.in_ok-opened.ensures.number, some.1.0) in
-    rw (r.1, r.2) (c.in_err-pass.ensures.reported w had (o.0 ++ o.1) o.2 up_to o.3 o.6)
+    rw (r.1, r.2) (c.in_err-pass.ensures.reported w had (o.0 ++ o.1) o.2 some.1.0 o.3 o.6)
 
 pub returns-in_err-header-clause-err : goal.returns-in_err-header-clause-err
 returns-in_err-header-clause-err g c =
@@ -38,8 +36,7 @@ returns-in_err-header-clause-err g c =
     let had = g.S.Source.remaining c.args.input.now in
     let o = c.in_ok-opened.ensures.ok.2 in
     let some = rw c.in-Some.is at c.end_of.ensures.some in
-    let up_to = inr (c.in_ok-opened.ensures.number, some.1.0) in
-    let passed = c.in_ok-pass.ensures.reported w had (o.0 ++ o.1) o.2 up_to o.3 o.6 in
+    let passed = c.in_ok-pass.ensures.reported w had (o.0 ++ o.1) o.2 some.1.0 o.3 o.6 in
     let read = passed.1.3 in
     rw (r.1, r.2) (memory_window w had (g.S.Source.remaining c.pass.new.input) (g.S.Source.failed c.pass.new.input)
     (passed.1.0 ++ pending c.pass.new.lines) passed.1.2 passed.0)
@@ -50,10 +47,9 @@ push_line-requires g c =
     let had = g.S.Source.remaining c.args.input.now in
     let o = c.in_ok-opened.ensures.ok.2 in
     let some = rw c.in-Some.is at c.end_of.ensures.some in
-    let up_to = inr (c.in_ok-opened.ensures.number, some.1.0) in
-    let passed = c.in_ok-pass.ensures.reported w had (o.0 ++ o.1) o.2 up_to o.3 o.6 in
+    let passed = c.in_ok-pass.ensures.reported w had (o.0 ++ o.1) o.2 some.1.0 o.3 o.6 in
     let read = passed.1.3 in
-    let held = part_held c.pass.new.opened.number passed.1.0 c.pass.new.opened o.2 passed.1.1 read in
+    let held = part_held w.part passed.1.0 c.pass.new.opened o.2 passed.1.1 read in
     ap has_float (c.in_ok-header.ensures o.2 passed.1.1 [] held read.taken read.stands)
     ∙ window_no_float c.pass.new.opened.limits.agents c.pass.new.opened.limits.capacity (c.in-Some.end - w.from)
     (length passed.1.1) _ (length (fired_moves passed.1.1)) c.pass.new.opened.number
@@ -65,8 +61,7 @@ returns-in_err-push_line-clause-err g c =
     let had = g.S.Source.remaining c.args.input.now in
     let o = c.in_ok-opened.ensures.ok.2 in
     let some = rw c.in-Some.is at c.end_of.ensures.some in
-    let up_to = inr (c.in_ok-opened.ensures.number, some.1.0) in
-    let passed = c.in_ok-pass.ensures.reported w had (o.0 ++ o.1) o.2 up_to o.3 o.6 in
+    let passed = c.in_ok-pass.ensures.reported w had (o.0 ++ o.1) o.2 some.1.0 o.3 o.6 in
     let read = passed.1.3 in
     rw (r.1, r.2) (memory_window w had (g.S.Source.remaining c.pass.new.input) (g.S.Source.failed c.pass.new.input)
     (passed.1.0 ++ pending c.pass.new.lines) passed.1.2 passed.0)
@@ -77,10 +72,9 @@ note_calls-requires-clause-known g c =
     let had = g.S.Source.remaining c.args.input.now in
     let o = c.in_ok-opened.ensures.ok.2 in
     let some = rw c.in-Some.is at c.end_of.ensures.some in
-    let up_to = inr (c.in_ok-opened.ensures.number, some.1.0) in
-    let passed = c.in_ok-pass.ensures.reported w had (o.0 ++ o.1) o.2 up_to o.3 o.6 in
+    let passed = c.in_ok-pass.ensures.reported w had (o.0 ++ o.1) o.2 some.1.0 o.3 o.6 in
     let read = passed.1.3 in
-    (passed.1.0, o.2, passed.1.1, read)
+    (w.part, passed.1.0, o.2, passed.1.1, read)
 
 pub returns-in_err-note_calls-clause-err : goal.returns-in_err-note_calls-clause-err
 returns-in_err-note_calls-clause-err g c =
@@ -89,12 +83,11 @@ returns-in_err-note_calls-clause-err g c =
     let had = g.S.Source.remaining c.args.input.now in
     let o = c.in_ok-opened.ensures.ok.2 in
     let some = rw c.in-Some.is at c.end_of.ensures.some in
-    let up_to = inr (c.in_ok-opened.ensures.number, some.1.0) in
-    let passed = c.in_ok-pass.ensures.reported w had (o.0 ++ o.1) o.2 up_to o.3 o.6 in
+    let passed = c.in_ok-pass.ensures.reported w had (o.0 ++ o.1) o.2 some.1.0 o.3 o.6 in
     let read = passed.1.3 in
     let end = subst (λ (l : Limits). c.in-Some.end ≡ end_in w l.events) (sym c.in_ok-pass.ensures.limits) some.0 in
     rw (r.1, r.2) (c.in_err-note_calls.ensures.reported w had passed.1.0 o.2 passed.1.1
-    (c.in_ok-pass.ensures.number ∙ c.in_ok-opened.ensures.number) end passed.1.2 read)
+    end passed.1.2 read)
 
 pub returns-clause-ok : goal.returns-clause-ok
 returns-clause-ok g c =
@@ -102,14 +95,12 @@ returns-clause-ok g c =
     let had = g.S.Source.remaining c.args.input.now in
     let o = c.in_ok-opened.ensures.ok.2 in
     let some = rw c.in-Some.is at c.end_of.ensures.some in
-    let up_to = inr (c.in_ok-opened.ensures.number, some.1.0) in
-    let passed = c.in_ok-pass.ensures.reported w had (o.0 ++ o.1) o.2 up_to o.3 o.6 in
+    let passed = c.in_ok-pass.ensures.reported w had (o.0 ++ o.1) o.2 some.1.0 o.3 o.6 in
     let read = passed.1.3 in
-    let held = part_held c.pass.new.opened.number passed.1.0 c.pass.new.opened o.2 passed.1.1 read in
-    let number = c.in_ok-pass.ensures.number ∙ c.in_ok-opened.ensures.number in
+    let held = part_held w.part passed.1.0 c.pass.new.opened o.2 passed.1.1 read in
     let es = passed.1.1 in
     let end = subst (λ (l : Limits). c.in-Some.end ≡ end_in w l.events) (sym c.in_ok-pass.ensures.limits) some.0 in
-    let reported = c.in_ok-note_calls.ensures.reported w had passed.1.0 o.2 es number end passed.1.2 read in
+    let reported = c.in_ok-note_calls.ensures.reported w had passed.1.0 o.2 es end passed.1.2 read in
     let t = reported.1 in
     let shown = t.1 in
     let last = c.note_calls.new.opened.limits in
@@ -121,7 +112,7 @@ returns-clause-ok g c =
     let long : length (es ++ shown) ≡ c.in-Some.end = t.5 in
     let count : c.in-Some.end - w.from ≡ length shown = omega (arith, long, length-append es shown, first) in
     let header = c.in_ok-header.ensures o.2 es (es ++ shown) held read.taken read.stands
-    ∙ ap (λ n. window_header n (history_of c.pass.new.opened.limits o.2 (es ++ shown)) es (c.in-Some.end - w.from)) number
+    ∙ ap (λ n. window_header n (history_of c.pass.new.opened.limits o.2 (es ++ shown)) es (c.in-Some.end - w.from)) read.known
     ∙ ap (λ (l : Limits). window_header w.part (history_of l o.2 (es ++ shown)) es (c.in-Some.end - w.from)) (sym limits)
     ∙ ap (λ k. window_header w.part (history_of last o.2 (es ++ shown)) es k) count in
     let D = window_header w.part (history_of last o.2 (es ++ shown)) es (length shown) in
