@@ -1,9 +1,7 @@
 use Rattle.std.proofs.Common.{arith, sym, subst}
 use Rattle.serde_json.specs.View.{view}
-use Rattle.asm_element.specs.declared.value.Value.{Value}
 use Rattle.asm_journal.specs.Element.{IsLocationForm}
-use Rattle.asm_journal.specs.Form.{IsFault, IsRead}
-use Rattle.asm_journal.specs.Value.{IsValueForm}
+use Rattle.asm_journal.specs.Form.{IsFault}
 use Rattle.asm_journal.proofs.Carried.{carried, carried_err, refused}
 use Rattle.asm_script.specs.TermForm.{IsTermForm}
 use Rattle.asm_script.proofs.TermForms.{no_val, no_keys, no_first, no_second, first_depth, second_depth}
@@ -12,7 +10,7 @@ use Rattle.asm_script.proofs.term_form.+read_term.Goals as goal
 pub returns-in_err-at : goal.returns-in_err-at
 returns-in_err-at t c =
     let d = view c.args.json.now in
-    let plain = c.in-Err-Form.ensures tt in
+    let plain = c.in-Err-Form.ensures (subst IsFault (sym c.in-Err-Form.field-0-is) tt) in
     let at = view c.in-Some.at.now in
     refused IsTermForm d _ c.in_err-at.field-0.0 c.from_residual.ensures.1
     (λ fault. no_val d plain at c.in-Some.ensures.some
@@ -21,7 +19,7 @@ returns-in_err-at t c =
 pub returns-in_default-terms_of : goal.returns-in_default-terms_of
 returns-in_default-terms_of t c =
     let d = view c.args.json.now in
-    let plain = c.in-Err-Form.ensures tt in
+    let plain = c.in-Err-Form.ensures (subst IsFault (sym c.in-Err-Form.field-0-is) tt) in
     λ fault. no_keys d plain c.in_default.ensures.none c.in_default-terms_of.ensures.none
 
 pub read_term-requires : goal.read_term-requires
@@ -32,7 +30,7 @@ read_term-requires t c =
 pub returns-in_err-first : goal.returns-in_err-first
 returns-in_err-first t c =
     let d = view c.args.json.now in
-    let plain = c.in-Err-Form.ensures tt in
+    let plain = c.in-Err-Form.ensures (subst IsFault (sym c.in-Err-Form.field-0-is) tt) in
     let a = view c.in-Some-terms_of.first.now in
     let read = carried IsTermForm a _ _ c.read_term.ensures c.within.ensures in
     refused IsTermForm d _ c.in_err-first.field-0.0 c.from_residual-in_err-first.ensures.1
@@ -47,7 +45,7 @@ read_term-requires-2 t c =
 pub returns-in_err-second : goal.returns-in_err-second
 returns-in_err-second t c =
     let d = view c.args.json.now in
-    let plain = c.in-Err-Form.ensures tt in
+    let plain = c.in-Err-Form.ensures (subst IsFault (sym c.in-Err-Form.field-0-is) tt) in
     let b = view c.in-Some-terms_of.second.now in
     let read = carried IsTermForm b _ _ c.read_term-2.ensures c.within-2.ensures in
     refused IsTermForm d _ c.in_err-second.field-0.0 c.from_residual-in_err-second.ensures.1
