@@ -3,12 +3,12 @@ ghost use Rattle.std.specs.Prelude.{◌≡◌, ◌∷◌, []};
 ghost use Rattle.asm_slots.specs.Audits.{Audits, EndsAudit, HasNoState, IsAuditState};
 ghost use Rattle.asm_slots.specs.Codes.{IsOneOf, ASM_DONE, ASM_MEMORY, ASM_EMPTY, ASM_SMALL, ASM_NO_PART};
 ghost use Rattle.asm_slots.specs.Slots.{HoldsAudit, HoldsNoAudit, content_of};
-ghost use Rattle.asm_slots.specs.WrittenText.{TellsText};
+ghost use Rattle.asm_slots.specs.WrittenText.{WritesText};
 
 use asm_slots::auditing::{audit_state, ended, feed_first, feed_in};
 use asm_slots::codes::{EMPTY, copied};
-use asm_slots::take_and_put::{audit_in, put_shell, take_shell};
-use asm_slots::{AuditNumbers, Content, Slot, in_box};
+use asm_slots::take_and_put::take_shell;
+use asm_slots::{AuditNumbers, Content, Slot, in_place};
 use std::alloc::Global;
 
 /// Take the next bytes of a run into a slot that holds an audit or is empty.
@@ -62,18 +62,8 @@ pub extern "C" fn asm_audited(alloc: Global, audit: &mut Slot, reported: &mut Au
     ensures kept { content_of audit.new ≡ content_of audit.old }
 {
     *reported = AuditNumbers::none();
-    let Some(mut shell) = take_shell(alloc, audit) else {
-        return EMPTY;
-    };
-    let code = match &mut *shell {
-        Content::Audit(taken) => {
-            let (code, numbers) = ended(alloc, taken);
-            *reported = numbers;
-            code
-        }
-        _ => EMPTY,
-    };
-    put_shell(audit, shell);
+    let (code, numbers) = in_place!(audit, Audit, EMPTY, inner => ended(alloc, inner));
+    *reported = numbers;
     code
 }
 
@@ -94,13 +84,19 @@ pub extern "C" fn asm_audit_state(
 ) -> i32
     ensures codes { IsOneOf (ASM_DONE ∷ ASM_MEMORY ∷ ASM_EMPTY ∷ ASM_SMALL ∷ ASM_NO_PART ∷ []) result }
     ensures kept { content_of audit.new ≡ content_of audit.old }
-    ensures text { TellsText (λ text. HoldsAudit (content_of audit.old) (λ a. IsAuditState a text))
+    ensures text { WritesText (λ text. HoldsAudit (content_of audit.old) (λ a. IsAuditState a text))
         out.old out.new written.new result }
     ensures none { result ≡ ASM_NO_PART → HoldsAudit (content_of audit.old) HasNoState }
     ensures empty { result ≡ ASM_EMPTY → HoldsNoAudit (content_of audit.old) }
 {
     *written = 0;
-    match in_box!(alloc, audit, audit_in, inner => audit_state(alloc, inner)) {
+    let Some(held) = audit.as_mut() else {
+        return EMPTY;
+    };
+    let Content::Audit(inner) = held else {
+        return EMPTY;
+    };
+    match audit_state(alloc, inner) {
         Ok(text) => copied(text.as_bytes(), out, written),
         Err(code) => code,
     }

@@ -1,29 +1,14 @@
 //! Firing the one move of a step, with or without a receipt of what the step read.
-ghost use Rattle.std.specs.Prelude.{◌≡◌, ◌≢◌, ◌∷◌, [], None, Some};
+ghost use Rattle.std.specs.Prelude.{◌≡◌, ◌∷◌, []};
 ghost use Rattle.asm_slots.specs.Codes.{IsOneOf, ASM_DONE, ASM_EMPTY, ASM_MEMORY, ASM_SMALL};
-ghost use Rattle.asm_slots.specs.Commit.{Commits, CommitsRecorded};
-ghost use Rattle.asm_slots.specs.Offering.{IsOfferText};
+ghost use Rattle.asm_slots.specs.Commit.{Commits, CommitsRecorded, IsOfferText};
 ghost use Rattle.asm_slots.specs.Slots.{HoldsNoStep, HoldsStep, content_of};
-ghost use Rattle.asm_slots.specs.WrittenText.{TellsText};
+ghost use Rattle.asm_slots.specs.WrittenText.{WritesText};
 
-use asm_slots::codes::{DONE, EMPTY};
-use asm_slots::committing::{commit_in, commit_recorded_in};
-use asm_slots::offering::offer_in;
-use asm_slots::take_and_put::{put_shell, take_shell};
-use asm_slots::{Content, Numbers, Slot};
+use asm_slots::codes::EMPTY;
+use asm_slots::committing::{commit, commit_recorded, offer_in};
+use asm_slots::{Numbers, Slot, in_place};
 use std::alloc::Global;
-
-// Empty the step's slot if the move was fired; else put the step back into it.
-fn end_step(alloc: Global, step: &mut Slot, held: Box<Content>, code: i32)
-    ensures over { code ≡ ASM_DONE → content_of step.new ≡ None }
-    ensures stays { code ≢ ASM_DONE → content_of step.new ≡ Some held.value }
-{
-    if code == DONE {
-        *step = Slot::empty(alloc);
-    } else {
-        put_shell(step, held);
-    }
-}
 
 /// Fire the one move that does what the pushed moves do in turn.
 /// It names, at the step's number, each tracked location, and each that one pushed move writes with partial updates
@@ -52,18 +37,8 @@ pub extern "C" fn asm_commit(
     ensures { Commits (content_of agent.old) (content_of agent.new) (content_of step.old) (content_of step.new)
         numbers.new result }
 {
-    *numbers = Numbers::none();
-    let Some(mut shell) = take_shell(alloc, agent) else {
-        return EMPTY;
-    };
-    let Some(held) = take_shell(alloc, step) else {
-        put_shell(agent, shell);
-        return EMPTY;
-    };
-    let (code, reported) = commit_in(alloc, &mut shell, &held);
+    let (code, reported) = commit(alloc, agent, step);
     *numbers = reported;
-    put_shell(agent, shell);
-    end_step(alloc, step, held, code);
     code
 }
 
@@ -92,18 +67,8 @@ pub extern "C" fn asm_commit_recorded(
     ensures { CommitsRecorded (content_of agent.old) (content_of agent.new) (content_of step.old) (content_of step.new)
         numbers.new result }
 {
-    *numbers = Numbers::none();
-    let Some(mut shell) = take_shell(alloc, agent) else {
-        return EMPTY;
-    };
-    let Some(held) = take_shell(alloc, step) else {
-        put_shell(agent, shell);
-        return EMPTY;
-    };
-    let (code, reported) = commit_recorded_in(alloc, &mut shell, &held);
+    let (code, reported) = commit_recorded(alloc, agent, step);
     *numbers = reported;
-    put_shell(agent, shell);
-    end_step(alloc, step, held, code);
     code
 }
 
@@ -124,18 +89,10 @@ pub extern "C" fn asm_offer(
     written: &mut usize,
 ) -> i32
     ensures codes { IsOneOf (ASM_DONE ∷ ASM_MEMORY ∷ ASM_EMPTY ∷ ASM_SMALL ∷ []) result }
-    ensures text { TellsText (λ text. HoldsStep (content_of step.old) (λ s. IsOfferText s text)) out.old out.new written.new result }
+    ensures text { WritesText (λ text. HoldsStep (content_of step.old) (λ s. IsOfferText s text)) out.old out.new written.new result }
     ensures empty { result ≡ ASM_EMPTY → HoldsNoStep (content_of step.old) }
     ensures kept { content_of step.new ≡ content_of step.old }
 {
     *written = 0;
-    let Some(shell) = take_shell(alloc, step) else {
-        return EMPTY;
-    };
-    let code = match &*shell {
-        Content::Step(taken) => offer_in(alloc, taken, out, written),
-        _ => EMPTY,
-    };
-    put_shell(step, shell);
-    code
+    in_place!(step, Step, EMPTY, taken => offer_in(alloc, taken, out, written))
 }

@@ -6,8 +6,8 @@ ghost use Rattle.asm_slots.specs.OwnState.{TakesState};
 ghost use Rattle.asm_slots.specs.Slots.{AreOfOneStorage, HoldsNoAgent, IfHolds, content_of};
 
 use asm_slots::codes::DONE;
-use asm_slots::take_and_put::{TwoAgents, put_agent, put_shell, take_agents, take_shell};
-use asm_slots::{Content, Slot};
+use asm_slots::take_and_put::{TwoAgents, put_agent, take_agents};
+use asm_slots::{Slot, in_place};
 use std::alloc::Global;
 
 /// Return how many moves the agent has seen; 0 for a slot without an agent.
@@ -17,15 +17,7 @@ pub extern "C" fn asm_seen(alloc: Global, agent: &mut Slot) -> u32
     ensures value { IfHolds (content_of agent.old) (λ a. result ≡ length a.account.seen) }
     ensures none { HoldsNoAgent (content_of agent.old) → result ≡ 0 }
 {
-    let Some(shell) = take_shell(alloc, agent) else {
-        return 0;
-    };
-    let seen = match &*shell {
-        Content::Agent(inner) => inner.seen(),
-        _ => 0,
-    };
-    put_shell(agent, shell);
-    seen
+    in_place!(agent, Agent, 0, inner => inner.seen())
 }
 
 /// Return how many moves the agent fired; 0 for a slot without an agent.
@@ -35,15 +27,7 @@ pub extern "C" fn asm_won(alloc: Global, agent: &mut Slot) -> u32
     ensures value { IfHolds (content_of agent.old) (λ a. result ≡ a.account.won) }
     ensures none { HoldsNoAgent (content_of agent.old) → result ≡ 0 }
 {
-    let Some(shell) = take_shell(alloc, agent) else {
-        return 0;
-    };
-    let won = match &*shell {
-        Content::Agent(inner) => inner.won(),
-        _ => 0,
-    };
-    put_shell(agent, shell);
-    won
+    in_place!(agent, Agent, 0, inner => inner.won())
 }
 
 /// Return how many of the agent's polls found no further move.
@@ -54,15 +38,7 @@ pub extern "C" fn asm_misses(alloc: Global, agent: &mut Slot) -> u64
     ensures value { IfHolds (content_of agent.old) (λ a. result ≡ a.misses) }
     ensures none { HoldsNoAgent (content_of agent.old) → result ≡ 0 }
 {
-    let Some(shell) = take_shell(alloc, agent) else {
-        return 0;
-    };
-    let misses = match &*shell {
-        Content::Agent(inner) => inner.misses(),
-        _ => 0,
-    };
-    put_shell(agent, shell);
-    misses
+    in_place!(agent, Agent, 0, inner => inner.misses())
 }
 
 /// Take in what the other agent of the same storage has seen, without polling.

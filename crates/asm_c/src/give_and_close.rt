@@ -5,12 +5,12 @@ ghost use Rattle.asm_slots.specs.ClosedStore.{IsTooLarge, LacksReceipt};
 ghost use Rattle.asm_slots.specs.Codes.{IsOneOf, ASM_DONE, ASM_MEMORY, ASM_EMPTY, ASM_SMALL, ASM_NO_JOURNAL};
 ghost use Rattle.asm_slots.specs.Codes.{ASM_NUMBER, ASM_MISSING, ASM_OTHER, ASM_MANY_CALLS};
 ghost use Rattle.asm_slots.specs.Slots.{HoldsNoAgent, HoldsNoStore, HoldsStore, IsOfStore, content_of};
-ghost use Rattle.asm_slots.specs.WrittenText.{TellsText};
+ghost use Rattle.asm_slots.specs.WrittenText.{WritesText};
 
 use asm_slots::codes::{DONE, EMPTY, NO_JOURNAL, OTHER, copied};
-use asm_slots::give_and_close::{code_of_unclosed, give_at};
-use asm_slots::take_and_put::{put_agent, put_store, store_in, take_agent, take_store};
-use asm_slots::{Slot, are_one, in_box};
+use asm_slots::giving::{code_of_unclosed, give_at};
+use asm_slots::take_and_put::{put_agent, put_store, take_agent, take_store};
+use asm_slots::{Slot, are_one, in_place};
 use std::alloc::Global;
 
 /// Return how many moves were fired on the storage: `moves` is that number.
@@ -30,7 +30,7 @@ pub extern "C" fn asm_moves(alloc: Global, store: &mut Slot, moves: &mut u32) ->
     ensures empty { result ≡ ASM_EMPTY → HoldsNoStore (content_of store.old) }
 {
     *moves = 0;
-    *moves = in_box!(alloc, store, store_in, kept => kept.moves());
+    *moves = in_place!(store, Store, EMPTY, kept => kept.moves());
     DONE
 }
 
@@ -131,16 +131,14 @@ pub extern "C" fn asm_journal(
 ) -> i32
     ensures codes { IsOneOf (ASM_DONE ∷ ASM_EMPTY ∷ ASM_SMALL ∷ ASM_NO_JOURNAL ∷ []) result }
     ensures kept { content_of store.new ≡ content_of store.old }
-    ensures text { TellsText (λ text. HoldsStore (content_of store.old) (λ s. s.journal ≡ Some text))
+    ensures text { WritesText (λ text. HoldsStore (content_of store.old) (λ s. s.journal ≡ Some text))
         out.old out.new written.new result }
     ensures none { result ≡ ASM_NO_JOURNAL → HoldsStore (content_of store.old) (λ s. s.journal ≡ None) }
     ensures empty { result ≡ ASM_EMPTY → HoldsNoStore (content_of store.old) }
 {
     *written = 0;
-    in_box!(alloc, store, store_in, kept => {
-        match kept.journal() {
-            Some(text) => copied(text.as_bytes(), out, written),
-            None => NO_JOURNAL,
-        }
+    in_place!(store, Store, EMPTY, kept => match kept.journal() {
+        Some(text) => copied(text.as_bytes(), out, written),
+        None => NO_JOURNAL,
     })
 }

@@ -1,17 +1,16 @@
-//! Gathering moves in slots.
-ghost use Rattle.std.specs.Prelude.{◌≡◌, ◌≢◌, ◌≤◌, ◌<◌, ◌+◌, ◌↔◌, ◌∷◌, ◌++◌, [], length};
+//! Preparing locations, and building moves in slots.
+ghost use Rattle.std.specs.Prelude.{◌≡◌, ◌≢◌, ◌<◌, ◌+◌, ◌↔◌, ◌∷◌, ◌++◌, [], length, None};
 ghost use Rattle.asm_update.specs.Limits.{instructions_limit};
-ghost use Rattle.asm_explain.specs.Bytes.{IsNoJson};
-ghost use Rattle.asm_slots.specs.Codes.{IsOneOf, ASM_DONE, ASM_MEMORY, ASM_EMPTY, ASM_OPERAND, ASM_LONG_MOVE};
-ghost use Rattle.asm_slots.specs.Codes.{ASM_NOT_JSON, ASM_TAKEN, ASM_SHAPE};
-ghost use Rattle.asm_slots.specs.Kinds.{IsByJson, IsInstructed, IsMisshapen, IsNoAction};
-ghost use Rattle.asm_slots.specs.Slots.{HasRoomForMove, HoldsLocation, HoldsMove, HoldsNoLocation};
-ghost use Rattle.asm_slots.specs.Slots.{content_of, move_of};
+ghost use Rattle.asm_slots.specs.Answers.{Answers, IsNotInstructed, IsNotPrepared};
+ghost use Rattle.asm_slots.specs.Codes.{IsOneOf, ASM_DONE, ASM_MEMORY, ASM_EMPTY, ASM_LONG_MOVE, ASM_TAKEN};
+ghost use Rattle.asm_slots.specs.Kinds.{IsInstructed};
+ghost use Rattle.asm_slots.specs.Slots.{HasRoomForMove, HoldsLocation, HoldsMove, content_of, move_of};
+ghost use Rattle.asm_slots.specs.Bytes.{ReadAsLocation};
 
 use asm_slots::codes::{EMPTY, TAKEN};
-use asm_slots::instructing::{instruct_first, instruct_in, unite_first, unite_in};
+use asm_slots::instructing::{instruct, prepare, unite_first, unite_in};
 use asm_slots::take_and_put::{put_shell, take_shell};
-use asm_slots::{Content, Slot};
+use asm_slots::{Content, Slot, answer};
 use std::alloc::Global;
 
 /// Append an instruction at a prepared location to the move in a slot.
@@ -40,30 +39,13 @@ pub extern "C" fn asm_instruct(
     bytes: &[u8],
     amount: u32,
 ) -> i32
-    ensures codes { IsOneOf (ASM_DONE ∷ ASM_MEMORY ∷ ASM_EMPTY ∷ ASM_OPERAND ∷ ASM_LONG_MOVE ∷ ASM_TAKEN
-        ∷ ASM_NOT_JSON ∷ ASM_SHAPE ∷ []) result }
-    ensures done { result ≡ ASM_DONE → HoldsLocation (content_of at.old) (λ l. HoldsMove (content_of instrs.new)
-        (IsInstructed l verb kind number bytes.now amount (move_of (content_of instrs.old)))) }
-    ensures taken { (result ≡ ASM_TAKEN) ↔ ¬ HasRoomForMove (content_of instrs.old) }
-    ensures empty { result ≡ ASM_EMPTY → HoldsNoLocation (content_of at.old) }
-    ensures range { result ≡ ASM_OPERAND → IsNoAction verb kind number bytes.now amount }
-    ensures not_json { result ≡ ASM_NOT_JSON → IsByJson kind × IsNoJson bytes.now }
-    ensures shape { result ≡ ASM_SHAPE → IsMisshapen kind bytes.now }
-    ensures many { result ≡ ASM_LONG_MOVE → length (move_of (content_of instrs.old)) ≡ instructions_limit }
+    ensures answers { Answers result (HasRoomForMove (content_of instrs.old) × HoldsLocation (content_of at.old)
+        (λ l. HoldsMove (content_of instrs.new) (IsInstructed l verb kind number bytes.now amount (move_of (content_of instrs.old)))))
+        (IsNotInstructed (content_of at.old) (content_of instrs.old) verb kind number bytes.now amount) }
     ensures kept { result ≢ ASM_DONE → content_of instrs.new ≡ content_of instrs.old }
     ensures held { content_of at.new ≡ content_of at.old }
 {
-    let Some(mut shell) = take_shell(alloc, instrs) else {
-        return instruct_first(alloc, instrs, at, verb, kind, number, bytes, amount);
-    };
-    let code = match &mut *shell {
-        Content::Move(gathered) => {
-            instruct_in(alloc, gathered, at, verb, kind, number, bytes, amount)
-        }
-        _ => TAKEN,
-    };
-    put_shell(instrs, shell);
-    code
+    answer(instruct(alloc, instrs, at, verb, kind, number, bytes, amount))
 }
 
 /// Append the instructions of the other move to those of `instrs`.
@@ -101,4 +83,21 @@ pub extern "C" fn asm_unite(alloc: Global, instrs: &mut Slot, other: &mut Slot) 
     };
     put_shell(instrs, shell);
     code
+}
+
+/// Prepare the location `LOC` in an empty slot.
+/// It serves agents and steps of any storage. On error, the slot is unchanged.
+///
+/// # Errors
+/// - `ASM_TAKEN`: the slot is full.
+/// - `ASM_NOT_JSON`: `location` isn't JSON.
+/// - `ASM_SHAPE`: `location` is JSON of another shape, or beyond a limit.
+/// - `ASM_MEMORY`: out of memory.
+#[unsafe(no_mangle)]
+pub extern "C" fn asm_location(alloc: Global, location: &[u8], at: &mut Slot) -> i32
+    ensures answers { Answers result ((content_of at.old ≡ None) × HoldsLocation (content_of at.new) (ReadAsLocation location.now))
+        (IsNotPrepared (content_of at.old) location.now) }
+    ensures refused { result ≢ ASM_DONE → content_of at.new ≡ content_of at.old }
+{
+    answer(prepare(alloc, location, at))
 }

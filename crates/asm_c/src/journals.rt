@@ -1,8 +1,14 @@
-//! Checking a journal, the state that it leaves, and its trace.
-ghost use Rattle.asm_slots.specs.Journals.{Checks, IsReplayed, IsTraceOf, Retells};
+//! Calls on texts alone: journals, moves, what a text lacks, and what a code means.
+ghost use Rattle.asm_slots.specs.Journals.{Checks, IsReplayed, IsTraceOf, WritesOfJournal};
+ghost use Rattle.asm_slots.specs.Composing.{Aggregates, Composes};
+ghost use Rattle.std.specs.Prelude.{◌≡◌, ◌≢◌, ◌<◌, ◌≤◌, ◌↔◌, ◌∷◌, [], length};
+ghost use Rattle.asm_slots.specs.Codes.{IsOneOf, ASM_DONE, ASM_MEMORY, ASM_NO_FORM, ASM_SMALL, text_of_code};
+ghost use Rattle.asm_slots.specs.Forms.{HasForm, IsNoForm, LacksForm};
+ghost use Rattle.asm_slots.specs.WrittenText.{WritesText};
 
 use asm_journal::Legality;
-use asm_slots::codes::{DONE, ILLEGAL, copied};
+use asm_slots::codes::{DONE, ILLEGAL, copied, text_of_code, written_as};
+use asm_slots::composing::{aggregated, composed};
 use asm_slots::journals::{checked, code_of_error, replayed, traced};
 use std::alloc::Global;
 
@@ -67,7 +73,7 @@ pub extern "C" fn asm_replay(
     written: &mut usize,
     line: &mut u64,
 ) -> i32
-    ensures { Retells (IsReplayed journal.now) journal.now out.old out.new written.new line.new result }
+    ensures { WritesOfJournal (IsReplayed journal.now) journal.now out.old out.new written.new line.new result }
 {
     *written = 0;
     *line = 0;
@@ -94,7 +100,7 @@ pub extern "C" fn asm_trace(
     written: &mut usize,
     line: &mut u64,
 ) -> i32
-    ensures { Retells (IsTraceOf journal.now) journal.now out.old out.new written.new line.new result }
+    ensures { WritesOfJournal (IsTraceOf journal.now) journal.now out.old out.new written.new line.new result }
 {
     *written = 0;
     *line = 0;
@@ -106,4 +112,110 @@ pub extern "C" fn asm_trace(
             code
         }
     }
+}
+
+/// Write the updates `[PAIR, ..]` of the move `[INSTR, ..]` on a state.
+/// The state is `[PAIR, ..]`, and needs the locations of partial updates alone. The updates are in ascending order of
+/// locations. A null leaves a location empty, as each is that the state doesn't have.
+///
+/// # Errors
+/// - `ASM_CLASH`: the updates clash, and `{"clash":[LOC,CAUSE]}` is written, of the smallest location that clashes.
+/// - `ASM_NOT_JSON`: the state, or else the move, isn't JSON.
+/// - `ASM_SHAPE`: the state, or else the move, is JSON of another shape, or beyond a limit.
+/// - `ASM_SMALL`: `out` is too small, and `written` is the room that is needed.
+/// - `ASM_MEMORY`: out of memory.
+#[unsafe(no_mangle)]
+pub extern "C" fn asm_aggregate(
+    alloc: Global,
+    state: &[u8],
+    instrs: &[u8],
+    out: &mut [u8],
+    written: &mut usize,
+) -> i32
+    ensures { Aggregates state.now instrs.now out.old out.new written.new result }
+{
+    *written = 0;
+    match aggregated(alloc, state, instrs) {
+        Ok(reported) => written_as(&reported, out, written),
+        Err(code) => code,
+    }
+}
+
+/// Write one move `[INSTR, ..]` that does what two moves do in turn.
+/// On a state on which the first fires, it fires as the two in turn, or clashes as the second does then.
+///
+/// # Errors
+/// - `ASM_CLASH`: on no state both fire, and `{"clash":[LOC,CAUSE]}` is written.
+/// - `ASM_LARGE`: on no state both fire, as an amount or a sum is too large, and `{"large":LOC}` is written.
+/// - `ASM_LONG_MOVE`: the move would have more than 4,096 instructions.
+/// - `ASM_NOT_JSON`: the first move, or else the second, isn't JSON.
+/// - `ASM_SHAPE`: the first move, or else the second, is JSON of another shape, or beyond a limit.
+/// - `ASM_SMALL`: `out` is too small, and `written` is the room that is needed.
+/// - `ASM_MEMORY`: out of memory.
+#[unsafe(no_mangle)]
+pub extern "C" fn asm_compose(
+    alloc: Global,
+    first: &[u8],
+    second: &[u8],
+    out: &mut [u8],
+    written: &mut usize,
+) -> i32
+    ensures { Composes first.now second.now out.old out.new written.new result }
+{
+    *written = 0;
+    match composed(alloc, first, second) {
+        Ok(reported) => written_as(&reported, out, written),
+        Err(code) => code,
+    }
+}
+
+/// Write a sentence that says where and why a text isn't of a form.
+/// Calls that take the form refuse such a text with `ASM_NOT_JSON` or `ASM_SHAPE`. The sentence is empty, with
+/// `written` 0, exactly if the form's readers accept the text. It says nothing of what makes `ASM_MANY`, nor of an
+/// event that doesn't fit the journal's first line. The sentences may change with the version.
+///
+/// # Errors
+/// - `ASM_NO_FORM`: there is no such form.
+/// - `ASM_SMALL`: `out` is too small, and `written` is the room that is needed.
+/// - `ASM_MEMORY`: out of memory.
+#[unsafe(no_mangle)]
+pub extern "C" fn asm_explain(
+    alloc: Global,
+    form: i32,
+    text: &[u8],
+    out: &mut [u8],
+    written: &mut usize,
+) -> i32
+    ensures codes { IsOneOf (ASM_DONE ∷ ASM_MEMORY ∷ ASM_NO_FORM ∷ ASM_SMALL ∷ []) result }
+    ensures accepted { result ≡ ASM_DONE → written.new ≡ 0 → HasForm form text.now }
+    ensures refused { written.new ≢ 0 → LacksForm form text.now }
+    ensures fits { result ≡ ASM_DONE → written.new ≤ length out.new }
+    ensures small { result ≡ ASM_SMALL → length out.old < written.new }
+    ensures no_text { IsOneOf (ASM_MEMORY ∷ ASM_NO_FORM ∷ []) result → written.new ≡ 0 }
+    ensures range { (result ≡ ASM_NO_FORM) ↔ IsNoForm form }
+    ensures unwritten { result ≢ ASM_DONE → out.new ≡ out.old }
+{
+    asm_slots::explain(alloc, form, text, out, written)
+}
+
+/// Write what a code means, in a line of English.
+///
+/// # Errors
+/// - `ASM_SMALL`: `out` is too small, and `written` is the room that is needed.
+#[unsafe(no_mangle)]
+pub extern "C" fn asm_error_text(code: i32, out: &mut [u8], written: &mut usize) -> i32
+    ensures codes { IsOneOf (ASM_DONE ∷ ASM_SMALL ∷ []) result }
+    ensures written { written.new ≡ length (text_of_code code) }
+    ensures text { WritesText (λ text. text ≡ text_of_code code) out.old out.new written.new result }
+{
+    copied(text_of_code(code).as_bytes(), out, written)
+}
+
+/// Return the version of the library.
+/// It is a million for each major version, and a thousand for each minor one.
+#[unsafe(no_mangle)]
+pub extern "C" fn asm_version() -> u32
+    ensures { result ≡ 2000 }
+{
+    2_000
 }

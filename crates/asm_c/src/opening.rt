@@ -3,14 +3,16 @@ ghost use Rattle.std.specs.Prelude.{◌≡◌, ◌≢◌, ◌↔◌, ◌∷◌, 
 ghost use Rattle.asm_slots.specs.AgentCalls.{IsNoCapacity, IsOpened};
 ghost use Rattle.asm_journal.specs.Value.{IsStateForm};
 ghost use Rattle.asm_explain.specs.Bytes.{IsNoJson, IsOtherJson};
-ghost use Rattle.asm_slots.specs.Codes.{IsOneOf, ASM_DONE, ASM_MEMORY, ASM_CAPACITY, ASM_TAKEN, ASM_NOT_JSON, ASM_SHAPE};
+ghost use Rattle.asm_slots.specs.Codes.{IsOneOf, ASM_DONE, ASM_MEMORY, ASM_CAPACITY, ASM_TAKEN, ASM_NOT_JSON};
+ghost use Rattle.asm_slots.specs.Codes.{ASM_SHAPE, ASM_EMPTY, ASM_NO_JOURNAL};
 ghost use Rattle.asm_slots.specs.MadeAgents.{MakesAgent, MakesAgents, TakesAgent};
-ghost use Rattle.asm_slots.specs.Slots.{HoldsStore, content_of};
+ghost use Rattle.asm_slots.specs.Slots.{HoldsStore, content_of, HoldsNoStore};
+ghost use Rattle.asm_slots.specs.NextStore.{ContinuesInto, IsNextOf, LacksJournal};
 
-use asm_slots::Slot;
 use asm_slots::codes::{AGENTS, DONE, EMPTY, MEMORY, TAKEN};
-use asm_slots::opening::{clear, is_any_full, opened};
+use asm_slots::opening::{clear, is_any_full, next_of, opened};
 use asm_slots::take_and_put::{put_store, take_store};
+use asm_slots::{Content, Slot};
 use asm_storage::AGENTS_LIMIT;
 use std::alloc::Global;
 
@@ -152,4 +154,85 @@ pub extern "C" fn asm_free(alloc: Global, slot: &mut Slot)
     ensures { content_of slot.new ≡ None }
 {
     *slot = Slot::empty(alloc);
+}
+
+/// Open a storage in an empty slot that continues one that was closed.
+/// It has room for `capacity` moves, 1 to 1,048,576. Its opening state is the one that the moves of the retained
+/// journal leave; its agents start again, and numbers begin at 0. Keep no number of an earlier read: it is taken for
+/// one of this storage once so many moves were seen. The journals of both, one after the other, are one run; moves that
+/// were fired after `asm_close` are in neither. The first slot is unchanged; on error, both are.
+///
+/// # Errors
+/// - `ASM_TAKEN`: the second slot is full.
+/// - `ASM_EMPTY`: the first slot has no storage.
+/// - `ASM_NO_JOURNAL`: the storage wasn't closed since an agent was returned or checked out.
+/// - `ASM_CAPACITY`: the capacity isn't 1 to 1,048,576.
+/// - `ASM_MEMORY`: out of memory.
+#[unsafe(no_mangle)]
+pub extern "C" fn asm_next(alloc: Global, store: &mut Slot, capacity: u32, next: &mut Slot) -> i32
+    ensures codes { IsOneOf (ASM_DONE ∷ ASM_MEMORY ∷ ASM_EMPTY ∷ ASM_CAPACITY ∷ ASM_NO_JOURNAL ∷ ASM_TAKEN ∷ []) result }
+    ensures opened { result ≡ ASM_DONE → IsNextOf capacity (content_of store.old) (content_of next.new) }
+    ensures was_empty { result ≡ ASM_DONE → content_of next.old ≡ None }
+    ensures kept { content_of store.new ≡ content_of store.old }
+    ensures refused { result ≢ ASM_DONE → content_of next.new ≡ content_of next.old }
+    ensures range { result ≡ ASM_CAPACITY → IsNoCapacity capacity }
+    ensures none { result ≡ ASM_NO_JOURNAL → HoldsStore (content_of store.old) LacksJournal }
+    ensures empty { result ≡ ASM_EMPTY → HoldsNoStore (content_of store.old) }
+    ensures taken { result ≡ ASM_TAKEN → content_of next.old ≢ None }
+{
+    if next.is_full() {
+        return TAKEN;
+    }
+    let Some(held) = store.as_mut() else {
+        return EMPTY;
+    };
+    let Content::Store(kept) = held else {
+        return EMPTY;
+    };
+    match kept.next(alloc, capacity) {
+        Ok(made) => {
+            *next = Slot::holding(made);
+            DONE
+        }
+        Err(code) => code,
+    }
+}
+
+/// Open a storage in an empty slot that continues the agent's full one.
+/// It has room for `capacity` moves, 1 to 1,048,576. Its opening state is the agent's own state, if that is after all
+/// moves that the agent's storage has room for: that storage is full, and the agent has polled to its end
+/// (`asm_follow`, `asm_begin`).
+///
+/// No journal is needed, and no other agent waits: each may read on, be returned and be closed into the first storage's
+/// journal later. The journals of both storages, one after the other, are one run. Numbers begin at 0, as after
+/// `asm_next`. The agent's slot is unchanged; on error, the second is too.
+///
+/// # Errors
+/// The first of these that holds is returned.
+/// - `ASM_TAKEN`: the second slot is full.
+/// - `ASM_EMPTY`: the first slot has no agent.
+/// - `ASM_NOT_FULL`: the agent's own state is at fewer moves than its storage has room for.
+/// - `ASM_CAPACITY`: the capacity isn't 1 to 1,048,576.
+/// - `ASM_MEMORY`: out of memory.
+#[unsafe(no_mangle)]
+pub extern "C" fn asm_go_on(alloc: Global, agent: &mut Slot, capacity: u32, next: &mut Slot) -> i32
+    ensures continues { ContinuesInto capacity (content_of agent.old) (content_of next.old) (content_of next.new) result }
+    ensures kept { content_of agent.new ≡ content_of agent.old }
+{
+    if next.is_full() {
+        return TAKEN;
+    }
+    let Some(held) = agent.as_mut() else {
+        return EMPTY;
+    };
+    let Content::Agent(inner) = held else {
+        return EMPTY;
+    };
+    match next_of(alloc, inner, capacity) {
+        Ok(made) => {
+            *next = Slot::holding(made);
+            DONE
+        }
+        Err(code) => code,
+    }
 }

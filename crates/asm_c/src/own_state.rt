@@ -1,14 +1,20 @@
-//! An agent's own state, complete or with the locations of one function name alone.
-ghost use Rattle.std.specs.Prelude.{◌≡◌, ◌∷◌, [], IsUtf8};
-ghost use Rattle.asm_slots.specs.Codes.{IsOneOf, ASM_DONE, ASM_MEMORY, ASM_EMPTY, ASM_SMALL, ASM_SHAPE};
-ghost use Rattle.asm_slots.specs.OwnState.{IsOwnOfName, IsOwnState};
-ghost use Rattle.asm_slots.specs.Slots.{Holds, HoldsNoAgent, content_of};
-ghost use Rattle.asm_slots.specs.WrittenText.{TellsText};
+//! Polling, an agent's own state, values at prepared locations, and validating declared reads.
+ghost use Rattle.std.specs.Prelude.{◌≡◌, ◌∷◌, [], IsUtf8, ◌≢◌};
+ghost use Rattle.asm_slots.specs.Codes.{IsOneOf, ASM_DONE, ASM_MEMORY, ASM_EMPTY, ASM_SMALL, ASM_SHAPE, ASM_NOT_JSON};
+ghost use Rattle.asm_slots.specs.OwnState.{IsOwnOfName, IsOwnState, HasFollowed, HasPolledOn, IsPeekOf};
+ghost use Rattle.asm_slots.specs.Slots.{Holds, HoldsNoAgent, content_of, Changes};
+ghost use Rattle.asm_slots.specs.WrittenText.{WritesText};
+ghost use Rattle.asm_storage.specs.Storage.{IsSameAgent};
+ghost use Rattle.asm_explain.specs.Bytes.{AreLocations, IsNoJson, IsOtherJson};
+ghost use Rattle.asm_slots.specs.AgentCalls.{SeesOn};
+ghost use Rattle.asm_slots.specs.AgentAnswers.{Validates};
+ghost use Rattle.asm_slots.specs.StepAnswers.{GetsAt, PeeksAt};
 
-use asm_slots::codes::{MEMORY, copied};
-use asm_slots::own_state::{own_state, scanned};
-use asm_slots::take_and_put::agent_in;
-use asm_slots::{Slot, in_box};
+use asm_slots::codes::{DONE, EMPTY, MEMORY, copied};
+use asm_slots::own_state::{own_state, peek, peeked, scanned, validate_reads};
+use asm_slots::steps::get;
+use asm_slots::take_and_put::take_agent;
+use asm_slots::{Content, Slot, ValueHead, in_place};
 use std::alloc::{AllocError, Global};
 
 /// Write the agent's own state `[PAIR, ..]`, in ascending order of locations.
@@ -28,14 +34,20 @@ pub extern "C" fn asm_state(
 ) -> i32
     ensures codes { IsOneOf (ASM_DONE ∷ ASM_MEMORY ∷ ASM_EMPTY ∷ ASM_SMALL ∷ []) result }
     ensures kept { content_of agent.new ≡ content_of agent.old }
-    ensures text { TellsText (λ text. Holds (content_of agent.old) (λ a. IsOwnState a number.new text))
+    ensures text { WritesText (λ text. Holds (content_of agent.old) (λ a. IsOwnState a number.new text))
         out.old out.new written.new result }
     ensures empty { result ≡ ASM_EMPTY → HoldsNoAgent (content_of agent.old) }
     ensures no_number { IsOneOf (ASM_MEMORY ∷ ASM_EMPTY ∷ []) result → number.new ≡ 0 }
 {
     *number = 0;
     *written = 0;
-    match in_box!(alloc, agent, agent_in, inner => own_state(alloc, inner)) {
+    let Some(held) = agent.as_mut() else {
+        return EMPTY;
+    };
+    let Content::Agent(inner) = held else {
+        return EMPTY;
+    };
+    match own_state(alloc, inner) {
         Ok(stood) => {
             *number = stood.number;
             copied(stood.text.as_bytes(), out, written)
@@ -66,7 +78,7 @@ pub extern "C" fn asm_scan(
 ) -> i32
     ensures codes { IsOneOf (ASM_DONE ∷ ASM_MEMORY ∷ ASM_EMPTY ∷ ASM_SMALL ∷ ASM_SHAPE ∷ []) result }
     ensures kept { content_of agent.new ≡ content_of agent.old }
-    ensures text { TellsText (λ text. Holds (content_of agent.old) (λ a. IsOwnOfName name.now a number.new text))
+    ensures text { WritesText (λ text. Holds (content_of agent.old) (λ a. IsOwnOfName name.now a number.new text))
         out.old out.new written.new result }
     ensures shape { result ≡ ASM_SHAPE → ¬ IsUtf8 name.now }
     ensures empty { result ≡ ASM_EMPTY → HoldsNoAgent (content_of agent.old) }
@@ -74,11 +86,176 @@ pub extern "C" fn asm_scan(
 {
     *number = 0;
     *written = 0;
-    match in_box!(alloc, agent, agent_in, inner => scanned(alloc, inner, name)) {
+    let Some(held) = agent.as_mut() else {
+        return EMPTY;
+    };
+    let Content::Agent(inner) = held else {
+        return EMPTY;
+    };
+    match scanned(alloc, inner, name) {
         Ok(stood) => {
             *number = stood.number;
             copied(stood.text.as_bytes(), out, written)
         }
         Err(code) => code,
     }
+}
+
+/// Poll until no further move is found; the agent's own state follows.
+/// `number` is then how many moves the agent has seen. No receipt is added. Until the next call that polls or fires,
+/// its own state is at this number. On error, `number` is 0.
+///
+/// # Errors
+/// - `ASM_EMPTY`: the slot has no agent, and is unchanged.
+/// - `ASM_MEMORY`: out of memory; the agent may have seen more moves.
+#[unsafe(no_mangle)]
+pub extern "C" fn asm_follow(alloc: Global, agent: &mut Slot, number: &mut u32) -> i32
+    ensures codes { IsOneOf (ASM_DONE ∷ ASM_MEMORY ∷ ASM_EMPTY ∷ []) result }
+    ensures followed { result ≡ ASM_DONE →
+        Changes (content_of agent.old) (content_of agent.new) (HasFollowed number.new) }
+    ensures memory { result ≡ ASM_MEMORY → Changes (content_of agent.old) (content_of agent.new) HasPolledOn }
+    ensures same { result ≢ ASM_EMPTY → Changes (content_of agent.old) (content_of agent.new) IsSameAgent }
+    ensures seen { result ≢ ASM_EMPTY → Changes (content_of agent.old) (content_of agent.new) SeesOn }
+    ensures none { result ≢ ASM_DONE → number.new ≡ 0 }
+    ensures empty { result ≡ ASM_EMPTY → HoldsNoAgent (content_of agent.old) }
+    ensures kept { result ≡ ASM_EMPTY → content_of agent.new ≡ content_of agent.old }
+{
+    *number = 0;
+    match in_place!(agent, Agent, EMPTY, inner => inner.follow(alloc)) {
+        Ok(seen) => {
+            *number = seen;
+            DONE
+        }
+        Err(AllocError) => MEMORY,
+    }
+}
+
+/// Write the values of the locations `[LOC, ..]` in the agent's own state.
+/// There may be any number of them. The text is `{"number":N,"values":[VALUE, ..]}`, after N moves. The call doesn't
+/// poll and adds no receipt, and the slot is unchanged.
+///
+/// # Errors
+/// - `ASM_EMPTY`: the slot has no agent.
+/// - `ASM_SMALL`: `out` is too small, and `written` is the room that is needed.
+/// - `ASM_NOT_JSON`: `locations` isn't JSON.
+/// - `ASM_SHAPE`: `locations` is JSON of another shape, or beyond a limit.
+/// - `ASM_MEMORY`: out of memory.
+#[unsafe(no_mangle)]
+pub extern "C" fn asm_peek(
+    alloc: Global,
+    agent: &mut Slot,
+    locations: &[u8],
+    out: &mut [u8],
+    written: &mut usize,
+) -> i32
+    ensures codes { IsOneOf (ASM_DONE ∷ ASM_MEMORY ∷ ASM_EMPTY ∷ ASM_SMALL ∷ ASM_NOT_JSON ∷ ASM_SHAPE ∷ []) result }
+    ensures kept { content_of agent.new ≡ content_of agent.old }
+    ensures text { WritesText (λ text. Holds (content_of agent.old) (λ a. IsPeekOf locations.now a text))
+        out.old out.new written.new result }
+    ensures not_json { result ≡ ASM_NOT_JSON → IsNoJson locations.now }
+    ensures shape { result ≡ ASM_SHAPE → IsOtherJson AreLocations locations.now }
+    ensures empty { result ≡ ASM_EMPTY → HoldsNoAgent (content_of agent.old) }
+{
+    *written = 0;
+    let Some(held) = agent.as_mut() else {
+        return EMPTY;
+    };
+    let Content::Agent(inner) = held else {
+        return EMPTY;
+    };
+    match peeked(alloc, inner, locations) {
+        Ok(text) => copied(text.as_bytes(), out, written),
+        Err(code) => code,
+    }
+}
+
+/// Validate the declared reads `[NAMED, ..]`, at most 256, after polling.
+/// The agent polls until no further move is found, and its own state follows. No receipt is added. These codes are
+/// answers:
+/// - `ASM_DONE`: none of the locations was written since the number under which it is named.
+/// - `ASM_STALE`: one was, and `{"stale":LOC}` with the smallest such location is written.
+///
+/// A fire that declares the same reads may still be refused, by a move that comes in between.
+///
+/// # Errors
+/// - `ASM_SMALL`: `out` is too small for the text, and `written` is the room that is needed.
+/// - `ASM_EMPTY`: the slot has no agent.
+/// - `ASM_NOT_JSON`: `reads` isn't JSON.
+/// - `ASM_SHAPE`: `reads` is JSON of another shape, or beyond a limit.
+/// - `ASM_AHEAD`: a read has a number above that of the moves that the agent has seen, so it can't be judged.
+/// - `ASM_MANY`: there are more than 256 reads. `ASM_AHEAD` comes before it.
+/// - `ASM_MEMORY`: out of memory; the agent may have seen more moves.
+///
+/// After `ASM_EMPTY`, `ASM_NOT_JSON`, `ASM_SHAPE`, `ASM_AHEAD` and `ASM_MANY` the slot is unchanged.
+#[unsafe(no_mangle)]
+pub extern "C" fn asm_stands(
+    alloc: Global,
+    agent: &mut Slot,
+    reads: &[u8],
+    out: &mut [u8],
+    written: &mut usize,
+) -> i32
+    ensures { Validates reads.now (content_of agent.old) (content_of agent.new) out.old out.new written.new result }
+{
+    *written = 0;
+    match take_agent(alloc, agent) {
+        Some((shell, inner)) => validate_reads(alloc, agent, shell, inner, reads, out, written),
+        None => EMPTY,
+    }
+}
+
+/// Return the value at a prepared location in the agent's own state.
+/// The state is the one after `number` moves. The bytes of a text, and the JSON of a list, a set or a bag, are written
+/// to `out`. The call doesn't poll and adds no receipt, and both slots are unchanged. On error, `number` and `value`
+/// are 0.
+///
+/// # Errors
+/// - `ASM_SMALL`: `out` is too small, and `written` is the room that the bytes need.
+/// - `ASM_EMPTY`: the first slot has no agent, the second no location, or the two are one.
+/// - `ASM_MEMORY`: out of memory.
+#[unsafe(no_mangle)]
+pub extern "C" fn asm_peek_at(
+    alloc: Global,
+    agent: &mut Slot,
+    at: &mut Slot,
+    number: &mut u32,
+    value: &mut ValueHead,
+    out: &mut [u8],
+    written: &mut usize,
+) -> i32
+    ensures peeks { PeeksAt (content_of at.old) (content_of agent.old) number.new value.new out.old out.new written.new result }
+    ensures kept { content_of agent.new ≡ content_of agent.old }
+    ensures stays { content_of at.new ≡ content_of at.old }
+{
+    peek(alloc, agent, at, number, value, out, written)
+}
+
+/// Return what is seen through the pushed moves at a prepared location.
+/// The bytes of a text, and the JSON of a list, a set or a bag, are written to `out`. The location is tracked as by
+/// `asm_get`, and the commit names it, unless pushed moves put what is seen there. The call doesn't poll and adds no
+/// receipt, and the slots of the agent and the location are unchanged. On error, the step's slot is unchanged too, and
+/// `value` is 0. The step must be one of the agent's storage.
+///
+/// # Errors
+/// - `ASM_MOVED`: the agent's own state isn't at the step's number.
+/// - `ASM_MANY`: 256 places are taken, by other tracked locations and by scanned functions.
+/// - `ASM_SMALL`: `out` is too small, and `written` is the room that the bytes need.
+/// - `ASM_EMPTY`: the first slot has no agent, the second no step, the third no location, or two of them are one.
+/// - `ASM_MEMORY`: out of memory.
+#[unsafe(no_mangle)]
+pub extern "C" fn asm_get_at(
+    alloc: Global,
+    agent: &mut Slot,
+    step: &mut Slot,
+    at: &mut Slot,
+    value: &mut ValueHead,
+    out: &mut [u8],
+    written: &mut usize,
+) -> i32
+    ensures gets { GetsAt (content_of at.old) (content_of agent.old) (content_of step.old) (content_of step.new)
+        value.new out.old out.new written.new result }
+    ensures kept { content_of agent.new ≡ content_of agent.old }
+    ensures held { content_of at.new ≡ content_of at.old }
+{
+    get(alloc, agent, step, at, value, out, written)
 }

@@ -1,20 +1,19 @@
 //! Beginning a step, what is seen through its pushed moves, and popping the last of them.
 ghost use Rattle.std.specs.Prelude.{◌≡◌, ◌≢◌, ◌↔◌, ◌∷◌, [], Ok, length};
-ghost use Rattle.asm_slots.specs.Codes.{IsOneOf, ASM_CLASH, ASM_DONE, ASM_EMPTY, ASM_LARGE, ASM_MANY};
-ghost use Rattle.asm_slots.specs.Codes.{ASM_LONG_MOVE, ASM_MEMORY, ASM_NO_PUSH, ASM_TAKEN};
-ghost use Rattle.asm_slots.specs.GetByText.{Gets, Sees};
-ghost use Rattle.asm_slots.specs.Looks.{Begins};
+ghost use Rattle.asm_slots.specs.Codes.{IsOneOf, ASM_CLASH, ASM_DONE, ASM_EMPTY, ASM_LARGE, ASM_MANY, ASM_LONG_MOVE};
+ghost use Rattle.asm_slots.specs.Codes.{ASM_MEMORY, ASM_NO_PUSH, ASM_TAKEN};
+ghost use Rattle.asm_slots.specs.StepAnswers.{Gets, Sees, GetsAll};
+ghost use Rattle.asm_slots.specs.AgentAnswers.{Begins};
 ghost use Rattle.asm_slots.specs.Popping.{IsComposedLast, IsNotPoppedLast};
-ghost use Rattle.asm_slots.specs.Slots.{GoesStep, HasRoomForMove, HoldsMove, HoldsNoStep, HoldsStep, IfHoldsStep};
-ghost use Rattle.asm_slots.specs.Slots.{content_of};
+ghost use Rattle.asm_slots.specs.Slots.{ChangesStep, HasRoomForMove, HoldsMove, HoldsNoStep, HoldsStep, IfHoldsStep, content_of};
 ghost use Rattle.asm_slots.specs.StepCalls.{HasPoppedOver, WouldTakeMany};
-ghost use Rattle.asm_slots.specs.Tracked.{judged_last, dependencies_last};
+ghost use Rattle.asm_slots.specs.Tracked.{last_partial_places, dependencies_last};
 
 use asm_slots::codes::{DONE, EMPTY, MEMORY, TAKEN};
+use asm_slots::getting_all::get_all_in;
 use asm_slots::popping::{has_room_for_move, pop_in, pop_into};
-use asm_slots::steps::{get_in, has_room, put_begun, see_in};
-use asm_slots::take_and_put::{put_shell, take_shell};
-use asm_slots::{Content, Slot, in_agent, in_both};
+use asm_slots::steps::{get_in, has_room, open_step, see_in};
+use asm_slots::{Content, Slot, in_place};
 use std::alloc::{AllocError, Global};
 
 /// Begin a step of the agent in a slot that is empty or holds a step.
@@ -37,13 +36,13 @@ pub extern "C" fn asm_begin(
         number.new result }
 {
     *number = 0;
-    if !has_room(alloc, step) {
+    if !has_room(step) {
         return TAKEN;
     }
-    let Ok(seen) = in_agent!(alloc, agent, inner => inner.follow(alloc)) else {
+    let Ok(seen) = in_place!(agent, Agent, EMPTY, inner => inner.follow(alloc)) else {
         return MEMORY;
     };
-    match put_begun(alloc, step, seen) {
+    match open_step(alloc, step, seen) {
         Ok(()) => {
             *number = seen;
             DONE
@@ -59,15 +58,7 @@ pub extern "C" fn asm_depth(alloc: Global, step: &mut Slot) -> u32
     ensures value { IfHoldsStep (content_of step.old) (λ s. result ≡ length s.layers) }
     ensures none { HoldsNoStep (content_of step.old) → result ≡ 0 }
 {
-    let Some(shell) = take_shell(alloc, step) else {
-        return 0;
-    };
-    let depth = match &*shell {
-        Content::Step(taken) => taken.depth(),
-        _ => 0,
-    };
-    put_shell(step, shell);
-    depth
+    in_place!(step, Step, 0, taken => taken.depth())
 }
 
 /// Write what is seen through the pushed moves at the locations `[LOC, ..]`.
@@ -100,7 +91,19 @@ pub extern "C" fn asm_get(
     ensures kept { content_of agent.new ≡ content_of agent.old }
 {
     *written = 0;
-    in_both!(alloc, agent, step => get_in(alloc, agent, step, locations, out, written))
+    let Some(held) = agent.as_mut() else {
+        return EMPTY;
+    };
+    let Content::Agent(agent) = held else {
+        return EMPTY;
+    };
+    let Some(held) = step.as_mut() else {
+        return EMPTY;
+    };
+    let Content::Step(step) = held else {
+        return EMPTY;
+    };
+    get_in(alloc, agent, step, locations, out, written)
 }
 
 /// Write what `asm_get` writes, and track nothing.
@@ -123,7 +126,7 @@ pub extern "C" fn asm_see(
     ensures held { content_of step.new ≡ content_of step.old }
 {
     *written = 0;
-    in_both!(alloc, agent, step => see_in(alloc, agent, step, locations, out, written))
+    in_place!(agent, Agent, EMPTY, agent => in_place!(step, Step, EMPTY, step => see_in(alloc, agent, step, locations, out, written)))
 }
 
 /// Take away the move that was pushed last, with those that extended it.
@@ -139,21 +142,13 @@ pub extern "C" fn asm_see(
 pub extern "C" fn asm_pop(alloc: Global, step: &mut Slot) -> i32
     ensures codes { IsOneOf (ASM_DONE ∷ ASM_MEMORY ∷ ASM_EMPTY ∷ ASM_MANY ∷ ASM_NO_PUSH ∷ []) result }
     ensures popped { result ≡ ASM_DONE →
-        GoesStep (content_of step.old) (content_of step.new) (λ s. HasPoppedOver (judged_last s) s) }
+        ChangesStep (content_of step.old) (content_of step.new) (λ s. HasPoppedOver (last_partial_places s) s) }
     ensures none { result ≡ ASM_NO_PUSH → HoldsStep (content_of step.old) (λ s. s.layers ≡ []) }
-    ensures many { result ≡ ASM_MANY → HoldsStep (content_of step.old) (λ s. WouldTakeMany (judged_last s) s) }
+    ensures many { result ≡ ASM_MANY → HoldsStep (content_of step.old) (λ s. WouldTakeMany (last_partial_places s) s) }
     ensures empty { result ≡ ASM_EMPTY → HoldsNoStep (content_of step.old) }
     ensures kept { result ≢ ASM_DONE → content_of step.new ≡ content_of step.old }
 {
-    let Some(mut shell) = take_shell(alloc, step) else {
-        return EMPTY;
-    };
-    let code = match &mut *shell {
-        Content::Step(taken) => pop_in(alloc, taken),
-        _ => EMPTY,
-    };
-    put_shell(step, shell);
-    code
+    in_place!(step, Step, EMPTY, taken => pop_in(alloc, taken))
 }
 
 /// Take away the last pushed move as `asm_pop` does, and put it into a slot.
@@ -178,7 +173,7 @@ pub extern "C" fn asm_pop_move(alloc: Global, step: &mut Slot, instrs: &mut Slot
     ensures codes { IsOneOf (ASM_DONE ∷ ASM_CLASH ∷ ASM_MEMORY ∷ ASM_EMPTY ∷ ASM_MANY ∷ ASM_TAKEN ∷ ASM_LARGE ∷ ASM_NO_PUSH
         ∷ ASM_LONG_MOVE ∷ []) result }
     ensures popped { result ≡ ASM_DONE →
-        GoesStep (content_of step.old) (content_of step.new) (λ s. HasPoppedOver (dependencies_last s) s) }
+        ChangesStep (content_of step.old) (content_of step.new) (λ s. HasPoppedOver (dependencies_last s) s) }
     ensures done { result ≡ ASM_DONE →
         HoldsStep (content_of step.old) (λ s. HoldsMove (content_of instrs.new) (λ M. IsComposedLast s (Ok M))) }
     ensures taken { (result ≡ ASM_TAKEN) ↔ ¬ HasRoomForMove (content_of instrs.old) }
@@ -189,16 +184,50 @@ pub extern "C" fn asm_pop_move(alloc: Global, step: &mut Slot, instrs: &mut Slot
     ensures kept { result ≢ ASM_DONE → content_of step.new ≡ content_of step.old }
     ensures held { result ≢ ASM_DONE → content_of instrs.new ≡ content_of instrs.old }
 {
-    if !has_room_for_move(alloc, instrs) {
+    if !has_room_for_move(instrs) {
         return TAKEN;
     }
-    let Some(mut shell) = take_shell(alloc, step) else {
+    in_place!(step, Step, EMPTY, taken => pop_into(alloc, taken, instrs))
+}
+
+/// Write what is seen through the pushed moves at all locations of a function.
+/// The text is `[PAIR, ..]`, in ascending order of locations, any number of them. The function name is passed in UTF-8
+/// without quotes. The function is scanned, also if no location is found: the step depends on all its locations as they
+/// were at the step's number, those that have a value and those that have none. A pop leaves it scanned.
+///
+/// The call doesn't poll and adds no receipt, and the agent's slot is unchanged. On error, the step's slot is unchanged
+/// too. The step must be one of the agent's storage.
+///
+/// # Errors
+/// - `ASM_MANY`: the function isn't scanned yet, and 256 places are taken, one by each tracked location and one by each
+///   scanned function.
+/// - `ASM_SHAPE`: the name isn't UTF-8.
+/// - `ASM_MOVED`, `ASM_SMALL`, `ASM_EMPTY`, `ASM_MEMORY`: as of `asm_get`.
+#[unsafe(no_mangle)]
+pub extern "C" fn asm_step_scan(
+    alloc: Global,
+    agent: &mut Slot,
+    step: &mut Slot,
+    name: &[u8],
+    out: &mut [u8],
+    written: &mut usize,
+) -> i32
+    ensures gets { GetsAll name.now (content_of agent.old) (content_of step.old) (content_of step.new)
+        out.old out.new written.new result }
+    ensures kept { content_of agent.new ≡ content_of agent.old }
+{
+    *written = 0;
+    let Some(held) = agent.as_mut() else {
         return EMPTY;
     };
-    let code = match &mut *shell {
-        Content::Step(taken) => pop_into(alloc, taken, instrs),
-        _ => EMPTY,
+    let Content::Agent(agent) = held else {
+        return EMPTY;
     };
-    put_shell(step, shell);
-    code
+    let Some(held) = step.as_mut() else {
+        return EMPTY;
+    };
+    let Content::Step(step) = held else {
+        return EMPTY;
+    };
+    get_all_in(alloc, agent, step, name, out, written)
 }

@@ -55,13 +55,13 @@ above_from (p ∷ parts) zero id rises first =
 above_from (p ∷ parts) (suc at) id rises first = above_from parts at id (rises_tail p.id (map (λ q. q.id) parts) rises) first
 
 -- the item at a place
-pub got : {X : Type 0} (xs : List X) (k : ℕ) (x : X) → k < length xs → x ≡ get_or xs k x → slice_get xs k ≡ Some x
-got xs k x lt e = slice_get-get_or xs k x lt ∙ ap Some (sym e)
+pub tracked : {X : Type 0} (xs : List X) (k : ℕ) (x : X) → k < length xs → x ≡ get_or xs k x → slice_get xs k ≡ Some x
+tracked xs k x lt e = slice_get-get_or xs k x lt ∙ ap Some (sym e)
 
 -- the same, if the part at that place is known
 pub above_at : (parts : List AgentPart) (at id : ℕ) (p : AgentPart) → IsStrictlyIncreasing (map (λ q. q.id) parts) → at < length parts → p ≡ get_or parts at p → ((q : AgentPart) → slice_get parts at ≡ Some q → id ≤ q.id) → ¬ (p.id ≡ id) → All (λ q. id < q.id) (drop at parts)
 above_at parts at id p rises lt is next ne =
-    let here = got parts at p lt is in
+    let here = tracked parts at p lt is in
     let above : id < p.id = omega (arith, next p here, ne) in
     above_from parts at id rises (λ q e. omega (arith, above, ap (λ (r : AgentPart). r.id) (same_Some q p (sym e ∙ here))))
 

@@ -40,8 +40,8 @@ use Rattle.asm_storage.specs.declared.entry.Entry.{Entry}
 use Rattle.asm_storage.specs.Scans.{with_found, IsKept}
 use Rattle.asm_slots.specs.AgentCalls.{HasPolled, IsRepliedOver, code_of}
 use Rattle.asm_slots.specs.Codes.{IsOneOf, ASM_DONE, ASM_STALE, ASM_CLASH, ASM_MEMORY, ASM_FULL, ASM_BUSY, ASM_MANY}
-use Rattle.asm_slots.specs.Commit.{AreWhole, FiresAll, GotStands, HasFiredStep, HasMoved, HasRecorded, HasRecordedStep}
-use Rattle.asm_slots.specs.Commit.{NamesAll, NamesMany, OneDoesAll, ScansAll, StandsAs, TellsFire}
+use Rattle.asm_slots.specs.Commit.{AreWhole, FiresAll, SeenIsLeft, HasFiredStep, HasMoved, HasRecorded, HasRecordedStep}
+use Rattle.asm_slots.specs.Commit.{NamesAll, NamesMany, OneDoesAll, ScansAll, IsMoveOf, ReportsFire}
 use Rattle.asm_slots.specs.OwnState.{state_at}
 use Rattle.asm_slots.specs.Standard.{Standard, meaning, part, standard}
 use Rattle.asm_slots.specs.StepView.{StepView, names_of}
@@ -115,9 +115,9 @@ module _ (a new : AgentAt Standard) (s : StepView) (reads : List Named) (scans :
   before_is = ap (λ (q : List Move). val (state_of part new.storage.init q)) (take_twice (k - 1) new.account.seen)
 
   -- in the state before the fired move, a declared location has what it had below the step
-  stands_at : s.number ≤ length a.account.seen → (l : Place) → Contains (map (λ r. r.at) reads) l →
+  validate_reads : s.number ≤ length a.account.seen → (l : Place) → Contains (map (λ r. r.at) reads) l →
       val (state_at new (k - 1)) l ≡ below a s l
-  stands_at le l named =
+  validate_reads le l named =
       let stand = named_stand after s.number (k - 1) reads (within le) names.numbers coherent in
       let here : after s.number l ≡ after (k - 1) l =
       All-contains (λ l. after s.number l ≡ after (k - 1) l) (map (λ r. r.at) reads) l stand named in
@@ -142,17 +142,17 @@ module _ (a new : AgentAt Standard) (s : StepView) (reads : List Named) (scans :
       All-contains IsWhole s.scanned name (subst (All IsWhole) scanned.names (scans_whole le)) has l named
 
   -- so have tracked locations and those of scanned functions
-  rested_stands : s.number ≤ length a.account.seen → (l : Place) → Contains s.got l ⊎ IsOfScanned l s →
+  dependent_is_left : s.number ≤ length a.account.seen → (l : Place) → Contains s.tracked l ⊎ IsOfScanned l s →
       val (state_at new (k - 1)) l ≡ below a s l
-  rested_stands le l rested =
-      ⊎_elim (λ has. stands_at le l ((names.locations.same l).1 (Contains-append_left s.got (dependencies_of s.layers) l has)))
-      (λ has. whole le l has) rested
+  dependent_is_left le l dependent =
+      ⊎_elim (λ has. validate_reads le l ((names.locations.same l).1 (Contains-append_left s.tracked (dependencies_of s.layers) l has)))
+      (λ has. whole le l has) dependent
 
   agrees : (groups : List (List Move)) → IsStepOn a s groups →
       AgreesAtDependencies (state_at new (k - 1)) (below a s) (all_moves groups)
-  agrees groups is l rested =
-      stands_at is.0 l ((names.locations.same l).1 (Contains-append_right s.got (dependencies_of s.layers) l
-      (((dependencies_those part (below a s) s.layers groups is.1).same l).1 rested)))
+  agrees groups is l dependent =
+      validate_reads is.0 l ((names.locations.same l).1 (Contains-append_right s.tracked (dependencies_of s.layers) l
+      (((dependencies_those part (below a s) s.layers groups is.1).same l).1 dependent)))
 
   -- the fired move leaves a state there
   fired_there : (D : State) × (fire part (state_at new (k - 1)) M ≡ Ok D)
@@ -165,7 +165,7 @@ module _ (a new : AgentAt Standard) (s : StepView) (reads : List Named) (scans :
           ap (λ (q : List Move). state_of part new.storage.init q) (sym (take_all_seen (k - 1) new.account.seen))
           ∙ ap (λ (t : StorageView Standard). state_of part t.init moves) same_storage
 
-  pub fires_all : StandsAs s.layers M → FiresAll a s M k new
+  pub fires_all : IsMoveOf s.layers M → FiresAll a s M k new
   fires_all stands groups is proper =
       let one = fired_there in
       let same = stands standard (below a s) groups (state_at new (k - 1)) standard_laws is.1 proper (agrees groups is) in (
@@ -175,10 +175,10 @@ module _ (a new : AgentAt Standard) (s : StepView) (reads : List Named) (scans :
             (sym same ∙ ap left_by one.1),
       )
 
-  pub got_stands : s.number ≤ length a.account.seen → GotStands a s k new
-  got_stands le then groups l D is same fired named =
+  pub seen_is_left : s.number ≤ length a.account.seen → SeenIsLeft a s k new
+  seen_is_left le then groups l D is same fired named =
       reported_stands standard_laws (below a then) then.layers groups is.1 (state_at new (k - 1)) D l
-      (λ sees. rested_stands le l (named (sees_there part (below a then) then.layers groups is.1 l ∙ sees))
+      (λ sees. dependent_is_left le l (named (sees_there part (below a then) then.layers groups is.1 l ∙ sees))
       ∙ ap (λ n. val (state_at a n) l) (sym same)) fired
 
 -- the scans of a step's box, which are borrowed as a slice
@@ -196,11 +196,11 @@ module _ (a new : AgentAt Standard) (s : StepView) (reads : List Named) (scans :
   coherent : IsCoherentReply meaning new reads M (Fired k)
   coherent = subst (λ o. IsCoherentReply meaning new (with_found reads o) M (Fired k)) over.depends.0 over.coherent
 
-  pub over_fires_all : StandsAs s.layers M → FiresAll a s M k new
+  pub over_fires_all : IsMoveOf s.layers M → FiresAll a s M k new
   over_fires_all = fires_all a new s reads scans M k names scanned replied coherent over.depends.1
 
-  pub over_got_stands : s.number ≤ length a.account.seen → GotStands a s k new
-  over_got_stands = got_stands a new s reads scans M k names scanned replied coherent over.depends.1
+  pub over_seen_is_left : s.number ≤ length a.account.seen → SeenIsLeft a s k new
+  over_seen_is_left = seen_is_left a new s reads scans M k names scanned replied coherent over.depends.1
 
   pub over_whole : s.number ≤ length a.account.seen → AreWhole a s k new
   over_whole = whole a new s reads scans M k names scanned replied coherent over.depends.1
@@ -208,7 +208,7 @@ module _ (a new : AgentAt Standard) (s : StepView) (reads : List Named) (scans :
 -- the answer to the fire of a step's one move
 pub step_fired : (s : StepView) (code : ℤ) (fired from to : ℕ) (a new : AgentAt Standard) (reads : List Named)
     (scans : List Scanned) (M : Move) (answer : Result Reply FireError) → NamesAll s reads → ScansAll s scans →
-    M ≡ unwrap_or (one_move s.layers) [] → StandsAs s.layers M → TellsFire answer code fired from to →
+    M ≡ unwrap_or (one_move s.layers) [] → IsMoveOf s.layers M → ReportsFire answer code fired from to →
     (IsErrOf answer ManyReads ↔ (reads_limit < length reads + length scans)) →
     IfOk answer (IsRepliedOver a new reads scans M) → OnErr answer (HasPolled a new) → IfErr answer (IsBusy a new) →
     ((n : ℕ) × MadeOffers a new answer n) → HasFiredStep s code fired from to a new
@@ -226,7 +226,7 @@ step_fired s code fired from to a new reads scans M answer names scanned one fir
   offers = offers;
   fires = λ k is. subst (λ (x : Move). FiresAll a s x k new) one
       (over_fires_all a new s reads scans M k names scanned (over k is) fires);
-  got = λ k le is. over_got_stands a new s reads scans M k names scanned (over k is) le;
+  tracked = λ k le is. over_seen_is_left a new s reads scans M k names scanned (over k is) le;
   whole = λ k le is. over_whole a new s reads scans M k names scanned (over k is) le;
 } where
   over : (k : ℕ) → answer ≡ Ok (Fired k) → IsRepliedOver a new reads scans M (Fired k)
@@ -239,7 +239,7 @@ reply_not_many (Stale l) e = cc
 reply_not_many (Clash c) e = cc
 reply_not_many Full e = cc
 
-many_reported : (answer : Result Reply FireError) (code : ℤ) (fired from to : ℕ) → TellsFire answer code fired from to →
+many_reported : (answer : Result Reply FireError) (code : ℤ) (fired from to : ℕ) → ReportsFire answer code fired from to →
     code ≡ ASM_MANY → IsErrOf answer ManyReads
 many_reported (Ok r) code fired from to reported is = absurd (reply_not_many r (sym reported.0 ∙ is))
 many_reported (Err ManyReads) code fired from to reported is = refl
@@ -248,7 +248,7 @@ many_reported (Err Memory) code fired from to reported is = absurd (let e = sym 
 
 -- only a fire that declares too many reads is answered so
 pub many_named : (s : StepView) (answer : Result Reply FireError) (code : ℤ) (fired from to : ℕ) (reads : List Named) (scans : List Scanned) →
-    ScansAll s scans → TellsFire answer code fired from to →
+    ScansAll s scans → ReportsFire answer code fired from to →
     (IsErrOf answer ManyReads ↔ (reads_limit < length reads + length scans)) → code ≡ ASM_MANY → NamesMany s reads
 many_named s answer code fired from to reads scans scanned reported many is =
     let more = many.0 (many_reported answer code fired from to reported is) in

@@ -2,7 +2,7 @@
 use Rattle.std.proofs.Common.{◌≡◌, ◌∙◌, ℕ, ℤ, List, [], ◌∷◌, length, inl, inr, refl, sym, subst, w32, of_z, to_z}
 use Rattle.std.specs.Prelude.{slice_range}
 use Rattle.asm_slots.specs.Codes.{IsOneOf, ASM_DONE, ASM_SMALL}
-use Rattle.asm_slots.specs.WrittenText.{IsTextTooLong, IsTextWritten, Tells, TellsOneOf, TellsText}
+use Rattle.asm_slots.specs.WrittenText.{IsTextTooLong, IsTextWritten, Writes, WritesOneOf, WritesText}
 
 -- the code as an i32
 pub coded : (code : ℤ) → IsOneOf (ASM_DONE ∷ ASM_SMALL ∷ []) code → to_z w32 (of_z w32 code) ≡ code
@@ -14,7 +14,7 @@ module _ (first : List ℤ) (P Q : ℤ → List ℕ → Type 0) (out after : Lis
     (kinds : (c : ℤ) (text : List ℕ) → P c text → Q c text) where
   -- texts of one kind are texts of another
   pub reports_too : (K L : List ℕ → Type 0) → ((text : List ℕ) → K text → L text) →
-      Tells first P K out after written code → Tells first Q L out after written code
+      Writes first P K out after written code → Writes first Q L out after written code
   reports_too K L longs reported = record {
     reported = λ one. by_written (reported.reported one);
     small = λ small. by_long (reported.small small);
@@ -28,17 +28,17 @@ module _ (first : List ℤ) (P Q : ℤ → List ℕ → Type 0) (out after : Lis
     by_long (text, is, same, less) = (text, longs text is, same, less)
 
   -- the same, if the kind is that for the code
-  pub reports_one_too : TellsOneOf first P out after written code → TellsOneOf first Q out after written code
+  pub reports_one_too : WritesOneOf first P out after written code → WritesOneOf first Q out after written code
   reports_one_too = reports_too (λ text. (c : ℤ) × P c text) (λ text. (c : ℤ) × Q c text) by_code where
     by_code : (text : List ℕ) → ((c : ℤ) × P c text) → (c : ℤ) × Q c text
     by_code text (c, is) = (c, kinds c text is)
 
 -- if these bytes are written, a text of a kind that they are of is written; the code as an i32
 pub repeated : (IsText : List ℕ → Type 0) (bytes text out after : List ℕ) (written : ℕ) (code : ℤ) → bytes ≡ text → IsText text →
-    IsOneOf (ASM_DONE ∷ ASM_SMALL ∷ []) code → TellsText (λ t. t ≡ bytes) out after written code →
-    TellsText IsText out after written (to_z w32 (of_z w32 code))
+    IsOneOf (ASM_DONE ∷ ASM_SMALL ∷ []) code → WritesText (λ t. t ≡ bytes) out after written code →
+    WritesText IsText out after written (to_z w32 (of_z w32 code))
 repeated IsText bytes text out after written code same is codes reported =
-    subst (TellsText IsText out after written) (sym (coded code codes))
+    subst (WritesText IsText out after written) (sym (coded code codes))
     (reports_too (ASM_DONE ∷ []) (λ c t. t ≡ bytes) (λ c. IsText) out after written code (λ c. kind)
     (λ t. t ≡ bytes) IsText kind reported)
   where
@@ -48,7 +48,7 @@ repeated IsText bytes text out after written code same is codes reported =
 -- if these bytes are written with a code that is one of the first, a text of the kind for that code is written
 pub reported_by : (first : List ℤ) (P : ℤ → List ℕ → Type 0) (c : ℤ) (bytes out after : List ℕ) (written : ℕ) (code : ℤ) →
     IsOneOf first c → ¬ IsOneOf first ASM_SMALL → P c bytes → IsOneOf (c ∷ ASM_SMALL ∷ []) code →
-    Tells (c ∷ []) (λ k t. t ≡ bytes) (λ t. t ≡ bytes) out after written code → TellsOneOf first P out after written code
+    Writes (c ∷ []) (λ k t. t ≡ bytes) (λ t. t ≡ bytes) out after written code → WritesOneOf first P out after written code
 reported_by first P c bytes out after written code among other is codes reported = record {
   reported = λ one. by_code one codes;
   small = λ small. by_long (reported.small small);

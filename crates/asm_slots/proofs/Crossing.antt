@@ -16,7 +16,7 @@ use Rattle.asm_storage.specs.contracts.storage.Storage as Storage
 use Rattle.asm_storage.specs.contracts.storage.Storage.TheInside as InsideStorage
 use Rattle.asm_audit.specs.contracts.auditor.Auditor as Auditor
 use Rattle.asm_audit.specs.contracts.byte_auditor.ByteAuditor as ByteAuditor
-use Rattle.asm_audit.specs.contracts.opened.Opened as Opened
+use Rattle.asm_audit.specs.contracts.part_auditor.PartAuditor as PartAuditor
 use Rattle.asm_audit.specs.contracts.progress.Progress as Progress
 use Rattle.asm_element.proofs.Crossing.{location_is_sent}
 use Rattle.asm_state.proofs.Crossing as states
@@ -25,8 +25,8 @@ use Rattle.asm_step.proofs.Crossing.{step_is_sent}
 use Rattle.asm_slots.specs.contracts.audit.Audit as Audit
 use Rattle.asm_slots.specs.contracts.audit.Audit.TheInside as InsideAudit
 use Rattle.asm_slots.specs.contracts.content.Content as Content
-use Rattle.asm_slots.specs.contracts.kept_journal.KeptJournal as KeptJournal
-use Rattle.asm_slots.specs.contracts.kept_journal.KeptJournal.TheInside as InsideJournal
+use Rattle.asm_slots.specs.contracts.closed_journal.ClosedJournal as ClosedJournal
+use Rattle.asm_slots.specs.contracts.closed_journal.ClosedJournal.TheInside as InsideJournal
 use Rattle.asm_slots.specs.contracts.owned_agent.OwnedAgent as OwnedAgent
 use Rattle.asm_slots.specs.contracts.owned_agent.OwnedAgent.TheInside as InsideAgent
 use Rattle.asm_slots.specs.contracts.owned_step.OwnedStep as OwnedStep
@@ -69,7 +69,7 @@ agent_is_sent = search (sendable, inside_agent_is_sent) depth 20
 inside_journal_is_sent : IsSend InsideJournal.the_row
 inside_journal_is_sent = search (sendable, Arc-send, Vec-send, state_is_sent, state_is_shared) depth 20
 
-journal_is_sent : IsSend KeptJournal.the_row
+journal_is_sent : IsSend ClosedJournal.the_row
 journal_is_sent = search (sendable, inside_journal_is_sent) depth 20
 
 inside_store_is_sent : IsSend InsideStore.the_row
@@ -87,11 +87,11 @@ inside_step_is_sent = search (sendable, Vec-send, step_is_sent, location_is_sent
 owned_step_is_sent : IsSend OwnedStep.the_row
 owned_step_is_sent = search (sendable, inside_step_is_sent) depth 20
 
-opened_is_sent : IsSend Opened.the_row
-opened_is_sent = search (sendable, states.state_is_sent) depth 20
+part_auditor_is_sent : IsSend PartAuditor.the_row
+part_auditor_is_sent = search (sendable, states.state_is_sent) depth 20
 
 progress_is_sent : IsSend Progress.the_row
-progress_is_sent = search (sendable, opened_is_sent) depth 20
+progress_is_sent = search (sendable, part_auditor_is_sent) depth 20
 
 auditor_is_sent : IsSend (Auditor.the_row standard)
 auditor_is_sent =

@@ -17,14 +17,14 @@ use Rattle.asm_element.specs.Place.{Place}
 use Rattle.asm_step.specs.Places.{AreEach}
 use Rattle.asm_storage.specs.Limits.{reads_limit}
 use Rattle.asm_slots.specs.Codes.{IsOneOf, ASM_SMALL}
-use Rattle.asm_slots.specs.WrittenText.{TellsOneOf}
-use Rattle.asm_slots.specs.StepPush.{refusals}
+use Rattle.asm_slots.specs.WrittenText.{WritesOneOf}
+use Rattle.asm_slots.specs.StepAnswers.{refusals}
 use Rattle.asm_slots.specs.OwnState.{state_at}
 use Rattle.asm_slots.specs.Standard.{Standard, standard, part}
 use Rattle.asm_slots.specs.StepView.{StepView}
-use Rattle.asm_slots.specs.StepCalls.{AreLastOf, HasGotEach, HasPopped, HasReached, IsPushAnswerBelow, IsGrown, IsLayered, IsNotGrown, IsPushError, IsRefused, TellsTracked, below, from_below, grown}
-use Rattle.asm_slots.specs.declared.owned_step.Way.{Way}
-use Rattle.asm_slots.specs.declared.owned_step.Way.TheVariants as ways
+use Rattle.asm_slots.specs.StepCalls.{AreLastOf, HasTrackedEach, HasPopped, HasReached, IsPushAnswerBelow, IsGrown, IsLayered, IsNotGrown, IsPushError, IsRefused, ReportsTracked, below, from_below, grown}
+use Rattle.asm_slots.specs.declared.owned_step.PushMode.{PushMode}
+use Rattle.asm_slots.specs.declared.owned_step.PushMode.TheVariants as ways
 use Rattle.asm_slots.proofs.CopiedTexts.{reports_one_too}
 use Rattle.asm_slots.proofs.OwnStates.{IsOwn, below_is}
 
@@ -45,7 +45,7 @@ below_answers a s t new M r own same on groups is proper =
     (λ l there. sym (ap (λ (o : Old). o l) at))
 
 -- what a push or an extension reports over a look-up holds over what is below the step
-pub is_grown : (way : Way) (a : AgentAt Standard) (s : StateView) (old : StepView) (ls : List Layer) (M : Move) →
+pub is_grown : (way : PushMode) (a : AgentAt Standard) (s : StateView) (old : StepView) (ls : List Layer) (M : Move) →
     IsOwn a s → s.number ≡ old.number → IsLayered way old.layers ls →
     IsPushAnswer standard (value_at s) old.layers ls M (Ok tt) → AnswersOn (value_at s) old.layers ls M (Ok tt) →
     ((groups : List (List Move)) → IsStepOf part (value_at s) old.layers groups →
@@ -69,7 +69,7 @@ is_grown way a s old ls M own same layers answer on step =
           (step groups (subst (λ (o : Old). IsStepOf part o old.layers groups) (sym at) is))
 
 -- why a move isn't accepted, over what is below the step
-pub is_push_error : (way : Way) (a : AgentAt Standard) (s : StateView) (t : StepView) (M : Move) (e : StepError) →
+pub is_push_error : (way : PushMode) (a : AgentAt Standard) (s : StateView) (t : StepView) (M : Move) (e : StepError) →
     IsOwn a s → s.number ≡ t.number → (way ≡ ways.Extend → ¬ (e ≡ Deep)) →
     IsPushAnswer standard (value_at s) t.layers t.layers M (Err e) → AnswersOn (value_at s) t.layers t.layers M (Err e) →
     IsPushError way M a t e
@@ -80,7 +80,7 @@ is_push_error way a s t M e own same deep answer on =
       subst (λ (o : Old). IsPushAnswer standard o t.layers t.layers M (Err e)) at answer,
       below_answers a s t t.layers M (Err e) own same on,
     ) where
-      by_way : (way : Way) (e : StepError) → (way ≡ ways.Extend → ¬ (e ≡ Deep)) →
+      by_way : (way : PushMode) (e : StepError) → (way ≡ ways.Extend → ¬ (e ≡ Deep)) →
           HasReached a t × IsPushAnswer standard (below a t) t.layers t.layers M (Err e) × IsPushAnswerBelow M a t t.layers (Err e) →
           IsPushError way M a t e
       by_way ways.Push e deep is = is
@@ -88,7 +88,7 @@ is_push_error way a s t M e own same deep answer on =
       by_way ways.Extend e deep is = is
 
 -- the same, of a step whose contents are these
-pub is_grown_of : (way : Way) (a : AgentAt Standard) (s : StateView) (t inside : StepView) (ls : List Layer) (M : Move) →
+pub is_grown_of : (way : PushMode) (a : AgentAt Standard) (s : StateView) (t inside : StepView) (ls : List Layer) (M : Move) →
     inside ≡ t → IsOwn a s → s.number ≡ inside.number → IsLayered way inside.layers ls →
     IsPushAnswer standard (value_at s) inside.layers ls M (Ok tt) → AnswersOn (value_at s) inside.layers ls M (Ok tt) →
     ((groups : List (List Move)) → IsStepOf part (value_at s) inside.layers groups →
@@ -99,34 +99,34 @@ is_grown_of way a s t inside ls M view own same layers answer on step =
     (is_grown way a s inside ls M own same layers answer on step)
 
 -- a move that wasn't accepted changes no layer, and its refusal is reported
-module _ (way : Way) (a : AgentAt Standard) (s : StateView) (t inside : StepView) (ls : List Layer) (M : Move) (e : StepError) where
+module _ (way : PushMode) (a : AgentAt Standard) (s : StateView) (t inside : StepView) (ls : List Layer) (M : Move) (e : StepError) where
   reported_of : (after : StepView) (code : ℤ) (text : List ℕ) → inside ≡ t → IsOwn a s → s.number ≡ inside.number →
       (way ≡ ways.Extend → ¬ (e ≡ Deep)) → ls ≡ inside.layers →
       IsPushAnswer standard (value_at s) inside.layers ls M (Err e) → AnswersOn (value_at s) inside.layers ls M (Err e) →
-      TellsTracked M (record inside { layers = ls }) after e code text → IsRefused way M a t after code text
+      ReportsTracked M (record inside { layers = ls }) after e code text → IsRefused way M a t after code text
   reported_of after code text view own same deep kept answer on reported =
       let error = is_push_error way a s inside M e own same deep
       (subst (λ (x : List Layer). IsPushAnswer standard (value_at s) inside.layers x M (Err e)) kept answer)
       (subst (λ (x : List Layer). AnswersOn (value_at s) inside.layers x M (Err e)) kept on) in
-      let tracked = subst (λ (x : List Layer). TellsTracked M (record inside { layers = x }) after e code text) kept reported in (
+      let track = subst (λ (x : List Layer). ReportsTracked M (record inside { layers = x }) after e code text) kept reported in (
         e,
         subst (λ (x : StepView). IsPushError way M a x e) view error,
-        subst (λ (x : StepView). TellsTracked M x after e code text) view tracked,
+        subst (λ (x : StepView). ReportsTracked M x after e code text) view track,
       )
 
   pub is_refused : (new : StepView) (out after : List ℕ) (written : ℕ) (code : ℤ) → inside ≡ t → IsOwn a s →
       s.number ≡ inside.number → (way ≡ ways.Extend → ¬ (e ≡ Deep)) → ls ≡ inside.layers →
       IsPushAnswer standard (value_at s) inside.layers ls M (Err e) → AnswersOn (value_at s) inside.layers ls M (Err e) →
-      TellsOneOf refusals (TellsTracked M (record inside { layers = ls }) new e) out after written code →
-      TellsOneOf refusals (IsRefused way M a t new) out after written code
+      WritesOneOf refusals (ReportsTracked M (record inside { layers = ls }) new e) out after written code →
+      WritesOneOf refusals (IsRefused way M a t new) out after written code
   is_refused new out after written code view own same deep kept answer on =
-      reports_one_too refusals (TellsTracked M (record inside { layers = ls }) new e) (IsRefused way M a t new)
+      reports_one_too refusals (ReportsTracked M (record inside { layers = ls }) new e) (IsRefused way M a t new)
       out after written code (λ c text reported. reported_of new c text view own same deep kept answer on reported)
 
 -- the same of a move whose JSON the bytes are
-pub not_grown : (way : Way) (bytes : List ℕ) (M : Move) (a : AgentAt Standard) (t new : StepView) → ReadAsMove bytes M →
-    (out after : List ℕ) (written : ℕ) (code : ℤ) → TellsOneOf refusals (IsRefused way M a t new) out after written code →
-    TellsOneOf refusals (IsNotGrown way bytes a t new) out after written code
+pub not_grown : (way : PushMode) (bytes : List ℕ) (M : Move) (a : AgentAt Standard) (t new : StepView) → ReadAsMove bytes M →
+    (out after : List ℕ) (written : ℕ) (code : ℤ) → WritesOneOf refusals (IsRefused way M a t new) out after written code →
+    WritesOneOf refusals (IsNotGrown way bytes a t new) out after written code
 not_grown way bytes M a t new reads out after written code =
     reports_one_too refusals (IsRefused way M a t new) (IsNotGrown way bytes a t new) out after written code
     (λ c text refused. (M, reads, refused))
@@ -141,14 +141,14 @@ not_small (inr (inr (inr (inr (inl e))))) = cc
 not_small (inr (inr (inr (inr (inr h))))) = h
 
 -- the locations are tracked, in a step whose contents were these
-pub got_with : (locations : List Place) (inside old : StepView) (got : List Place) → inside ≡ old →
-    AreEach (old.got ++ from_below old locations) got → length got + length old.scanned ≤ reads_limit →
-    HasGotEach locations old (record inside { got = got })
-got_with locations inside old got view each few =
-    subst (λ (x : StepView). HasGotEach locations old (record x { got = got })) (sym view) (refl, each, few)
+pub tracked_with : (locations : List Place) (inside old : StepView) (tracked : List Place) → inside ≡ old →
+    AreEach (old.tracked ++ from_below old locations) tracked → length tracked + length old.scanned ≤ reads_limit →
+    HasTrackedEach locations old (record inside { tracked = tracked })
+tracked_with locations inside old tracked view each few =
+    subst (λ (x : StepView). HasTrackedEach locations old (record x { tracked = tracked })) (sym view) (refl, each, few)
 
 -- what isn't an extension is a push
-pub pushes : (way : Way) → ¬ (way ≡ ways.Extend) → way ≡ ways.Push
+pub pushes : (way : PushMode) → ¬ (way ≡ ways.Extend) → way ≡ ways.Push
 pushes ways.Push other = refl
 pushes ways.Extend other = absurd (other refl)
 

@@ -9,10 +9,12 @@ pub mod Held
 pub mod FedAudits
 pub mod OwnAgents
 pub mod OwnStates
-pub mod ExtendingInPlace
+pub mod NextStorages
 pub mod Growing
 pub mod WholeScans
 pub mod Commits
 pub mod Noting
 pub mod Meanings
 pub mod Scans
+pub mod Refused
+pub mod Answered

@@ -1,5 +1,5 @@
 -- What kind, number and bytes mean, and which actions they make.
-use Rattle.std.proofs.Common.{◌≡◌, ◌≢◌, ◌∙◌, ◌⊎◌, inl, inr, ℕ, ℤ, List, ap, pos, refl, sym, subst, w32, of_z, to_z}
+use Rattle.std.proofs.Common.{◌≡◌, ◌≢◌, ◌∙◌, inl, inr, ℕ, ℤ, List, ap, pos, refl, sym, subst, w32, of_z}
 use Rattle.asm_element.specs.declared.element.Element.{Element}
 use Rattle.asm_element.specs.declared.element.Element.TheVariants.{Undef, Bool as Truth, Num, Text, List as Inner}
 use Rattle.asm_element.specs.declared.value.Value.{Value}
@@ -10,10 +10,9 @@ use Rattle.asm_update.specs.declared.action.Action.TheVariants.{Regular, SetAdd,
 use Rattle.asm_journal.specs.Value.{IsValueForm}
 use Rattle.asm_journal.proofs.Values.{value_once}
 use Rattle.asm_explain.specs.Bytes.{IsOtherJson, ReadAs}
-use Rattle.asm_slots.specs.Codes.{ASM_MEMORY, ASM_OPERAND, ASM_SHAPE}
 use Rattle.asm_slots.specs.Kinds.{ASM_KIND_BAG, ASM_KIND_BOOL, ASM_KIND_LIST, ASM_KIND_NUM, ASM_KIND_SET, ASM_KIND_TEXT, ASM_KIND_UNDEF}
 use Rattle.asm_slots.specs.Kinds.{IsAction, IsAmount, IsByJson, IsKindForm, IsNoAction, IsOperand, IsTextOrPlain, kind_of, verb_of}
-use Rattle.asm_slots.specs.Verbs.{CannotTake, IsActionOn, IsVerb}
+use Rattle.asm_slots.specs.Kinds.{CannotTake, IsActionOn, IsVerb}
 use Rattle.asm_slots.specs.declared.operands.Verb.{Verb}
 use Rattle.asm_slots.specs.declared.operands.Verb.TheVariants as verbs
 
@@ -68,13 +67,6 @@ pub not_by : (k : ℤ) → (of_z w32 k ≡ 4 → ⊥) → (of_z w32 k ≡ 5 → 
 not_by k list set bag (inl is) = list (ap (of_z w32) is)
 not_by k list set bag (inr (inl is)) = set (ap (of_z w32) is)
 not_by k list set bag (inr (inr is)) = bag (ap (of_z w32) is)
-
--- the word of one of these codes means that code
-pub coded : (code : ℤ) → (code ≡ ASM_MEMORY) ⊎ ((code ≡ ASM_OPERAND) ⊎ ((code ≡ ASM_SHAPE) ⊎ ⊥)) → to_z w32 (of_z w32 code) ≡ code
-coded code (inl e) = subst (λ (z : ℤ). to_z w32 (of_z w32 z) ≡ z) (sym e) refl
-coded code (inr (inl e)) = subst (λ (z : ℤ). to_z w32 (of_z w32 z) ≡ z) (sym e) refl
-coded code (inr (inr (inl e))) = subst (λ (z : ℤ). to_z w32 (of_z w32 z) ≡ z) (sym e) refl
-coded code (inr (inr (inr none))) = elim none [ ]
 
 -- ---- JSON
 

@@ -61,12 +61,12 @@ pub seen_is : (a : AgentAt Standard) (s : StateView) (t : StepView) → IsOwn a 
 seen_is a s t own same = ap (λ (o : Old). seen_through (frames_of t.layers) o) (below_is a s t own same)
 
 -- what is seen through a step, whose contents are these, over the state at its version
-pub own_got : (a : AgentAt Standard) (s : StateView) (t inside : StepView) (n : ℕ) (o : OverView StateView)
+pub own_seen : (a : AgentAt Standard) (s : StateView) (t inside : StepView) (n : ℕ) (o : OverView StateView)
     (locations : List Place) (text : List ℕ) → inside ≡ t → IsOwn a s → n ≡ s.number → n ≡ inside.number →
     o ≡ record { frames = frames_of inside.layers; below = s } →
     text ≡ values_text inside.number (seen_through o.frames (value_at o.below)) locations →
     text ≡ values_text t.number (seen a t) locations
-own_got a s t inside n o locations text view own number at over is =
+own_seen a s t inside n o locations text view own number at over is =
     is ∙ ap (λ (x : OverView StateView). values_text inside.number (seen_through x.frames (value_at x.below)) locations) over
     ∙ ap (λ (x : StepView). values_text x.number (seen_through (frames_of x.layers) (value_at s)) locations) view
     ∙ ap (λ (f : Old). values_text t.number f locations)

@@ -14,7 +14,7 @@ use Rattle.asm_element.specs.Place.{Place, location_cmp}
 use Rattle.asm_state.specs.declared.scanned.Scanned.{Scanned}
 use Rattle.asm_storage.specs.Limits.{reads_limit}
 use Rattle.asm_slots.specs.StepView.{StepView, names_of}
-use Rattle.asm_slots.specs.StepCalls.{HasGotAll, IsScanFor, has_scan}
+use Rattle.asm_slots.specs.StepCalls.{HasScanned, IsScanFor, has_scan}
 use Rattle.asm_slots.proofs.Noting.{none_ascend}
 
 -- names that the test finds equal are equal
@@ -35,21 +35,21 @@ unnamed scans name is has =
     false≢true (sym is ∙ any_of_names scans name ∙ list_any-from_Contains nat_list_eq_equiv name (names_of scans) has)
 
 -- one more scan takes one of the places that are left, and is at the number of the others
-pub few_scans : (got : List Place) (old mid new : List Scanned) (name : List ℕ) (number limit : ℕ) (scan : Option Scanned) →
-    length got + limit ≤ reads_limit → length got + length old ≤ reads_limit → All (λ x. x.number ≡ number) old → mid ≡ old →
+pub few_scans : (tracked : List Place) (old mid new : List Scanned) (name : List ℕ) (number limit : ℕ) (scan : Option Scanned) →
+    length tracked + limit ≤ reads_limit → length tracked + length old ≤ reads_limit → All (λ x. x.number ≡ number) old → mid ≡ old →
     IsScanFor limit old name number scan → IfSome scan (λ one. new ≡ mid ++ one ∷ []) → IfNone scan (new ≡ mid) →
-    (length got + length new ≤ reads_limit) × All (λ x. x.number ≡ number) new
-few_scans got old mid new name number limit None room few numbers same is some none =
-    subst (λ xs. (length got + length xs ≤ reads_limit) × All (λ x. x.number ≡ number) xs) (sym (none ∙ same)) (few, numbers)
-few_scans got old mid new name number limit (Some scan) room few numbers same is some none =
+    (length tracked + length new ≤ reads_limit) × All (λ x. x.number ≡ number) new
+few_scans tracked old mid new name number limit None room few numbers same is some none =
+    subst (λ xs. (length tracked + length xs ≤ reads_limit) × All (λ x. x.number ≡ number) xs) (sym (none ∙ same)) (few, numbers)
+few_scans tracked old mid new name number limit (Some scan) room few numbers same is some none =
     let put : new ≡ old ++ scan ∷ [] = some ∙ ap (λ xs. xs ++ scan ∷ []) same in
-    subst (λ xs. (length got + length xs ≤ reads_limit) × All (λ x. x.number ≡ number) xs) (sym put)
+    subst (λ xs. (length tracked + length xs ≤ reads_limit) × All (λ x. x.number ≡ number) xs) (sym put)
     (omega (arith, length_push old scan, is.3, room), All-push (λ x. x.number ≡ number) old scan numbers is.1)
 
 -- so the function is scanned
 pub scanned_too : (s : StepView) (old mid new : List Scanned) (name : List ℕ) (limit : ℕ) (scan : Option Scanned) →
-    names_of old ≡ s.scanned → length s.got + limit ≤ reads_limit → mid ≡ old → IsScanFor limit old name s.number scan →
-    IfSome scan (λ one. new ≡ mid ++ one ∷ []) → IfNone scan (new ≡ mid) → HasGotAll name s (record s { scanned = names_of new })
+    names_of old ≡ s.scanned → length s.tracked + limit ≤ reads_limit → mid ≡ old → IsScanFor limit old name s.number scan →
+    IfSome scan (λ one. new ≡ mid ++ one ∷ []) → IfNone scan (new ≡ mid) → HasScanned name s (record s { scanned = names_of new })
 scanned_too s old mid new name limit None view room same is some none =
     inl (subst (λ ns. Contains ns name) view is, ap (λ ns. record s { scanned = ns }) (ap names_of (none ∙ same) ∙ view))
 scanned_too s old mid new name limit (Some scan) view room same is some none =
@@ -65,14 +65,14 @@ scanned_too s old mid new name limit (Some scan) view room same is some none =
     )
 
 -- each scan has one name
-pub few_places : (got : List Place) (scans : List Scanned) → length got + length scans ≤ reads_limit →
-    length got + length (names_of scans) ≤ reads_limit
-few_places got scans few = omega (arith, few, length-map scans (λ (x : Scanned). string_bytes x.name))
+pub few_places : (tracked : List Place) (scans : List Scanned) → length tracked + length scans ≤ reads_limit →
+    length tracked + length (names_of scans) ≤ reads_limit
+few_places tracked scans few = omega (arith, few, length-map scans (λ (x : Scanned). string_bytes x.name))
 
 -- nothing is tracked or scanned yet
-pub none_kept : (got : List Place) (scans : List Scanned) (number : ℕ) → got ≡ [] → scans ≡ [] →
-    IsStrictlySortedBy location_cmp got × (length got + length scans ≤ reads_limit) × All (λ x. x.number ≡ number) scans
-none_kept got scans number none unscanned =
+pub none_kept : (tracked : List Place) (scans : List Scanned) (number : ℕ) → tracked ≡ [] → scans ≡ [] →
+    IsStrictlySortedBy location_cmp tracked × (length tracked + length scans ≤ reads_limit) × All (λ x. x.number ≡ number) scans
+none_kept tracked scans number none unscanned =
     subst (λ ls. IsStrictlySortedBy location_cmp ls × (length ls + length scans ≤ reads_limit) × All (λ x. x.number ≡ number) scans) (sym none)
     (subst (λ xs. IsStrictlySortedBy location_cmp [] × (length {A = Place} [] + length xs ≤ reads_limit) × All (λ x. x.number ≡ number) xs) (sym unscanned)
     (none_ascend, omega arith, λ k d lt. absurd (omega (arith, lt))))

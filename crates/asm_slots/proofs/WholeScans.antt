@@ -24,8 +24,8 @@ use Rattle.asm_storage.specs.declared.call.Reply.{Reply}
 use Rattle.asm_storage.specs.declared.call.Reply.TheVariants.{Fired}
 use Rattle.asm_storage.specs.declared.entry.Entry.{Entry}
 use Rattle.asm_slots.specs.AgentCalls.{IsRepliedOver, code_of, number_of}
-use Rattle.asm_slots.specs.FireOver.{AreWholeOver, HasTriedFireOver, ReadAsFireOver, is_any_over}
-use Rattle.asm_slots.specs.NumbersAhead.{is_any_above}
+use Rattle.asm_slots.specs.AgentAnswers.{AreWholeOver, HasTriedFireOver, ReadAsFireOver, is_any_over}
+use Rattle.asm_slots.specs.AgentAnswers.{is_any_above}
 use Rattle.asm_slots.specs.OwnState.{state_at}
 use Rattle.asm_slots.specs.Standard.{Standard, meaning, part}
 

@@ -24,7 +24,7 @@ use Rattle.asm_explain.specs.Bytes.{ReadAsFire}
 use Rattle.asm_slots.specs.Bytes.{ReadAsLocations, ReadAsState}
 use Rattle.asm_slots.specs.ClosedStore.{IsJournalOf}
 use Rattle.asm_slots.specs.Codes.{ASM_DONE, ASM_STALE, ASM_CLASH, ASM_FULL}
-use Rattle.asm_slots.specs.Slots.{HoldsStore, Goes}
+use Rattle.asm_slots.specs.Slots.{HoldsStore, Changes}
 use Rattle.asm_slots.specs.Store.{StoreView, IsPutIn, IsUnused}
 use Rattle.asm_slots.specs.declared.content.Content.{Content}
 use Rattle.asm_slots.specs.declared.content.Content.TheVariants as content
@@ -114,9 +114,9 @@ IsLastAnswer receipts text = (rs : List Receipt) × (r : Receipt) × (receipts �
     × (text ≡ compact_text (answer_json_of r.answer))
 
 -- the text of the answer to the last call, if there was one
-abbrev pub TellsLast : AgentAt Standard → Option (List ℕ) → Type 0
-TellsLast a None = a.account.receipts ≡ []
-TellsLast a (Some s) = IsLastAnswer a.account.receipts s
+abbrev pub IsLastText : AgentAt Standard → Option (List ℕ) → Type 0
+IsLastText a None = a.account.receipts ≡ []
+IsLastText a (Some s) = IsLastAnswer a.account.receipts s
 
 -- it has learnt what was seen there, and has then seen as much as the longer of the two
 abbrev pub HasLearnt : List Entry → AgentAt Standard → AgentAt Standard → Type 0
@@ -127,7 +127,7 @@ HasLearnt theirs old new =
 
 -- the agent has learnt what the other has seen
 abbrev pub Learns : Option Content → Option Content → Option Content → Type 0
-Learns (Some (content.Agent other)) old new = Goes old new (HasLearnt other.account.seen)
+Learns (Some (content.Agent other)) old new = Changes old new (HasLearnt other.account.seen)
 Learns _ old new = ⊥
 
 -- the storage with this agent among the returned ones, and without a journal

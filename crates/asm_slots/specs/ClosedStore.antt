@@ -1,5 +1,5 @@
 -- What a closed storage reports.
-use Rattle.std.specs.Prelude.{◌≡◌, ◌⊎◌, ◌+◌, ◌≤◌, ℕ, List, length}
+use Rattle.std.specs.Prelude.{◌≡◌, ◌⊎◌, ◌+◌, ◌≤◌, ℕ, List, length, ℤ}
 use Rattle.asm_storage.specs.declared.history.History.{History}
 use Rattle.asm_storage.specs.Agents.{NoneMissing, most_seen}
 use Rattle.asm_storage.specs.Closed.{IsClosed}
@@ -8,6 +8,9 @@ use Rattle.asm_storage.specs.History.{Fits}
 use Rattle.asm_storage.specs.Storage.{AgentAt, StorageView, accounts, IsMissing}
 use Rattle.asm_journal.specs.Text.{text_of}
 use Rattle.asm_slots.specs.Standard.{Standard, meaning}
+use Rattle.asm_slots.specs.Codes.{ASM_MEMORY, ASM_MISSING, ASM_MANY_CALLS}
+use Rattle.asm_slots.specs.declared.store_close.Unclosed.{Unclosed}
+use Rattle.asm_slots.specs.declared.store_close.Unclosed.TheVariants as unclosed
 
 -- the text is the journal of the history of these agents, which is within a journal's limits
 abbrev pub IsJournalOf : StorageView Standard → List (AgentAt Standard) → List ℕ → Type 0
@@ -26,3 +29,23 @@ IsUnseen s all number = (number ≡ most_seen (accounts all) + 1) × (number ≤
 abbrev pub LacksReceipt : StorageView Standard → List (AgentAt Standard) → ℕ → Type 0
 LacksReceipt s all number =
     IsMissing (accounts all) (Missing number) ⊎ (NoneMissing (accounts all) × IsUnseen s all number)
+
+-- why these agents aren't closed: the move with this number lacks a receipt, or their history is beyond a journal's
+-- limits; that memory was refused says nothing of them
+abbrev pub IsUnclosed : StorageView Standard → List (AgentAt Standard) → Unclosed → Type 0
+IsUnclosed s all (unclosed.Missing number) = LacksReceipt s all number
+IsUnclosed s all unclosed.Large = IsTooLarge s all
+IsUnclosed s all unclosed.Memory = Unit {0}
+
+-- why the history of these agents isn't written: there is a move that none of them has seen, it is beyond a journal's limits,
+-- or memory was refused
+abbrev pub IsUnwritten : StorageView Standard → List (AgentAt Standard) → History → Unclosed → Type 0
+IsUnwritten s all history (unclosed.Missing number) = IsUnseen s all number
+IsUnwritten s all history unclosed.Large = ¬ Fits history
+IsUnwritten s all history unclosed.Memory = Unit {0}
+
+-- the code of why, with the number of the move that has no receipt, or 0
+abbrev pub ReportsUnclosed : Unclosed → ℤ → ℕ → Type 0
+ReportsUnclosed (unclosed.Missing n) code number = (code ≡ ASM_MISSING) × (number ≡ n)
+ReportsUnclosed unclosed.Large code number = (code ≡ ASM_MANY_CALLS) × (number ≡ 0)
+ReportsUnclosed unclosed.Memory code number = (code ≡ ASM_MEMORY) × (number ≡ 0)

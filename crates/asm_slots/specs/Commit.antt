@@ -1,6 +1,6 @@
 -- What the commit of a step does.
-use Rattle.std.specs.Prelude.{◌≡◌, ◌≢◌, ◌↔◌, ◌⊎◌, ◌-◌, ◌+◌, ◌≤◌, ◌<◌, ℕ, ℤ, List, [], ◌∷◌, ◌++◌, All, map}
-use Rattle.std.specs.Prelude.{Option, None, Result, Ok, Err, IfOk, OnErr, IfErr, IsErrOf, unwrap_or, Contains, true, length}
+use Rattle.std.specs.Prelude.{◌≡◌, ◌≢◌, ◌↔◌, ◌⊎◌, ◌-◌, ◌+◌, ◌≤◌, ◌<◌, ℕ, ℤ, List, [], ◌∷◌, ◌++◌, All, map, Option, None}
+use Rattle.std.specs.Prelude.{Result, Ok, Err, IfOk, OnErr, IfErr, IsErrOf, unwrap_or, Contains, true, length}
 use Rattle.asm_update.specs.Aggregator.{AggregatorLaws, Meaning}
 use Rattle.asm_update.specs.Fire.{Old, fire}
 use Rattle.asm_update.specs.Move.{Move}
@@ -20,33 +20,37 @@ use Rattle.asm_step.specs.Layers.{IsStepOf, Layer, all_moves, one_move, dependen
 use Rattle.asm_step.specs.Places.{AreEach}
 use Rattle.asm_step.specs.Dependencies.{AgreesAtDependencies, left_by}
 use Rattle.asm_slots.specs.AgentCalls.{HasPolled, IsRepliedOver, MissedFew, MissedOne, SeesOn, code_of, number_of}
-use Rattle.asm_slots.specs.Codes.{IsOneOf, ASM_DONE, ASM_STALE, ASM_CLASH, ASM_MEMORY, ASM_FULL, ASM_EMPTY, ASM_BUSY, ASM_MANY}
-use Rattle.asm_slots.specs.Codes.{ASM_MOVED}
+use Rattle.asm_slots.specs.Codes.{IsOneOf, ASM_DONE, ASM_STALE, ASM_CLASH, ASM_MEMORY, ASM_FULL, ASM_EMPTY, ASM_BUSY}
+use Rattle.asm_slots.specs.Codes.{ASM_MANY, ASM_MOVED}
 use Rattle.asm_slots.specs.OwnState.{state_at}
-use Rattle.asm_slots.specs.Slots.{Goes, HoldBoth, Holds, LacksOne}
+use Rattle.asm_slots.specs.Slots.{Changes, HoldBoth, Holds, LacksOne}
 use Rattle.asm_slots.specs.Standard.{Standard, meaning, part}
 use Rattle.asm_slots.specs.StepView.{StepView, names_of}
 use Rattle.asm_slots.specs.StepCalls.{IsElsewhere, IsOfScanned, IsStepOn, below, seen}
 use Rattle.asm_slots.specs.declared.content.Content.{Content}
 use Rattle.asm_slots.specs.declared.read_and_fire.Numbers.{Numbers}
+use Rattle.serde_json.specs.Written.{compact_text}
+use Rattle.asm_storage.specs.declared.call.Call.{Call}
+use Rattle.asm_storage.specs.declared.call.Call.TheVariants as call
+use Rattle.asm_journal.specs.Event.{call_json_of}
 
 -- the code and the numbers of a fire's answer: the number of the fired move, and how many moves had been seen at the
 -- start and at the end of a busy call; what a code doesn't set is 0
-abbrev pub TellsFire : Result Reply FireError → ℤ → ℕ → ℕ → ℕ → Type 0
-TellsFire (Ok r) code fired from to = (code ≡ code_of r) × (fired ≡ number_of r) × (from ≡ 0) × (to ≡ 0)
-TellsFire (Err (Busy f t)) code fired from to = (code ≡ ASM_BUSY) × (fired ≡ 0) × (from ≡ f) × (to ≡ t)
-TellsFire (Err ManyReads) code fired from to = (code ≡ ASM_MANY) × (fired ≡ 0) × (from ≡ 0) × (to ≡ 0)
-TellsFire (Err Memory) code fired from to = (code ≡ ASM_MEMORY) × (fired ≡ 0) × (from ≡ 0) × (to ≡ 0)
+abbrev pub ReportsFire : Result Reply FireError → ℤ → ℕ → ℕ → ℕ → Type 0
+ReportsFire (Ok r) code fired from to = (code ≡ code_of r) × (fired ≡ number_of r) × (from ≡ 0) × (to ≡ 0)
+ReportsFire (Err (Busy f t)) code fired from to = (code ≡ ASM_BUSY) × (fired ≡ 0) × (from ≡ f) × (to ≡ t)
+ReportsFire (Err ManyReads) code fired from to = (code ≡ ASM_MANY) × (fired ≡ 0) × (from ≡ 0) × (to ≡ 0)
+ReportsFire (Err Memory) code fired from to = (code ≡ ASM_MEMORY) × (fired ≡ 0) × (from ≡ 0) × (to ≡ 0)
 
 -- a read at the step's version is declared for each location on which the step depends: each tracked one, where what
 -- was seen was made from the state below, and each on which the pushed moves depend
 pub record NamesAll (s : StepView) (reads : List Named) : Type 0 where
-  pub locations : AreEach (s.got ++ dependencies_of s.layers) (map (λ r. r.at) reads)
+  pub locations : AreEach (s.tracked ++ dependencies_of s.layers) (map (λ r. r.at) reads)
   pub numbers : All (λ r. r.number ≡ s.number) reads
 
 -- the move does what the layers' moves do in turn, on each state that agrees with the one below where they depend on it
-abbrev pub StandsAs : List Layer → Move → Type 0
-StandsAs layers M =
+abbrev pub IsMoveOf : List Layer → Move → Type 0
+IsMoveOf layers M =
     (m : Meaning) (old : Old) (groups : List (List Move)) (B : State) → AggregatorLaws m → IsStepOf m.part old layers groups →
     IsProper B → AgreesAtDependencies B old (all_moves groups) →
     left_by (fire m.part B M) ≡ left_by (fire_all m.part (Ok B) (all_moves groups))
@@ -65,11 +69,11 @@ FiresAll a s M k new = (groups : List (List Move)) → IsStepOn a s groups → I
 
 -- and what was read through some of them, which the others follow, is what these leave there: at a tracked location,
 -- at one of a scanned function, or where what is seen isn't made from the state below
-abbrev pub GotStands : AgentAt Standard → StepView → ℕ → AgentAt Standard → Type 0
-GotStands a s k new = (then : StepView) (groups : List (List Move)) (l : Place) (D : State) →
+abbrev pub SeenIsLeft : AgentAt Standard → StepView → ℕ → AgentAt Standard → Type 0
+SeenIsLeft a s k new = (then : StepView) (groups : List (List Move)) (l : Place) (D : State) →
     IsStepOn a then groups → then.number ≡ s.number →
     fire_all part (Ok (state_at new (k - 1))) (all_moves groups) ≡ Ok D →
-    (shows_below then.layers l ≡ true → Contains s.got l ⊎ IsOfScanned l s) → seen a then l ≡ val D l
+    (shows_below then.layers l ≡ true → Contains s.tracked l ⊎ IsOfScanned l s) → seen a then l ≡ val D l
 
 -- each scanned function is unchanged there: each of its locations, whether it has a value or none, has what it had
 -- below the step
@@ -84,14 +88,14 @@ pub record HasFiredStep (s : StepView) (code : ℤ) (fired from to : ℕ) (old n
   pub answer : Result Reply FireError
   pub names : NamesAll s reads
   pub scanned : ScansAll s scans
-  pub reported : TellsFire answer code fired from to
+  pub reported : ReportsFire answer code fired from to
   pub many : IsErrOf answer ManyReads ↔ (reads_limit < length reads + length scans)
   pub answered : IfOk answer (IsRepliedOver old new reads scans (unwrap_or (one_move s.layers) []))
   pub refused : OnErr answer (HasPolled old new)
   pub busy : IfErr answer (IsBusy old new)
   pub offers : (n : ℕ) × MadeOffers old new answer n
   pub fires : (k : ℕ) → answer ≡ Ok (Fired k) → FiresAll old s (unwrap_or (one_move s.layers) []) k new
-  pub got : (k : ℕ) → s.number ≤ length old.account.seen → answer ≡ Ok (Fired k) → GotStands old s k new
+  pub tracked : (k : ℕ) → s.number ≤ length old.account.seen → answer ≡ Ok (Fired k) → SeenIsLeft old s k new
   pub whole : (k : ℕ) → s.number ≤ length old.account.seen → answer ≡ Ok (Fired k) → AreWhole old s k new
 
 -- the step's move was fired; or nothing was done, since memory was refused
@@ -111,10 +115,10 @@ pub record FiresStep (agent after step : Option Content) (numbers : Numbers) (co
   pub committed : code ≢ ASM_EMPTY → HoldBoth agent step
       (λ a s. Holds after (HasCommitted s code numbers.fired numbers.from numbers.to a))
   pub does : code ≢ ASM_EMPTY → HoldBoth agent step OneDoesAll
-  pub same : code ≢ ASM_EMPTY → Goes agent after IsSameAgent
-  pub seen : code ≢ ASM_EMPTY → Goes agent after SeesOn
-  pub few : code ≢ ASM_EMPTY → Goes agent after MissedFew
-  pub missed : code ≡ ASM_DONE → Goes agent after MissedOne
+  pub same : code ≢ ASM_EMPTY → Changes agent after IsSameAgent
+  pub seen : code ≢ ASM_EMPTY → Changes agent after SeesOn
+  pub few : code ≢ ASM_EMPTY → Changes agent after MissedFew
+  pub missed : code ≡ ASM_DONE → Changes agent after MissedOne
   pub lost : code ≡ ASM_BUSY → numbers.from + offers_limit ≤ numbers.to
   pub empty : code ≡ ASM_EMPTY → LacksOne agent step
   pub kept : code ≡ ASM_EMPTY → after ≡ agent
@@ -142,14 +146,14 @@ abbrev pub HasMoved : AgentAt Standard → StepView → Type 0
 HasMoved a s = IsElsewhere a s ⊎ IsBehind a
 
 -- why no read is recorded: there are too many locations and functions, or else the agent has moved
-abbrev pub TellsUnrecorded : AgentAt Standard → StepView → List Named → ℤ → Type 0
-TellsUnrecorded a s reads code =
+abbrev pub ReportsUnrecorded : AgentAt Standard → StepView → List Named → ℤ → Type 0
+ReportsUnrecorded a s reads code =
     ((code ≡ ASM_MANY) × NamesMany s reads) ⊎ ((code ≡ ASM_MOVED) × ¬ NamesMany s reads × HasMoved a s)
 
 -- nothing was done, since memory was refused or no read is recorded
 abbrev pub HasRecordedNothing : StepView → ℤ → AgentAt Standard → Type 0
 HasRecordedNothing s code a =
-    (code ≡ ASM_MEMORY) ⊎ ((reads : List Named) × NamesAll s reads × TellsUnrecorded a s reads code)
+    (code ≡ ASM_MEMORY) ⊎ ((reads : List Named) × NamesAll s reads × ReportsUnrecorded a s reads code)
 
 -- the read was recorded, which was possible; then the agent with its receipt fired the step's move, and for that
 -- agent the step has the same groups of moves
@@ -176,10 +180,10 @@ pub record FiresRecorded (agent after step : Option Content) (numbers : Numbers)
   pub committed : code ≢ ASM_EMPTY → HoldBoth agent step
       (λ a s. Holds after (HasCommittedRecorded s code numbers.fired numbers.from numbers.to a))
   pub does : code ≢ ASM_EMPTY → HoldBoth agent step OneDoesAll
-  pub same : code ≢ ASM_EMPTY → Goes agent after IsSameAgent
-  pub seen : code ≢ ASM_EMPTY → Goes agent after SeesOn
-  pub few : code ≢ ASM_EMPTY → Goes agent after MissedFew
-  pub missed : code ≡ ASM_DONE → Goes agent after MissedOne
+  pub same : code ≢ ASM_EMPTY → Changes agent after IsSameAgent
+  pub seen : code ≢ ASM_EMPTY → Changes agent after SeesOn
+  pub few : code ≢ ASM_EMPTY → Changes agent after MissedFew
+  pub missed : code ≡ ASM_DONE → Changes agent after MissedOne
   pub lost : code ≡ ASM_BUSY → numbers.from + offers_limit ≤ numbers.to
   pub empty : code ≡ ASM_EMPTY → LacksOne agent step
   pub kept : IsOneOf (ASM_EMPTY ∷ ASM_MANY ∷ ASM_MOVED ∷ []) code → after ≡ agent
@@ -191,3 +195,12 @@ pub record CommitsRecorded (agent after step step_after : Option Content) (numbe
   pub fires : FiresRecorded agent after step numbers code
   pub over : code ≡ ASM_DONE → step_after ≡ None
   pub stays : code ≢ ASM_DONE → step_after ≡ step
+
+-- the step's one move with all reads that its commit declares
+abbrev pub IsOffer : StepView → Call → Type 0
+IsOffer s (call.Fire reads M) = NamesAll s reads × (M ≡ unwrap_or (one_move s.layers) [])
+IsOffer s (call.Read locations) = ⊥
+
+-- its text, {"fire":[INSTR, ..],"reads":[NAMED, ..]}
+abbrev pub IsOfferText : StepView → List ℕ → Type 0
+IsOfferText s text = (offer : Call) × IsOffer s offer × (text ≡ compact_text (call_json_of offer))

@@ -16,7 +16,7 @@ use Rattle.asm_trace.specs.Text.{IsTrace}
 use Rattle.asm_slots.specs.Codes.{IsOneOf, ASM_DONE, ASM_MEMORY, ASM_SMALL, ASM_ILLEGAL}
 use Rattle.asm_slots.specs.Codes.{ASM_NOT_JSON, ASM_SHAPE, ASM_VERSION, ASM_CUT}
 use Rattle.asm_slots.specs.Standard.{part}
-use Rattle.asm_slots.specs.WrittenText.{TellsText}
+use Rattle.asm_slots.specs.WrittenText.{WritesText}
 
 -- the bytes are a journal, and this is the answer of its check
 pub record IsChecked (bytes : List ℕ) (l : Legality) : Type 0 where
@@ -37,18 +37,18 @@ pub record IsTraceOf (bytes text : List ℕ) : Type 0 where
   pub trace : IsTrace part history text
 
 -- the code of the error, with the number of its line, or 0
-abbrev pub TellsError : JournalError → ℤ → ℕ → Type 0
-TellsError (NotJson n) code line = (code ≡ ASM_NOT_JSON) × (line ≡ n)
-TellsError (Shape n) code line = (code ≡ ASM_SHAPE) × (line ≡ n)
-TellsError Version code line = (code ≡ ASM_VERSION) × (line ≡ 0)
-TellsError Cut code line = (code ≡ ASM_CUT) × (line ≡ 0)
-TellsError Memory code line = (code ≡ ASM_MEMORY) × (line ≡ 0)
+abbrev pub ReportsError : JournalError → ℤ → ℕ → Type 0
+ReportsError (NotJson n) code line = (code ≡ ASM_NOT_JSON) × (line ≡ n)
+ReportsError (Shape n) code line = (code ≡ ASM_SHAPE) × (line ≡ n)
+ReportsError Version code line = (code ≡ ASM_VERSION) × (line ≡ 0)
+ReportsError Cut code line = (code ≡ ASM_CUT) × (line ≡ 0)
+ReportsError Memory code line = (code ≡ ASM_MEMORY) × (line ≡ 0)
 
 -- the bytes are no journal, and this is the code of their first fault, with this number of its line
 pub record IsRefusal (bytes : List ℕ) (code : ℤ) (line : ℕ) : Type 0 where
   pub error : JournalError
   pub refused : IsRefused bytes error
-  pub reported : TellsError error code line
+  pub reported : ReportsError error code line
 
 -- the bytes are a legal journal of so many calls and moves; or the code says why not, with the number of the call or
 -- the line
@@ -61,8 +61,8 @@ pub record Checks (bytes : List ℕ) (calls moves : ℕ) (code : ℤ) : Type 0 w
   pub no_moves : code ≢ ASM_DONE → moves ≡ 0
 
 -- a text of this kind is written of a journal's bytes; or the code says why not, with the number of the line at fault
-pub record Retells (IsText : List ℕ → Type 0) (bytes out out_after : List ℕ) (written line : ℕ) (code : ℤ) : Type 0 where
+pub record WritesOfJournal (IsText : List ℕ → Type 0) (bytes out out_after : List ℕ) (written line : ℕ) (code : ℤ) : Type 0 where
   pub codes : IsOneOf (ASM_DONE ∷ ASM_MEMORY ∷ ASM_SMALL ∷ ASM_NOT_JSON ∷ ASM_SHAPE ∷ ASM_VERSION ∷ ASM_CUT ∷ []) code
-  pub text : TellsText IsText out out_after written code
+  pub text : WritesText IsText out out_after written code
   pub refused : IsOneOf (ASM_NOT_JSON ∷ ASM_SHAPE ∷ ASM_VERSION ∷ ASM_CUT ∷ []) code → IsRefusal bytes code line
   pub no_line : IsOneOf (ASM_DONE ∷ ASM_MEMORY ∷ ASM_SMALL ∷ ASM_VERSION ∷ ASM_CUT ∷ []) code → line ≡ 0

@@ -13,6 +13,8 @@ use Rattle.asm_update.specs.declared.action.Action.TheVariants.{Regular, SetAdd,
 use Rattle.asm_update.specs.Move.{Move}
 use Rattle.asm_journal.specs.Value.{value_json_of, IsValueForm}
 use Rattle.asm_explain.specs.Bytes.{IsOtherJson, ReadAs}
+use Rattle.asm_slots.specs.declared.operands.Verb.{Verb}
+use Rattle.asm_slots.specs.declared.operands.Verb.TheVariants as verbs
 
 -- undef
 abbrev pub ASM_KIND_UNDEF : ℤ
@@ -67,12 +69,12 @@ bytes_of (Bag b) = compact_text (value_json_of (Bag b))
 bytes_of _ = []
 
 -- kind, number and bytes are those of the value
-abbrev pub IsTold : Value → ℤ → ℤ → List ℕ → Type 0
-IsTold v kind number bytes = (kind ≡ kind_of v) × (number ≡ number_of v) × (bytes ≡ bytes_of v)
+abbrev pub IsValueBy : Value → ℤ → ℤ → List ℕ → Type 0
+IsValueBy v kind number bytes = (kind ≡ kind_of v) × (number ≡ number_of v) × (bytes ≡ bytes_of v)
 
 -- kind, number and bytes are those of the element, which is no list
 abbrev pub IsTextOrPlain : ℤ → ℤ → List ℕ → Element → Type 0
-IsTextOrPlain kind number bytes e = IsTold (Plain e) kind number bytes × (kind ≢ ASM_KIND_LIST)
+IsTextOrPlain kind number bytes e = IsValueBy (Plain e) kind number bytes × (kind ≢ ASM_KIND_LIST)
 
 -- the kind is one of those whose bytes are JSON
 abbrev pub IsByJson : ℤ → Type 0
@@ -88,7 +90,7 @@ abbrev pub IsOperand : ℤ → ℤ → List ℕ → Value → Type 0
 IsOperand kind number bytes (Plain (Inner ds)) = (number ≡ pos 0) × ReadAs (IsKindForm kind) bytes (Plain (Inner ds))
 IsOperand kind number bytes (Set s) = (number ≡ pos 0) × ReadAs (IsKindForm kind) bytes (Set s)
 IsOperand kind number bytes (Bag b) = (number ≡ pos 0) × ReadAs (IsKindForm kind) bytes (Bag b)
-IsOperand kind number bytes v = IsTold v kind number bytes
+IsOperand kind number bytes v = IsValueBy v kind number bytes
 
 -- the bytes of a text aren't UTF-8, or those of a list, a set or a bag are JSON of no value of the kind
 abbrev pub IsMisshapen : ℤ → List ℕ → Type 0
@@ -147,3 +149,31 @@ IsNoAction verb kind number bytes amount = (a : Action) → ¬ IsAction verb kin
 abbrev pub IsInstructed : Place → ℤ → ℤ → ℤ → List ℕ → ℕ → Move → Move → Type 0
 IsInstructed l verb kind number bytes amount old new =
     (a : Action) × IsAction verb kind number bytes amount a × (new ≡ old ++ record { at = l; action = a } ∷ [])
+
+-- what it does with this element
+abbrev pub action_with : Verb → Element → Action
+action_with verbs.Put e = Regular (Plain e)
+action_with verbs.Add e = SetAdd e
+action_with verbs.Remove e = SetRemove e
+action_with (verbs.BagAdd n) e = BagAdd e n
+action_with (verbs.BagRemove n) e = BagRemove e n
+
+-- this number and this amount mean it
+abbrev pub IsVerb : ℤ → ℕ → Verb → Type 0
+IsVerb verb amount v = (e : Element) → (verb ≡ verb_of (action_with v e)) × IsAmount (action_with v e) amount
+
+-- this number and this amount mean no action
+abbrev pub IsNoVerb : ℤ → ℕ → Type 0
+IsNoVerb verb amount = (a : Action) → verb ≡ verb_of a → ¬ IsAmount a amount
+
+-- the action that it does with this value: a put, or what it does with an element
+abbrev pub IsActionOn : Verb → Value → Action → Type 0
+IsActionOn verbs.Put v a = a ≡ Regular v
+IsActionOn verb (Plain e) a = a ≡ action_with verb e
+IsActionOn verb v a = ⊥
+
+-- it does nothing with this value, which is no element: only a put takes a set or a bag
+abbrev pub CannotTake : Verb → Value → Type 0
+CannotTake verbs.Put v = ⊥
+CannotTake verb (Plain e) = ⊥
+CannotTake verb v = Unit {0}

@@ -1,13 +1,30 @@
--- What making agents of a storage does, and checking out one that was returned.
-use Rattle.std.specs.Prelude.{◌≡◌, ◌≢◌, ◌≤◌, ◌<◌, ◌↔◌, ℕ, ℤ, List, [], ◌∷◌, length, true, false, Option, None}
-use Rattle.std.specs.List.{range_with_len}
+-- The numbers of the agents that were made, and the effects of making agents and checking them out.
+use Rattle.std.specs.Prelude.{ℕ, List, Bool, nat_eq, nat_lt, ◌≡◌, ◌≢◌, ◌≤◌, ◌<◌, ◌↔◌, ℤ, [], ◌∷◌, length, true, false}
+use Rattle.std.specs.Prelude.{Option, None}
+use Rattle.std.specs.List.{list_any, range_with_len}
+use Rattle.asm_slots.specs.Store.{StoreView}
 use Rattle.asm_storage.specs.Limits.{agents_limit}
 use Rattle.asm_slots.specs.AgentCalls.{HasLost, HasNumber, Makes}
 use Rattle.asm_slots.specs.Codes.{IsOneOf, ASM_DONE, ASM_MEMORY, ASM_EMPTY, ASM_AGENTS, ASM_NO_AGENT, ASM_TAKEN, ASM_NUMBER}
-use Rattle.asm_slots.specs.AgentNumbers.{was_any_made, was_made}
 use Rattle.asm_slots.specs.Slots.{AreEmpty, AreNew, Holds, HoldsNew, HoldsNoStore, HoldsStore}
 use Rattle.asm_slots.specs.declared.content.Content.{Content}
 use Rattle.asm_slots.specs.declared.slot.Slot.{Slot}
+
+-- whether the number is one of these
+abbrev pub is_among : List ℕ → ℕ → Bool
+is_among numbers id = list_any (λ n. nat_eq n id) numbers
+
+-- whether one of the numbers is below this one
+abbrev pub is_any_below : List ℕ → ℕ → Bool
+is_any_below numbers count = list_any (λ n. nat_lt n count) numbers
+
+-- whether an agent with this number was made
+abbrev pub was_made : StoreView → ℕ → Bool
+was_made s id = is_among s.numbers id
+
+-- whether an agent with a number below this one was made
+abbrev pub was_any_made : StoreView → ℕ → Bool
+was_any_made s count = is_any_below s.numbers count
 
 -- an agent of the storage with this number is made; or the code says why not
 pub record MakesAgent (id : ℕ) (store after agent agent_after : Option Content) (code : ℤ) : Type 0 where

@@ -5,7 +5,7 @@ use Rattle.asm_update.specs.State.{IsProper, val}
 use Rattle.asm_storage.specs.Storage.{AgentAt, StorageView}
 use Rattle.asm_slots.specs.AgentCalls.{IsNoCapacity}
 use Rattle.asm_slots.specs.Codes.{IsOneOf, ASM_DONE, ASM_MEMORY, ASM_EMPTY, ASM_CAPACITY, ASM_NOT_FULL, ASM_TAKEN}
-use Rattle.asm_slots.specs.KeptJournal.{Leaves}
+use Rattle.asm_slots.specs.ClosedJournal.{Leaves}
 use Rattle.asm_slots.specs.OwnState.{state_at}
 use Rattle.asm_slots.specs.Slots.{Holds, HoldsNoAgent, HoldsStore}
 use Rattle.asm_slots.specs.Standard.{Standard}
@@ -23,12 +23,12 @@ abbrev pub IsOpenedAfter : List ℕ → ℕ → StoreView → Type 0
 IsOpenedAfter bytes most s = HasOpened bytes most s.storage × IsUnused s
 
 -- the new storage opens with the state that the moves of the old one's retained journal leave
-abbrev pub GoesOn : ℕ → StoreView → StoreView → Type 0
-GoesOn most old new = (text : List ℕ) × (old.journal ≡ Some text) × IsOpenedAfter text most new
+abbrev pub Continues : ℕ → StoreView → StoreView → Type 0
+Continues most old new = (text : List ℕ) × (old.journal ≡ Some text) × IsOpenedAfter text most new
 
 -- the storage of the one slot continues in the other
 abbrev pub IsNextOf : ℕ → Option Content → Option Content → Type 0
-IsNextOf capacity (Some (content.Store s)) new = HoldsStore new (GoesOn capacity s)
+IsNextOf capacity (Some (content.Store s)) new = HoldsStore new (Continues capacity s)
 IsNextOf capacity _ new = ⊥
 
 -- the storage retains no journal
@@ -41,7 +41,7 @@ IsAtEnd a = a.number ≡ length a.storage.row
 
 -- the new storage, with this capacity and without agents, opens with the state that the moves leave which the agent
 -- has seen, as many as its own storage has room for
-pub record GoesOnFrom (most : ℕ) (a : AgentAt Standard) (new : StoreView) : Type 0 where
+pub record ContinuesFrom (most : ℕ) (a : AgentAt Standard) (new : StoreView) : Type 0 where
   pub at_end : IsAtEnd a
   pub proper : IsProper new.storage.init
   pub left : (l : Place) → val new.storage.init l ≡ val (state_at a (length a.storage.row)) l
@@ -49,9 +49,9 @@ pub record GoesOnFrom (most : ℕ) (a : AgentAt Standard) (new : StoreView) : Ty
   pub unused : IsUnused new
 
 -- the storage of the agent in the one slot continues in the other; or the code says why not
-pub record GoesOnWith (capacity : ℕ) (agent next after : Option Content) (code : ℤ) : Type 0 where
+pub record ContinuesInto (capacity : ℕ) (agent next after : Option Content) (code : ℤ) : Type 0 where
   pub codes : IsOneOf (ASM_DONE ∷ ASM_MEMORY ∷ ASM_EMPTY ∷ ASM_CAPACITY ∷ ASM_NOT_FULL ∷ ASM_TAKEN ∷ []) code
-  pub opened : code ≡ ASM_DONE → Holds agent (λ a. HoldsStore after (GoesOnFrom capacity a))
+  pub opened : code ≡ ASM_DONE → Holds agent (λ a. HoldsStore after (ContinuesFrom capacity a))
   pub refused : code ≢ ASM_DONE → after ≡ next
   pub taken : (code ≡ ASM_TAKEN) ↔ (next ≢ None)
   pub empty : code ≡ ASM_EMPTY → HoldsNoAgent agent

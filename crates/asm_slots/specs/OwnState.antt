@@ -17,7 +17,7 @@ use Rattle.asm_journal.specs.Event.{answer_json_of, reply_json_of}
 use Rattle.asm_journal.specs.Text.{state_json_of}
 use Rattle.asm_slots.specs.Bytes.{ReadAsLocations, ReadAsReads}
 use Rattle.asm_slots.specs.AgentCalls.{HasPolled}
-use Rattle.asm_slots.specs.Kinds.{IsTold, bytes_of}
+use Rattle.asm_slots.specs.Kinds.{IsValueBy, bytes_of}
 use Rattle.asm_slots.specs.Slots.{Holds}
 use Rattle.asm_slots.specs.Standard.{Standard, meaning, part}
 use Rattle.asm_slots.specs.declared.content.Content.{Content}
@@ -28,8 +28,8 @@ abbrev pub state_at : AgentAt Standard → ℕ → State
 state_at a n = state_of part a.storage.init (take n (moves_seen a.account.seen))
 
 -- the agent's own state is at this version, which is at most the number of moves that the agent has seen
-abbrev pub StandsAt : AgentAt Standard → ℕ → Type 0
-StandsAt a n = (n ≡ a.number) × (n ≤ length a.account.seen)
+abbrev pub IsAtVersion : AgentAt Standard → ℕ → Type 0
+IsAtVersion a n = (n ≡ a.number) × (n ≤ length a.account.seen)
 
 -- {"number":N,"values":[VALUE, ..]}: what is seen at the locations at this version
 abbrev pub values_text : ℕ → Old → List Place → List ℕ
@@ -38,16 +38,16 @@ values_text n seen locations = compact_text (answer_json_of (answer.Read n (map 
 -- the bytes are JSON of locations, and the text has their values in the agent's own state, with its version
 abbrev pub IsPeekOf : List ℕ → AgentAt Standard → List ℕ → Type 0
 IsPeekOf bytes a text =
-    (locations : List Place) × (n : ℕ) × ReadAsLocations bytes locations × StandsAt a n
+    (locations : List Place) × (n : ℕ) × ReadAsLocations bytes locations × IsAtVersion a n
     × (text ≡ values_text n (val (state_at a n)) locations)
 
 -- kind, number and bytes are those of the value at the location in the agent's own state, which is at this version
-abbrev pub IsToldAt : Place → AgentAt Standard → ℕ → ℤ → ℤ → List ℕ → Type 0
-IsToldAt l a n kind number bytes = StandsAt a n × IsTold (val (state_at a n) l) kind number bytes
+abbrev pub IsValueAt : Place → AgentAt Standard → ℕ → ℤ → ℤ → List ℕ → Type 0
+IsValueAt l a n kind number bytes = IsAtVersion a n × IsValueBy (val (state_at a n) l) kind number bytes
 
 -- the bytes are those of the value at the location in the agent's own state
 abbrev pub HasBytesAt : Place → AgentAt Standard → List ℕ → Type 0
-HasBytesAt l a bytes = (n : ℕ) × StandsAt a n × (bytes ≡ bytes_of (val (state_at a n) l))
+HasBytesAt l a bytes = (n : ℕ) × IsAtVersion a n × (bytes ≡ bytes_of (val (state_at a n) l))
 
 -- the text is the JSON of a state without undef, which has these values
 abbrev pub IsTextOfState : Old → List ℕ → Type 0
@@ -60,11 +60,11 @@ of_name name old l = if pointwise nat_eq l.name name then old l else undef
 
 -- the text is the JSON of the agent's own state, which is at this version
 abbrev pub IsOwnState : AgentAt Standard → ℕ → List ℕ → Type 0
-IsOwnState a n text = StandsAt a n × IsTextOfState (val (state_at a n)) text
+IsOwnState a n text = IsAtVersion a n × IsTextOfState (val (state_at a n)) text
 
 -- the same, with only the locations of this function name
 abbrev pub IsOwnOfName : List ℕ → AgentAt Standard → ℕ → List ℕ → Type 0
-IsOwnOfName name a n text = StandsAt a n × IsTextOfState (of_name name (val (state_at a n))) text
+IsOwnOfName name a n text = IsAtVersion a n × IsTextOfState (of_name name (val (state_at a n))) text
 
 -- it has polled until it found nothing more, and nothing else has changed
 abbrev pub HasPolledOn : AgentAt Standard → AgentAt Standard → Type 0
@@ -75,8 +75,8 @@ abbrev pub HasFollowed : ℕ → AgentAt Standard → AgentAt Standard → Type 
 HasFollowed n old new = HasPolledOn old new × (n ≡ length new.account.seen) × (n ≡ new.number)
 
 -- the bytes are JSON of declared reads, and none of them is stale after what the agent has then seen
-abbrev pub AllStand : List ℕ → AgentAt Standard → Type 0
-AllStand bytes a = (reads : List Named) × ReadAsReads bytes reads × IsStaleRead meaning a reads None
+abbrev pub NoneIsStale : List ℕ → AgentAt Standard → Type 0
+NoneIsStale bytes a = (reads : List Named) × ReadAsReads bytes reads × IsStaleRead meaning a reads None
 
 -- {"stale":LOC}
 abbrev pub IsStaleText : Place → List ℕ → Type 0

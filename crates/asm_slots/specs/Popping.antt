@@ -17,15 +17,15 @@ IsComposedLast s r = (a : AgentAt Standard) (groups : List (List Move)) (group :
     IsStepOn a s (groups ++ group ∷ []) → IsOneOf standard group r × KeepsTurns part group r
 
 -- the code of why they don't
-abbrev pub TellsUncomposed : ComposeError → ℤ → Type 0
-TellsUncomposed (Clash c) code = code ≡ ASM_CLASH
-TellsUncomposed (Large l) code = code ≡ ASM_LARGE
-TellsUncomposed ManyInstructions code = code ≡ ASM_LONG_MOVE
-TellsUncomposed Memory code = code ≡ ASM_MEMORY
+abbrev pub ReportsUncomposed : ComposeError → ℤ → Type 0
+ReportsUncomposed (Clash c) code = code ≡ ASM_CLASH
+ReportsUncomposed (Large l) code = code ≡ ASM_LARGE
+ReportsUncomposed ManyInstructions code = code ≡ ASM_LONG_MOVE
+ReportsUncomposed Memory code = code ≡ ASM_MEMORY
 
 -- the code says why the moves of the step's last group don't compose
 abbrev pub IsUncomposedLast : StepView → ℤ → Type 0
-IsUncomposedLast s code = (e : ComposeError) × IsComposedLast s (Err e) × TellsUncomposed e code
+IsUncomposedLast s code = (e : ComposeError) × IsComposedLast s (Err e) × ReportsUncomposed e code
 
 -- or the locations on which they depend by themselves would take more than 256 places
 abbrev pub IsNotPoppedLast : StepView → ℤ → Type 0

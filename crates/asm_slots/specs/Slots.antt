@@ -31,9 +31,9 @@ HoldsNoAgent (Some (content.Agent a)) = ⊥
 HoldsNoAgent _ = Unit {0}
 
 -- the slot holds an agent before and after, and this relation holds between the two
-abbrev pub Goes : Option Content → Option Content → (AgentAt Standard → AgentAt Standard → Type 0) → Type 0
-Goes (Some (content.Agent a)) new P = Holds new (P a)
-Goes _ new P = ⊥
+abbrev pub Changes : Option Content → Option Content → (AgentAt Standard → AgentAt Standard → Type 0) → Type 0
+Changes (Some (content.Agent a)) new P = Holds new (P a)
+Changes _ new P = ⊥
 
 -- the slot holds a storage with this property
 abbrev pub HoldsStore : Option Content → (StoreView → Type 0) → Type 0
@@ -67,9 +67,9 @@ HoldsNoStep (Some (content.Step s)) = ⊥
 HoldsNoStep _ = Unit {0}
 
 -- the slot holds a step before and after, and this relation holds between the two
-abbrev pub GoesStep : Option Content → Option Content → (StepView → StepView → Type 0) → Type 0
-GoesStep (Some (content.Step s)) new P = HoldsStep new (P s)
-GoesStep _ new P = ⊥
+abbrev pub ChangesStep : Option Content → Option Content → (StepView → StepView → Type 0) → Type 0
+ChangesStep (Some (content.Step s)) new P = HoldsStep new (P s)
+ChangesStep _ new P = ⊥
 
 -- the one slot holds an agent and the other a step, and this relation holds between the two
 abbrev pub HoldBoth : Option Content → Option Content → (AgentAt Standard → StepView → Type 0) → Type 0
@@ -129,10 +129,10 @@ HasRoomForAudit _ = ⊥
 
 -- the slot holds an audit before, or is empty and one that has read nothing begins there; it holds one after, and
 -- this relation holds between the two
-abbrev pub GoesAudit : Option Content → Option Content → (AuditView → AuditView → Type 0) → Type 0
-GoesAudit None new P = (a : AuditView) × WasFed [] a × HoldsAudit new (P a)
-GoesAudit (Some (content.Audit a)) new P = HoldsAudit new (P a)
-GoesAudit _ new P = ⊥
+abbrev pub ChangesAudit : Option Content → Option Content → (AuditView → AuditView → Type 0) → Type 0
+ChangesAudit None new P = (a : AuditView) × WasFed [] a × HoldsAudit new (P a)
+ChangesAudit (Some (content.Audit a)) new P = HoldsAudit new (P a)
+ChangesAudit _ new P = ⊥
 
 -- two agents are of one storage, if there are two
 abbrev pub AreOfOneStorage : Option Content → Option Content → Type 0

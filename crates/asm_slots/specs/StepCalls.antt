@@ -24,9 +24,9 @@ use Rattle.asm_slots.specs.Composing.{clash_text, large_text}
 use Rattle.asm_slots.specs.OwnState.{IsTextOfState, of_name, state_at, values_text}
 use Rattle.asm_slots.specs.Standard.{Standard, standard, part}
 use Rattle.asm_slots.specs.StepView.{StepView, names_of}
-use Rattle.asm_slots.specs.Tracked.{judged}
-use Rattle.asm_slots.specs.declared.owned_step.Way.{Way}
-use Rattle.asm_slots.specs.declared.owned_step.Way.TheVariants as ways
+use Rattle.asm_slots.specs.Tracked.{refusal_places}
+use Rattle.asm_slots.specs.declared.owned_step.PushMode.{PushMode}
+use Rattle.asm_slots.specs.declared.owned_step.PushMode.TheVariants as ways
 
 -- what is below the pushed moves: the state at the step's version, by the moves that the agent has seen
 abbrev pub below : AgentAt Standard → StepView → Old
@@ -52,8 +52,8 @@ HasReached a s = s.number ≤ length a.account.seen
 -- ---- reading
 
 -- the bytes are JSON of locations, and the text has what is seen there
-abbrev pub IsGotText : List ℕ → AgentAt Standard → StepView → List ℕ → Type 0
-IsGotText bytes a s text =
+abbrev pub IsSeenText : List ℕ → AgentAt Standard → StepView → List ℕ → Type 0
+IsSeenText bytes a s text =
     (locations : List Place) × ReadAsLocations bytes locations × (text ≡ values_text s.number (seen a s) locations)
 
 -- those of the locations at which what is seen through the pushed moves is made from the state below them
@@ -62,38 +62,38 @@ from_below s locations = filter (shows_below s.layers) locations
 
 -- how many of the 256 places are taken: one by each tracked location, and one by each scanned function
 abbrev pub places_of : StepView → ℕ
-places_of s = length s.got + length s.scanned
+places_of s = length s.tracked + length s.scanned
 
 -- the step also tracks those of the locations at which what is seen depends on the state below
-abbrev pub HasGotEach : List Place → StepView → StepView → Type 0
-HasGotEach locations old new =
-    (new ≡ record old { got = new.got }) × AreEach (old.got ++ from_below old locations) new.got × (places_of new ≤ reads_limit)
+abbrev pub HasTrackedEach : List Place → StepView → StepView → Type 0
+HasTrackedEach locations old new =
+    (new ≡ record old { tracked = new.tracked }) × AreEach (old.tracked ++ from_below old locations) new.tracked × (places_of new ≤ reads_limit)
 
 -- the step also tracks those of the locations of these bytes
-abbrev pub HasGot : List ℕ → StepView → StepView → Type 0
-HasGot bytes old new = (locations : List Place) × ReadAsLocations bytes locations × HasGotEach locations old new
+abbrev pub HasTracked : List ℕ → StepView → StepView → Type 0
+HasTracked bytes old new = (locations : List Place) × ReadAsLocations bytes locations × HasTrackedEach locations old new
 
 -- the step also tracks the location, under the same condition
-abbrev pub HasGotOne : Place → StepView → StepView → Type 0
-HasGotOne l = HasGotEach (l ∷ [])
+abbrev pub HasTrackedOne : Place → StepView → StepView → Type 0
+HasTrackedOne l = HasTrackedEach (l ∷ [])
 
 -- 256 places are taken, this location isn't tracked, and what is seen there depends on the state below
-abbrev pub WouldGetOneMore : Place → StepView → Type 0
-WouldGetOneMore l s = (reads_limit ≤ places_of s) × ¬ Contains s.got l × (shows_below s.layers l ≡ true)
+abbrev pub WouldTrackOneMore : Place → StepView → Type 0
+WouldTrackOneMore l s = (reads_limit ≤ places_of s) × ¬ Contains s.tracked l × (shows_below s.layers l ≡ true)
 
 -- the location is among the others; or this is a copy of it, for which the limit leaves room
 abbrev pub IsCopyFor : ℕ → List Place → Place → Option Place → Type 0
-IsCopyFor limit got l None = Contains got l
-IsCopyFor limit got l (Some copy) = (copy ≡ l) × (length got < limit)
+IsCopyFor limit tracked l None = Contains tracked l
+IsCopyFor limit tracked l (Some copy) = (copy ≡ l) × (length tracked < limit)
 
 -- with the locations, more than 256 places would be taken
 abbrev pub WouldTakeMany : List Place → StepView → Type 0
 WouldTakeMany locations s =
-    (ls : List Place) × AreEach (s.got ++ from_below s locations) ls × (reads_limit < length ls + length s.scanned)
+    (ls : List Place) × AreEach (s.tracked ++ from_below s locations) ls × (reads_limit < length ls + length s.scanned)
 
 -- the same, with the locations of these bytes
-abbrev pub WouldGetMany : List ℕ → StepView → Type 0
-WouldGetMany bytes s = (locations : List Place) × ReadAsLocations bytes locations × WouldTakeMany locations s
+abbrev pub WouldTrackMany : List ℕ → StepView → Type 0
+WouldTrackMany bytes s = (locations : List Place) × ReadAsLocations bytes locations × WouldTakeMany locations s
 
 -- the text has what is seen at the locations with this function name
 abbrev pub IsFoundText : List ℕ → AgentAt Standard → StepView → List ℕ → Type 0
@@ -112,14 +112,14 @@ abbrev pub IsOfScanned : Place → StepView → Type 0
 IsOfScanned l s = (name : List ℕ) × IsScanned name s × IsTrue (has_name name l)
 
 -- the function with this name is scanned: it was already, and nothing changes; or its name is put behind the others
-abbrev pub HasGotAll : List ℕ → StepView → StepView → Type 0
-HasGotAll name old new =
+abbrev pub HasScanned : List ℕ → StepView → StepView → Type 0
+HasScanned name old new =
     (IsScanned name old × (new ≡ old))
     ⊎ (¬ IsScanned name old × (new ≡ record old { scanned = old.scanned ++ name ∷ [] }) × (places_of new ≤ reads_limit))
 
 -- 256 places are taken, and the function with this name isn't scanned
-abbrev pub WouldGetManyMore : List ℕ → StepView → Type 0
-WouldGetManyMore name s = (reads_limit ≤ places_of s) × ¬ IsScanned name s
+abbrev pub WouldScanMany : List ℕ → StepView → Type 0
+WouldScanMany name s = (reads_limit ≤ places_of s) × ¬ IsScanned name s
 
 -- whether one of the scans is of the function with this name
 abbrev pub has_scan : List ℕ → List Scanned → Bool
@@ -135,12 +135,12 @@ IsScanFor limit scans name number (Some scan) =
 -- ---- pushing
 
 -- the groups of moves with this one: pushed, or extending the last
-abbrev pub grown : Way → List (List Move) → Move → List (List Move)
+abbrev pub grown : PushMode → List (List Move) → Move → List (List Move)
 grown ways.Push groups M = groups ++ (M ∷ []) ∷ []
 grown ways.Extend groups M = extended groups M
 
 -- one more layer, of at most 64; or a new one in the place of the last
-abbrev pub IsLayered : Way → List Layer → List Layer → Type 0
+abbrev pub IsLayered : PushMode → List Layer → List Layer → Type 0
 IsLayered ways.Push old new = ((y : Layer) × (new ≡ old ++ y ∷ [])) × (length old ≢ frames_limit)
 IsLayered ways.Extend old new = (y : Layer) × (new ≡ all_but_last old ++ y ∷ [])
 
@@ -152,7 +152,7 @@ IsPushAnswerBelow M a s new r =
     IsPushAnswerOn part (state_at a s.number) s.layers new M r
 
 -- the move is pushed, or extends the one that was pushed last
-pub record IsGrown (way : Way) (M : Move) (a : AgentAt Standard) (old new : StepView) : Type 0 where
+pub record IsGrown (way : PushMode) (M : Move) (a : AgentAt Standard) (old new : StepView) : Type 0 where
   pub same : new ≡ record old { layers = new.layers }
   pub reached : HasReached a old
   pub layers : IsLayered way old.layers new.layers
@@ -162,13 +162,13 @@ pub record IsGrown (way : Way) (M : Move) (a : AgentAt Standard) (old new : Step
 
 -- why it isn't: never something too large if the step is one of the agent over a well-formed state, and never 64
 -- pushed moves if it would extend the last
-abbrev pub IsPushError : Way → Move → AgentAt Standard → StepView → StepError → Type 0
+abbrev pub IsPushError : PushMode → Move → AgentAt Standard → StepView → StepError → Type 0
 IsPushError ways.Extend M a s Deep = ⊥
 IsPushError way M a s e =
     HasReached a s × IsPushAnswer standard (below a s) s.layers s.layers M (Err e) × IsPushAnswerBelow M a s s.layers (Err e)
 
 -- the bytes are JSON of a move, which is pushed or extends the one that was pushed last
-abbrev pub HasGrown : Way → List ℕ → AgentAt Standard → StepView → StepView → Type 0
+abbrev pub HasGrown : PushMode → List ℕ → AgentAt Standard → StepView → StepView → Type 0
 HasGrown way bytes a old new = (M : Move) × ReadAsMove bytes M × IsGrown way M a old new
 
 -- the code and the text of why a move isn't pushed: the clash, the location where an amount or a sum is too large, or
@@ -182,18 +182,18 @@ ReportsRefusal Memory code text = ⊥
 
 -- code and text report the refusal of a move, and the locations on which it depends are tracked; or these take more
 -- than 256 places, and only that is reported
-abbrev pub TellsTracked : Move → StepView → StepView → StepError → ℤ → List ℕ → Type 0
-TellsTracked M old new e code text =
-    (ReportsRefusal e code text × HasGotEach (judged M e) old new)
-    ⊎ ((code ≡ ASM_MANY) × (text ≡ []) × (new ≡ old) × WouldTakeMany (judged M e) old)
+abbrev pub ReportsTracked : Move → StepView → StepView → StepError → ℤ → List ℕ → Type 0
+ReportsTracked M old new e code text =
+    (ReportsRefusal e code text × HasTrackedEach (refusal_places M e) old new)
+    ⊎ ((code ≡ ASM_MANY) × (text ≡ []) × (new ≡ old) × WouldTakeMany (refusal_places M e) old)
 
 -- code and text report why the move is neither pushed nor extends the last one, and the locations below on which that
 -- depends are tracked
-abbrev pub IsRefused : Way → Move → AgentAt Standard → StepView → StepView → ℤ → List ℕ → Type 0
-IsRefused way M a old new code text = (e : StepError) × IsPushError way M a old e × TellsTracked M old new e code text
+abbrev pub IsRefused : PushMode → Move → AgentAt Standard → StepView → StepView → ℤ → List ℕ → Type 0
+IsRefused way M a old new code text = (e : StepError) × IsPushError way M a old e × ReportsTracked M old new e code text
 
 -- the bytes are JSON of a move that is refused with this code and this text
-abbrev pub IsNotGrown : Way → List ℕ → AgentAt Standard → StepView → StepView → ℤ → List ℕ → Type 0
+abbrev pub IsNotGrown : PushMode → List ℕ → AgentAt Standard → StepView → StepView → ℤ → List ℕ → Type 0
 IsNotGrown way bytes a old new code text = (M : Move) × ReadAsMove bytes M × IsRefused way M a old new code text
 
 -- ---- popping
@@ -208,7 +208,7 @@ pub record HasPopped (old new : StepView) : Type 0 where
 -- the step also tracks those of the locations at which what is seen depends on the state below, and then the move
 -- that was pushed last is popped
 abbrev pub HasPoppedOver : List Place → StepView → StepView → Type 0
-HasPoppedOver locations old new = (mid : StepView) × HasGotEach locations old mid × HasPopped mid new
+HasPoppedOver locations old new = (mid : StepView) × HasTrackedEach locations old mid × HasPopped mid new
 
 -- these are the moves of the step's last group
 abbrev pub AreLastOf : StepView → List Move → Type 0

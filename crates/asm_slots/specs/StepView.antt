@@ -10,7 +10,7 @@ use Rattle.asm_step.specs.Layers.{Layer}
 pub record StepView : Type 0 where
   pub number : ℕ
   pub layers : List Layer
-  pub got : List Place
+  pub tracked : List Place
   pub scanned : List (List ℕ)
 
 -- it is stored as a tuple
@@ -18,12 +18,12 @@ abbrev pub step_code : Coded (List Layer) → Coded (List Place) → Coded StepV
 step_code y l =
     code_by (ℕ × (List Layer × (List Place × List (List ℕ))))
     (coded× coded_ℕ (coded× y (coded× l (coded_list (coded_list coded_ℕ)))))
-    (λ s. (s.number, (s.layers, (s.got, s.scanned))))
-    (λ p. record { number = p.0; layers = p.1.0; got = p.1.1.0; scanned = p.1.1.1 }) (λ _. refl)
+    (λ s. (s.number, (s.layers, (s.tracked, s.scanned))))
+    (λ p. record { number = p.0; layers = p.1.0; tracked = p.1.1.0; scanned = p.1.1.1 }) (λ _. refl)
 
 -- a step at this version, without moves, tracked locations and scanned functions
-abbrev pub begun : ℕ → StepView
-begun n = record { number = n; layers = []; got = []; scanned = [] }
+abbrev pub new_step : ℕ → StepView
+new_step n = record { number = n; layers = []; tracked = []; scanned = [] }
 
 -- the names of the functions that these scans are of
 abbrev pub names_of : List Scanned → List (List ℕ)

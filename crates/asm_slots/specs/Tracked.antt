@@ -11,21 +11,21 @@ use Rattle.asm_step.specs.declared.error.StepError.TheVariants.{Clash, Large, Ma
 use Rattle.asm_slots.specs.StepView.{StepView}
 
 -- the location, and those up to it at which the move has partial updates
-abbrev pub judged_to : Place → Move → List Place
-judged_to l M = l ∷ filter (λ k. is_le (location_cmp k l)) (partial_places M)
+abbrev pub refusal_places_to : Place → Move → List Place
+refusal_places_to l M = l ∷ filter (λ k. is_le (location_cmp k l)) (partial_places M)
 
 -- the locations on which a refusal depends: its own with the smaller ones at which the move has partial updates,
 -- which fit there; all of these, if the move alone isn't the cause
-abbrev pub judged : Move → StepError → List Place
-judged M (Clash c) = judged_to c.at M
-judged M (Large l) = judged_to l M
-judged M Many = partial_places M
-judged M Deep = []
-judged M Memory = []
+abbrev pub refusal_places : Move → StepError → List Place
+refusal_places M (Clash c) = refusal_places_to c.at M
+refusal_places M (Large l) = refusal_places_to l M
+refusal_places M Many = partial_places M
+refusal_places M Deep = []
+refusal_places M Memory = []
 
 -- the locations at which the moves that were pushed last have partial updates
-abbrev pub judged_last : StepView → List Place
-judged_last s = all_partial_places (moves_of s.layers)
+abbrev pub last_partial_places : StepView → List Place
+last_partial_places s = all_partial_places (moves_of s.layers)
 
 -- the locations on which the moves that were pushed last depend by themselves
 abbrev pub dependencies_last : StepView → List Place

@@ -1,14 +1,15 @@
 //! Audits of runs, and the numbers that they report to C.
 #![tactic(auto, unfolding(asm_aggregate::specs::Standard::standard_meaning))]
 
-ghost use Rattle.std.specs.Prelude.{◌≡◌, ◌∷◌, [], IfOk, IfSome, IfNone, string_bytes};
-ghost use Rattle.asm_audit.specs.Fed.{HasTakenFirst, IsFedAnswer, IsFedEnd};
+ghost use Rattle.std.specs.Prelude.{◌≡◌, [], IfErr, IfOk};
+ghost use Rattle.asm_audit.specs.Audited.{IsFormFault};
+ghost use Rattle.asm_audit.specs.Fed.{FeedsFirst, IsFedAnswer, IsFedEnd};
 ghost use Rattle.asm_audit.specs.SoFar.{AreFedSoFar, IsFedStateSoFar};
 ghost use Rattle.asm_slots.specs.AuditView.{WasFed};
 ghost use Rattle.asm_slots.specs.Standard.{part};
 
 use asm_aggregate::{Standard, standard};
-use asm_audit::{AuditError, ByteAuditor, Counts, Told};
+use asm_audit::{AuditError, ByteAuditor, Counts};
 use asm_update::PlainState;
 use std::alloc::{AllocError, Global};
 use std::marker::Model;
@@ -57,9 +58,9 @@ impl Audit {
     }
 
     /// Read the next bytes; return how many of them were read, and the answer.
-    pub(crate) fn feed(&mut self, alloc: Global, bytes: &[u8]) -> (usize, Result<Told, AuditError>)
-        ensures reported { IsFedAnswer part bytes.now self.old.progress self.old.line self.new.progress self.new.line result.1 }
-        ensures first { HasTakenFirst part bytes.now self.old.progress self.old.line self.new.progress self.new.line
+    pub(crate) fn feed(&mut self, alloc: Global, bytes: &[u8]) -> (usize, Result<(), AuditError>)
+        ensures answer { IsFedAnswer part bytes.now self.old.progress self.old.line self.new.progress self.new.line result.1 }
+        ensures first { FeedsFirst part bytes.now self.old.progress self.old.line self.new.progress self.new.line
             result.0 result.1 }
     {
         self.auditor.feed_some(alloc, bytes)
@@ -67,7 +68,8 @@ impl Audit {
 
     /// Return the answer if no further byte comes; the audit is unchanged.
     pub(crate) fn finish(&mut self, alloc: Global) -> Result<Counts, AuditError>
-        ensures reported { IsFedEnd part self.old.progress self.old.line result }
+        ensures answer { IsFedEnd part self.old.progress self.old.line result }
+        ensures form { IfErr result IsFormFault }
         ensures same { self.new ≡ self.old }
     {
         self.auditor.finish(alloc)

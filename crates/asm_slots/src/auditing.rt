@@ -1,11 +1,12 @@
 //! Feeding bytes to audits, and their answers as codes and numbers.
-ghost use Rattle.std.specs.Prelude.{◌≡◌, ◌≢◌, ◌∷◌, [], IfErr, IfOk, OnErr, Some, None, string_bytes};
+ghost use Rattle.std.specs.Prelude.{◌≡◌, ◌∷◌, [], IfErr, IfOk, Some, None, string_bytes};
+ghost use Rattle.asm_audit.specs.Audited.{IsFormFault};
 ghost use Rattle.asm_slots.specs.Audits.{Audits, AreNoNumbers, HasAudited, HasEnd, HasNoState, IsAuditState};
-ghost use Rattle.asm_slots.specs.Audits.{TellsAnswer, TellsAuditError, TellsEnd, counts_of};
+ghost use Rattle.asm_slots.specs.Audits.{ReportsAuditError, counts_of};
 ghost use Rattle.asm_slots.specs.AuditView.{AuditView, WasFed};
 ghost use Rattle.asm_slots.specs.Codes.{IsOneOf, ASM_DONE, ASM_MEMORY, ASM_NO_PART, ASM_ILLEGAL};
 ghost use Rattle.asm_slots.specs.Codes.{ASM_NOT_JSON, ASM_SHAPE, ASM_VERSION, ASM_CUT, ASM_LONG_LINE, ASM_APART};
-ghost use Rattle.asm_slots.specs.Slots.{HoldsAudit, HoldsNoAudit, content_of};
+ghost use Rattle.asm_slots.specs.Slots.{HoldsAudit, content_of};
 ghost use Rattle.asm_slots.specs.declared.content.Content.TheVariants as content;
 
 use crate::audit::{Audit, AuditNumbers};
@@ -14,7 +15,7 @@ use crate::content::Content;
 use crate::journals::code_of_error;
 use crate::slot::Slot;
 use crate::take_and_put::put_shell;
-use asm_audit::{AuditError, Counts, Told};
+use asm_audit::{AuditError, Counts};
 use asm_journal::state_text;
 use std::alloc::{AllocError, Global};
 
@@ -55,14 +56,17 @@ impl AuditNumbers {
 
 // Return the code of the error, with its numbers.
 fn code_of_audit_error(error: AuditError) -> (i32, AuditNumbers)
-    ensures codes { IsOneOf (ASM_MEMORY ∷ ASM_NOT_JSON ∷ ASM_SHAPE ∷ ASM_VERSION ∷ ASM_CUT ∷ ASM_LONG_LINE ∷ ASM_APART ∷ []) result.0 }
-    ensures reported { TellsAuditError error result.0 result.1 }
+    ensures codes { IsOneOf (ASM_MEMORY ∷ ASM_ILLEGAL ∷ ASM_NOT_JSON ∷ ASM_SHAPE ∷ ASM_VERSION ∷ ASM_CUT ∷ ASM_LONG_LINE ∷ ASM_APART ∷ []) result.0 }
+    ensures form { IsFormFault error → IsOneOf (ASM_MEMORY ∷ ASM_NOT_JSON ∷ ASM_SHAPE ∷ ASM_VERSION ∷ ASM_CUT
+        ∷ ASM_LONG_LINE ∷ ASM_APART ∷ []) result.0 }
+    ensures reported { ReportsAuditError error result.0 result.1 }
 {
     match error {
         AuditError::Journal { part, fault } => {
             let (code, line) = code_of_error(fault);
             (code, AuditNumbers::at(part, line))
         }
+        AuditError::Illegal { part, call } => (ILLEGAL, AuditNumbers::at(part, call)),
         AuditError::Apart { part } => (APART, AuditNumbers::at(part, 0)),
         AuditError::LongLine => (LONG_LINE, AuditNumbers::none()),
         AuditError::Memory => (MEMORY, AuditNumbers::none()),
@@ -81,41 +85,22 @@ fn feed(
         ∷ ASM_LONG_LINE ∷ ASM_APART ∷ []) result }
     ensures audited { HasAudited bytes.now taken.new reported.new result audit.old audit.new }
 {
-    let (count, answer) = audit.feed(alloc, bytes);
+    let (count, fed) = audit.feed(alloc, bytes);
     *taken = count;
-    let answer = match answer {
-        Ok(answer) => answer,
-        Err(error) => {
-            let (code, numbers) = code_of_audit_error(error);
-            *reported = numbers;
-            return code;
-        }
-    };
-    match answer {
-        Told::Legal => {
+    match fed {
+        Ok(()) => {
             *reported = AuditNumbers::of(audit.counts());
             DONE
         }
-        Told::Illegal { part, call } => {
-            *reported = AuditNumbers::at(part, call);
-            ILLEGAL
+        Err(error) => {
+            let (code, numbers) = code_of_audit_error(error);
+            *reported = numbers;
+            code
         }
     }
 }
 
-/// Feed the bytes to the audit in the box, and put the box into the slot.
-///
-/// `taken` is how many of the bytes were read, and `reported` has the numbers of the audit.
-///
-/// # Errors
-///
-/// - `ASM_ILLEGAL`: the call with this number, in the segment with this number, has a wrong answer.
-/// - `ASM_NOT_JSON`, `ASM_SHAPE`: the line with this number, in the segment with this number, is at fault.
-/// - `ASM_VERSION`, `ASM_CUT`: the journal of the segment with this number is at fault.
-/// - `ASM_APART`: the segment with this number opens with another state than the one before it leaves.
-/// - `ASM_LONG_LINE`: a line has more than 1,073,741,824 bytes.
-/// - `ASM_TAKEN`: exactly if the box has no audit; its content is unchanged, and `taken` and all numbers are 0.
-/// - `ASM_MEMORY`
+/// Do what `asm_audit` does with the content of the box, and put the box into the slot.
 pub fn feed_in(
     alloc: Global,
     slot: &mut Slot,
@@ -139,18 +124,13 @@ pub fn feed_in(
 }
 
 // Return an audit that has read nothing, in a slot's box.
-fn begun(alloc: Global) -> Result<Box<Content>, AllocError>
+fn new_audit(alloc: Global) -> Result<Box<Content>, AllocError>
     ensures { IfOk result (λ b. (a : AuditView) × (b.value ≡ content.Audit a) × WasFed [] a) }
 {
     Ok(Box::new(alloc, Content::Audit(Audit::new(alloc)))?)
 }
 
-/// Feed the bytes to a new audit, which begins in the empty slot.
-///
-/// # Errors
-///
-/// - Those of `feed_in`, except `ASM_TAKEN`.
-/// - `ASM_MEMORY`: the slot may be empty, and then `taken` and all numbers are 0.
+/// Do what `asm_audit` does with an empty slot.
 pub fn feed_first(
     alloc: Global,
     slot: &mut Slot,
@@ -163,19 +143,13 @@ pub fn feed_first(
     requires no_numbers { AreNoNumbers reported.old }
     ensures { Audits bytes.now None (content_of slot.new) taken.new reported.new result }
 {
-    match begun(alloc) {
+    match new_audit(alloc) {
         Ok(shell) => feed_in(alloc, slot, shell, bytes, taken, reported),
         Err(AllocError) => MEMORY,
     }
 }
 
-/// Return the code and the numbers of the audit if no further byte comes.
-///
-/// The audit is unchanged.
-///
-/// # Errors
-///
-/// - Those of `feed_in`, except `ASM_TAKEN` and `ASM_ILLEGAL`, with the same numbers.
+/// Return the code and the numbers that `asm_audited` returns of the audit.
 pub fn ended(alloc: Global, audit: &mut Audit) -> (i32, AuditNumbers)
     ensures codes { IsOneOf (ASM_DONE ∷ ASM_MEMORY ∷ ASM_NOT_JSON ∷ ASM_SHAPE ∷ ASM_VERSION ∷ ASM_CUT
         ∷ ASM_LONG_LINE ∷ ASM_APART ∷ []) result.0 }
@@ -188,12 +162,7 @@ pub fn ended(alloc: Global, audit: &mut Audit) -> (i32, AuditNumbers)
     }
 }
 
-/// Return the text of the state that the moves so far leave.
-///
-/// # Errors
-///
-/// - `ASM_NO_PART`: no segment has begun.
-/// - `ASM_MEMORY`
+/// Return what `asm_audit_state` writes.
 pub fn audit_state(alloc: Global, audit: &Audit) -> Result<String, i32>
     ensures ok { IfOk result (λ text. IsAuditState audit.now (string_bytes text)) }
     ensures codes { IfErr result (IsOneOf (ASM_MEMORY ∷ ASM_NO_PART ∷ [])) }

@@ -2,7 +2,13 @@
 ghost use Rattle.std.specs.Prelude.{◌∷◌, [], ◌≡◌, ◌≢◌, ◌<◌, false, int_lt, length, string_bytes};
 ghost use Rattle.asm_slots.specs.Codes.{IsOneOf, first_texts, further, further_texts, text_among, text_of_code};
 ghost use Rattle.asm_slots.specs.Codes.{ASM_APART, ASM_DONE, ASM_SMALL};
-ghost use Rattle.asm_slots.specs.WrittenText.{Tells, TellsText};
+ghost use Rattle.asm_slots.specs.WrittenText.{Writes, WritesText};
+ghost use Rattle.asm_slots.specs.Answers.{answer_of, code_of_text, number_of};
+ghost use Rattle.asm_slots.specs.declared.codes.Code.TheVariants as variant;
+
+use asm_explain::TextError;
+use asm_update::InstructionsError;
+use std::alloc::{AllocError, AllocFailed};
 
 pub const DONE: i32 = 0;
 
@@ -78,7 +84,7 @@ pub const LONG_MOVE: i32 = 35;
 
 /// A text to write, with its code.
 #[derive(Drop)]
-pub struct Told {
+pub struct CodedText {
     pub code: i32,
     pub text: String,
 }
@@ -93,7 +99,7 @@ pub struct Told {
 pub fn copied(bytes: &[u8], out: &mut [u8], written: &mut usize) -> i32
     ensures written { written.new ≡ length bytes.now }
     ensures codes { IsOneOf (ASM_DONE ∷ ASM_SMALL ∷ []) result }
-    ensures text { TellsText (λ text. text ≡ bytes.now) out.old out.new written.new result }
+    ensures text { WritesText (λ text. text ≡ bytes.now) out.old out.new written.new result }
 {
     *written = bytes.len();
     if out.len() < bytes.len() {
@@ -108,10 +114,10 @@ pub fn copied(bytes: &[u8], out: &mut [u8], written: &mut usize) -> i32
 /// # Errors
 ///
 /// - `ASM_SMALL`: the text is longer than the buffer, which is unchanged; `written` is the room that it needs.
-pub fn written_as(reported: &Told, out: &mut [u8], written: &mut usize) -> i32
+pub fn written_as(reported: &CodedText, out: &mut [u8], written: &mut usize) -> i32
     requires { reported.now.code ≢ ASM_SMALL }
     ensures codes { IsOneOf (reported.now.code ∷ ASM_SMALL ∷ []) result }
-    ensures text { Tells (reported.now.code ∷ []) (λ code text. text ≡ string_bytes reported.now.text)
+    ensures text { Writes (reported.now.code ∷ []) (λ code text. text ≡ string_bytes reported.now.text)
         (λ text. text ≡ string_bytes reported.now.text) out.old out.new written.new result }
 {
     if copied(reported.text.as_bytes(), out, written) == DONE {
@@ -185,5 +191,85 @@ fn further_text(code: i32) -> &'static str
         LONG_LINE => "a line of more than 1,073,741,824 bytes",
         LONG_MOVE => "a move of more than 4,096 instructions",
         _ => "no code of this library",
+    }
+}
+
+/// Why a call is refused; the codes of the header say what each means.
+#[derive(Clone, Copy, Drop)]
+pub enum Code {
+    Memory,
+    Empty,
+    Taken,
+    NotJson,
+    Shape,
+    Operand,
+    LongMove,
+}
+
+impl Code {
+    /// Return its number.
+    pub fn number(self) -> i32
+        ensures { result ≡ number_of self }
+    {
+        match self {
+            Code::Memory => MEMORY,
+            Code::Empty => EMPTY,
+            Code::Taken => TAKEN,
+            Code::NotJson => NOT_JSON,
+            Code::Shape => SHAPE,
+            Code::Operand => OPERAND,
+            Code::LongMove => LONG_MOVE,
+        }
+    }
+}
+
+/// Return the number that C gets: 0 if the call is done.
+pub fn answer(done: Result<(), Code>) -> i32
+    ensures { result ≡ answer_of done }
+{
+    match done {
+        Ok(()) => DONE,
+        Err(code) => code.number(),
+    }
+}
+
+impl From<AllocError> for Code {
+    ghost from_gives = { λ _ c. c ≡ variant.Memory };
+
+    fn from(_error: AllocError) -> Code {
+        Code::Memory
+    }
+}
+
+impl<T: Drop> From<AllocFailed<T>> for Code {
+    ghost from_gives = { λ _ c. c ≡ variant.Memory };
+
+    fn from(_error: AllocFailed<T>) -> Code {
+        Code::Memory
+    }
+}
+
+impl From<TextError> for Code {
+    ghost from_gives = { λ e c. c ≡ code_of_text e };
+
+    fn from(error: TextError) -> Code {
+        match error {
+            TextError::NotJson => Code::NotJson,
+            TextError::Shape => Code::Shape,
+            TextError::Memory => Code::Memory,
+        }
+    }
+}
+
+impl From<InstructionsError> for Code {
+    ghost use Rattle.asm_slots.specs.Answers.{code_of_instructions};
+
+    ghost from_gives = { λ e c. c ≡ code_of_instructions e };
+
+    fn from(error: InstructionsError) -> Code {
+        match error {
+            InstructionsError::ManyInstructions => Code::LongMove,
+            InstructionsError::Memory => Code::Memory,
+        }
     }
 }

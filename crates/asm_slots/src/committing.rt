@@ -1,29 +1,35 @@
 //! Committing a step: firing its one move, with or without a receipt of what the step read.
-ghost use Rattle.std.specs.Prelude.{◌≡◌, ◌≤◌, ◌+◌, ◌⊎◌, ◌∷◌, [], Some, map, unwrap_or, IfErr, IfOk, OnErr, OnOk};
+ghost use Rattle.std.specs.Prelude.{◌≡◌, ◌≤◌, ◌+◌, ◌⊎◌, ◌∷◌, [], map, unwrap_or, IfErr, IfOk, OnErr, OnOk, string_bytes};
 ghost use Rattle.asm_step.specs.Layers.{one_move};
 ghost use Rattle.asm_storage.specs.Limits.{offers_limit};
 ghost use Rattle.asm_storage.specs.Storage.{IsSameAgent};
 ghost use Rattle.asm_slots.specs.AgentCalls.{MissedFew, MissedOne, SeesOn};
-ghost use Rattle.asm_slots.specs.Codes.{IsOneOf, ASM_DONE, ASM_STALE, ASM_CLASH, ASM_MEMORY, ASM_FULL};
-ghost use Rattle.asm_slots.specs.Codes.{ASM_BUSY, ASM_MANY, ASM_MOVED};
-ghost use Rattle.asm_slots.specs.Commit.{FiresRecorded, FiresStep, HasCommitted, HasCommittedRecorded, HasFiredStep};
-ghost use Rattle.asm_slots.specs.Commit.{HasMoved, HasRecorded, NamesAll, NamesMany, OneDoesAll, StandsAs, TellsFire};
-ghost use Rattle.asm_slots.specs.Commit.{TellsUnrecorded};
+ghost use Rattle.asm_slots.specs.Codes.{IsOneOf, ASM_DONE, ASM_STALE, ASM_CLASH, ASM_MEMORY, ASM_FULL, ASM_BUSY};
+ghost use Rattle.asm_slots.specs.Codes.{ASM_MANY, ASM_MOVED, ASM_SMALL};
+ghost use Rattle.asm_slots.specs.Commit.{Commits, CommitsRecorded, HasCommitted, HasCommittedRecorded, HasFiredStep, HasMoved};
+ghost use Rattle.asm_slots.specs.Commit.{HasRecorded, NamesAll, NamesMany, OneDoesAll, IsMoveOf, ReportsFire, ReportsUnrecorded};
+ghost use Rattle.asm_slots.specs.Commit.{IsOffer, IsOfferText};
+ghost use Rattle.asm_slots.specs.Slots.{content_of};
+ghost use Rattle.serde_json.specs.Written.{compact_text};
+ghost use Rattle.asm_journal.specs.Event.{call_json_of};
+ghost use Rattle.asm_slots.specs.WrittenText.{WritesText};
 
-use crate::codes::{BUSY, EMPTY, MANY, MEMORY, MOVED};
+use crate::codes::{BUSY, DONE, EMPTY, MANY, MEMORY, MOVED, copied};
 use crate::content::Content;
 use crate::owned_agent::OwnedAgent;
 use crate::owned_step::OwnedStep;
 use crate::read_and_fire::{Numbers, code_of_reply};
+use crate::slot::Slot;
 use asm_element::{Items, Location};
+use asm_journal::ToJson;
 use asm_state::Named;
-use asm_storage::{FireError, READS_LIMIT, RecallError, Reply};
+use asm_storage::{Call, FireError, READS_LIMIT, RecallError, Reply};
 use asm_update::Instructions;
 use std::alloc::{AllocError, Global};
 
 // Return the code of a fire's answer, with its numbers.
-fn reported_fire(answer: Result<Reply, FireError>) -> (i32, Numbers)
-    ensures reported { TellsFire answer result.0 result.1.fired result.1.from result.1.to }
+fn code_of_fire(answer: Result<Reply, FireError>) -> (i32, Numbers)
+    ensures reported { ReportsFire answer result.0 result.1.fired result.1.from result.1.to }
     ensures codes { IsOneOf (ASM_DONE ∷ ASM_STALE ∷ ASM_CLASH ∷ ASM_MEMORY ∷ ASM_FULL ∷ ASM_BUSY ∷ ASM_MANY ∷ []) result.0 }
 {
     match answer {
@@ -48,7 +54,7 @@ fn reported_fire(answer: Result<Reply, FireError>) -> (i32, Numbers)
 fn prepare(alloc: Global, step: &OwnedStep) -> Result<(Instructions, Items<Named>), AllocError>
     ensures names { IfOk result (λ p. NamesAll step.now p.1) }
     ensures one { IfOk result (λ p. p.0 ≡ unwrap_or (one_move step.now.layers) []) }
-    ensures stands { IfOk result (λ p. StandsAs step.now.layers p.0) }
+    ensures stands { IfOk result (λ p. IsMoveOf step.now.layers p.0) }
 {
     let instrs = step.step.as_move(alloc)?;
     let reads = step.reads(alloc)?;
@@ -65,7 +71,7 @@ fn fire_prepared(
 ) -> (i32, Numbers)
     requires names { NamesAll step.now reads.now }
     requires one { instrs.now ≡ unwrap_or (one_move step.now.layers) [] }
-    requires stands { StandsAs step.now.layers instrs.now }
+    requires stands { IsMoveOf step.now.layers instrs.now }
     ensures fired { HasFiredStep step.now result.0 result.1.fired result.1.from result.1.to agent.old agent.new }
     ensures codes { IsOneOf (ASM_DONE ∷ ASM_STALE ∷ ASM_CLASH ∷ ASM_MEMORY ∷ ASM_FULL ∷ ASM_BUSY ∷ ASM_MANY ∷ []) result.0 }
     ensures many { result.0 ≡ ASM_MANY → NamesMany step.now reads.now }
@@ -75,7 +81,7 @@ fn fire_prepared(
     ensures missed { result.0 ≡ ASM_DONE → MissedOne agent.old agent.new }
     ensures lost { result.0 ≡ ASM_BUSY → result.1.from + offers_limit ≤ result.1.to }
 {
-    reported_fire(agent.fire_over(alloc, reads, &step.scanned, instrs))
+    code_of_fire(agent.fire_over(alloc, reads, &step.scanned, instrs))
 }
 
 // Fire the step's one move, if there is memory to prepare it.
@@ -120,7 +126,7 @@ fn record_reads(
     ensures there { OnOk result (¬ HasMoved agent.old step.now) }
     ensures kept { OnErr result (agent.new ≡ agent.old) }
     ensures codes { IfErr result (IsOneOf (ASM_MEMORY ∷ ASM_MANY ∷ ASM_MOVED ∷ [])) }
-    ensures why { IfErr result (λ code. (code ≡ ASM_MEMORY) ⊎ TellsUnrecorded agent.old step.now reads.now code) }
+    ensures why { IfErr result (λ code. (code ≡ ASM_MEMORY) ⊎ ReportsUnrecorded agent.old step.now reads.now code) }
 {
     if reads.len() > READS_LIMIT - step.scanned.len() {
         return Err(MANY);
@@ -163,49 +169,81 @@ fn fire_recorded(alloc: Global, agent: &mut OwnedAgent, step: &OwnedStep) -> (i3
     }
 }
 
-/// Fire the one move of the step in a box, with the agent in another box.
-///
-/// The fire declares each tracked location, and each on which the pushed moves depend, at the step's version. It covers
-/// each scanned function.
-///
-/// # Errors
-///
-/// - `ASM_EMPTY`: the first box has no agent, or the second no step; nothing changes.
-/// - `ASM_MANY`: the declared locations and the scanned functions are more than 256 together.
-/// - `ASM_STALE`, `ASM_CLASH`, `ASM_FULL`, `ASM_BUSY`: as of `fire_over_in`.
-/// - `ASM_MEMORY`: nothing was fired; the agent may have seen more.
-pub fn commit_in(alloc: Global, agent: &mut Content, step: &Content) -> (i32, Numbers)
-    ensures { FiresStep (Some agent.old) (Some agent.new) (Some step.now) result.1 result.0 }
+/// Do what `asm_commit` does.
+pub fn commit(alloc: Global, agent: &mut Slot, step: &mut Slot) -> (i32, Numbers)
+    ensures { Commits (content_of agent.old) (content_of agent.new) (content_of step.old) (content_of step.new) result.1 result.0 }
 {
-    let Content::Agent(inner) = agent else {
+    let Some(held) = agent.as_mut() else {
         return (EMPTY, Numbers::none());
     };
-    let Content::Step(taken) = step else {
+    let Content::Agent(inner) = held else {
         return (EMPTY, Numbers::none());
     };
-    fire_step(alloc, inner, taken)
+    let Some(held) = step.as_mut() else {
+        return (EMPTY, Numbers::none());
+    };
+    let Content::Step(taken) = held else {
+        return (EMPTY, Numbers::none());
+    };
+    let (code, numbers) = fire_step(alloc, inner, taken);
+    if code == DONE {
+        *step = Slot::empty(alloc);
+    }
+    (code, numbers)
 }
 
-/// Add a receipt of what the step in a box read, then fire its one move.
-///
-/// The agent is in another box. The read has the locations that the fire declares, from the agent's own state at the
-/// step's version.
-///
-/// # Errors
-///
-/// - `ASM_EMPTY`, `ASM_MANY`: as of `commit_in`; nothing changes.
-/// - `ASM_MOVED`: the agent's own state isn't at the step's version, or is behind the agent's receipts; nothing
-///   changes.
-/// - `ASM_STALE`, `ASM_CLASH`, `ASM_FULL`, `ASM_BUSY`: as of `commit_in`, after the read was recorded.
-/// - `ASM_MEMORY`: nothing was fired; the agent may have the receipt of the read.
-pub fn commit_recorded_in(alloc: Global, agent: &mut Content, step: &Content) -> (i32, Numbers)
-    ensures { FiresRecorded (Some agent.old) (Some agent.new) (Some step.now) result.1 result.0 }
+/// Do what `asm_commit_recorded` does.
+pub fn commit_recorded(alloc: Global, agent: &mut Slot, step: &mut Slot) -> (i32, Numbers)
+    ensures { CommitsRecorded (content_of agent.old) (content_of agent.new) (content_of step.old) (content_of step.new) result.1 result.0 }
 {
-    let Content::Agent(inner) = agent else {
+    let Some(held) = agent.as_mut() else {
         return (EMPTY, Numbers::none());
     };
-    let Content::Step(taken) = step else {
+    let Content::Agent(inner) = held else {
         return (EMPTY, Numbers::none());
     };
-    fire_recorded(alloc, inner, taken)
+    let Some(held) = step.as_mut() else {
+        return (EMPTY, Numbers::none());
+    };
+    let Content::Step(taken) = held else {
+        return (EMPTY, Numbers::none());
+    };
+    let (code, numbers) = fire_recorded(alloc, inner, taken);
+    if code == DONE {
+        *step = Slot::empty(alloc);
+    }
+    (code, numbers)
+}
+
+// Return the step's one move, with all reads that its commit declares.
+fn offer_of(alloc: Global, step: &OwnedStep) -> Result<Call, AllocError>
+    ensures { IfOk result (IsOffer step.now) }
+{
+    let (instrs, reads) = prepare(alloc, step)?;
+    Ok(Call::Fire { reads, instrs })
+}
+
+#[tactic(auto, using(asm_journal::proofs::Floats::call_no_float))]
+fn call_text(alloc: Global, call: &Call) -> Result<String, AllocError>
+    ensures { IfOk result (λ text. string_bytes text ≡ compact_text (call_json_of call.now)) }
+{
+    call.to_json(alloc)?.to_string(alloc)
+}
+
+fn offer_text(alloc: Global, step: &OwnedStep) -> Result<String, AllocError>
+    ensures { IfOk result (λ text. IsOfferText step.now (string_bytes text)) }
+{
+    call_text(alloc, &offer_of(alloc, step)?)
+}
+
+/// Do what `asm_offer` does, with the step.
+pub fn offer_in(alloc: Global, step: &OwnedStep, out: &mut [u8], written: &mut usize) -> i32
+    requires { written.old ≡ 0 }
+    ensures codes { IsOneOf (ASM_DONE ∷ ASM_MEMORY ∷ ASM_SMALL ∷ []) result }
+    ensures text { WritesText (IsOfferText step.now) out.old out.new written.new result }
+{
+    match offer_text(alloc, step) {
+        Ok(text) => copied(text.as_bytes(), out, written),
+        Err(AllocError) => MEMORY,
+    }
 }

@@ -9,10 +9,9 @@ ghost use Rattle.asm_journal.specs.Value.{IsStateForm};
 ghost use Rattle.asm_slots.specs.Bytes.{AreMisread};
 ghost use Rattle.asm_slots.specs.Codes.{IsOneOf, ASM_DONE, ASM_CLASH, ASM_MEMORY, ASM_LONG_MOVE};
 ghost use Rattle.asm_slots.specs.Codes.{ASM_LARGE, ASM_NOT_JSON, ASM_SHAPE};
-ghost use Rattle.asm_slots.specs.Composing.{IsAggregated, IsComposed};
-ghost use Rattle.asm_slots.specs.Composing.{TellsAggregate, TellsComposition, clash_text, large_text};
+ghost use Rattle.asm_slots.specs.Composing.{IsAggregated, IsComposed, ReportsAggregate, ReportsComposition, clash_text, large_text};
 
-use crate::codes::{CLASH, DONE, LARGE, LONG_MOVE, MEMORY, Told};
+use crate::codes::{CLASH, CodedText, DONE, LARGE, LONG_MOVE, MEMORY};
 use crate::parsing::{code_of_text_error, read_both};
 use asm_aggregate::{ComposeError, aggregate, compose, standard};
 use asm_element::Location;
@@ -44,16 +43,19 @@ pub(crate) fn large_text(alloc: Global, at: &Location) -> Result<String, AllocEr
     large_json(alloc, at)?.to_string(alloc)
 }
 
-fn reported_updates(alloc: Global, answer: Result<UpdateSet, AggError>) -> Result<Told, AllocError>
-    ensures reported { IfOk result (λ t. TellsAggregate answer t.code (string_bytes t.text)) }
+fn aggregation_text(
+    alloc: Global,
+    answer: Result<UpdateSet, AggError>,
+) -> Result<CodedText, AllocError>
+    ensures reported { IfOk result (λ t. ReportsAggregate answer t.code (string_bytes t.text)) }
     ensures codes { IfOk result (λ t. IsOneOf (ASM_DONE ∷ ASM_CLASH ∷ []) t.code) }
 {
     match answer {
-        Ok(updates) => Ok(Told {
+        Ok(updates) => Ok(CodedText {
             code: DONE,
             text: updates_text(alloc, &updates)?,
         }),
-        Err(AggError::Clash(clash)) => Ok(Told {
+        Err(AggError::Clash(clash)) => Ok(CodedText {
             code: CLASH,
             text: clash_text(alloc, clash)?,
         }),
@@ -61,27 +63,27 @@ fn reported_updates(alloc: Global, answer: Result<UpdateSet, AggError>) -> Resul
     }
 }
 
-fn reported_move(
+fn composition_text(
     alloc: Global,
     answer: Result<Instructions, ComposeError>,
-) -> Result<Told, AllocError>
-    ensures reported { IfOk result (λ t. TellsComposition answer t.code (string_bytes t.text)) }
+) -> Result<CodedText, AllocError>
+    ensures reported { IfOk result (λ t. ReportsComposition answer t.code (string_bytes t.text)) }
     ensures codes { IfOk result (λ t. IsOneOf (ASM_DONE ∷ ASM_CLASH ∷ ASM_LONG_MOVE ∷ ASM_LARGE ∷ []) t.code) }
 {
     match answer {
-        Ok(instrs) => Ok(Told {
+        Ok(instrs) => Ok(CodedText {
             code: DONE,
             text: move_text(alloc, &instrs)?,
         }),
-        Err(ComposeError::Clash(clash)) => Ok(Told {
+        Err(ComposeError::Clash(clash)) => Ok(CodedText {
             code: CLASH,
             text: clash_text(alloc, clash)?,
         }),
-        Err(ComposeError::Large(at)) => Ok(Told {
+        Err(ComposeError::Large(at)) => Ok(CodedText {
             code: LARGE,
             text: large_text(alloc, &at)?,
         }),
-        Err(ComposeError::ManyInstructions) => Ok(Told {
+        Err(ComposeError::ManyInstructions) => Ok(CodedText {
             code: LONG_MOVE,
             text: String::new(alloc),
         }),
@@ -89,15 +91,8 @@ fn reported_move(
     }
 }
 
-/// Aggregate the move of these bytes on the state of those.
-///
-/// The code is `ASM_DONE` with the text of the updates, or `ASM_CLASH` with that of the clash.
-///
-/// # Errors
-///
-/// - `ASM_NOT_JSON`, `ASM_SHAPE`: the bytes of the state, or else those of the move, aren't read.
-/// - `ASM_MEMORY`
-pub fn aggregated(alloc: Global, state: &[u8], instrs: &[u8]) -> Result<Told, i32>
+/// Return what `asm_aggregate` writes, with its code.
+pub fn aggregated(alloc: Global, state: &[u8], instrs: &[u8]) -> Result<CodedText, i32>
     ensures ok { IfOk result (λ t. IsAggregated state.now instrs.now t.code (string_bytes t.text)) }
     ensures few { IfOk result (λ t. IsOneOf (ASM_DONE ∷ ASM_CLASH ∷ []) t.code) }
     ensures err { IfErr result (λ code. IsOneOf (ASM_NOT_JSON ∷ ASM_SHAPE ∷ []) code →
@@ -108,22 +103,14 @@ pub fn aggregated(alloc: Global, state: &[u8], instrs: &[u8]) -> Result<Told, i3
         Ok(both) => both,
         Err(error) => return Err(code_of_text_error(error)),
     };
-    match reported_updates(alloc, aggregate(alloc, &standard(), &old, &step)) {
+    match aggregation_text(alloc, aggregate(alloc, &standard(), &old, &step)) {
         Ok(reported) => Ok(reported),
         Err(AllocError) => Err(MEMORY),
     }
 }
 
-/// Compose the moves of these bytes.
-///
-/// The code is `ASM_DONE` with the text of the move, `ASM_CLASH` with that of the clash, `ASM_LARGE` with the location
-/// where an amount or a sum is too large, or `ASM_LONG_MOVE` with no text.
-///
-/// # Errors
-///
-/// - `ASM_NOT_JSON`, `ASM_SHAPE`: the bytes of the first move, or else those of the second, aren't read.
-/// - `ASM_MEMORY`
-pub fn composed(alloc: Global, first: &[u8], second: &[u8]) -> Result<Told, i32>
+/// Return what `asm_compose` writes, with its code.
+pub fn composed(alloc: Global, first: &[u8], second: &[u8]) -> Result<CodedText, i32>
     ensures ok { IfOk result (λ t. IsComposed first.now second.now t.code (string_bytes t.text)) }
     ensures few { IfOk result (λ t. IsOneOf (ASM_DONE ∷ ASM_CLASH ∷ ASM_LONG_MOVE ∷ ASM_LARGE ∷ []) t.code) }
     ensures err { IfErr result (λ code. IsOneOf (ASM_NOT_JSON ∷ ASM_SHAPE ∷ []) code →
@@ -134,7 +121,7 @@ pub fn composed(alloc: Global, first: &[u8], second: &[u8]) -> Result<Told, i32>
         Ok(both) => both,
         Err(error) => return Err(code_of_text_error(error)),
     };
-    match reported_move(alloc, compose(alloc, &standard(), &one, &two)) {
+    match composition_text(alloc, compose(alloc, &standard(), &one, &two)) {
         Ok(reported) => Ok(reported),
         Err(AllocError) => Err(MEMORY),
     }

@@ -21,18 +21,10 @@ fn form_of(form: i32) -> Option<Form>
     }
 }
 
-/// Write where and why a text isn't of a form, as a sentence.
+/// Do what `asm_explain` does.
 ///
-/// If the text is of the form, the sentence is empty. The forms are 0: locations, 1: a move with its declared reads, 2:
-/// a state, 3: an event, as in a journal's lines after the first, 4: a script. The call judges what the readers of
-/// these accept, and nothing for which another call is refused: more than 256 locations are locations. The choice of
-/// the sentence is tested. What a code doesn't set is 0.
-///
-/// # Errors
-///
-/// - `ASM_NO_FORM`: exactly if there is no such form.
-/// - `ASM_SMALL`: `written` is the room that the sentence needs.
-/// - `ASM_MEMORY`
+/// The call judges what the readers of the forms accept, and nothing for which another call is refused. The choice of the
+/// sentence is tested.
 pub fn explain(alloc: Global, form: i32, text: &[u8], out: &mut [u8], written: &mut usize) -> i32
     ensures codes { IsOneOf (ASM_DONE ∷ ASM_MEMORY ∷ ASM_NO_FORM ∷ ASM_SMALL ∷ []) result }
     ensures accepted { result ≡ ASM_DONE → written.new ≡ 0 → HasForm form text.now }

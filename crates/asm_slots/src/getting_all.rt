@@ -2,12 +2,11 @@
 ghost use Rattle.std.specs.Prelude.{◌≡◌, ◌≢◌, ◌≤◌, ◌<◌, ◌∷◌, ◌++◌, [], length, vec_len, string_bytes, Contains, IsUtf8};
 ghost use Rattle.std.specs.Prelude.{IfErr, IfOk, IfNone, IfSome, IsSome, OnOk};
 ghost use Rattle.std.specs.Vec.{vec_capacity};
-ghost use Rattle.asm_slots.specs.Codes.{IsOneOf, ASM_DONE, ASM_MEMORY, ASM_SMALL, ASM_MANY};
-ghost use Rattle.asm_slots.specs.Codes.{ASM_SHAPE, ASM_MOVED};
-ghost use Rattle.asm_slots.specs.StepCalls.{HasGotAll, HasReached, IsElsewhere, IsFound, IsFoundText, IsScanFor};
-ghost use Rattle.asm_slots.specs.StepCalls.{WouldGetManyMore, has_scan};
+ghost use Rattle.asm_slots.specs.Codes.{IsOneOf, ASM_DONE, ASM_MEMORY, ASM_SMALL, ASM_MANY, ASM_SHAPE, ASM_MOVED};
+ghost use Rattle.asm_slots.specs.StepCalls.{HasScanned, HasReached, IsElsewhere, IsFound, IsFoundText, IsScanFor};
+ghost use Rattle.asm_slots.specs.StepCalls.{WouldScanMany, has_scan};
 ghost use Rattle.asm_slots.specs.StepView.{names_of};
-ghost use Rattle.asm_slots.specs.WrittenText.{TellsText};
+ghost use Rattle.asm_slots.specs.WrittenText.{WritesText};
 
 use crate::codes::{DONE, MANY, MEMORY, MOVED, SHAPE, copied};
 use crate::owned_agent::OwnedAgent;
@@ -112,11 +111,11 @@ fn get_all_of_name(
 ) -> i32
     requires { written.old ≡ 0 }
     ensures codes { IsOneOf (ASM_DONE ∷ ASM_MEMORY ∷ ASM_SMALL ∷ ASM_MANY ∷ ASM_MOVED ∷ []) result }
-    ensures text { TellsText (IsFoundText name.now agent.now step.old) out.old out.new written.new result }
-    ensures got { result ≡ ASM_DONE → HasGotAll name.now step.old step.new }
+    ensures text { WritesText (IsFoundText name.now agent.now step.old) out.old out.new written.new result }
+    ensures tracked { result ≡ ASM_DONE → HasScanned name.now step.old step.new }
     ensures moved { result ≡ ASM_MOVED → IsElsewhere agent.now step.old }
     ensures reached { IsOneOf (ASM_DONE ∷ ASM_SMALL ∷ ASM_MANY ∷ []) result → HasReached agent.now step.old }
-    ensures many { result ≡ ASM_MANY → WouldGetManyMore name.now step.old }
+    ensures many { result ≡ ASM_MANY → WouldScanMany name.now step.old }
     ensures stays { result ≢ ASM_DONE → step.new ≡ step.old }
 {
     let text = match found_text(alloc, agent, step, name) {
@@ -124,7 +123,7 @@ fn get_all_of_name(
         Err(GetError::Moved) => return MOVED,
         Err(_) => return MEMORY,
     };
-    let limit = READS_LIMIT - step.got.len();
+    let limit = READS_LIMIT - step.tracked.len();
     let scan = match scan_for(alloc, limit, &mut step.scanned, name, step.number) {
         Ok(scan) => scan,
         Err(GetError::Many) => return MANY,
@@ -138,17 +137,7 @@ fn get_all_of_name(
     code
 }
 
-/// Write what is seen at the locations with this name through the step.
-///
-/// The step scans the function. After any code except `ASM_DONE`, the step is unchanged.
-///
-/// # Errors
-///
-/// - `ASM_MOVED`: the agent's own state isn't at the step's version.
-/// - `ASM_MANY`: the function isn't scanned, and the tracked locations and the scanned functions are 256 together.
-/// - `ASM_SHAPE`: the name isn't UTF-8.
-/// - `ASM_SMALL`: `written` is the room that the text needs.
-/// - `ASM_MEMORY`
+/// Do what `asm_step_scan` does, with the agent and the step.
 pub fn get_all_in(
     alloc: Global,
     agent: &OwnedAgent,
@@ -159,11 +148,11 @@ pub fn get_all_in(
 ) -> i32
     requires { written.old ≡ 0 }
     ensures codes { IsOneOf (ASM_DONE ∷ ASM_MEMORY ∷ ASM_SMALL ∷ ASM_MANY ∷ ASM_SHAPE ∷ ASM_MOVED ∷ []) result }
-    ensures text { TellsText (IsFoundText name.now agent.now step.old) out.old out.new written.new result }
-    ensures got { result ≡ ASM_DONE → HasGotAll name.now step.old step.new }
+    ensures text { WritesText (IsFoundText name.now agent.now step.old) out.old out.new written.new result }
+    ensures tracked { result ≡ ASM_DONE → HasScanned name.now step.old step.new }
     ensures moved { result ≡ ASM_MOVED → IsElsewhere agent.now step.old }
     ensures reached { IsOneOf (ASM_DONE ∷ ASM_SMALL ∷ ASM_MANY ∷ []) result → HasReached agent.now step.old }
-    ensures many { result ≡ ASM_MANY → WouldGetManyMore name.now step.old }
+    ensures many { result ≡ ASM_MANY → WouldScanMany name.now step.old }
     ensures shape { result ≡ ASM_SHAPE → ¬ IsUtf8 name.now }
     ensures stays { result ≢ ASM_DONE → step.new ≡ step.old }
 {

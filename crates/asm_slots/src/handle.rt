@@ -1,5 +1,6 @@
 //! What C holds of a value: a pointer that it never follows.
-ghost use Rattle.std.specs.Prelude.{◌≡◌, Option, IsSome, IsNone};
+ghost use Rattle.std.specs.Prelude.{◌≡◌, Option, Some, IsSome, IsNone};
+ghost use Rattle.std.specs.Borrow.{sem};
 ghost use Rattle.std.specs.Coded.{coded_option};
 ghost use Rattle.asm_slots.specs.contracts.content.Content.{the_row as content_row};
 ghost use Rattle.asm_slots.specs.declared.content.Content.{Content};
@@ -25,6 +26,8 @@ impl Model for Handle {
 }
 
 impl Handle {
+    ghost use Rattle.asm_slots.specs.Lends.{handle_follows};
+
     pub fn empty(alloc: Global) -> Handle
         ensures { result.value ≡ None }
     {
@@ -59,5 +62,16 @@ impl Handle {
         requires { IsNone self.value }
     {
         let Handle { at: _, alloc: _ } = self;
+    }
+
+    pub(crate) fn get_mut(&mut self) -> &mut Content
+        requires { IsSome self.old.value }
+        ensures* writes_back { sem 𝓛 (handle_follows self.entry result) }
+        ensures value { self.old.value ≡ Some result.now }
+    {
+        unsafe {
+            let at = self.at as *mut Content;
+            &mut *at
+        }
     }
 }

@@ -1,43 +1,42 @@
-//! Building moves in slots, instruction by instruction.
-ghost use Rattle.std.specs.Prelude.{◌≡◌, ◌≢◌, ◌↔◌, ◌≤◌, ◌<◌, ◌+◌, ◌∷◌, ◌++◌, [], OnErr, OnOk, Some, length};
+//! Preparing locations, and building moves in slots.
+ghost use Rattle.std.specs.Prelude.{◌≡◌, ◌≢◌, ◌↔◌, ◌≤◌, ◌<◌, ◌+◌, ◌∷◌, ◌++◌, [], IfErr, OnErr, OnOk, Some, length, IfOk, None};
 ghost use Rattle.asm_update.specs.Limits.{instructions_limit};
-ghost use Rattle.asm_slots.specs.Codes.{IsOneOf, ASM_DONE, ASM_MEMORY, ASM_EMPTY, ASM_OPERAND, ASM_LONG_MOVE};
-ghost use Rattle.asm_explain.specs.Bytes.{IsNoJson};
-ghost use Rattle.asm_slots.specs.Codes.{ASM_NOT_JSON, ASM_SHAPE};
-ghost use Rattle.asm_slots.specs.Kinds.{IsByJson, IsInstructed, IsMisshapen, IsNoAction};
-ghost use Rattle.asm_slots.specs.Slots.{HasRoomForMove, HoldsLocation, HoldsMove, HoldsNoLocation};
-ghost use Rattle.asm_slots.specs.Slots.{content_of, move_of};
+ghost use Rattle.asm_slots.specs.Codes.{IsOneOf, ASM_DONE, ASM_MEMORY, ASM_EMPTY, ASM_LONG_MOVE};
+ghost use Rattle.asm_slots.specs.Kinds.{IsInstructed};
+ghost use Rattle.asm_slots.specs.Answers.{IsNoRoomFor, IsNotGathered, IsNotInstructed, IsNotPrepared, IsUnreadAs};
+ghost use Rattle.asm_slots.specs.Slots.{HasRoomForMove, HoldsLocation, HoldsMove, content_of, move_of};
 ghost use Rattle.asm_slots.specs.declared.content.Content.TheVariants as content;
+ghost use Rattle.asm_journal.specs.Element.{IsLocationForm};
+ghost use Rattle.asm_slots.specs.Bytes.{ReadAsLocation};
 
-use crate::codes::{DONE, EMPTY, LONG_MOVE, MEMORY};
+use crate::codes::{Code, DONE, EMPTY, LONG_MOVE, MEMORY};
 use crate::content::Content;
 use crate::operands::action_of;
-use crate::prepared::location_in;
 use crate::slot::Slot;
 use crate::take_and_put::{put_shell, take_shell};
 use asm_element::Location;
+use asm_explain::read_quickly;
 use asm_update::{Action, Instruction, Instructions, InstructionsError};
 use std::alloc::{AllocError, Global};
 
 // Append the instruction of the action at the location.
-fn append(alloc: Global, gathered: &mut Instructions, at: &Location, action: Action) -> i32
-    ensures codes { IsOneOf (ASM_DONE ∷ ASM_MEMORY ∷ ASM_LONG_MOVE ∷ []) result }
-    ensures done { result ≡ ASM_DONE →
-        gathered.new ≡ gathered.old ++ record { at = at.now; action = action } ∷ [] }
-    ensures many { result ≡ ASM_LONG_MOVE → length gathered.old ≡ instructions_limit }
-    ensures kept { result ≢ ASM_DONE → gathered.new ≡ gathered.old }
+fn append(
+    alloc: Global,
+    gathered: &mut Instructions,
+    at: &Location,
+    action: Action,
+) -> Result<(), Code>
+    ensures done { OnOk result (gathered.new ≡ gathered.old ++ record { at = at.now; action = action } ∷ []) }
+    ensures err { IfErr result (IsNoRoomFor gathered.old) }
+    ensures kept { OnErr result (gathered.new ≡ gathered.old) }
 {
-    let Ok(at) = at.copy(alloc) else {
-        return MEMORY;
-    };
-    match gathered.push(Instruction { at, action }) {
-        Ok(()) => DONE,
-        Err(InstructionsError::ManyInstructions) => LONG_MOVE,
-        Err(InstructionsError::Memory) => MEMORY,
-    }
+    let at = at.copy(alloc)?;
+    gathered.push(Instruction { at, action })?;
+    Ok(())
 }
 
-fn instruct_at(
+#[tactic(auto, using(crate::proofs::Refused::no_gathered, crate::proofs::Refused::no_room))]
+fn gather(
     alloc: Global,
     gathered: &mut Instructions,
     at: &Location,
@@ -46,64 +45,13 @@ fn instruct_at(
     number: i64,
     bytes: &[u8],
     amount: u32,
-) -> i32
-    ensures codes { IsOneOf (ASM_DONE ∷ ASM_MEMORY ∷ ASM_OPERAND ∷ ASM_LONG_MOVE ∷ ASM_NOT_JSON ∷ ASM_SHAPE ∷ []) result }
-    ensures done { result ≡ ASM_DONE →
-        IsInstructed at.now verb kind number bytes.now amount gathered.old gathered.new }
-    ensures range { result ≡ ASM_OPERAND → IsNoAction verb kind number bytes.now amount }
-    ensures not_json { result ≡ ASM_NOT_JSON → IsByJson kind × IsNoJson bytes.now }
-    ensures shape { result ≡ ASM_SHAPE → IsMisshapen kind bytes.now }
-    ensures many { result ≡ ASM_LONG_MOVE → length gathered.old ≡ instructions_limit }
-    ensures kept { result ≢ ASM_DONE → gathered.new ≡ gathered.old }
+) -> Result<(), Code>
+    ensures done { OnOk result (IsInstructed at.now verb kind number bytes.now amount gathered.old gathered.new) }
+    ensures err { IfErr result (IsNotGathered gathered.old verb kind number bytes.now amount) }
+    ensures kept { OnErr result (gathered.new ≡ gathered.old) }
 {
-    match action_of(alloc, verb, kind, number, bytes, amount) {
-        Ok(action) => append(alloc, gathered, at, action),
-        Err(code) => code,
-    }
-}
-
-/// Append an instruction at the location of a slot to the move.
-///
-/// On error, nothing changes.
-///
-/// # Errors
-///
-/// - `ASM_EMPTY`: the slot has no location.
-/// - `ASM_OPERAND`: verb, kind, number, bytes and amount make no instruction.
-/// - `ASM_NOT_JSON`: the bytes of a list, a set or a bag aren't JSON.
-/// - `ASM_SHAPE`: the bytes of a text aren't UTF-8, or those of a list, a set or a bag are JSON of no such value.
-/// - `ASM_LONG_MOVE`: the move has 4,096 instructions.
-/// - `ASM_MEMORY`
-pub fn instruct_in(
-    alloc: Global,
-    gathered: &mut Instructions,
-    at: &mut Slot,
-    verb: i32,
-    kind: i32,
-    number: i64,
-    bytes: &[u8],
-    amount: u32,
-) -> i32
-    ensures codes { IsOneOf (ASM_DONE ∷ ASM_MEMORY ∷ ASM_EMPTY ∷ ASM_OPERAND ∷ ASM_LONG_MOVE ∷ ASM_NOT_JSON ∷ ASM_SHAPE ∷ []) result }
-    ensures done { result ≡ ASM_DONE → HoldsLocation (content_of at.old)
-        (λ l. IsInstructed l verb kind number bytes.now amount gathered.old gathered.new) }
-    ensures empty { result ≡ ASM_EMPTY → HoldsNoLocation (content_of at.old) }
-    ensures range { result ≡ ASM_OPERAND → IsNoAction verb kind number bytes.now amount }
-    ensures not_json { result ≡ ASM_NOT_JSON → IsByJson kind × IsNoJson bytes.now }
-    ensures shape { result ≡ ASM_SHAPE → IsMisshapen kind bytes.now }
-    ensures many { result ≡ ASM_LONG_MOVE → length gathered.old ≡ instructions_limit }
-    ensures kept { result ≢ ASM_DONE → gathered.new ≡ gathered.old }
-    ensures held { content_of at.new ≡ content_of at.old }
-{
-    let Some(shell) = take_shell(alloc, at) else {
-        return EMPTY;
-    };
-    let code = match location_in(&shell) {
-        Some(at) => instruct_at(alloc, gathered, at, verb, kind, number, bytes, amount),
-        None => EMPTY,
-    };
-    put_shell(at, shell);
-    code
+    let action = action_of(alloc, verb, kind, number, bytes, amount)?;
+    append(alloc, gathered, at, action)
 }
 
 /// Replace what the slot holds with the move.
@@ -116,14 +64,9 @@ pub(crate) fn hold(alloc: Global, slot: &mut Slot, gathered: Instructions) -> Re
     Ok(())
 }
 
-/// Put a move of this instruction only into an empty slot.
-///
-/// On error, nothing changes.
-///
-/// # Errors
-///
-/// - Those of `instruct_in`, except `ASM_LONG_MOVE`.
-pub fn instruct_first(
+/// Do what `asm_instruct` does.
+#[tactic(auto, using(crate::proofs::Refused::no_instructed))]
+pub fn instruct(
     alloc: Global,
     instrs: &mut Slot,
     at: &mut Slot,
@@ -132,26 +75,36 @@ pub fn instruct_first(
     number: i64,
     bytes: &[u8],
     amount: u32,
-) -> i32
-    ensures codes { IsOneOf (ASM_DONE ∷ ASM_MEMORY ∷ ASM_EMPTY ∷ ASM_OPERAND ∷ ASM_NOT_JSON ∷ ASM_SHAPE ∷ []) result }
-    ensures done { result ≡ ASM_DONE → HoldsLocation (content_of at.old) (λ l. HoldsMove (content_of instrs.new)
-        (IsInstructed l verb kind number bytes.now amount [])) }
-    ensures empty { result ≡ ASM_EMPTY → HoldsNoLocation (content_of at.old) }
-    ensures range { result ≡ ASM_OPERAND → IsNoAction verb kind number bytes.now amount }
-    ensures not_json { result ≡ ASM_NOT_JSON → IsByJson kind × IsNoJson bytes.now }
-    ensures shape { result ≡ ASM_SHAPE → IsMisshapen kind bytes.now }
-    ensures kept { result ≢ ASM_DONE → content_of instrs.new ≡ content_of instrs.old }
+) -> Result<(), Code>
+    ensures room { OnOk result (HasRoomForMove (content_of instrs.old)) }
+    ensures done { OnOk result (HoldsLocation (content_of at.old) (λ l. HoldsMove (content_of instrs.new)
+        (IsInstructed l verb kind number bytes.now amount (move_of (content_of instrs.old))))) }
+    ensures err { IfErr result (IsNotInstructed (content_of at.old) (content_of instrs.old) verb kind number bytes.now amount) }
+    ensures kept { OnErr result (content_of instrs.new ≡ content_of instrs.old) }
     ensures held { content_of at.new ≡ content_of at.old }
 {
-    let mut gathered = Instructions::new(alloc);
-    let code = instruct_in(alloc, &mut gathered, at, verb, kind, number, bytes, amount);
-    if code != DONE {
-        return code;
-    }
-    match hold(alloc, instrs, gathered) {
-        Ok(()) => DONE,
-        Err(AllocError) => MEMORY,
-    }
+    let Some(held) = instrs.as_mut() else {
+        let Some(held) = at.as_mut() else {
+            return Err(Code::Empty);
+        };
+        let Content::Location(at) = held else {
+            return Err(Code::Empty);
+        };
+        let mut gathered = Instructions::new(alloc);
+        gather(alloc, &mut gathered, at, verb, kind, number, bytes, amount)?;
+        hold(alloc, instrs, gathered)?;
+        return Ok(());
+    };
+    let Content::Move(gathered) = held else {
+        return Err(Code::Taken);
+    };
+    let Some(held) = at.as_mut() else {
+        return Err(Code::Empty);
+    };
+    let Content::Location(at) = held else {
+        return Err(Code::Empty);
+    };
+    gather(alloc, gathered, at, verb, kind, number, bytes, amount)
 }
 
 // Append the instructions of the other move.
@@ -168,15 +121,7 @@ fn append_all(gathered: &mut Instructions, other: &Instructions) -> i32
     }
 }
 
-/// Append the instructions of the move in the other slot.
-///
-/// An empty slot has none. On error, nothing changes.
-///
-/// # Errors
-///
-/// - `ASM_EMPTY`: exactly if the other slot holds anything except a move.
-/// - `ASM_LONG_MOVE`: the move would have more than 4,096 instructions.
-/// - `ASM_MEMORY`
+/// Do what `asm_unite` does, with the first move.
 pub fn unite_in(alloc: Global, gathered: &mut Instructions, other: &mut Slot) -> i32
     ensures codes { IsOneOf (ASM_DONE ∷ ASM_MEMORY ∷ ASM_EMPTY ∷ ASM_LONG_MOVE ∷ []) result }
     ensures done { result ≡ ASM_DONE → gathered.new ≡ gathered.old ++ move_of (content_of other.old) }
@@ -199,13 +144,7 @@ pub fn unite_in(alloc: Global, gathered: &mut Instructions, other: &mut Slot) ->
     code
 }
 
-/// Put a copy of the move in the other slot into an empty slot.
-///
-/// If the other slot is empty too, the copy has no instructions. On error, nothing changes.
-///
-/// # Errors
-///
-/// - Those of `unite_in`.
+/// Do what `asm_unite` does, with an empty first slot.
 pub fn unite_first(alloc: Global, instrs: &mut Slot, other: &mut Slot) -> i32
     ensures codes { IsOneOf (ASM_DONE ∷ ASM_MEMORY ∷ ASM_EMPTY ∷ ASM_LONG_MOVE ∷ []) result }
     ensures done { result ≡ ASM_DONE →
@@ -230,4 +169,28 @@ pub fn unite_first(alloc: Global, instrs: &mut Slot, other: &mut Slot) -> i32
         return EMPTY;
     }
     DONE
+}
+
+fn read_location(alloc: Global, bytes: &[u8]) -> Result<Location, Code>
+    ensures ok { IfOk result (ReadAsLocation bytes.now) }
+    ensures err { IfErr result (IsUnreadAs IsLocationForm bytes.now) }
+{
+    let at = read_quickly::<Location>(alloc, bytes)?;
+    Ok(at.share(alloc)?)
+}
+
+/// Do what `asm_location` does.
+#[tactic(auto, using(crate::proofs::Refused::not_prepared))]
+pub fn prepare(alloc: Global, location: &[u8], at: &mut Slot) -> Result<(), Code>
+    ensures prepared { OnOk result (HoldsLocation (content_of at.new) (ReadAsLocation location.now)) }
+    ensures empty { OnOk result (content_of at.old ≡ None) }
+    ensures err { IfErr result (IsNotPrepared (content_of at.old) location.now) }
+    ensures kept { OnErr result (content_of at.new ≡ content_of at.old) }
+{
+    if at.is_full() {
+        return Err(Code::Taken);
+    }
+    let made = read_location(alloc, location)?;
+    *at = Slot::holding(Box::new(alloc, Content::Location(made))?);
+    Ok(())
 }

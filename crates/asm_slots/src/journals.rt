@@ -3,7 +3,7 @@
 
 ghost use Rattle.std.specs.Prelude.{◌≡◌, ◌∷◌, [], string_bytes, IfOk, IfErr};
 ghost use Rattle.asm_slots.specs.Codes.{IsOneOf, ASM_MEMORY, ASM_NOT_JSON, ASM_SHAPE, ASM_VERSION, ASM_CUT};
-ghost use Rattle.asm_slots.specs.Journals.{IsChecked, IsReplayed, IsTraceOf, TellsError};
+ghost use Rattle.asm_slots.specs.Journals.{IsChecked, IsReplayed, IsTraceOf, ReportsError};
 ghost use Rattle.asm_journal.specs.Fault.{IsRefused};
 
 use crate::codes::{CUT, MEMORY, NOT_JSON, SHAPE, VERSION};
@@ -15,7 +15,7 @@ use std::alloc::{AllocError, Global};
 /// Return the code of the error, with the number of the line at fault, or 0.
 pub fn code_of_error(error: JournalError) -> (i32, u64)
     ensures codes { IsOneOf (ASM_MEMORY ∷ ASM_NOT_JSON ∷ ASM_SHAPE ∷ ASM_VERSION ∷ ASM_CUT ∷ []) result.0 }
-    ensures reported { TellsError error result.0 result.1 }
+    ensures reported { ReportsError error result.0 result.1 }
     ensures none { IsOneOf (ASM_MEMORY ∷ ASM_VERSION ∷ ASM_CUT ∷ []) result.0 → result.1 ≡ 0 }
 {
     match error {
@@ -27,12 +27,7 @@ pub fn code_of_error(error: JournalError) -> (i32, u64)
     }
 }
 
-/// Check the journal.
-///
-/// # Errors
-///
-/// - The first fault of the bytes, if they are no journal.
-/// - `Memory` only if memory is refused.
+/// Check a journal as `asm_check` does.
 pub fn checked(alloc: Global, journal: &[u8]) -> Result<Legality, JournalError>
     ensures ok { IfOk result (IsChecked journal.now) }
     ensures err { IfErr result (IsRefused journal.now) }
@@ -44,11 +39,7 @@ pub fn checked(alloc: Global, journal: &[u8]) -> Result<Legality, JournalError>
     }
 }
 
-/// Return the text of the state that the moves of the journal leave.
-///
-/// # Errors
-///
-/// - Those of `checked`.
+/// Return what `asm_replay` writes.
 pub fn replayed(alloc: Global, journal: &[u8]) -> Result<String, JournalError>
     ensures ok { IfOk result (λ text. IsReplayed journal.now (string_bytes text)) }
     ensures err { IfErr result (IsRefused journal.now) }
@@ -63,11 +54,7 @@ pub fn replayed(alloc: Global, journal: &[u8]) -> Result<String, JournalError>
     }
 }
 
-/// Return the trace of the journal.
-///
-/// # Errors
-///
-/// - Those of `checked`.
+/// Return what `asm_trace` writes.
 pub fn traced(alloc: Global, journal: &[u8]) -> Result<String, JournalError>
     ensures ok { IfOk result (λ text. IsTraceOf journal.now (string_bytes text)) }
     ensures err { IfErr result (IsRefused journal.now) }

@@ -1,16 +1,12 @@
 //! The actions of instructions, from the numbers and bytes that C passes.
-ghost use Rattle.std.specs.Prelude.{◌≡◌, ◌≢◌, ◌∷◌, [], IsUtf8, IfErr, IfNone, IfOk, IfSome};
+ghost use Rattle.std.specs.Prelude.{◌≡◌, ◌≢◌, [], IfErr, IfNone, IfOk, IfSome};
 ghost use Rattle.asm_element.specs.declared.element.Element.{Element};
 ghost use Rattle.asm_element.specs.declared.value.Value.TheVariants as values;
-ghost use Rattle.asm_explain.specs.Bytes.{IsNoJson, IsOtherJson};
-ghost use Rattle.asm_slots.specs.Codes.{IsOneOf, ASM_MEMORY, ASM_NOT_JSON, ASM_OPERAND, ASM_SHAPE};
-ghost use Rattle.asm_slots.specs.Kinds.{IsAction, IsByJson, IsKindForm, IsMisshapen, IsNoAction, IsOperand, IsTextOrPlain, IsTold};
-ghost use Rattle.asm_slots.specs.Kinds.{ASM_INC, ASM_KIND_BOOL, ASM_KIND_TEXT, kind_of};
-ghost use Rattle.asm_slots.specs.Verbs.{CannotTake, IsActionOn, IsNoVerb, IsVerb, action_with};
-ghost use Rattle.asm_element.specs.declared.value.Value.{Value};
+ghost use Rattle.asm_slots.specs.Kinds.{IsAction, IsByJson, IsOperand, IsTextOrPlain, IsValueBy, ASM_INC, ASM_KIND_BOOL};
+ghost use Rattle.asm_slots.specs.Kinds.{ASM_KIND_TEXT, kind_of, CannotTake, IsActionOn, IsNoVerb, IsVerb, action_with};
+ghost use Rattle.asm_slots.specs.Answers.{IsNoActionFor, IsNoElementFor, IsNoOperandFor};
 
-use crate::codes::{MEMORY, OPERAND, SHAPE};
-use crate::parsing::code_of_text_error;
+use crate::codes::Code;
 use crate::value_head::{BAG, BOOL, LIST, NUM, SET, TEXT, UNDEF, ValueHead};
 use asm_element::{ElemText, Element, Value};
 use asm_explain::read_quickly;
@@ -40,8 +36,8 @@ pub(crate) enum Verb {
 }
 
 fn truth_of(number: i64) -> Option<Element>
-    ensures some { IfSome result (λ e. IsTold (values.Plain e) ASM_KIND_BOOL number []) }
-    ensures none { IfNone result ((e : Element) → ¬ IsTold (values.Plain e) ASM_KIND_BOOL number []) }
+    ensures some { IfSome result (λ e. IsValueBy (values.Plain e) ASM_KIND_BOOL number []) }
+    ensures none { IfNone result ((e : Element) → ¬ IsValueBy (values.Plain e) ASM_KIND_BOOL number []) }
 {
     match number {
         0 => Some(Element::Bool(false)),
@@ -63,83 +59,59 @@ fn plain_of(kind: i32, number: i64) -> Option<Element>
     }
 }
 
-fn text_of(alloc: Global, number: i64, bytes: &[u8]) -> Result<Element, i32>
+fn text_of(alloc: Global, number: i64, bytes: &[u8]) -> Result<Element, Code>
     ensures ok { IfOk result (IsTextOrPlain ASM_KIND_TEXT number bytes.now) }
-    ensures codes { IfErr result (IsOneOf (ASM_MEMORY ∷ ASM_OPERAND ∷ ASM_SHAPE ∷ [])) }
-    ensures range { IfErr result (λ code. code ≡ ASM_OPERAND →
-        (e : Element) → ¬ IsTextOrPlain ASM_KIND_TEXT number bytes.now e) }
-    ensures shape { IfErr result (λ code. code ≡ ASM_SHAPE → ¬ IsUtf8 bytes.now) }
+    ensures err { IfErr result (IsNoElementFor ASM_KIND_TEXT number bytes.now) }
 {
     if number != 0 {
-        return Err(OPERAND);
+        return Err(Code::Operand);
     }
     let Ok(text) = str::from_utf8(bytes) else {
-        return Err(SHAPE);
+        return Err(Code::Shape);
     };
-    match String::from_str(alloc, text) {
-        Ok(text) => Ok(Element::Text(ElemText::new(text))),
-        Err(_) => Err(MEMORY),
-    }
+    Ok(Element::Text(ElemText::new(String::from_str(alloc, text)?)))
 }
 
 // Return the element of this kind, except a list, with this number and these bytes.
-fn element_of(alloc: Global, kind: i32, number: i64, bytes: &[u8]) -> Result<Element, i32>
+fn element_of(alloc: Global, kind: i32, number: i64, bytes: &[u8]) -> Result<Element, Code>
     ensures ok { IfOk result (IsTextOrPlain kind number bytes.now) }
-    ensures codes { IfErr result (IsOneOf (ASM_MEMORY ∷ ASM_OPERAND ∷ ASM_SHAPE ∷ [])) }
-    ensures range { IfErr result (λ code. code ≡ ASM_OPERAND → (e : Element) → ¬ IsTextOrPlain kind number bytes.now e) }
-    ensures shape { IfErr result (λ code. code ≡ ASM_SHAPE → (kind ≡ ASM_KIND_TEXT) × ¬ IsUtf8 bytes.now) }
+    ensures err { IfErr result (IsNoElementFor kind number bytes.now) }
 {
     if kind == TEXT {
         return text_of(alloc, number, bytes);
     }
     if !bytes.is_empty() {
-        return Err(OPERAND);
+        return Err(Code::Operand);
     }
-    match plain_of(kind, number) {
-        Some(element) => Ok(element),
-        None => Err(OPERAND),
-    }
+    plain_of(kind, number).ok_or(Code::Operand)
 }
 
 // Read the list, the set or the bag of these bytes, by the kind.
-fn read_value(alloc: Global, kind: i32, number: i64, bytes: &[u8]) -> Result<Value, i32>
+fn read_value(alloc: Global, kind: i32, number: i64, bytes: &[u8]) -> Result<Value, Code>
     requires { IsByJson kind }
     ensures ok { IfOk result (IsOperand kind number bytes.now) }
     ensures kind { IfOk result (λ v. kind ≡ kind_of v) }
-    ensures codes { IfErr result (IsOneOf (ASM_MEMORY ∷ ASM_OPERAND ∷ ASM_NOT_JSON ∷ ASM_SHAPE ∷ [])) }
-    ensures range { IfErr result (λ code. code ≡ ASM_OPERAND → (v : Value) → ¬ IsOperand kind number bytes.now v) }
-    ensures not_json { IfErr result (λ code. code ≡ ASM_NOT_JSON → IsNoJson bytes.now) }
-    ensures shape { IfErr result (λ code. code ≡ ASM_SHAPE → IsOtherJson (IsKindForm kind) bytes.now) }
+    ensures err { IfErr result (IsNoOperandFor kind number bytes.now) }
 {
     if number != 0 {
-        return Err(OPERAND);
+        return Err(Code::Operand);
     }
-    let value = match read_quickly::<Value>(alloc, bytes) {
-        Ok(value) => value,
-        Err(error) => return Err(code_of_text_error(error)),
-    };
-    if ValueHead::of(&value).kind == kind {
-        Ok(value)
-    } else {
-        Err(SHAPE)
+    let value = read_quickly::<Value>(alloc, bytes)?;
+    if ValueHead::of(&value).kind != kind {
+        return Err(Code::Shape);
     }
+    Ok(value)
 }
 
 // Return the value of this kind, with this number and these bytes.
-fn value_of(alloc: Global, kind: i32, number: i64, bytes: &[u8]) -> Result<Value, i32>
+fn value_of(alloc: Global, kind: i32, number: i64, bytes: &[u8]) -> Result<Value, Code>
     ensures ok { IfOk result (IsOperand kind number bytes.now) }
-    ensures codes { IfErr result (IsOneOf (ASM_MEMORY ∷ ASM_OPERAND ∷ ASM_NOT_JSON ∷ ASM_SHAPE ∷ [])) }
-    ensures range { IfErr result (λ code. code ≡ ASM_OPERAND → (v : Value) → ¬ IsOperand kind number bytes.now v) }
-    ensures not_json { IfErr result (λ code. code ≡ ASM_NOT_JSON → IsByJson kind × IsNoJson bytes.now) }
-    ensures shape { IfErr result (λ code. code ≡ ASM_SHAPE → IsMisshapen kind bytes.now) }
+    ensures err { IfErr result (IsNoOperandFor kind number bytes.now) }
 {
     if kind == LIST || kind == SET || kind == BAG {
         return read_value(alloc, kind, number, bytes);
     }
-    match element_of(alloc, kind, number, bytes) {
-        Ok(element) => Ok(Value::Plain(element)),
-        Err(code) => Err(code),
-    }
+    Ok(Value::Plain(element_of(alloc, kind, number, bytes)?))
 }
 
 fn plain_verb_of(verb: i32) -> Option<Verb>
@@ -199,12 +171,12 @@ fn action_on(verb: Verb, value: Value) -> Option<Action>
     }
 }
 
-fn increment_of(kind: i32, number: i64, bytes: &[u8], amount: u32) -> Result<Action, i32>
+fn increment_of(kind: i32, number: i64, bytes: &[u8], amount: u32) -> Result<Action, Code>
     ensures ok { IfOk result (IsAction ASM_INC kind number bytes.now amount) }
-    ensures err { IfErr result (λ code. (code ≡ ASM_OPERAND) × IsNoAction ASM_INC kind number bytes.now amount) }
+    ensures err { IfErr result (IsNoActionFor ASM_INC kind number bytes.now amount) }
 {
     if kind != NUM || amount != 0 || !bytes.is_empty() {
-        return Err(OPERAND);
+        return Err(Code::Operand);
     }
     Ok(Action::Increment(number))
 }
@@ -215,10 +187,10 @@ fn increment_of(kind: i32, number: i64, bytes: &[u8], amount: u32) -> Result<Act
 ///
 /// # Errors
 ///
-/// - `ASM_OPERAND`: verb, kind, number, bytes and amount make no action.
-/// - `ASM_NOT_JSON`: the bytes of a list, a set or a bag aren't JSON.
-/// - `ASM_SHAPE`: the bytes of a text aren't UTF-8, or those of a list, a set or a bag are JSON of no such value.
-/// - `ASM_MEMORY`
+/// - `Operand`: verb, kind, number, bytes and amount make no action.
+/// - `NotJson`: the bytes of a list, a set or a bag aren't JSON.
+/// - `Shape`: the bytes of a text aren't UTF-8, or those of a list, a set or a bag are JSON of no such value.
+/// - `Memory`
 pub(crate) fn action_of(
     alloc: Global,
     verb: i32,
@@ -226,25 +198,19 @@ pub(crate) fn action_of(
     number: i64,
     bytes: &[u8],
     amount: u32,
-) -> Result<Action, i32>
+) -> Result<Action, Code>
     ensures ok { IfOk result (IsAction verb kind number bytes.now amount) }
-    ensures codes { IfErr result (IsOneOf (ASM_MEMORY ∷ ASM_OPERAND ∷ ASM_NOT_JSON ∷ ASM_SHAPE ∷ [])) }
-    ensures range { IfErr result (λ code. code ≡ ASM_OPERAND → IsNoAction verb kind number bytes.now amount) }
-    ensures not_json { IfErr result (λ code. code ≡ ASM_NOT_JSON → IsByJson kind × IsNoJson bytes.now) }
-    ensures shape { IfErr result (λ code. code ≡ ASM_SHAPE → IsMisshapen kind bytes.now) }
+    ensures err { IfErr result (IsNoActionFor verb kind number bytes.now amount) }
 {
     if verb == INC {
         return increment_of(kind, number, bytes, amount);
     }
     let Some(verb) = verb_of(verb, amount) else {
-        return Err(OPERAND);
+        return Err(Code::Operand);
     };
-    let value = match value_of(alloc, kind, number, bytes) {
-        Ok(value) => value,
-        Err(code) => return Err(code),
-    };
+    let value = value_of(alloc, kind, number, bytes)?;
     match action_on(verb, value) {
         Some(action) => Ok(action),
-        None => Err(OPERAND),
+        None => Err(Code::Operand),
     }
 }

@@ -16,10 +16,9 @@ ghost use Rattle.asm_storage.specs.Calls.{HasPolledFor, IsReplied, IsBusy, IsCoh
 ghost use Rattle.asm_storage.specs.Calls.{IsBehind, IsRecall, IsStaleRead, MadeOffers};
 ghost use Rattle.asm_storage.specs.Taken.{HasTaken};
 ghost use Rattle.asm_slots.specs.Standard.{meaning};
-ghost use Rattle.asm_slots.specs.FireOver.{is_any_over};
-ghost use Rattle.asm_slots.specs.NumbersAhead.{is_any_above};
+ghost use Rattle.asm_slots.specs.AgentAnswers.{is_any_over, is_any_above};
 ghost use Rattle.asm_slots.specs.OwnState.{HasPolledOn};
-ghost use Rattle.asm_slots.specs.AgentCalls.{HasLearnt, HasPolled, IsRepliedOver, MissedFew, MissedOne, SeesOn, TellsLast};
+ghost use Rattle.asm_slots.specs.AgentCalls.{HasLearnt, HasPolled, IsRepliedOver, MissedFew, MissedOne, SeesOn, IsLastText};
 
 use crate::shared::Shared;
 use asm_aggregate::Standard;
@@ -313,7 +312,7 @@ impl OwnedAgent {
     /// - `AllocError` only if memory is refused.
     pub fn answer(self, alloc: Global) -> (OwnedAgent, Result<Option<String>, AllocError>)
         ensures same { result.0 ≡ self }
-        ensures reported { IfOk result.1 (λ o. TellsLast self (option_map string_bytes o)) }
+        ensures reported { IfOk result.1 (λ o. IsLastText self (option_map string_bytes o)) }
     {
         let OwnedAgent { shared, part } = self;
         let agent = Agent::of(&shared.storage, part);
@@ -338,7 +337,7 @@ fn has_later(scans: &[Scanned], seen: u32) -> bool
 }
 
 fn last_answer(alloc: Global, agent: &Agent<'_, Standard>) -> Result<Option<String>, AllocError>
-    ensures { IfOk result (λ o. TellsLast agent.now (option_map string_bytes o)) }
+    ensures { IfOk result (λ o. IsLastText agent.now (option_map string_bytes o)) }
 {
     match agent.receipts().last() {
         Some(receipt) => Ok(Some(answer_text(alloc, &receipt.answer)?)),

@@ -8,10 +8,10 @@ ghost use Rattle.asm_step.specs.InTurn.{Agrees};
 ghost use Rattle.asm_step.specs.Layers.{all_moves, shows_below, IsStepOf};
 ghost use Rattle.asm_step.specs.Places.{AreEach};
 ghost use Rattle.asm_slots.specs.Commit.{NamesAll};
-ghost use Rattle.asm_slots.specs.StepView.{begun};
+ghost use Rattle.asm_slots.specs.StepView.{new_step};
 ghost use Rattle.asm_slots.specs.Standard.{part, standard};
 ghost use Rattle.asm_slots.specs.StepCalls.{AreLastOf, HasPopped, IsLayered, grown};
-ghost use Rattle.asm_slots.specs.declared.owned_step.Way.TheVariants as ways;
+ghost use Rattle.asm_slots.specs.declared.owned_step.PushMode.TheVariants as ways;
 ghost use Rattle.asm_state.specs.View.{value_at};
 ghost use Rattle.asm_step.specs.Answer.{IsPushAnswer, IsPushAnswerOn};
 
@@ -31,7 +31,7 @@ pub struct OwnedStep {
     pub(crate) number: u32,
     pub(crate) step: Step,
     // The tracked locations: each once, in ascending order; with the scans at most 256.
-    pub(crate) got: Vec<Location>,
+    pub(crate) tracked: Vec<Location>,
     // Each name once, all at the step's version.
     pub(crate) scanned: Vec<Scanned>,
 }
@@ -49,7 +49,7 @@ impl Model for OwnedStep {
     ghost view = { λ s. record {
       number = s.number;
       layers = s.step;
-      got = s.got.items;
+      tracked = s.tracked.items;
       scanned = names_of s.scanned.items;
     } };
 
@@ -58,14 +58,14 @@ impl Model for OwnedStep {
     ghost use Rattle.asm_element.specs.Place.{location_cmp};
     ghost use Rattle.asm_storage.specs.Limits.{reads_limit};
 
-    ghost invariant = { λ s. IsStrictlySortedBy location_cmp s.got.items
-        × (length s.got.items + length s.scanned.items ≤ reads_limit)
+    ghost invariant = { λ s. IsStrictlySortedBy location_cmp s.tracked.items
+        × (length s.tracked.items + length s.scanned.items ≤ reads_limit)
         × All (λ scan. scan.number ≡ s.number) s.scanned.items };
 }
 
 /// How a move is put onto a step.
 #[derive(Clone, Copy, Drop)]
-pub enum Way {
+pub enum PushMode {
     Push,
     Extend,
 }
@@ -121,7 +121,7 @@ pub(crate) fn grow(
     alloc: Global,
     step: &mut Step,
     state: &State,
-    way: Way,
+    way: PushMode,
     instrs: &Instructions,
 ) -> Result<(), StepError>
     ensures layers { OnOk result (IsLayered way step.old step.new) }
@@ -137,8 +137,8 @@ pub(crate) fn grow(
     ensures deep { IfErr result (λ e. way ≡ ways.Extend → ¬ (e ≡ StepError.Deep)) }
 {
     match way {
-        Way::Push => step.push(alloc, &standard(), state, instrs),
-        Way::Extend => step.extend(alloc, &standard(), state, instrs),
+        PushMode::Push => step.push(alloc, &standard(), state, instrs),
+        PushMode::Extend => step.extend(alloc, &standard(), state, instrs),
     }
 }
 
@@ -157,12 +157,12 @@ fn named_at(alloc: Global, locations: Vec<Location>, number: u32) -> Result<Vec<
 impl OwnedStep {
     /// Return a step at this version, without moves; it takes no memory.
     pub(crate) fn at(alloc: Global, number: u32) -> OwnedStep
-        ensures { result ≡ begun number }
+        ensures { result ≡ new_step number }
     {
         OwnedStep {
             number,
             step: Step::new(alloc),
-            got: Vec::new(alloc),
+            tracked: Vec::new(alloc),
             scanned: Vec::new(alloc),
         }
     }
@@ -191,7 +191,7 @@ impl OwnedStep {
         ensures { IfOk result (NamesAll self.now) }
     {
         let dependencies = self.step.dependency_locations(alloc)?;
-        let locations = each_of(alloc, &self.got, dependencies)?;
+        let locations = each_of(alloc, &self.tracked, dependencies)?;
         Items::shared(alloc, named_at(alloc, locations, self.number)?)
     }
 }

@@ -7,10 +7,10 @@ ghost use Rattle.asm_step.specs.Places.{AreEach};
 ghost use Rattle.asm_storage.specs.Limits.{reads_limit};
 ghost use Rattle.asm_slots.specs.Codes.{IsOneOf, ASM_CLASH, ASM_DONE, ASM_LARGE, ASM_LONG_MOVE, ASM_MANY, ASM_MEMORY};
 ghost use Rattle.asm_slots.specs.Codes.{ASM_NO_PUSH};
-ghost use Rattle.asm_slots.specs.Popping.{IsComposedLast, IsNotPoppedLast, TellsUncomposed};
+ghost use Rattle.asm_slots.specs.Popping.{IsComposedLast, IsNotPoppedLast, ReportsUncomposed};
 ghost use Rattle.asm_slots.specs.Slots.{HasRoomForMove, HoldsMove, content_of};
 ghost use Rattle.asm_slots.specs.StepCalls.{HasPoppedOver, WouldTakeMany, from_below};
-ghost use Rattle.asm_slots.specs.Tracked.{judged_last, dependencies_last};
+ghost use Rattle.asm_slots.specs.Tracked.{last_partial_places, dependencies_last};
 
 use crate::codes::{CLASH, DONE, LARGE, LONG_MOVE, MANY, MEMORY, NO_PUSH};
 use crate::content::Content;
@@ -18,30 +18,27 @@ use crate::instructing::hold;
 use crate::owned_step::OwnedStep;
 use crate::slot::Slot;
 use crate::steps::GetError;
-use crate::take_and_put::{put_shell, take_shell};
-use crate::tracking::tracked;
+use crate::tracking::track;
 use asm_aggregate::{ComposeError, standard};
 use asm_element::Location;
 use asm_update::Instructions;
 use std::alloc::{AllocError, Global};
 
 /// Return whether the slot is empty or holds a move.
-pub fn has_room_for_move(alloc: Global, slot: &mut Slot) -> bool
+pub fn has_room_for_move(slot: &mut Slot) -> bool
     ensures kept { content_of slot.new ≡ content_of slot.old }
     ensures yes { OnTrue result (HasRoomForMove (content_of slot.old)) }
     ensures no { OnFalse result (¬ HasRoomForMove (content_of slot.old)) }
 {
-    let Some(shell) = take_shell(alloc, slot) else {
+    let Some(held) = slot.as_mut() else {
         return true;
     };
-    let room = matches!(&*shell, Content::Move(_));
-    put_shell(slot, shell);
-    room
+    matches!(held, Content::Move(_))
 }
 
 // Return the code of why moves don't compose.
 fn code_of_compose_error(error: &ComposeError) -> i32
-    ensures { TellsUncomposed error.now result }
+    ensures { ReportsUncomposed error.now result }
 {
     match error {
         ComposeError::Clash(_) => CLASH,
@@ -66,40 +63,31 @@ impl OwnedStep {
     }
 
     // Return all locations that are tracked once these moves are popped as one.
-    fn got_at_rest(&self, alloc: Global) -> Result<Vec<Location>, GetError>
-        ensures all { IfOk result (λ all. AreEach (self.now.got ++ from_below self.now (dependencies_last self.now)) all.items) }
+    fn tracked_after_pop(&self, alloc: Global) -> Result<Vec<Location>, GetError>
+        ensures all { IfOk result (λ all. AreEach (self.now.tracked ++ from_below self.now (dependencies_last self.now)) all.items) }
         ensures few { IfOk result (λ all. length all.items + length self.now.scanned ≤ reads_limit) }
         ensures many { IfErr result (λ e. e ≡ GetError.Many → WouldTakeMany (dependencies_last self.now) self.now) }
     {
-        tracked(alloc, self, self.dependencies_last(alloc)?)
+        track(alloc, self, self.dependencies_last(alloc)?)
     }
 }
 
-/// Pop the move that was pushed last, with those that extend it.
-///
-/// If these have partial updates that were judged on the state below, the step tracks their locations. After any code
-/// except `ASM_DONE`, the step is unchanged.
-///
-/// # Errors
-///
-/// - `ASM_NO_PUSH`: no move is pushed.
-/// - `ASM_MANY`: the tracked locations and the scanned functions would be more than 256 together.
-/// - `ASM_MEMORY`
+/// Do what `asm_pop` does, with the step.
 pub fn pop_in(alloc: Global, step: &mut OwnedStep) -> i32
     ensures codes { IsOneOf (ASM_DONE ∷ ASM_MEMORY ∷ ASM_MANY ∷ ASM_NO_PUSH ∷ []) result }
-    ensures popped { result ≡ ASM_DONE → HasPoppedOver (judged_last step.old) step.old step.new }
+    ensures popped { result ≡ ASM_DONE → HasPoppedOver (last_partial_places step.old) step.old step.new }
     ensures none { result ≡ ASM_NO_PUSH → step.old.layers ≡ [] }
-    ensures many { result ≡ ASM_MANY → WouldTakeMany (judged_last step.old) step.old }
+    ensures many { result ≡ ASM_MANY → WouldTakeMany (last_partial_places step.old) step.old }
     ensures kept { result ≢ ASM_DONE → step.new ≡ step.old }
 {
-    let judged = match step.judged_last(alloc) {
-        Ok(Some(judged)) => judged,
+    let places = match step.last_partial_places(alloc) {
+        Ok(Some(places)) => places,
         Ok(None) => return NO_PUSH,
         Err(AllocError) => return MEMORY,
     };
-    match tracked(alloc, step, judged) {
+    match track(alloc, step, places) {
         Ok(all) => {
-            step.got = all;
+            step.tracked = all;
             let _popped = step.pop();
             DONE
         }
@@ -108,19 +96,7 @@ pub fn pop_in(alloc: Global, step: &mut OwnedStep) -> i32
     }
 }
 
-/// Pop the last pushed move and those that extend it, as one move, into the slot.
-///
-/// The one move does what they do in turn. If they depend by themselves on the state below, the step tracks those
-/// locations. After any code except `ASM_DONE`, nothing changes.
-///
-/// # Errors
-///
-/// - `ASM_NO_PUSH`: no move is pushed.
-/// - `ASM_CLASH`: the moves don't compose, since they clash.
-/// - `ASM_LARGE`: they don't compose, since an amount or a sum is too large.
-/// - `ASM_LONG_MOVE`: they don't compose, since the one move would have more than 4,096 instructions.
-/// - `ASM_MANY`: the tracked locations and the scanned functions would be more than 256 together.
-/// - `ASM_MEMORY`
+/// Do what `asm_pop_move` does, with the step.
 pub fn pop_into(alloc: Global, step: &mut OwnedStep, instrs: &mut Slot) -> i32
     ensures codes { IsOneOf (ASM_DONE ∷ ASM_CLASH ∷ ASM_MEMORY ∷ ASM_MANY ∷ ASM_LARGE ∷ ASM_NO_PUSH ∷ ASM_LONG_MOVE ∷ []) result }
     ensures popped { result ≡ ASM_DONE → HasPoppedOver (dependencies_last step.old) step.old step.new }
@@ -135,14 +111,14 @@ pub fn pop_into(alloc: Global, step: &mut OwnedStep, instrs: &mut Slot) -> i32
         Ok(None) => return NO_PUSH,
         Err(error) => return code_of_compose_error(&error),
     };
-    let got = match step.got_at_rest(alloc) {
-        Ok(got) => got,
+    let tracked = match step.tracked_after_pop(alloc) {
+        Ok(tracked) => tracked,
         Err(GetError::Many) => return MANY,
         Err(_) => return MEMORY,
     };
     match hold(alloc, instrs, one) {
         Ok(()) => {
-            step.got = got;
+            step.tracked = tracked;
             step.pop();
             DONE
         }

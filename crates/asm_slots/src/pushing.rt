@@ -4,49 +4,51 @@ ghost use Rattle.asm_journal.specs.Event.{IsMoveForm};
 ghost use Rattle.asm_step.specs.Places.{AreEach};
 ghost use Rattle.asm_storage.specs.Limits.{reads_limit};
 ghost use Rattle.asm_explain.specs.Bytes.{IsNoJson, IsOtherJson};
-ghost use Rattle.asm_slots.specs.Codes.{IsOneOf, ASM_DONE, ASM_CLASH, ASM_MEMORY, ASM_SMALL};
-ghost use Rattle.asm_slots.specs.Codes.{ASM_MANY, ASM_NOT_JSON, ASM_SHAPE, ASM_LARGE, ASM_MOVED, ASM_DEEP, ASM_LONG_MOVE};
-ghost use Rattle.asm_slots.specs.StepPush.{Grows, changes, refusals};
+ghost use Rattle.asm_slots.specs.Codes.{IsOneOf, ASM_DONE, ASM_CLASH, ASM_MEMORY, ASM_SMALL, ASM_MANY, ASM_NOT_JSON};
+ghost use Rattle.asm_slots.specs.Codes.{ASM_SHAPE, ASM_LARGE, ASM_MOVED, ASM_DEEP, ASM_LONG_MOVE};
+ghost use Rattle.asm_slots.specs.StepAnswers.{Grows, changes, refusals, GrowsBy};
 ghost use Rattle.asm_slots.specs.Slots.{content_of};
 ghost use Rattle.asm_slots.specs.StepCalls.{HasGrown, IsElsewhere, IsGrown, IsNotGrown, IsRefused, ReportsRefusal};
-ghost use Rattle.asm_slots.specs.StepCalls.{TellsTracked, WouldTakeMany, from_below};
-ghost use Rattle.asm_slots.specs.Tracked.{judged};
-ghost use Rattle.asm_slots.specs.WrittenText.{TellsOneOf};
-ghost use Rattle.asm_slots.specs.declared.owned_step.Way.TheVariants as ways;
+ghost use Rattle.asm_slots.specs.StepCalls.{ReportsTracked, WouldTakeMany, from_below};
+ghost use Rattle.asm_slots.specs.Tracked.{refusal_places};
+ghost use Rattle.asm_slots.specs.WrittenText.{WritesOneOf};
+ghost use Rattle.asm_slots.specs.declared.owned_step.PushMode.TheVariants as ways;
 
-use crate::codes::{CLASH, DEEP, DONE, LARGE, LONG_MOVE, MANY, MEMORY, MOVED, Told, written_as};
+use crate::codes::{
+    CLASH, CodedText, DEEP, DONE, EMPTY, LARGE, LONG_MOVE, MANY, MEMORY, MOVED, written_as,
+};
 use crate::composing::{clash_text, large_text};
-use crate::in_both;
+use crate::content::Content;
 use crate::owned_agent::OwnedAgent;
-use crate::owned_step::{OwnedStep, Way, grow};
+use crate::owned_step::{OwnedStep, PushMode, grow};
 use crate::parsing::{code_of_text_error, move_of};
 use crate::slot::Slot;
 use crate::steps::GetError;
-use crate::tracking::{judged, tracked};
+use crate::tracking::{refusal_places, track};
 use asm_element::Location;
 use asm_step::StepError;
 use asm_update::Instructions;
 use std::alloc::{AllocError, Global};
 
-fn reported_refusal(alloc: Global, error: StepError) -> Result<Told, AllocError>
+fn refusal_text(alloc: Global, error: StepError) -> Result<CodedText, AllocError>
     ensures reported { IfOk result (λ t. ReportsRefusal error t.code (string_bytes t.text)) }
     ensures codes { IfOk result (λ t. IsOneOf (ASM_CLASH ∷ ASM_MANY ∷ ASM_LARGE ∷ ASM_DEEP ∷ ASM_LONG_MOVE ∷ []) t.code) }
     ensures deep { IfOk result (λ t. t.code ≡ ASM_DEEP → error ≡ StepError.Deep) }
 {
     match error {
-        StepError::Clash(clash) => Ok(Told {
+        StepError::Clash(clash) => Ok(CodedText {
             code: CLASH,
             text: clash_text(alloc, clash)?,
         }),
-        StepError::Large(at) => Ok(Told {
+        StepError::Large(at) => Ok(CodedText {
             code: LARGE,
             text: large_text(alloc, &at)?,
         }),
-        StepError::Many => Ok(Told {
+        StepError::Many => Ok(CodedText {
             code: LONG_MOVE,
             text: String::new(alloc),
         }),
-        StepError::Deep => Ok(Told {
+        StepError::Deep => Ok(CodedText {
             code: DEEP,
             text: String::new(alloc),
         }),
@@ -57,8 +59,8 @@ fn reported_refusal(alloc: Global, error: StepError) -> Result<Told, AllocError>
 // Why the move isn't pushed, and all locations that are tracked once this is reported.
 #[derive(Drop)]
 struct Refused {
-    reported: Told,
-    got: Vec<Location>,
+    reported: CodedText,
+    tracked: Vec<Location>,
 }
 
 fn refusal_of(
@@ -70,13 +72,13 @@ fn refusal_of(
     ensures reported { IfOk result (λ r. ReportsRefusal error r.reported.code (string_bytes r.reported.text)) }
     ensures codes { IfOk result (λ r. IsOneOf (ASM_CLASH ∷ ASM_MANY ∷ ASM_LARGE ∷ ASM_DEEP ∷ ASM_LONG_MOVE ∷ []) r.reported.code) }
     ensures deep { IfOk result (λ r. r.reported.code ≡ ASM_DEEP → error ≡ StepError.Deep) }
-    ensures got { IfOk result (λ r. AreEach (step.now.got ++ from_below step.now (judged instrs.now error)) r.got.items) }
-    ensures few { IfOk result (λ r. length r.got.items + length step.now.scanned ≤ reads_limit) }
-    ensures many { IfErr result (λ e. e ≡ GetError.Many → WouldTakeMany (judged instrs.now error) step.now) }
+    ensures tracked { IfOk result (λ r. AreEach (step.now.tracked ++ from_below step.now (refusal_places instrs.now error)) r.tracked.items) }
+    ensures few { IfOk result (λ r. length r.tracked.items + length step.now.scanned ≤ reads_limit) }
+    ensures many { IfErr result (λ e. e ≡ GetError.Many → WouldTakeMany (refusal_places instrs.now error) step.now) }
 {
-    let got = tracked(alloc, step, judged(alloc, instrs, &error)?)?;
-    let reported = reported_refusal(alloc, error)?;
-    Ok(Refused { reported, got })
+    let tracked = track(alloc, step, refusal_places(alloc, instrs, &error)?)?;
+    let reported = refusal_text(alloc, error)?;
+    Ok(Refused { reported, tracked })
 }
 
 // Report why the move isn't pushed, and track the locations on which that depends.
@@ -90,13 +92,13 @@ fn refuse(
 ) -> i32
     requires { written.old ≡ 0 }
     ensures codes { IsOneOf (ASM_CLASH ∷ ASM_MEMORY ∷ ASM_SMALL ∷ ASM_MANY ∷ ASM_LARGE ∷ ASM_DEEP ∷ ASM_LONG_MOVE ∷ []) result }
-    ensures text { TellsOneOf refusals (TellsTracked instrs.now step.old step.new error) out.old out.new written.new result }
+    ensures text { WritesOneOf refusals (ReportsTracked instrs.now step.old step.new error) out.old out.new written.new result }
     ensures deep { result ≡ ASM_DEEP → error ≡ StepError.Deep }
     ensures stays { result ≡ ASM_MEMORY → step.new ≡ step.old }
 {
     match refusal_of(alloc, step, instrs, error) {
         Ok(refused) => {
-            step.got = refused.got;
+            step.tracked = refused.tracked;
             written_as(&refused.reported, out, written)
         }
         Err(GetError::Many) => MANY,
@@ -109,7 +111,7 @@ pub(crate) fn grow_by(
     alloc: Global,
     agent: &OwnedAgent,
     step: &mut OwnedStep,
-    way: Way,
+    way: PushMode,
     instrs: &Instructions,
     out: &mut [u8],
     written: &mut usize,
@@ -118,7 +120,7 @@ pub(crate) fn grow_by(
     ensures codes { IsOneOf (ASM_DONE ∷ ASM_CLASH ∷ ASM_MEMORY ∷ ASM_SMALL ∷ ASM_MANY
         ∷ ASM_LARGE ∷ ASM_MOVED ∷ ASM_DEEP ∷ ASM_LONG_MOVE ∷ []) result }
     ensures grown { result ≡ ASM_DONE → IsGrown way instrs.now agent.now step.old step.new }
-    ensures text { TellsOneOf refusals (IsRefused way instrs.now agent.now step.old step.new) out.old out.new written.new result }
+    ensures text { WritesOneOf refusals (IsRefused way instrs.now agent.now step.old step.new) out.old out.new written.new result }
     ensures moved { result ≡ ASM_MOVED → IsElsewhere agent.now step.old }
     ensures deep { result ≡ ASM_DEEP → way ≡ ways.Push }
     ensures stays { ¬ IsOneOf changes result → step.new ≡ step.old }
@@ -138,7 +140,7 @@ fn grow_in(
     alloc: Global,
     agent: &OwnedAgent,
     step: &mut OwnedStep,
-    way: Way,
+    way: PushMode,
     instrs: &[u8],
     out: &mut [u8],
     written: &mut usize,
@@ -147,7 +149,7 @@ fn grow_in(
     ensures codes { IsOneOf (ASM_DONE ∷ ASM_CLASH ∷ ASM_MEMORY ∷ ASM_SMALL ∷ ASM_MANY
         ∷ ASM_NOT_JSON ∷ ASM_SHAPE ∷ ASM_LARGE ∷ ASM_MOVED ∷ ASM_DEEP ∷ ASM_LONG_MOVE ∷ []) result }
     ensures grown { result ≡ ASM_DONE → HasGrown way instrs.now agent.now step.old step.new }
-    ensures text { TellsOneOf refusals (IsNotGrown way instrs.now agent.now step.old step.new) out.old out.new written.new result }
+    ensures text { WritesOneOf refusals (IsNotGrown way instrs.now agent.now step.old step.new) out.old out.new written.new result }
     ensures moved { result ≡ ASM_MOVED → IsElsewhere agent.now step.old }
     ensures deep { result ≡ ASM_DEEP → way ≡ ways.Push }
     ensures not_json { result ≡ ASM_NOT_JSON → IsNoJson instrs.now }
@@ -160,30 +162,12 @@ fn grow_in(
     }
 }
 
-/// Put the move of these bytes onto the step of a slot.
-///
-/// It is put over the own state of the agent in another slot. A refusal is `ASM_CLASH`, `ASM_LARGE`, `ASM_DEEP` or
-/// `ASM_LONG_MOVE`, or `ASM_SMALL` if its text is too long. After a refusal, the step tracks the locations on which that
-/// depends.
-///
-/// # Errors
-///
-/// - `ASM_CLASH`: the move clashes, and `{"clash":[LOC,CAUSE]}` is written.
-/// - `ASM_LARGE`: an amount or a sum is too large, and `{"large":LOC}` is written.
-/// - `ASM_DEEP`: 64 moves are pushed; never for an extension.
-/// - `ASM_LONG_MOVE`: there would be more than 4,096 instructions.
-/// - `ASM_MANY`: to track those locations would take more than 256 places; the step is unchanged.
-/// - `ASM_SMALL`: the move is refused, and `written` is the room that the text needs.
-/// - `ASM_MOVED`: the agent's own state isn't at the step's version; the step is unchanged.
-/// - `ASM_NOT_JSON`: the bytes aren't JSON; the step is unchanged.
-/// - `ASM_SHAPE`: they are JSON, but of no move; the step is unchanged.
-/// - `ASM_EMPTY`: the first slot has no agent, or the second no step; the step is unchanged.
-/// - `ASM_MEMORY`: the step is unchanged.
+/// Do what `asm_push` or `asm_extend` does.
 pub fn grow_of(
     alloc: Global,
     agent: &mut Slot,
     step: &mut Slot,
-    way: Way,
+    way: PushMode,
     instrs: &[u8],
     out: &mut [u8],
     written: &mut usize,
@@ -193,5 +177,54 @@ pub fn grow_of(
     ensures kept { content_of agent.new ≡ content_of agent.old }
 {
     *written = 0;
-    in_both!(alloc, agent, step => grow_in(alloc, agent, step, way, instrs, out, written))
+    let Some(held) = agent.as_mut() else {
+        return EMPTY;
+    };
+    let Content::Agent(agent) = held else {
+        return EMPTY;
+    };
+    let Some(held) = step.as_mut() else {
+        return EMPTY;
+    };
+    let Content::Step(step) = held else {
+        return EMPTY;
+    };
+    grow_in(alloc, agent, step, way, instrs, out, written)
+}
+
+/// Do what `asm_push_move` or `asm_extend_move` does.
+pub fn grow_from(
+    alloc: Global,
+    agent: &mut Slot,
+    step: &mut Slot,
+    way: PushMode,
+    instrs: &mut Slot,
+    out: &mut [u8],
+    written: &mut usize,
+) -> i32
+    ensures grows { GrowsBy way (content_of instrs.old) (content_of agent.old) (content_of step.old) (content_of step.new)
+        out.old out.new written.new result }
+    ensures kept { content_of agent.new ≡ content_of agent.old }
+    ensures held { content_of instrs.new ≡ content_of instrs.old }
+{
+    *written = 0;
+    let Some(held) = instrs.as_mut() else {
+        return EMPTY;
+    };
+    let Content::Move(instrs) = held else {
+        return EMPTY;
+    };
+    let Some(held) = agent.as_mut() else {
+        return EMPTY;
+    };
+    let Content::Agent(agent) = held else {
+        return EMPTY;
+    };
+    let Some(held) = step.as_mut() else {
+        return EMPTY;
+    };
+    let Content::Step(step) = held else {
+        return EMPTY;
+    };
+    grow_by(alloc, agent, step, way, instrs, out, written)
 }

@@ -1,16 +1,16 @@
 //! Reading and firing, with their codes and numbers.
-ghost use Rattle.std.specs.Prelude.{◌≡◌, ◌≢◌, ◌≤◌, ◌+◌, ◌∷◌, [], ℕ, Some};
+ghost use Rattle.std.specs.Prelude.{◌≡◌, ◌≢◌, ◌≤◌, ◌+◌, ◌∷◌, [], ℕ, Some, IfOk, IfErr};
 ghost use Rattle.asm_storage.specs.Limits.{offers_limit};
 ghost use Rattle.asm_storage.specs.declared.call.Reply.TheVariants.{Fired};
 ghost use Rattle.asm_storage.specs.Storage.{IsSameAgent};
-ghost use Rattle.asm_slots.specs.NumbersAhead.{FiresAhead, FiresWithin};
+ghost use Rattle.asm_slots.specs.AgentAnswers.{FiresAhead, FiresWithin, AreScans, FiresOverAhead, FiresOverWithin};
+ghost use Rattle.asm_slots.specs.AgentAnswers.{HasTriedFireOver, ReadAsFireOver, ReadAsManyOver};
 ghost use Rattle.asm_explain.specs.Bytes.{AreLocations, IsFireForm, IsNoJson, IsOtherJson};
-ghost use Rattle.asm_slots.specs.Bytes.{ReadAsManyLocations, ReadAsManyReads};
-ghost use Rattle.asm_slots.specs.AgentCalls.{HasTriedFire, HasPolled, HasRead, IsReplyCode, WasBusy};
-ghost use Rattle.asm_slots.specs.AgentCalls.{MayHavePolled, MayHaveOffered, MissedFew, MissedOne, SeesOn};
-ghost use Rattle.asm_slots.specs.AgentCalls.{code_of, number_of};
-ghost use Rattle.asm_slots.specs.Codes.{IsOneOf, ASM_DONE, ASM_STALE, ASM_CLASH, ASM_MEMORY, ASM_FULL};
-ghost use Rattle.asm_slots.specs.Codes.{ASM_AHEAD, ASM_BUSY, ASM_MANY, ASM_NOT_JSON, ASM_SHAPE};
+ghost use Rattle.asm_slots.specs.Bytes.{ReadAsManyLocations, ReadAsManyReads, AreMisread, IsEitherMisread};
+ghost use Rattle.asm_slots.specs.AgentCalls.{HasTriedFire, HasPolled, HasRead, IsReplyCode, WasBusy, MayHavePolled};
+ghost use Rattle.asm_slots.specs.AgentCalls.{MayHaveOffered, MissedFew, MissedOne, SeesOn, code_of, number_of};
+ghost use Rattle.asm_slots.specs.Codes.{IsOneOf, ASM_DONE, ASM_STALE, ASM_CLASH, ASM_MEMORY, ASM_FULL, ASM_AHEAD};
+ghost use Rattle.asm_slots.specs.Codes.{ASM_BUSY, ASM_MANY, ASM_NOT_JSON, ASM_SHAPE};
 ghost use Rattle.asm_slots.specs.Slots.{Holds, content_of};
 ghost use Rattle.asm_slots.specs.declared.content.Content.TheVariants as content;
 
@@ -18,20 +18,15 @@ use crate::codes::{AHEAD, BUSY, CLASH, DONE, FULL, MANY, MEMORY, STALE};
 use crate::content::Content;
 use crate::owned_agent::OwnedAgent;
 use crate::parsing::{code_of_text_error, locations_of};
+use crate::reading_scans::scans_of;
 use crate::slot::Slot;
 use crate::take_and_put::put_agent;
-use asm_explain::fire_of;
+use asm_explain::{Fire, TextError, fire_of};
+use asm_state::Scanned;
 use asm_storage::{FireError, ReadError, Reply};
 use std::alloc::Global;
 
-/// Read the locations of these bytes, and put the agent into the slot.
-///
-/// # Errors
-///
-/// - `ASM_MANY`: there are more than 256 locations; the agent is unchanged.
-/// - `ASM_NOT_JSON`: the bytes aren't JSON; the agent is unchanged.
-/// - `ASM_SHAPE`: they are JSON, but of no locations; the agent is unchanged.
-/// - `ASM_MEMORY`: the agent may have seen more.
+/// Do what `asm_read` does, and put the agent into the slot.
 pub fn read_at(
     alloc: Global,
     slot: &mut Slot,
@@ -109,19 +104,7 @@ pub(crate) fn code_of_reply(reply: Reply) -> (i32, u32)
     }
 }
 
-/// Fire the move of these bytes.
-///
-/// # Errors
-///
-/// - `ASM_STALE`: a declared location was written since its read.
-/// - `ASM_CLASH`: the updates of the move clash.
-/// - `ASM_FULL`: as many moves were fired as the capacity.
-/// - `ASM_BUSY`: 64 attempts to append were lost; the numbers have what had been seen at the start and at the end.
-/// - `ASM_AHEAD`: a declared read has a number above what the agent has seen; nothing changes.
-/// - `ASM_MANY`: there are more than 256 declared reads; nothing changes.
-/// - `ASM_NOT_JSON`: the bytes aren't JSON; nothing changes.
-/// - `ASM_SHAPE`: they are JSON, but of no move; nothing changes.
-/// - `ASM_MEMORY`: nothing was fired; the agent may have seen more.
+/// Do what `asm_try_fire` does, with the agent.
 pub fn fire_in(alloc: Global, agent: &mut OwnedAgent, call: &[u8]) -> (i32, Numbers)
     ensures codes { IsOneOf (ASM_DONE ∷ ASM_STALE ∷ ASM_CLASH ∷ ASM_MEMORY ∷ ASM_FULL ∷ ASM_AHEAD ∷ ASM_BUSY ∷ ASM_MANY
         ∷ ASM_NOT_JSON ∷ ASM_SHAPE ∷ []) result.0 }
@@ -157,6 +140,80 @@ pub fn fire_in(alloc: Global, agent: &mut OwnedAgent, call: &[u8]) -> (i32, Numb
         return (MEMORY, Numbers::none());
     };
     match agent.fire(alloc, &reads, &fire.instrs) {
+        Ok(reply) => {
+            let (code, fired) = code_of_reply(reply);
+            (
+                code,
+                Numbers {
+                    fired,
+                    from: 0,
+                    to: 0,
+                },
+            )
+        }
+        Err(FireError::ManyReads) => (MANY, Numbers::none()),
+        Err(FireError::Busy { from, to }) => (BUSY, Numbers { fired: 0, from, to }),
+        Err(FireError::Memory) => (MEMORY, Numbers::none()),
+    }
+}
+
+// Read the move of the one text, and the scans of the other.
+fn fire_over_of(alloc: Global, call: &[u8], scans: &[u8]) -> Result<(Fire, Vec<Scanned>), TextError>
+    ensures ok { IfOk result (λ p. ReadAsFireOver call.now scans.now p.0.reads p.1.items p.0.instrs) }
+    ensures err { IfErr result (IsEitherMisread IsFireForm AreScans call.now scans.now) }
+{
+    let fire = match fire_of(alloc, call) {
+        Ok(fire) => fire,
+        Err(error) => return Err(error),
+    };
+    match scans_of(alloc, scans) {
+        Ok(scans) => Ok((fire, scans)),
+        Err(error) => Err(error),
+    }
+}
+
+/// Do what `asm_try_fire_over` does, with the agent.
+pub fn fire_over_in(
+    alloc: Global,
+    agent: &mut OwnedAgent,
+    call: &[u8],
+    scans: &[u8],
+) -> (i32, Numbers)
+    ensures codes { IsOneOf (ASM_DONE ∷ ASM_STALE ∷ ASM_CLASH ∷ ASM_MEMORY ∷ ASM_FULL ∷ ASM_AHEAD ∷ ASM_BUSY ∷ ASM_MANY
+        ∷ ASM_NOT_JSON ∷ ASM_SHAPE ∷ []) result.0 }
+    ensures answered { IsReplyCode result.0 →
+        HasTriedFireOver call.now scans.now result.0 result.1.fired agent.old agent.new }
+    ensures unfired { result.0 ≢ ASM_DONE → result.1.fired ≡ 0 }
+    ensures not_busy { result.0 ≢ ASM_BUSY → (result.1.from ≡ 0) × (result.1.to ≡ 0) }
+    ensures refused { IsOneOf (ASM_MEMORY ∷ ASM_BUSY ∷ ASM_MANY ∷ ASM_NOT_JSON ∷ ASM_SHAPE ∷ []) result.0 →
+        HasPolled agent.old agent.new }
+    ensures busy { result.0 ≡ ASM_BUSY → WasBusy result.1.from result.1.to agent.old agent.new }
+    ensures lost { result.0 ≡ ASM_BUSY → result.1.from + offers_limit ≤ result.1.to }
+    ensures same { IsSameAgent agent.old agent.new }
+    ensures seen { SeesOn agent.old agent.new }
+    ensures few { MissedFew agent.old agent.new }
+    ensures missed { result.0 ≡ ASM_DONE → MissedOne agent.old agent.new }
+    ensures memory { result.0 ≡ ASM_MEMORY → MayHaveOffered agent.old agent.new }
+    ensures range { result.0 ≡ ASM_AHEAD → FiresOverAhead call.now scans.now agent.old }
+    ensures within { IsOneOf (ASM_DONE ∷ ASM_STALE ∷ ASM_CLASH ∷ ASM_FULL ∷ ASM_BUSY ∷ ASM_MANY ∷ []) result.0 →
+        FiresOverWithin call.now scans.now agent.old }
+    ensures many { result.0 ≡ ASM_MANY → ReadAsManyOver call.now scans.now }
+    ensures misread { IsOneOf (ASM_NOT_JSON ∷ ASM_SHAPE ∷ []) result.0 →
+        AreMisread IsFireForm AreScans call.now scans.now result.0 }
+    ensures kept { IsOneOf (ASM_AHEAD ∷ ASM_MANY ∷ ASM_NOT_JSON ∷ ASM_SHAPE ∷ []) result.0 → agent.new ≡ agent.old }
+{
+    let (fire, scans) = match fire_over_of(alloc, call, scans) {
+        Ok(both) => both,
+        Err(error) => return (code_of_text_error(error), Numbers::none()),
+    };
+    if agent.is_behind_over(fire.reads.as_slice(), &scans) {
+        return (AHEAD, Numbers::none());
+    }
+    // The receipt then shares the reads instead of copying them.
+    let Ok(reads) = fire.reads.share(alloc) else {
+        return (MEMORY, Numbers::none());
+    };
+    match agent.fire_over(alloc, &reads, &scans, &fire.instrs) {
         Ok(reply) => {
             let (code, fired) = code_of_reply(reply);
             (

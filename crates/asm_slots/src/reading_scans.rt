@@ -4,7 +4,7 @@ ghost use Rattle.serde_json.specs.Data.{Data};
 ghost use Rattle.serde_json.specs.View.{view, items_view};
 ghost use Rattle.asm_journal.specs.Shape.{AreForms, IsNumberForm, IsParsed, list_of};
 ghost use Rattle.asm_explain.specs.Bytes.{IsMisread};
-ghost use Rattle.asm_slots.specs.FireOver.{AreScans, IsScanForm, ReadAsScans};
+ghost use Rattle.asm_slots.specs.AgentAnswers.{AreScans, IsScanForm, ReadAsScans};
 
 use asm_explain::{TextError, read_as};
 use asm_journal::{FormCause, FormError, FromJson, two_items};

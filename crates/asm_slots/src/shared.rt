@@ -36,7 +36,7 @@ impl Shared {
 }
 
 // Return whether the counter of the second goes up when that of the first does.
-fn goes_along(first: &Shared, second: &Shared) -> bool {
+fn counts_together(first: &Shared, second: &Shared) -> bool {
     let before = second.count.load(Ordering::SeqCst);
     first.count.fetch_add(1, Ordering::SeqCst);
     second.count.load(Ordering::SeqCst) != before
@@ -49,7 +49,7 @@ fn goes_along(first: &Shared, second: &Shared) -> bool {
 /// of them, between two steps of each of eight tries.
 pub fn are_one(first: &Arc<Shared>, second: &Arc<Shared>) -> bool {
     for _ in 0..4 {
-        if !goes_along(first, second) || !goes_along(second, first) {
+        if !counts_together(first, second) || !counts_together(second, first) {
             return false;
         }
     }

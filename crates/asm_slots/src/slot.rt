@@ -1,5 +1,6 @@
 //! The slots that C holds.
-ghost use Rattle.std.specs.Prelude.{◌≡◌, MatchOption};
+ghost use Rattle.std.specs.Prelude.{◌≡◌, true, None, Some, MatchOption};
+ghost use Rattle.std.specs.Borrow.{sem};
 ghost use Rattle.asm_slots.specs.BoxedContent.{is_some};
 
 use crate::content::Content;
@@ -18,6 +19,8 @@ pub struct Slot {
 }
 
 impl Slot {
+    ghost use Rattle.asm_slots.specs.Lends.{slot_follows, slot_follows_if};
+
     /// Return a slot that holds nothing.
     pub fn empty(alloc: Global) -> Slot
         ensures { result.handle.value ≡ None }
@@ -42,6 +45,25 @@ impl Slot {
         ensures { result ≡ is_some self.now.handle.value }
     {
         self.full
+    }
+
+    /// Return its content in place, if it holds something.
+    pub fn as_mut(&mut self) -> Option<&mut Content>
+        ensures* writes_back { sem 𝓛 (slot_follows_if self.entry result) }
+        ensures value { MatchOption result (self.old.handle.value ≡ None) (λ x. self.old.handle.value ≡ Some x.now) }
+    {
+        if !self.full {
+            return None;
+        }
+        Some(self.full_mut())
+    }
+
+    fn full_mut(&mut self) -> &mut Content
+        requires { self.old.full ≡ true }
+        ensures* writes_back { sem 𝓛 (slot_follows self.entry result) }
+        ensures value { self.old.handle.value ≡ Some result.now }
+    {
+        self.handle.get_mut()
     }
 
     pub(crate) fn into_box(self) -> Option<Box<Content>>

@@ -2,7 +2,7 @@
 ghost use Rattle.std.specs.Prelude.{◌≡◌, ◌≤◌, IfNone, IfSome, None, Some, length, string_bytes};
 ghost use Rattle.std_alloc.specs.Arc.{arc_value};
 
-use crate::kept_journal::KeptJournal;
+use crate::closed_journal::ClosedJournal;
 use crate::shared::Shared;
 use asm_storage::AgentPart;
 use std::marker::Model;
@@ -15,7 +15,7 @@ pub struct Store {
     // The number of each agent that was made: the row may have moves of an agent that was freed.
     pub(crate) numbers: Vec<u32>,
     pub(crate) parts: Vec<AgentPart>,
-    pub(crate) journal: Option<KeptJournal>,
+    pub(crate) journal: Option<ClosedJournal>,
 }
 
 impl Model for Store {

@@ -8,7 +8,7 @@ ghost use Rattle.asm_storage.specs.Limits.{agents_limit};
 ghost use Rattle.asm_storage.specs.Storage.{at_start};
 ghost use Rattle.asm_slots.specs.AgentCalls.{HasMade};
 ghost use Rattle.asm_slots.specs.Codes.{IsOneOf, ASM_DONE, ASM_MEMORY, ASM_NUMBER};
-ghost use Rattle.asm_slots.specs.AgentNumbers.{is_among, is_any_below, was_any_made, was_made};
+ghost use Rattle.asm_slots.specs.MadeAgents.{is_among, is_any_below, was_any_made, was_made};
 ghost use Rattle.asm_slots.specs.Slots.{AreNew, Holds};
 
 use crate::codes::{DONE, MEMORY, NUMBER};
@@ -29,7 +29,7 @@ fn agent_of(alloc: Global, shared: &Arc<Shared>, id: u32) -> Result<Box<Content>
 }
 
 // Make an agent and record its number, unless that was recorded before.
-fn noted_agent(
+fn make_agent_once(
     alloc: Global,
     shared: &Arc<Shared>,
     numbers: &mut Vec<u32>,
@@ -90,7 +90,7 @@ fn note(numbers: &mut Vec<u32>, count: u32)
 }
 
 // Make agents in the slots and record their numbers, unless one of these was recorded before.
-fn noted_agents(
+fn make_agents_once(
     alloc: Global,
     shared: &Arc<Shared>,
     numbers: &mut Vec<u32>,
@@ -122,14 +122,7 @@ fn noted_agents(
 }
 
 impl Store {
-    /// Make an agent and record its number.
-    ///
-    /// On error, the storage is unchanged.
-    ///
-    /// # Errors
-    ///
-    /// - `ASM_NUMBER`: an agent with this number was made before.
-    /// - `ASM_MEMORY`
+    /// Make an agent as `asm_agent` does, in a slot's box.
     pub fn make_agent(mut self, alloc: Global, id: u32) -> (Store, Result<Box<Content>, i32>)
         requires { id < agents_limit }
         ensures agent { IfOk result.1 (λ b. Holds (Some b.value) (λ a. a ≡ at_start self.storage id)) }
@@ -140,18 +133,11 @@ impl Store {
         ensures fresh { OnOk result.1 (was_made self id ≡ false) }
         ensures memory { IfErr result.1 (λ code. code ≡ ASM_MEMORY → was_made self id ≡ false) }
     {
-        let made = noted_agent(alloc, &self.shared, &mut self.numbers, id);
+        let made = make_agent_once(alloc, &self.shared, &mut self.numbers, id);
         (self, made)
     }
 
-    /// Make an agent in each of the slots, and record the numbers, from 0 up.
-    ///
-    /// On error, the storage is unchanged.
-    ///
-    /// # Errors
-    ///
-    /// - `ASM_NUMBER`: an agent with one of these numbers was made before; the slots are unchanged.
-    /// - `ASM_MEMORY`
+    /// Make an agent in each of the slots as `asm_agents` does; only with `ASM_MEMORY` the slots may change.
     pub fn make_agents(mut self, alloc: Global, agents: &mut [Slot]) -> (Store, i32)
         requires { length agents.old ≤ agents_limit }
         ensures codes { IsOneOf (ASM_DONE ∷ ASM_MEMORY ∷ ASM_NUMBER ∷ []) result.1 }
@@ -163,7 +149,7 @@ impl Store {
             was_any_made self (length agents.old) ≡ false }
         ensures same { result.1 ≡ ASM_NUMBER → agents.new ≡ agents.old }
     {
-        let code = noted_agents(alloc, &self.shared, &mut self.numbers, agents);
+        let code = make_agents_once(alloc, &self.shared, &mut self.numbers, agents);
         (self, code)
     }
 }

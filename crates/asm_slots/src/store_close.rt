@@ -1,8 +1,7 @@
 //! Closing the returned agents into one journal.
 #![tactic(auto, unfolding(asm_aggregate::specs::Standard::standard_meaning))]
 
-ghost use Rattle.std.specs.Prelude.{◌≡◌, ◌≤◌, [], All, length, map, vec_capacity};
-ghost use Rattle.std.specs.Prelude.{IfErr, IfOk, IfSome, OnOk, OnErr};
+ghost use Rattle.std.specs.Prelude.{◌≡◌, ◌≤◌, [], All, length, map, vec_capacity, IfErr, IfOk, IfSome, OnOk, OnErr};
 ghost use Rattle.std.specs.List.Sorted.{IsStrictlyIncreasing};
 ghost use Rattle.asm_storage.specs.Agents.{ids, most_seen};
 ghost use Rattle.asm_storage.specs.History.{Fits};
@@ -10,11 +9,10 @@ ghost use Rattle.asm_storage.specs.Part.{agent_of, IsPartOf};
 ghost use Rattle.asm_storage.specs.Storage.{IsOf, accounts};
 ghost use Rattle.asm_journal.specs.Text.{text_of};
 ghost use Rattle.asm_slots.specs.AgentCalls.{HasClosed};
-ghost use Rattle.asm_slots.specs.ClosedStore.{IsJournalOf, IsUnseen};
+ghost use Rattle.asm_slots.specs.ClosedStore.{IsJournalOf, IsUnseen, IsUnclosed, IsUnwritten};
 ghost use Rattle.asm_slots.specs.Standard.{meaning};
-ghost use Rattle.asm_slots.specs.CloseFaults.{IsUnclosed, IsUnwritten};
 
-use crate::kept_journal::KeptJournal;
+use crate::closed_journal::ClosedJournal;
 use crate::store::Store;
 use asm_aggregate::Standard;
 use asm_storage::{Agent, AgentPart, CloseError, Closing, Storage};
@@ -92,7 +90,7 @@ fn written(
     storage: &Storage<Standard>,
     agents: &[Agent<'_, Standard>],
     closing: &Closing<'_>,
-) -> Result<KeptJournal, Unclosed>
+) -> Result<ClosedJournal, Unclosed>
     ensures ok { IfOk result (λ journal. Fits closing.now × (journal ≡ text_of closing.now)) }
     ensures err { IfErr result (IsUnwritten storage.now agents.now closing.now) }
 {
@@ -102,7 +100,7 @@ fn written(
     if !closing.fits() {
         return Err(Unclosed::Large);
     }
-    match KeptJournal::of(alloc, closing) {
+    match ClosedJournal::of(alloc, closing) {
         Ok(journal) => Ok(journal),
         Err(AllocError) => Err(Unclosed::Memory),
     }
@@ -113,7 +111,7 @@ fn journal_of(
     alloc: Global,
     storage: &Storage<Standard>,
     agents: &[Agent<'_, Standard>],
-) -> Result<KeptJournal, Unclosed>
+) -> Result<ClosedJournal, Unclosed>
     requires of_this { All (IsOf storage.now) agents.now }
     requires ascending { IsStrictlyIncreasing (ids (accounts agents.now)) }
     ensures ok { IfOk result (IsJournalOf storage.now agents.now) }
@@ -130,15 +128,7 @@ fn journal_of(
 }
 
 impl Store {
-    /// Close the returned agents, and retain their journal.
-    ///
-    /// On error, the storage is unchanged.
-    ///
-    /// # Errors
-    ///
-    /// - `Missing`: the move with this number has no receipt among the returned agents.
-    /// - `Large`: their history is beyond the limits of a journal.
-    /// - `Memory` only if memory is refused.
+    /// Make the journal of the returned agents as `asm_close` does.
     pub fn close(self, alloc: Global) -> (Store, Result<(), Unclosed>)
         ensures closed { OnOk result.1 (HasClosed self result.0) }
         ensures unchanged { OnErr result.1 (result.0 ≡ self) }

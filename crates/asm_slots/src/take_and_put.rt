@@ -2,11 +2,10 @@
 ghost use Rattle.std.specs.Prelude.{◌≡◌, ◌⊎◌, ◌∷◌, [], IfErr, IfNone, IfOk, IfSome, None, OnErr, Some};
 ghost use denote.Param.Send.{IsSend};
 ghost use Rattle.asm_slots.specs.Codes.{IsOneOf, ASM_EMPTY, ASM_OTHER};
-ghost use Rattle.asm_slots.specs.Slots.{AreOfOneStorage, HoldsNoAgent, HoldsNoAudit, HoldsNoStore, LacksOne, content_of};
+ghost use Rattle.asm_slots.specs.Slots.{AreOfOneStorage, HoldsNoAgent, HoldsNoStore, content_of};
 ghost use Rattle.asm_slots.specs.contracts.content.Content.{the_row as content_row};
 ghost use Rattle.asm_slots.specs.declared.content.Content.TheVariants as content;
 
-use crate::audit::Audit;
 use crate::codes::{EMPTY, OTHER};
 use crate::content::Content;
 use crate::owned_agent::OwnedAgent;
@@ -29,39 +28,6 @@ pub fn put_shell(slot: &mut Slot, shell: Box<Content>)
     ensures { content_of slot.new ≡ Some shell.value }
 {
     *slot = Slot::holding(shell);
-}
-
-/// Return the agent in the box, if there is one.
-pub fn agent_in(held: &Content) -> Option<&OwnedAgent>
-    ensures some { IfSome result (λ agent. held.now ≡ content.Agent agent.now) }
-    ensures none { IfNone result (HoldsNoAgent (Some held.now)) }
-{
-    match held {
-        Content::Agent(agent) => Some(agent),
-        _ => None,
-    }
-}
-
-/// Return the storage in the box, if there is one.
-pub fn store_in(held: &Content) -> Option<&Store>
-    ensures some { IfSome result (λ store. held.now ≡ content.Store store.now) }
-    ensures none { IfNone result (HoldsNoStore (Some held.now)) }
-{
-    match held {
-        Content::Store(store) => Some(store),
-        _ => None,
-    }
-}
-
-/// Return the audit in the box, if there is one.
-pub fn audit_in(held: &Content) -> Option<&Audit>
-    ensures some { IfSome result (λ audit. held.now ≡ content.Audit audit.now) }
-    ensures none { IfNone result (HoldsNoAudit (Some held.now)) }
-{
-    match held {
-        Content::Audit(audit) => Some(audit),
-        _ => None,
-    }
 }
 
 /// Take the agent and its box out of the slot, if it holds an agent.
@@ -166,104 +132,20 @@ pub fn put_store(slot: &mut Slot, mut shell: Box<Content>, store: Store)
     put_shell(slot, shell);
 }
 
-/// The boxes of two slots, taken out of them.
-#[derive(Drop)]
-pub struct Both {
-    pub agent: Box<Content>,
-    pub step: Box<Content>,
-}
-
-/// Take the boxes out of two slots, if both hold something.
+/// Make the call with what the slot holds of this kind, in place; return its answer.
 ///
-/// Else both slots are unchanged.
-pub fn take_both(alloc: Global, agent: &mut Slot, step: &mut Slot) -> Option<Both>
-    ensures agent { IfSome result (λ b. content_of agent.old ≡ Some b.agent.value) }
-    ensures step { IfSome result (λ b. content_of step.old ≡ Some b.step.value) }
-    ensures none { IfNone result ((content_of agent.new ≡ content_of agent.old)
-        × (content_of step.new ≡ content_of step.old)) }
-    ensures other { IfNone result (LacksOne (content_of agent.old) (content_of step.old)) }
-{
-    let shell = take_shell(alloc, agent)?;
-    match take_shell(alloc, step) {
-        Some(step) => Some(Both { agent: shell, step }),
-        None => {
-            put_shell(agent, shell);
-            None
-        }
-    }
-}
-
-/// Put both boxes into their slots.
-pub fn put_both(agent: &mut Slot, step: &mut Slot, both: Both)
-    ensures agent { content_of agent.new ≡ Some both.agent.value }
-    ensures step { content_of step.new ≡ Some both.step.value }
-{
-    put_shell(agent, both.agent);
-    put_shell(step, both.step);
-}
-
-/// Make the call with what `$look` finds in the slot's box; return its answer.
-///
-/// Without it the code is `ASM_EMPTY`. The box goes into the slot again.
+/// Without it, the caller returns `$none`.
+// Proof: what is lent must not leave the block, or nothing is known of the slot afterwards.
 #[macro_export]
-macro_rules! in_box {
-    ($alloc:expr, $slot:ident, $poll:path, $inner:ident => $call:expr) => {{
-        let Some(shell) = $crate::take_and_put::take_shell($alloc, $slot) else {
-            return $crate::codes::EMPTY;
+macro_rules! in_place {
+    ($slot:ident, $kind:ident, $none:expr, $inner:ident => $call:expr) => {{
+        let Some(held) = $slot.as_mut() else {
+            return $none;
         };
-        let Some($inner) = $poll(&shell) else {
-            $crate::take_and_put::put_shell($slot, shell);
-            return $crate::codes::EMPTY;
+        let $crate::Content::$kind($inner) = held else {
+            return $none;
         };
-        let answer = $call;
-        $crate::take_and_put::put_shell($slot, shell);
-        answer
-    }};
-}
-
-/// Make the call, which changes the agent in the slot's box; return its answer.
-///
-/// Without an agent the code is `ASM_EMPTY`. The box goes into the slot again.
-#[macro_export]
-macro_rules! in_agent {
-    ($alloc:expr, $slot:ident, $inner:ident => $call:expr) => {{
-        let Some(mut shell) = $crate::take_and_put::take_shell($alloc, $slot) else {
-            return $crate::codes::EMPTY;
-        };
-        let $crate::Content::Agent($inner) = &mut *shell else {
-            $crate::take_and_put::put_shell($slot, shell);
-            return $crate::codes::EMPTY;
-        };
-        let answer = $call;
-        $crate::take_and_put::put_shell($slot, shell);
-        answer
-    }};
-}
-
-/// Make the call, which reads the agent and changes the step of two slots.
-///
-/// Without both the code is `ASM_EMPTY`. The boxes go into the slots again.
-#[macro_export]
-macro_rules! in_both {
-    ($alloc:expr, $agent:ident, $step:ident => $call:expr) => {{
-        let Some(mut both) = $crate::take_and_put::take_both($alloc, $agent, $step) else {
-            return $crate::codes::EMPTY;
-        };
-        let Some(held) = $crate::take_and_put::agent_in(&both.agent) else {
-            $crate::take_and_put::put_both($agent, $step, both);
-            return $crate::codes::EMPTY;
-        };
-        let $crate::Content::Step(taken) = &mut *both.step else {
-            $crate::take_and_put::put_both($agent, $step, both);
-            return $crate::codes::EMPTY;
-        };
-        let code = {
-            let $agent = held;
-            let $step = taken;
-            $call
-        };
-        $crate::take_and_put::put_both($agent, $step, both);
-        code
+        $call
     }};
 }
 

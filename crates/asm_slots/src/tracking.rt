@@ -7,7 +7,7 @@ ghost use Rattle.asm_step.specs.Dependencies.{one_writes, puts, depends};
 ghost use Rattle.asm_storage.specs.Limits.{reads_limit};
 ghost use Rattle.asm_update.specs.Move.{writes};
 ghost use Rattle.asm_slots.specs.StepCalls.{WouldTakeMany, from_below};
-ghost use Rattle.asm_slots.specs.Tracked.{judged, judged_last, judged_to, dependencies_last};
+ghost use Rattle.asm_slots.specs.Tracked.{refusal_places, last_partial_places, refusal_places_to, dependencies_last};
 
 use crate::owned_step::{OwnedStep, each_of, from_below};
 use crate::steps::GetError;
@@ -20,18 +20,18 @@ use std::alloc::{AllocError, Global};
 /// Return all tracked locations, once these are read too.
 ///
 /// Of these it adds those at which what is seen is made from the state below.
-pub(crate) fn tracked(
+pub(crate) fn track(
     alloc: Global,
     step: &OwnedStep,
     locations: Vec<Location>,
 ) -> Result<Vec<Location>, GetError>
-    ensures all { IfOk result (λ all. AreEach (step.now.got ++ from_below step.now locations.items) all.items) }
+    ensures all { IfOk result (λ all. AreEach (step.now.tracked ++ from_below step.now locations.items) all.items) }
     ensures few { IfOk result (λ all. length all.items + length step.now.scanned ≤ reads_limit) }
     ensures many { IfErr result (λ e. e ≡ GetError.Many → WouldTakeMany locations.items step.now) }
     ensures others { IfErr result (λ e. ¬ (e ≡ GetError.Moved) × ¬ (e ≡ GetError.Shape)) }
 {
     let below = from_below(alloc, &step.step, locations)?;
-    let all = each_of(alloc, &step.got, below)?;
+    let all = each_of(alloc, &step.tracked, below)?;
     if all.len() > READS_LIMIT - step.scanned.len() {
         return Err(GetError::Many);
     }
@@ -99,12 +99,12 @@ fn up_to(
 }
 
 // Return the location of a refusal, and those up to it at which the move has partial updates.
-fn judged_to(
+fn refusal_places_to(
     alloc: Global,
     at: &Location,
     instrs: &Instructions,
 ) -> Result<Vec<Location>, AllocError>
-    ensures { IfOk result (λ ls. ls.items ≡ judged_to at.now instrs.now) }
+    ensures { IfOk result (λ ls. ls.items ≡ refusal_places_to at.now instrs.now) }
 {
     let mut partials = Vec::new(alloc);
     push_partials(alloc, &mut partials, instrs)?;
@@ -114,17 +114,17 @@ fn judged_to(
 }
 
 /// Return the locations on which the refusal of the move depends.
-pub(crate) fn judged(
+pub(crate) fn refusal_places(
     alloc: Global,
     instrs: &Instructions,
     error: &StepError,
 ) -> Result<Vec<Location>, AllocError>
-    ensures { IfOk result (λ ls. ls.items ≡ judged instrs.now error.now) }
+    ensures { IfOk result (λ ls. ls.items ≡ refusal_places instrs.now error.now) }
 {
     let mut all = Vec::new(alloc);
     match error {
-        StepError::Clash(clash) => return judged_to(alloc, &clash.at, instrs),
-        StepError::Large(at) => return judged_to(alloc, at, instrs),
+        StepError::Clash(clash) => return refusal_places_to(alloc, &clash.at, instrs),
+        StepError::Large(at) => return refusal_places_to(alloc, at, instrs),
         StepError::Many => push_partials(alloc, &mut all, instrs)?,
         StepError::Deep | StepError::Memory => {}
     }
@@ -190,8 +190,11 @@ impl OwnedStep {
     /// Return the locations at which the last pushed moves have partial updates.
     ///
     /// `None` means that no move is pushed.
-    pub(crate) fn judged_last(&self, alloc: Global) -> Result<Option<Vec<Location>>, AllocError>
-        ensures some { IfOk result (λ o. IfSome o (λ ls. ls.items ≡ judged_last self.now)) }
+    pub(crate) fn last_partial_places(
+        &self,
+        alloc: Global,
+    ) -> Result<Option<Vec<Location>>, AllocError>
+        ensures some { IfOk result (λ o. IfSome o (λ ls. ls.items ≡ last_partial_places self.now)) }
         ensures pushed { IfOk result (λ o. IfSome o (λ ls. self.now.layers ≢ [])) }
         ensures none { IfOk result (λ o. IsNone o → self.now.layers ≡ []) }
     {

@@ -5,7 +5,7 @@ ghost use Rattle.asm_element.specs.declared.value.Value.TheVariants as values;
 ghost use Rattle.asm_journal.specs.Value.{value_json_of};
 ghost use Rattle.asm_slots.specs.Codes.{IsOneOf, ASM_DONE, ASM_MEMORY, ASM_SMALL};
 ghost use Rattle.asm_slots.specs.Kinds.{bytes_of, kind_of, number_of};
-ghost use Rattle.asm_slots.specs.PreparedPolls.{TellsValue};
+ghost use Rattle.asm_slots.specs.StepAnswers.{WritesValue};
 
 use crate::codes::{DONE, MEMORY, copied};
 use asm_element::{Element, Location, Value};
@@ -108,7 +108,7 @@ fn json_text(alloc: Global, value: &Value) -> Result<String, AllocError>
 }
 
 // Write the bytes of the value, and its kind and number.
-fn tell_value(
+fn write_value(
     alloc: Global,
     value: &Value,
     head: &mut ValueHead,
@@ -117,7 +117,7 @@ fn tell_value(
 ) -> i32
     requires { written.old ≡ 0 }
     ensures codes { IsOneOf (ASM_DONE ∷ ASM_MEMORY ∷ ASM_SMALL ∷ []) result }
-    ensures text { TellsValue value.now head.new out.old out.new written.new result }
+    ensures text { WritesValue value.now head.new out.old out.new written.new result }
     ensures no_value { result ≢ ASM_DONE → head.new ≡ head.old }
 {
     let code = match bytes_in(value) {
@@ -134,7 +134,7 @@ fn tell_value(
 }
 
 /// Write the value that is seen at the location, or undef if there is none.
-pub(crate) fn tell_at<L: Lookup>(
+pub(crate) fn write_value_at<L: Lookup>(
     alloc: Global,
     seen: &L,
     at: &Location,
@@ -144,11 +144,11 @@ pub(crate) fn tell_at<L: Lookup>(
 ) -> i32
     requires { written.old ≡ 0 }
     ensures codes { IsOneOf (ASM_DONE ∷ ASM_MEMORY ∷ ASM_SMALL ∷ []) result }
-    ensures text { TellsValue (L.value_at seen.now at.now) head.new out.old out.new written.new result }
+    ensures text { WritesValue (L.value_at seen.now at.now) head.new out.old out.new written.new result }
     ensures no_value { result ≢ ASM_DONE → head.new ≡ head.old }
 {
     match seen.get(at) {
-        Some(value) => tell_value(alloc, value, head, out, written),
+        Some(value) => write_value(alloc, value, head, out, written),
         None => {
             *head = ValueHead::none();
             DONE

@@ -6,7 +6,7 @@ use Rattle.asm_slots.proofs.committing.fire_prepared.Goals as goal
 
 pub returns-clause-fired : goal.returns-clause-fired
 returns-clause-fired c =
-    let reported = c.reported_fire in
+    let reported = c.code_of_fire in
     let fired = c.fire_over in
     let numbers = reported.result.1 in
     let s = c.args.step.now in
@@ -14,7 +14,7 @@ returns-clause-fired c =
     let inside : StepView = record {
       number = c.step.inside.number;
       layers = c.step.inside.step;
-      got = c.step.inside.got.items;
+      tracked = c.step.inside.tracked.items;
       scanned = names_of c.step.inside.scanned.items;
     } in
     let scanned : ScansAll s scans =
@@ -26,7 +26,7 @@ returns-clause-fired c =
 
 pub returns-clause-many : goal.returns-clause-many
 returns-clause-many c =
-    let reported = c.reported_fire in
+    let reported = c.code_of_fire in
     let fired = c.fire_over in
     let numbers = reported.result.1 in
     let s = c.args.step.now in
@@ -34,7 +34,7 @@ returns-clause-many c =
     let inside : StepView = record {
       number = c.step.inside.number;
       layers = c.step.inside.step;
-      got = c.step.inside.got.items;
+      tracked = c.step.inside.tracked.items;
       scanned = names_of c.step.inside.scanned.items;
     } in
     let scanned : ScansAll s scans =

@@ -1,14 +1,14 @@
 use Rattle.asm_aggregate.specs.Standard.{standard_meaning}
 use Rattle.asm_slots.proofs.composing.aggregated.Goals as goal
 
-pub returns-in-Ok-reported_updates-clause-ok : goal.returns-in-Ok-reported_updates-clause-ok
+pub returns-in-Ok-aggregation_text-clause-ok : goal.returns-in-Ok-aggregation_text-clause-ok
 unfolding standard_meaning
-returns-in-Ok-reported_updates-clause-ok c = record {
+returns-in-Ok-aggregation_text-clause-ok c = record {
   old = c.in-Ok.both.0;
   move = c.in-Ok.both.1;
   answer = c.aggregate.result;
   state_reads = c.in-Ok.ensures.first;
   move_reads = c.in-Ok.ensures.second;
   aggregate = c.aggregate.ensures;
-  reported = c.in-Ok-reported_updates.ensures.reported;
+  reported = c.in-Ok-aggregation_text.ensures.reported;
 }

@@ -1,9 +1,9 @@
 use Rattle.asm_aggregate.specs.Standard.{standard_meaning}
 use Rattle.asm_slots.proofs.composing.composed.Goals as goal
 
-pub returns-in-Ok-reported_move-clause-ok : goal.returns-in-Ok-reported_move-clause-ok
+pub returns-in-Ok-composition_text-clause-ok : goal.returns-in-Ok-composition_text-clause-ok
 unfolding standard_meaning
-returns-in-Ok-reported_move-clause-ok c = record {
+returns-in-Ok-composition_text-clause-ok c = record {
   one = c.in-Ok.both.0;
   two = c.in-Ok.both.1;
   answer = c.compose.result;
@@ -11,5 +11,5 @@ returns-in-Ok-reported_move-clause-ok c = record {
   second_reads = c.in-Ok.ensures.second;
   composition = c.compose.ensures.composition;
   sequence = c.compose.ensures.sequence;
-  reported = c.in-Ok-reported_move.ensures.reported;
+  reported = c.in-Ok-composition_text.ensures.reported;
 }

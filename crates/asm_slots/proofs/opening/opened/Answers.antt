@@ -1,6 +1,6 @@
 use Rattle.std.proofs.Common.{Some}
 use Rattle.std.proofs.lemmas.Result.{IfOk-weaker}
-use Rattle.asm_slots.proofs.ExtendingInPlace.{opens}
+use Rattle.asm_slots.proofs.NextStorages.{opens}
 use Rattle.asm_slots.proofs.opening.opened.Goals as goal
 
 pub returns-in-Ok-new-clause-ok : goal.returns-in-Ok-new-clause-ok

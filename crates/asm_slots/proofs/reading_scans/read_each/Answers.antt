@@ -2,7 +2,7 @@ use Rattle.std.proofs.lemmas.List.{take_more}
 use Rattle.serde_json.specs.View.{view}
 use Rattle.asm_journal.proofs.Arrays.{AreForms-push, no_forms}
 use Rattle.asm_journal.proofs.Parsed.{IsParsed-some, IsParsed-none}
-use Rattle.asm_slots.specs.FireOver.{IsScanForm}
+use Rattle.asm_slots.specs.AgentAnswers.{IsScanForm}
 use Rattle.asm_slots.proofs.reading_scans.read_each.Goals as goal
 
 pub returns-in-None : goal.returns-in-None

@@ -4,7 +4,7 @@ use Rattle.asm_storage.specs.Closed.{IsClosed}
 use Rattle.asm_storage.specs.declared.history.History.{History}
 use Rattle.asm_storage.specs.Storage.{AgentAt, StorageView}
 use Rattle.asm_slots.specs.Standard.{Standard, meaning}
-use Rattle.asm_slots.specs.CloseFaults.{IsUnclosed, IsUnwritten}
+use Rattle.asm_slots.specs.ClosedStore.{IsUnclosed, IsUnwritten}
 use Rattle.asm_slots.specs.declared.store_close.Unclosed.{Unclosed}
 use Rattle.asm_slots.specs.declared.store_close.Unclosed.TheVariants as unclosed
 use Rattle.asm_slots.proofs.store_close.journal_of.Goals as goal

@@ -9,7 +9,7 @@ use Rattle.asm_slots.specs.declared.shared.Shared.{Shared}
 use Rattle.asm_slots.proofs.PartsAndAgents.{ids_of, rises_again, reported_of_store}
 use Rattle.asm_slots.specs.ClosedStore.{IsJournalOf}
 use Rattle.asm_slots.specs.Store.{StoreView}
-use Rattle.asm_slots.specs.CloseFaults.{IsUnclosed}
+use Rattle.asm_slots.specs.ClosedStore.{IsUnclosed}
 use Rattle.asm_slots.proofs.store.Store.close.Goals as goal
 
 pub journal_of-closed-requires-clause-of_this : goal.journal_of-closed-requires-clause-of_this

@@ -8,7 +8,7 @@ use Rattle.asm_storage.specs.Storage.{StorageView}
 use Rattle.asm_slots.specs.Standard.{Standard, meaning}
 use Rattle.asm_slots.specs.Store.{StoreView, IsPutIn}
 use Rattle.asm_slots.specs.declared.shared.Shared.{Shared}
-use Rattle.asm_slots.proofs.Ascending.{all_out, got, placed, rises_out}
+use Rattle.asm_slots.proofs.Ascending.{all_out, tracked, placed, rises_out}
 use Rattle.asm_slots.proofs.GivenAgents.{no_number, number_at, put_out, the_store}
 use Rattle.asm_slots.proofs.store.Store.take_back.Goals as goal
 
@@ -70,4 +70,4 @@ returns-clause-numbered c =
     let is : (p : AgentPart) → slice_get old at ≡ Some p → p.id ≡ c.args.number =
     subst (λ (l : List AgentPart). (p : AgentPart) → slice_get l at ≡ Some p → p.id ≡ c.args.number) c.deref.ensures.value
     c.in-Some.ensures.there in
-    is part (got old at part lt c.remove-part.ensures.value)
+    is part (tracked old at part lt c.remove-part.ensures.value)

@@ -1,0 +1,12 @@
+use Rattle.std.proofs.Common.{◌≡◌, Some, rules}
+use Rattle.asm_slots.specs.OwnState.{IsPeekOf}
+use Rattle.asm_slots.specs.Slots.{content_of}
+use Rattle.asm_slots.specs.declared.content.Content.TheVariants as content
+use Rattle.asm_slots.proofs.Held.{holds_reported}
+use Rattle.asm_c.proofs.own_state.asm_peek.Goals as goal
+
+pub returns-in-Ok-clause-text : goal.returns-in-Ok-clause-text
+returns-in-Ok-clause-text c =
+    let agent : content_of c.args.agent.now ≡ Some (content.Agent c.in-Agent.inner) = search rules in
+    holds_reported _ c.in-Agent.inner (IsPeekOf c.args.locations.now) _ _ _ c.copied.new.out c.copied.new.written c.copied.result
+    agent c.as_bytes.ensures.value c.in-Ok.ensures.ok c.copied.ensures.codes c.copied.ensures.text

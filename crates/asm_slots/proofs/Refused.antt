@@ -1,0 +1,48 @@
+-- What is refused for one reason is refused for another.
+use Rattle.std.proofs.Common.{◌≡◌, inl, ℤ, ℕ, List, Option, None}
+use Rattle.asm_journal.specs.Element.{IsLocationForm}
+use Rattle.asm_slots.specs.Kinds.{IsByJson}
+use Rattle.asm_slots.specs.Answers.{IsNoActionFor, IsNoElementFor, IsNoOperandFor, IsNoRoomFor, IsNotGathered, IsNotInstructed, IsNotPrepared, IsUnreadAs}
+use Rattle.asm_slots.specs.Slots.{HasRoomForMove, move_of}
+use Rattle.asm_update.specs.Action as action
+use Rattle.asm_update.specs.Move.{Move}
+use Rattle.asm_slots.specs.declared.codes.Code.{Code}
+use Rattle.asm_slots.specs.declared.codes.Code.TheVariants as code
+use Rattle.asm_slots.specs.declared.content.Content.{Content}
+use Rattle.asm_slots.proofs.Meanings.{none_means}
+
+pub no_operand : (kind number : ℤ) (bytes : List ℕ) (c : Code) → ¬ IsByJson kind → IsNoElementFor kind number bytes c →
+    IsNoOperandFor kind number bytes c
+no_operand kind number bytes code.Memory other none = tt
+no_operand kind number bytes code.Operand other none = none_means kind number bytes other none
+no_operand kind number bytes code.Shape other none = inl none
+no_operand kind number bytes _ other none = absurd none
+
+pub no_action : (verb kind number : ℤ) (bytes : List ℕ) (amount : ℕ) (c : Code) → IsNoOperandFor kind number bytes c →
+    IsNoActionFor verb kind number bytes amount c
+no_action verb kind number bytes amount code.Memory none = tt
+no_action verb kind number bytes amount code.Operand none = λ a is. none (action.content_of a) is.2
+no_action verb kind number bytes amount code.NotJson none = none
+no_action verb kind number bytes amount code.Shape none = none
+no_action verb kind number bytes amount _ none = absurd none
+
+pub no_gathered : (old : Move) (verb kind number : ℤ) (bytes : List ℕ) (amount : ℕ) (c : Code) → IsNoActionFor verb kind number bytes amount c →
+    IsNotGathered old verb kind number bytes amount c
+no_gathered old verb kind number bytes amount code.LongMove none = absurd none
+no_gathered old verb kind number bytes amount _ none = none
+
+pub no_room : (old : Move) (verb kind number : ℤ) (bytes : List ℕ) (amount : ℕ) (c : Code) → IsNoRoomFor old c →
+    IsNotGathered old verb kind number bytes amount c
+no_room old verb kind number bytes amount code.Memory none = tt
+no_room old verb kind number bytes amount code.LongMove none = none
+no_room old verb kind number bytes amount _ none = absurd none
+
+pub no_instructed : (at old : Option Content) (verb kind number : ℤ) (bytes : List ℕ) (amount : ℕ) (c : Code) → HasRoomForMove old →
+    IsNotGathered (move_of old) verb kind number bytes amount c → IsNotInstructed at old verb kind number bytes amount c
+no_instructed at old verb kind number bytes amount code.Empty room none = absurd none
+no_instructed at old verb kind number bytes amount code.Taken room none = absurd none
+no_instructed at old verb kind number bytes amount _ room none = (room, none)
+
+pub not_prepared : (at : Option Content) (bytes : List ℕ) (c : Code) → at ≡ None → IsUnreadAs IsLocationForm bytes c → IsNotPrepared at bytes c
+not_prepared at bytes code.Taken empty none = absurd none
+not_prepared at bytes _ empty none = (empty, none)
