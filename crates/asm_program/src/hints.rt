@@ -33,7 +33,7 @@ fn ends_with_one_of(line: &[u8], first: &[u8], second: &[u8]) -> bool {
 }
 
 // Recognise the text without blanks by its first line.
-fn of_line(kind: TextKind, line: &[u8]) -> Option<&'static str> {
+fn hint_of_line(kind: TextKind, line: &[u8]) -> Option<&'static str> {
     if ends_with_one_of(line, b"\"trace\":1}", b"\"trace\":2}") {
         return Some("it is a trace, which view shows");
     }
@@ -50,7 +50,7 @@ fn of_line(kind: TextKind, line: &[u8]) -> Option<&'static str> {
 }
 
 // Recognise the text without white space.
-fn of_text(kind: TextKind, text: &[u8], why: &str) -> Option<&'static str> {
+fn hint_of_text(kind: TextKind, text: &[u8], reason: &str) -> Option<&'static str> {
     if kind == TextKind::Journal {
         if text.starts_with(b"{\"init\":[") || text.starts_with(b"{\"agents\":[") {
             return Some("it is a script, which run plays");
@@ -59,7 +59,7 @@ fn of_text(kind: TextKind, text: &[u8], why: &str) -> Option<&'static str> {
     }
     let has_comma = text.windows(2).any(|pair| pair == b",]".as_slice()
         || pair == b",}".as_slice());
-    if has_comma && why.contains("not JSON") {
+    if has_comma && reason.contains("not JSON") {
         return Some("perhaps for a comma in front of a closing bracket");
     }
     None
@@ -81,7 +81,7 @@ pub(crate) fn hint(
     alloc: Global,
     kind: TextKind,
     bytes: &[u8],
-    why: &str,
+    reason: &str,
 ) -> Result<Option<&'static str>, AllocError> {
     let head = bytes.get(..HEAD).unwrap_or(bytes);
     if let Some(other) = other_format(head) {
@@ -89,9 +89,9 @@ pub(crate) fn hint(
     }
     let lines = without(alloc, head, b" \t\r")?;
     let first = lines.as_slice().split(|byte| *byte == b'\n').next();
-    if let Some(known) = of_line(kind, first.unwrap_or(b"")) {
+    if let Some(known) = hint_of_line(kind, first.unwrap_or(b"")) {
         return Ok(Some(known));
     }
     let text = without(alloc, lines.as_slice(), b"\n")?;
-    Ok(of_text(kind, text.as_slice(), why))
+    Ok(hint_of_text(kind, text.as_slice(), reason))
 }

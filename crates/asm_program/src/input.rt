@@ -1,7 +1,7 @@
 //! What the program reads: standard input, a file, or the segments of a run's folder.
 ghost use Rattle.std.specs.Prelude.{◌≤◌, length, vec_len, IfSome};
 
-use crate::telling::INPUT_LIMIT;
+use crate::diagnostics::INPUT_LIMIT;
 use std::alloc::Global;
 use std::io::{ErrorKind, Read};
 use std::rt::{Files, Runtime};
@@ -9,44 +9,44 @@ use std::{fs, io};
 
 /// An input, with the first bytes that were read of it.
 #[derive(Drop)]
-pub(crate) struct Kept<I> {
+pub(crate) struct Recorder<I> {
     input: I,
     most: usize,
     bytes: Vec<u8>,
     // Whether there was no memory for some of them.
-    lost: bool,
+    lacks_memory: bool,
     /// Whether a read failed.
     pub(crate) failed: bool,
     ghost within: { vec_len bytes ≤ most },
     ghost few: { most ≤ 16777217 },
 }
 
-impl<I: Read> Kept<I> {
+impl<I: Read> Recorder<I> {
     /// Wrap the input, and retain at most this many of its first bytes.
     /// It retains at most 16,777,217 bytes, one more than a script may have.
-    pub(crate) fn new(alloc: Global, input: I, most: usize) -> Kept<I> {
-        Kept {
+    pub(crate) fn new(alloc: Global, input: I, most: usize) -> Recorder<I> {
+        Recorder {
             input,
             most: most.min(INPUT_LIMIT + 1),
             bytes: Vec::new(alloc),
-            lost: false,
+            lacks_memory: false,
             failed: false,
         }
     }
 
-    fn keep(&mut self, bytes: &[u8]) {
+    fn record(&mut self, bytes: &[u8]) {
         let room = self.most.saturating_sub(self.bytes.len());
         let count = bytes.len().min(room);
         if self.bytes.extend_from_slice(&bytes[..count]).is_err() {
-            self.lost = true;
+            self.lacks_memory = true;
         }
     }
 
     /// Return the first bytes that were read, if there was memory for them.
-    pub(crate) fn kept(&self) -> Option<&[u8]>
+    pub(crate) fn head(&self) -> Option<&[u8]>
         ensures { IfSome result (λ bytes. length bytes.now ≤ 16777217) }
     {
-        if self.lost {
+        if self.lacks_memory {
             None
         } else {
             Some(self.bytes.as_slice())
@@ -54,11 +54,11 @@ impl<I: Read> Kept<I> {
     }
 }
 
-impl<I: Read> Read for Kept<I> {
+impl<I: Read> Read for Recorder<I> {
     fn read(&mut self, buf: &mut [u8]) -> io::Result<usize> {
         match self.input.read(buf) {
             Ok(count) => {
-                self.keep(&buf[..count]);
+                self.record(&buf[..count]);
                 Ok(count)
             }
             Err(error) => {
@@ -141,7 +141,7 @@ fn number_of(path: &str) -> Option<usize> {
 }
 
 // Return whether they are the segments from the first up to the last, each once.
-fn are_whole(paths: &[String]) -> bool {
+fn are_complete(paths: &[String]) -> bool {
     match paths.first().and_then(|last| number_of(last.as_str())) {
         Some(number) => number < paths.len() && paths.len() - number == 1,
         None => false,
@@ -160,7 +160,7 @@ pub(crate) fn open<'r, R: Runtime + AllocGlobal>(
         return Ok(Opened::File(fs::open(rt, path)?));
     }
     let mut paths = segments_in(rt, alloc, path)?;
-    let is_read = is_run && are_whole(paths.as_slice());
+    let is_read = is_run && are_complete(paths.as_slice());
     match paths.pop() {
         Some(first) if is_read => Ok(Opened::Run(Segments {
             rt,

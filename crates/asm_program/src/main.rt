@@ -2,14 +2,14 @@
 //! What `asm_driver` proves of it goes to standard output; where and why something is refused goes to standard error.
 #![tactic(auto)]
 
+mod diagnostics;
 mod hints;
 mod input;
 mod output;
-mod telling;
 mod words;
 mod wrong;
 
-use crate::telling::carry_out;
+use crate::diagnostics::carry_out;
 use std::alloc::Global;
 use std::io::IsTerminal;
 use std::process::ExitCode;

@@ -4,7 +4,7 @@ use std::io;
 use std::io::Write;
 
 // How many bytes of what was written last are retained.
-const KEPT: usize = 64;
+const LAST_BYTES: usize = 64;
 
 /// An output, which passes a report on and retains the lines of terms after it.
 #[derive(Drop)]
@@ -21,7 +21,7 @@ pub(crate) struct Output<W> {
 }
 
 // Return whether the line reports a term: `agent 0 step 0 block ..`.
-fn reports_of_term(line: &[u8]) -> bool {
+fn is_term_line(line: &[u8]) -> bool {
     line.starts_with(b"agent ")
         && line.split(|byte| *byte == b' ').nth(4) == Some(b"block".as_slice())
 }
@@ -30,7 +30,7 @@ fn reports_of_term(line: &[u8]) -> bool {
 fn report_length(text: &[u8]) -> usize {
     let mut length = 0usize;
     for line in text.split(|byte| *byte == b'\n') {
-        if reports_of_term(line) {
+        if is_term_line(line) {
             return length;
         }
         length = length.saturating_add(line.len()).saturating_add(1);
@@ -50,16 +50,16 @@ impl<W: Write> Output<W> {
     }
 
     // Retain the beginning of what is written.
-    fn note(&mut self, bytes: &[u8]) {
+    fn record_last(&mut self, bytes: &[u8]) {
         self.last.clear();
-        let count = bytes.len().min(KEPT);
-        let _kept = self.last.extend_from_slice(&bytes[..count]);
+        let count = bytes.len().min(LAST_BYTES);
+        let _recorded = self.last.extend_from_slice(&bytes[..count]);
     }
 }
 
 impl<W: Write> Write for Output<W> {
     fn write(&mut self, bytes: &[u8]) -> io::Result<usize> {
-        self.note(bytes);
+        self.record_last(bytes);
         if !self.keeps_terms {
             return self.output.write(bytes);
         }
@@ -69,7 +69,7 @@ impl<W: Write> Write for Output<W> {
         };
         self.report = Some(left);
         if left == 0 {
-            let _kept = self.terms.extend_from_slice(bytes);
+            let _recorded = self.terms.extend_from_slice(bytes);
             return Ok(bytes.len());
         }
         let most = bytes.len().min(left);

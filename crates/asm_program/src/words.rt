@@ -20,7 +20,7 @@ pub(crate) enum TextKind {
 
 /// What is asked for.
 #[derive(Clone, Copy)]
-pub(crate) struct Asked<'a> {
+pub(crate) struct Invocation<'a> {
     /// The command.
     pub(crate) command: &'a str,
     /// Whether a journal is written in place of a report, or terms after it.
@@ -32,7 +32,7 @@ pub(crate) struct Asked<'a> {
     pub(crate) file: Option<&'a str>,
 }
 
-impl Asked<'_> {
+impl Invocation<'_> {
     /// Return whether the input is a run, which is read line by line.
     pub(crate) fn is_run(self) -> bool {
         self.is_window || self.command == "audit"
@@ -48,7 +48,7 @@ impl Asked<'_> {
     }
 
     /// Return whether lines of terms may be written: only a report is asked for.
-    pub(crate) fn says_terms(self) -> bool {
+    pub(crate) fn reports_terms(self) -> bool {
         self.command == "run" && !self.has_journal && !self.has_terms
     }
 
@@ -60,7 +60,7 @@ impl Asked<'_> {
 
 /// What is asked for instead of a command, or why there is none.
 #[derive(Drop)]
-pub(crate) enum Unasked {
+pub(crate) enum NoRequest {
     /// Help is asked for.
     Help,
     /// The version is asked for.
@@ -71,9 +71,9 @@ pub(crate) enum Unasked {
     Memory,
 }
 
-impl From<AllocError> for Unasked {
-    fn from(_refused: AllocError) -> Unasked {
-        Unasked::Memory
+impl From<AllocError> for NoRequest {
+    fn from(_refused: AllocError) -> NoRequest {
+        NoRequest::Memory
     }
 }
 
@@ -142,26 +142,26 @@ fn program<'a>(alloc: Global) -> Result<Command<'a>, AllocError> {
 }
 
 // Return what is said of an error.
-fn refused_by(alloc: Global, error: &Error) -> Unasked {
+fn refused_by(alloc: Global, error: &Error) -> NoRequest {
     match error.kind() {
-        ErrorKind::OutOfMemory => Unasked::Memory,
-        ErrorKind::DisplayHelp => Unasked::Help,
-        ErrorKind::DisplayVersion => Unasked::Version,
+        ErrorKind::OutOfMemory => NoRequest::Memory,
+        ErrorKind::DisplayHelp => NoRequest::Help,
+        ErrorKind::DisplayVersion => NoRequest::Version,
         _ => match error.to_string(alloc) {
-            Ok(text) => Unasked::Wrong(text),
-            Err(_) => Unasked::Memory,
+            Ok(text) => NoRequest::Wrong(text),
+            Err(_) => NoRequest::Memory,
         },
     }
 }
 
 // Return why the words are refused. What a terminal would obey in them is escaped, and long ones are cut.
-fn wrong(alloc: Global, words: &[String]) -> Result<Unasked, AllocError> {
+fn wrong(alloc: Global, words: &[String]) -> Result<NoRequest, AllocError> {
     let mut seen = Vec::new(alloc);
     for word in words {
         seen.push(shown_text(alloc, word.as_str())?)?;
     }
     match program(alloc)?.try_get_matches_from(seen.as_slice()) {
-        Ok(_) => Ok(Unasked::Wrong(String::from_str(
+        Ok(_) => Ok(NoRequest::Wrong(String::from_str(
             alloc,
             "asm_driver: the program refuses these words\n",
         )?)),
@@ -202,19 +202,19 @@ fn is_backward(options: &ArgMatches<'_>) -> bool {
     }
 }
 
-fn asked_of<'a>(
+fn invocation_of<'a>(
     alloc: Global,
     command: &'a str,
     options: &ArgMatches<'a>,
-) -> Result<Asked<'a>, Unasked> {
+) -> Result<Invocation<'a>, NoRequest> {
     if is_backward(options) {
         let from = options.get_one::<u32>("from").unwrap_or(0);
         let to = options.get_one::<u32>("to").unwrap_or(0);
-        return Err(Unasked::Wrong(format!(in alloc;
+        return Err(NoRequest::Wrong(format!(in alloc;
             "error: --from {from} stands behind --to {to}, so there is no such window\n"
         )?));
     }
-    Ok(Asked {
+    Ok(Invocation {
         command,
         has_journal: options.get_flag("journal"),
         has_terms: options.get_flag("terms"),
@@ -230,19 +230,19 @@ fn asked_of<'a>(
 pub(crate) fn read_words<'a>(
     alloc: Global,
     words: &'a [String],
-) -> Result<(Asked<'a>, Vec<String>), Unasked> {
+) -> Result<(Invocation<'a>, Vec<String>), NoRequest> {
     let matches = match program(alloc)?.try_get_matches_from(words) {
         Ok(matches) => matches,
         Err(error) => match error.kind() {
-            ErrorKind::OutOfMemory => return Err(Unasked::Memory),
+            ErrorKind::OutOfMemory => return Err(NoRequest::Memory),
             _ => return Err(wrong(alloc, words)?),
         },
     };
     match matches.subcommand() {
         Some((command, options)) => Ok((
-            asked_of(alloc, command, options)?,
+            invocation_of(alloc, command, options)?,
             words_of(alloc, command, options)?,
         )),
-        None => Err(Unasked::Memory),
+        None => Err(NoRequest::Memory),
     }
 }

@@ -11,7 +11,7 @@ use serde_json::Value as Json;
 use std::alloc::{AllocError, Global};
 
 // How many bytes of an answer are made, of which fewer are shown.
-const MADE: usize = 1000;
+const ANSWER_BYTES: usize = 1000;
 
 // Return the value of a location as JSON.
 fn value_text(alloc: Global, value: Option<&Value>) -> Result<String, AllocError> {
@@ -26,7 +26,7 @@ fn right_read(alloc: Global, state: &State, places: &[Location]) -> Result<Strin
     let number = state.number();
     let mut text = format!(in alloc; "{{\"number\":{number},\"values\":[")?;
     for (index, place) in places.iter().enumerate() {
-        if text.len() > MADE {
+        if text.len() > ANSWER_BYTES {
             return Ok(text);
         }
         if index > 0 {
@@ -39,8 +39,8 @@ fn right_read(alloc: Global, state: &State, places: &[Location]) -> Result<Strin
 }
 
 // Return the right answer in the note of an event.
-fn right_in(alloc: Global, note: &str) -> Result<String, AllocError> {
-    match Json::from_slice(alloc, note.as_bytes()) {
+fn right_of_note(alloc: Global, record_last: &str) -> Result<String, AllocError> {
+    match Json::from_slice(alloc, record_last.as_bytes()) {
         Ok(json) => match json.get("right") {
             Some(right) => right.to_string(alloc),
             None => String::from_str(alloc, "another"),
@@ -63,13 +63,13 @@ fn right_answer(
     if state.number() == u32::MAX {
         return String::from_str(alloc, "another");
     }
-    let mut note = String::new(alloc);
-    push_standard_note(alloc, &mut note, state, capacity, number, event)?;
-    right_in(alloc, note.as_str())
+    let mut record_last = String::new(alloc);
+    push_standard_note(alloc, &mut record_last, state, capacity, number, event)?;
+    right_of_note(alloc, record_last.as_str())
 }
 
 // Return what is said of the event with this number.
-fn said_of(
+fn answer_sentence(
     alloc: Global,
     state: &mut State,
     capacity: u32,
@@ -81,7 +81,7 @@ fn said_of(
     let call = shown_text(alloc, event.call.to_json(alloc)?.to_string(alloc)?.as_str())?;
     let reply = shown_text(
         alloc,
-        event.answer.to_json(alloc)?.to_string(alloc)?.as_str(),
+        event.run_on.to_json(alloc)?.to_string(alloc)?.as_str(),
     )?;
     let (agent, line) = (event.agent, number.saturating_add(2));
     format!(in alloc;
@@ -104,8 +104,14 @@ pub(crate) fn wrong_answer(alloc: Global, bytes: &[u8]) -> Result<Option<String>
             history.capacity,
             event,
         )? {
-            let said = said_of(alloc, &mut state, history.capacity, number as u64, event)?;
-            return Ok(Some(said));
+            let sentence = answer_sentence(
+                alloc,
+                &mut state,
+                history.capacity,
+                number as u64,
+                event,
+            )?;
+            return Ok(Some(sentence));
         }
     }
     Ok(None)

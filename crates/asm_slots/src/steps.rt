@@ -1,5 +1,5 @@
 //! Beginning a step, and reading through its pushed moves.
-ghost use Rattle.std.specs.Prelude.{◌≡◌, ◌≢◌, ◌≤◌, ◌<◌, ◌+◌, ◌∷◌, ◌++◌, [], List, length, string_bytes, OnOk, OnErr};
+ghost use Rattle.std.specs.Prelude.{◌≡◌, ◌≢◌, ◌≤◌, ◌<◌, ◌+◌, ◌∷◌, ◌++◌, [], length, string_bytes, OnOk, OnErr};
 ghost use Rattle.std.specs.Prelude.{IfOk, IfErr, Some, ℕ, Contains, IsSome, vec_len};
 ghost use Rattle.std.specs.Bool.{OnTrue, OnFalse};
 ghost use Rattle.asm_element.specs.Place.{Place, location_cmp};

@@ -1,4 +1,4 @@
-use Rattle.std.proofs.Common.{◌≡◌, ◌∙◌, ℤ, [], ap, refl, sym, w32, w64, to_z, length}
+use Rattle.std.proofs.Common.{◌≡◌, ◌∙◌, [], ap, refl, sym, w32, w64, to_z, length}
 use borrow.Author.Tests.{eqb-true}
 use Rattle.std.proofs.lemmas.List.{nil_from_length}
 use Rattle.std.proofs.Math.Facts.{to_z-of_z}

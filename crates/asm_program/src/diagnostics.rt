@@ -2,9 +2,9 @@
 ghost use Rattle.std.specs.Prelude.{◌≢◌, IfOk, IsNone};
 
 use crate::hints::hint;
-use crate::input::{Kept, Opened, Unreadable, open};
+use crate::input::{Opened, Recorder, Unreadable, open};
 use crate::output::Output;
-use crate::words::{Asked, TextKind, Unasked, read_words};
+use crate::words::{Invocation, NoRequest, TextKind, read_words};
 use crate::wrong::wrong_answer;
 use asm_driver::{run_given, run_main, shown_text};
 use asm_explain::{Form, explain, explain_journal};
@@ -31,35 +31,35 @@ const LONG_LINE: &str =
 
 /// Write the text on standard error.
 /// If that fails, there is nobody to report it to.
-pub(crate) fn say<R: Eprint>(rt: &R, text: &str) {
-    let _said = rt.eprint(text);
+pub(crate) fn print_error<R: Eprint>(rt: &R, text: &str) {
+    let _written = rt.eprint(text);
 }
 
 // Write this about the input.
-fn say_line<R: Eprint>(rt: &R, name: &str, said: &str) {
-    let _said = eprintln!(rt; "asm_driver: {name}: {said}");
+fn print_line<R: Eprint>(rt: &R, name: &str, sentence: &str) {
+    let _written = eprintln!(rt; "asm_driver: {name}: {sentence}");
 }
 
 // Return why the text is refused as one of this kind.
-fn why_refused(alloc: Global, kind: TextKind, bytes: &[u8]) -> Result<String, AllocError> {
+fn refusal_reason(alloc: Global, kind: TextKind, bytes: &[u8]) -> Result<String, AllocError> {
     if bytes.len() > INPUT_LIMIT {
         return String::from_str(alloc, TOO_LARGE);
     }
-    let said = match kind {
+    let sentence = match kind {
         TextKind::Script => explain(alloc, Form::Script, bytes)?,
         TextKind::Journal => explain_journal(alloc, bytes)?,
     };
-    let Some(why) = said else {
+    let Some(reason) = sentence else {
         return String::from_str(alloc, "refused");
     };
-    match hint(alloc, kind, bytes, why.as_str())? {
-        Some(hint) => format!(in alloc; "{why} ({hint})"),
-        None => Ok(why),
+    match hint(alloc, kind, bytes, reason.as_str())? {
+        Some(hint) => format!(in alloc; "{reason} ({hint})"),
+        None => Ok(reason),
     }
 }
 
 // Return why a run is refused, by the line that reports it and the first bytes of the run.
-fn why_no_run(alloc: Global, line: &[u8], head: &[u8]) -> Result<String, AllocError> {
+fn run_refusal_reason(alloc: Global, line: &[u8], head: &[u8]) -> Result<String, AllocError> {
     if line.starts_with(b"the run has ") || line.ends_with(b" calls\n") {
         return String::from_str(
             alloc,
@@ -69,33 +69,37 @@ fn why_no_run(alloc: Global, line: &[u8], head: &[u8]) -> Result<String, AllocEr
     if line == b"input too large\n".as_slice() {
         return String::from_str(alloc, LONG_LINE);
     }
-    let why = "refused; standard output has the part, counted from 0, and its line";
-    match hint(alloc, TextKind::Journal, head, why)? {
-        Some(hint) => format!(in alloc; "{why} ({hint})"),
-        None => String::from_str(alloc, why),
+    let reason = "refused; standard output has the part, counted from 0, and its line";
+    match hint(alloc, TextKind::Journal, head, reason)? {
+        Some(hint) => format!(in alloc; "{reason} ({hint})"),
+        None => String::from_str(alloc, reason),
     }
 }
 
 // Return why the status is 1.
-fn why_wrong(alloc: Global, asked: Asked<'_>, bytes: &[u8]) -> Result<String, AllocError> {
-    if asked.command == "check" {
-        if let Some(said) = wrong_answer(alloc, bytes)? {
-            return Ok(said);
+fn wrong_answer_reason(
+    alloc: Global,
+    invocation: Invocation<'_>,
+    bytes: &[u8],
+) -> Result<String, AllocError> {
+    if invocation.command == "check" {
+        if let Some(sentence) = wrong_answer(alloc, bytes)? {
+            return Ok(sentence);
         }
     }
-    let why = if asked.is_run() {
+    let reason = if invocation.is_run() {
         "an answer is wrong; standard output has its part and its call, both counted from 0"
     } else {
         "a move of the run has no receipt, so there is no report"
     };
-    String::from_str(alloc, why)
+    String::from_str(alloc, reason)
 }
 
 // Return why the request wasn't met, by the status, the line that was written and what was read. With status 0, 3 or 4
 // there is nothing to say.
-fn why(
+fn reason(
     alloc: Global,
-    asked: Asked<'_>,
+    invocation: Invocation<'_>,
     status: u8,
     line: &[u8],
     bytes: &[u8],
@@ -105,66 +109,70 @@ fn why(
     if status != 1 && status != 2 {
         return Ok(None);
     }
-    if asked.command == "explain" {
+    if invocation.command == "explain" {
         return match status {
             2 => Ok(Some(String::from_str(alloc, TOO_LARGE)?)),
             _ => Ok(None),
         };
     }
-    let why = match status {
-        1 => why_wrong(alloc, asked, bytes)?,
-        _ if asked.is_run() => why_no_run(alloc, line, bytes)?,
-        _ => why_refused(alloc, asked.kind(), bytes)?,
+    let reason = match status {
+        1 => wrong_answer_reason(alloc, invocation, bytes)?,
+        _ if invocation.is_run() => run_refusal_reason(alloc, line, bytes)?,
+        _ => refusal_reason(alloc, invocation.kind(), bytes)?,
     };
-    Ok(Some(why))
+    Ok(Some(reason))
 }
 
 // Write which terms had no value.
-fn say_terms<R: Eprint>(rt: &R, name: &str, terms: &[u8]) {
+fn print_terms<R: Eprint>(rt: &R, name: &str, terms: &[u8]) {
     let Ok(terms) = std::str::from_utf8(terms) else {
         return;
     };
     for line in terms.lines().take(TERMS) {
-        say_line(rt, name, line);
+        print_line(rt, name, line);
     }
     let more = terms.lines().skip(TERMS).count();
     if more > 0 {
-        let _said = eprintln!(rt;
+        let _written = eprintln!(rt;
             "asm_driver: {name}: and {more} more steps whose terms have no value"
         );
     }
 }
 
 // Write why the program ended so.
-fn say_why<R: Eprint>(rt: &R, name: &str, why: Result<Option<String>, AllocError>) {
-    if let Ok(Some(why)) = why {
-        say_line(rt, name, why.as_str());
+fn print_reason<R: Eprint>(rt: &R, name: &str, reason: Result<Option<String>, AllocError>) {
+    if let Ok(Some(reason)) = reason {
+        print_line(rt, name, reason.as_str());
     }
 }
 
 // Do what is asked for with the input, which has this name, and return the status.
-fn answer<R: Runtime + AllocGlobal + Threads + Wait + Sync, I: Read + Drop>(
+fn run_on<R: Runtime + AllocGlobal + Threads + Wait + Sync, I: Read + Drop>(
     rt: &R,
     alloc: Global,
-    asked: Asked<'_>,
+    invocation: Invocation<'_>,
     words: Vec<String>,
     name: &str,
     input: I,
 ) -> u8 {
-    let most = if asked.is_run() { HEAD } else { usize::MAX };
-    let mut input = Kept::new(alloc, input, most);
-    let mut output = Output::new(alloc, io::writer(rt), asked.says_terms());
+    let most = if invocation.is_run() {
+        HEAD
+    } else {
+        usize::MAX
+    };
+    let mut input = Recorder::new(alloc, input, most);
+    let mut output = Output::new(alloc, io::writer(rt), invocation.reports_terms());
     let status = run_main(rt, alloc, words, &mut input, &mut output);
     if input.failed {
-        say_line(rt, name, "can't be read");
-    } else if let Some(bytes) = input.kept() {
+        print_line(rt, name, "can't be read");
+    } else if let Some(bytes) = input.head() {
         let line = output.last.as_slice();
-        say_why(rt, name, why(alloc, asked, status, line, bytes));
+        print_reason(rt, name, reason(alloc, invocation, status, line, bytes));
     }
-    if status == 2 && asked.wants_journal() {
-        say(rt, "asm_driver: standard output has no journal\n");
+    if status == 2 && invocation.wants_journal() {
+        print_error(rt, "asm_driver: standard output has no journal\n");
     }
-    say_terms(rt, name, output.terms.as_slice());
+    print_terms(rt, name, output.terms.as_slice());
     status
 }
 
@@ -172,7 +180,7 @@ fn answer<R: Runtime + AllocGlobal + Threads + Wait + Sync, I: Read + Drop>(
 fn refuse_folder<R: Runtime + AllocGlobal + Threads + Wait + Sync>(
     rt: &R,
     alloc: Global,
-    asked: Asked<'_>,
+    invocation: Invocation<'_>,
     words: Vec<String>,
     name: &str,
     first: Option<String>,
@@ -181,10 +189,10 @@ fn refuse_folder<R: Runtime + AllocGlobal + Threads + Wait + Sync>(
         Some(first) => first.as_str(),
         None => "none is there",
     };
-    if asked.is_run() {
-        say_line(rt, name, "a segment is missing, or is there twice");
+    if invocation.is_run() {
+        print_line(rt, name, "a segment is missing, or is there twice");
     } else if let Ok(first) = shown_text(alloc, first) {
-        let _said = eprintln!(rt;
+        let _written = eprintln!(rt;
             "asm_driver: {name}: it is a folder; of a run audit takes all segments, and the other commands take one: {first}"
         );
     }
@@ -192,52 +200,52 @@ fn refuse_folder<R: Runtime + AllocGlobal + Threads + Wait + Sync>(
 }
 
 // Do what is asked for with the file or the folder of this name.
-fn answer_file<R: Runtime + AllocGlobal + Threads + Wait + Sync>(
+fn run_on_file<R: Runtime + AllocGlobal + Threads + Wait + Sync>(
     rt: &R,
     alloc: Global,
-    asked: Asked<'_>,
+    invocation: Invocation<'_>,
     words: Vec<String>,
     path: &str,
-) -> Result<u8, Unasked> {
+) -> Result<u8, NoRequest> {
     let name = shown_text(alloc, path)?;
     let name = name.as_str();
-    match open(rt, alloc, path, asked.is_run()) {
-        Ok(Opened::File(file)) => Ok(answer(rt, alloc, asked, words, name, file)),
-        Ok(Opened::Run(segments)) => Ok(answer(rt, alloc, asked, words, name, segments)),
-        Ok(Opened::Folder(first)) => Ok(refuse_folder(rt, alloc, asked, words, name, first)),
-        Err(error) if error.kind() == ErrorKind::NotFound => Err(Unasked::Wrong(format!(in alloc;
+    match open(rt, alloc, path, invocation.is_run()) {
+        Ok(Opened::File(file)) => Ok(run_on(rt, alloc, invocation, words, name, file)),
+        Ok(Opened::Run(segments)) => Ok(run_on(rt, alloc, invocation, words, name, segments)),
+        Ok(Opened::Folder(first)) => Ok(refuse_folder(rt, alloc, invocation, words, name, first)),
+        Err(error) if error.kind() == ErrorKind::NotFound => Err(NoRequest::Wrong(format!(in alloc;
             "asm_driver: {name}: there is no such file\n"
         )?)),
-        Err(error) if error.kind() == ErrorKind::OutOfMemory => Err(Unasked::Memory),
-        Err(_) => Ok(answer(rt, alloc, asked, words, name, Unreadable)),
+        Err(error) if error.kind() == ErrorKind::OutOfMemory => Err(NoRequest::Memory),
+        Err(_) => Ok(run_on(rt, alloc, invocation, words, name, Unreadable)),
     }
 }
 
 // Do what the words ask for, if they ask for something.
-fn obey<R: Runtime + AllocGlobal + Threads + Wait + Sync>(
+fn run_words<R: Runtime + AllocGlobal + Threads + Wait + Sync>(
     rt: &R,
     alloc: Global,
     words: &[String],
     is_terminal: bool,
-) -> Result<u8, Unasked> {
-    let (asked, mut words) = read_words(alloc, words)?;
-    if asked.says_terms() {
+) -> Result<u8, NoRequest> {
+    let (invocation, mut words) = read_words(alloc, words)?;
+    if invocation.reports_terms() {
         let terms = String::from_str(alloc, "--terms")?;
         if words.push(terms).is_err() {
-            return Err(Unasked::Memory);
+            return Err(NoRequest::Memory);
         }
     }
-    if let Some(path) = asked.file {
-        return answer_file(rt, alloc, asked, words, path);
+    if let Some(path) = invocation.file {
+        return run_on_file(rt, alloc, invocation, words, path);
     }
     if is_terminal {
-        say(
+        print_error(
             rt,
             "asm_driver: no file is named, so standard input is read; Ctrl-D ends it\n",
         );
     }
     let input = rt.reader();
-    Ok(answer(rt, alloc, asked, words, "standard input", input))
+    Ok(run_on(rt, alloc, invocation, words, "standard input", input))
 }
 
 // Return the words for the program if the given ones ask for nothing that is done.
@@ -245,22 +253,22 @@ fn refused_words(
     rt: &impl Eprint,
     alloc: Global,
     words: Vec<String>,
-    unasked: Unasked,
+    unasked: NoRequest,
 ) -> io::Result<Vec<String>> {
     match unasked {
-        Unasked::Help => {
-            say(
+        NoRequest::Help => {
+            print_error(
                 rt,
                 "asm_driver: behind the options FILE may stand, which is read in place of standard input\n",
             );
             Ok(words)
         }
-        Unasked::Version => Ok(words),
-        Unasked::Wrong(text) => {
-            say(rt, text.as_str());
+        NoRequest::Version => Ok(words),
+        NoRequest::Wrong(text) => {
+            print_error(rt, text.as_str());
             Ok(Vec::new(alloc))
         }
-        Unasked::Memory => Err(io::Error::from(ErrorKind::OutOfMemory)),
+        NoRequest::Memory => Err(io::Error::from(ErrorKind::OutOfMemory)),
     }
 }
 
@@ -272,13 +280,13 @@ pub(crate) fn carry_out<R: Runtime + AllocGlobal + Threads + Wait + Sync>(
     is_terminal: bool,
 ) -> u8 {
     let given = match words {
-        Ok(words) => match obey(rt, alloc, words.as_slice(), is_terminal) {
+        Ok(words) => match run_words(rt, alloc, words.as_slice(), is_terminal) {
             Ok(status) => return status,
             Err(unasked) => refused_words(rt, alloc, words, unasked),
         },
         Err(error) => {
             if error.kind() == ErrorKind::InvalidData {
-                say(rt, "asm_driver: a word isn't UTF-8\n");
+                print_error(rt, "asm_driver: a word isn't UTF-8\n");
             }
             Err(error)
         }
