@@ -6,14 +6,14 @@ ghost use Rattle.asm_explain.specs.Bytes.{IsNoJson, IsOtherJson, ReadAs};
 ghost use Rattle.asm_explain.specs.Forms.{IsOfForm, IsOfNoForm};
 ghost use Rattle.asm_explain.specs.declared.explaining.Form.TheVariants as forms;
 
-use crate::faults::{fault_of_event, fault_of_locations, fault_of_move, fault_of_state};
+use crate::fault::{Level, sentence_of, why_not};
 use crate::reading::{TextError, fire_of, read_as};
-use crate::script::wrong_script;
+use crate::script::why_no_script;
 use crate::sentence::{as_one_line, not_json};
 use asm_element::Location;
-use asm_journal::{FromJson, Listed};
+use asm_journal::{FormCause, FormError, FromJson, Listed, one_member};
 use asm_script::{ScriptError, parse_script};
-use asm_storage::Event;
+use asm_storage::{Call, Event};
 use asm_update::PlainState;
 use serde_json::Value as Json;
 use std::alloc::{AllocError, Global};
@@ -84,16 +84,29 @@ fn accepts(alloc: Global, form: Form, text: &[u8]) -> Result<bool, AllocError>
     }
 }
 
-// What is said of a text, which is this JSON, that has another form.
-fn said_of(alloc: Global, form: Form, text: &[u8], json: &Json) -> Result<String, AllocError> {
-    let fault = match form {
-        Form::Locations => fault_of_locations(alloc, json)?,
-        Form::Move => fault_of_move(alloc, json)?,
-        Form::State => fault_of_state(alloc, json)?,
-        Form::Event => fault_of_event(alloc, json)?,
-        Form::Script => return wrong_script(alloc, text, json),
-    };
-    fault.sentence(alloc)
+// Where and why JSON is no move with its reads; `None` if it is one.
+fn why_no_move(alloc: Global, json: &Json) -> Result<Option<String>, AllocError> {
+    if one_member(json, "read").is_some() {
+        let error = FormError::of(alloc, FormCause::Call);
+        return Ok(Some(sentence_of(alloc, Level::Other, json, error)?));
+    }
+    why_not::<Call>(alloc, Level::Other, json)
+}
+
+// Where and why a text, which is this JSON, has another form; `None` if it has this one.
+fn why_other(
+    alloc: Global,
+    form: Form,
+    text: &[u8],
+    json: &Json,
+) -> Result<Option<String>, AllocError> {
+    match form {
+        Form::Locations => why_not::<Listed<Location>>(alloc, Level::Locations, json),
+        Form::Move => why_no_move(alloc, json),
+        Form::State => why_not::<PlainState>(alloc, Level::State, json),
+        Form::Event => why_not::<Event>(alloc, Level::Other, json),
+        Form::Script => why_no_script(alloc, text, json),
+    }
 }
 
 // The sentence on a text that has another form.
@@ -102,7 +115,7 @@ fn sentence(alloc: Global, form: Form, text: &[u8]) -> Result<String, AllocError
     ensures one_line { IfOk result (λ s. HasNoLineFeed (string_bytes s)) }
 {
     let said = match Json::from_slice(alloc, text) {
-        Ok(json) => said_of(alloc, form, text, &json)?,
+        Ok(json) => why_other(alloc, form, text, &json)?.unwrap_or(String::new(alloc)),
         Err(error) if error.is_memory() => return Err(AllocError),
         Err(error) => not_json(alloc, text, &error, form == Form::Script)?,
     };

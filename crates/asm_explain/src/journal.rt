@@ -5,13 +5,12 @@ ghost use Rattle.asm_journal.specs.Reading.{ReadsAs};
 ghost use Rattle.asm_explain.specs.Lines.{last_line as last_of, line_sentence as sentence_of};
 ghost use Rattle.asm_explain.specs.Lines.{ReportsFault, NamesLine, ReportsRefusal};
 
-use crate::faults::{fault_of_event, is_of};
-use crate::script::wrong_init;
+use crate::fault::{Level, sentence_of};
+use crate::script::why_no_init;
 use crate::sentence::{as_one_line, not_json};
-use asm_journal::{JournalError, from_text, read_form};
+use asm_journal::{FromJson, JournalError, from_text};
 use asm_row::CAPACITY_LIMIT;
 use asm_storage::{AGENTS_LIMIT, Event};
-use asm_update::PlainState;
 use serde_json::Value as Json;
 use std::alloc::{AllocError, Global};
 
@@ -53,27 +52,36 @@ fn header_of(alloc: Global, text: &[u8]) -> Result<Option<Json>, AllocError> {
     }
 }
 
-// Whether the member of a header is a number in this range.
-fn is_between(header: &Json, key: &str, least: u32, most: u32) -> bool {
-    match number_in(header, key) {
-        Some(number) => least <= number && number <= most,
-        None => false,
-    }
-}
+// The numbers of a header: the key, the least, the most, and what is said of another.
+static NUMBERS: [(&str, u32, u32, &str); 4] = [
+    (
+        "agents",
+        0,
+        AGENTS_LIMIT,
+        "agents is a whole number, from 0 to 256",
+    ),
+    (
+        "capacity",
+        1,
+        CAPACITY_LIMIT,
+        "capacity is a whole number, from 1 to 1,048,576",
+    ),
+    (
+        "events",
+        0,
+        u32::MAX,
+        "events is a whole number, from 0 to 4,294,967,295",
+    ),
+    ("version", 1, 2, VERSION),
+];
 
-// Which of a header's numbers is none, if one is.
+// What is said of a header's numbers, if one is none.
 fn wrong_number(header: &Json) -> Option<&'static str> {
-    if !is_between(header, "agents", 0, AGENTS_LIMIT) {
-        return Some("agents is a whole number, from 0 to 256");
-    }
-    if !is_between(header, "capacity", 1, CAPACITY_LIMIT) {
-        return Some("capacity is a whole number, from 1 to 1,048,576");
-    }
-    if !is_between(header, "events", 0, u32::MAX) {
-        return Some("events is a whole number, from 0 to 4,294,967,295");
-    }
-    if !is_between(header, "version", 1, 2) {
-        return Some(VERSION);
+    for (key, least, most, why) in NUMBERS.iter() {
+        match number_in(header, key) {
+            Some(number) if *least <= number && number <= *most => {}
+            _ => return Some(why),
+        }
     }
     None
 }
@@ -90,22 +98,23 @@ fn has_five_members(header: &Json) -> bool {
 
 // Why JSON is no header of a journal.
 fn wrong_header(alloc: Global, header: &Json) -> Result<String, AllocError> {
-    if !has_five_members(header) {
+    let (true, Some(init)) = (has_five_members(header), header.get("init")) else {
         return String::from_str(alloc, HEADER);
-    }
+    };
     if let Some(why) = wrong_number(header) {
         return String::from_str(alloc, why);
     }
-    match header.get("init") {
-        Some(init) if !is_of::<PlainState>(alloc, init)? => wrong_init(alloc, init),
-        _ => String::from_str(alloc, LISTS),
+    match why_no_init(alloc, init)? {
+        Some(why) => Ok(why),
+        None => String::from_str(alloc, LISTS),
     }
 }
 
 // Why JSON is no event of a journal of so many agents.
 fn wrong_event(alloc: Global, agents: u32, json: &Json) -> Result<String, AllocError> {
-    let Some(event) = read_form::<Event>(alloc, json)? else {
-        return fault_of_event(alloc, json)?.sentence(alloc);
+    let event = match Event::from_json(alloc, json) {
+        Ok(event) => event,
+        Err(error) => return sentence_of(alloc, Level::Other, json, error),
     };
     if event.agent >= agents {
         let agent = event.agent;
@@ -130,46 +139,30 @@ fn last_by(header: &Json) -> u64 {
     }
 }
 
-// Why the line with this number has a wrong shape, behind the first line.
-fn wrong_line(
-    alloc: Global,
-    header: &Json,
-    line: &[u8],
-    number: u64,
-) -> Result<String, AllocError> {
-    let last = last_by(header);
-    if number > last {
-        if line.is_empty() {
-            return format!(in alloc; "an empty line, the journal ends with line {last}");
-        }
-        return format!(in alloc; "one line too many, the journal ends with line {last}");
-    }
-    match Json::from_slice(alloc, line) {
-        Ok(json) => wrong_event(alloc, number_in(header, "agents").unwrap_or(0), &json),
-        Err(error) if error.is_memory() => Err(AllocError),
-        Err(error) => not_json(alloc, line, &error, false),
-    }
-}
-
-// Why the line with this number has a wrong shape.
-fn why_shape(alloc: Global, text: &[u8], number: u64) -> Result<String, AllocError> {
-    let Some(header) = header_of(alloc, text)? else {
-        return String::from_str(alloc, HEADER);
+// What is said of a line behind the last one.
+fn one_too_many(alloc: Global, line: &[u8], last: u64) -> Result<String, AllocError> {
+    let what = if line.is_empty() {
+        "an empty line"
+    } else {
+        "one line too many"
     };
-    if number == 1 {
-        return wrong_header(alloc, &header);
-    }
-    wrong_line(alloc, &header, line_of(text, number), number)
+    format!(in alloc; "{what}, the journal ends with line {last}")
 }
 
-// Why the line with this number isn't JSON.
-fn why_not_json(alloc: Global, text: &[u8], number: u64) -> Result<String, AllocError> {
+// Why the line with this number isn't JSON, or has a wrong shape.
+fn why_line(alloc: Global, text: &[u8], number: u64) -> Result<String, AllocError> {
     let line = line_of(text, number);
+    let header = header_of(alloc, text)?.unwrap_or(Json::Null);
+    let last = last_by(&header);
+    if number > last {
+        return one_too_many(alloc, line, last);
+    }
     if line.is_empty() {
         return String::from_str(alloc, "an empty line");
     }
     match Json::from_slice(alloc, line) {
-        Ok(_) => String::from_str(alloc, "not JSON"),
+        Ok(header) if number == 1 => wrong_header(alloc, &header),
+        Ok(event) => wrong_event(alloc, number_in(&header, "agents").unwrap_or(0), &event),
         Err(error) if error.is_memory() => Err(AllocError),
         Err(error) => not_json(alloc, line, &error, false),
     }
@@ -220,9 +213,10 @@ fn sentence(alloc: Global, text: &[u8], fault: JournalError) -> Result<String, A
     ensures { IfOk result (λ s. ReportsFault text.now fault (string_bytes s)) }
 {
     match fault {
-        JournalError::NotJson(line) => at_line(alloc, line, why_not_json(alloc, text, line)?),
-        JournalError::Shape(line) => at_line(alloc, line, why_shape(alloc, text, line)?),
-        JournalError::Version => { at_line(alloc, 1, String::from_str(alloc, VERSION)?) }
+        JournalError::NotJson(line) | JournalError::Shape(line) => {
+            at_line(alloc, line, why_line(alloc, text, line)?)
+        }
+        JournalError::Version => at_line(alloc, 1, String::from_str(alloc, VERSION)?),
         JournalError::Cut => {
             let line = last_line(text);
             at_line(alloc, line, why_cut(alloc, text, line)?)

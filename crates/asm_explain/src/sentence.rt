@@ -4,62 +4,6 @@ ghost use Rattle.asm_journal.specs.Reading.{HasNoLineFeed};
 
 use std::alloc::{AllocError, Global};
 
-/// What is wrong.
-#[derive(Clone, Copy, Drop)]
-pub(crate) enum Why {
-    Says(&'static str),
-    /// A kind of value can't hold another one.
-    Holds(&'static str, &'static str),
-    /// So many instructions.
-    Many(usize),
-}
-
-impl Why {
-    /// Return in words what is wrong.
-    pub(crate) fn words(self, alloc: Global) -> Result<String, AllocError> {
-        match self {
-            Why::Says(words) => String::from_str(alloc, words),
-            Why::Holds(holder, held) => format!(in alloc; "a {holder} can't hold a {held}"),
-            Why::Many(count) => {
-                let count = grouped(alloc, count)?;
-                format!(in alloc; "{count} instructions, at most 4,096")
-            }
-        }
-    }
-}
-
-/// A fault: its kind and its part, by index, or the complete text.
-#[derive(Clone, Copy, Drop)]
-pub(crate) struct Fault {
-    part: Option<(&'static str, usize)>,
-    why: Why,
-}
-
-impl Fault {
-    pub(crate) fn of(why: Why) -> Fault {
-        Fault { part: None, why }
-    }
-
-    pub(crate) fn in_part(name: &'static str, index: usize, why: Why) -> Fault {
-        Fault {
-            part: Some((name, index)),
-            why,
-        }
-    }
-
-    /// Return the fault in words, where parts are counted from 1 up.
-    pub(crate) fn sentence(self, alloc: Global) -> Result<String, AllocError> {
-        let words = self.why.words(alloc)?;
-        match self.part {
-            Some((name, index)) => {
-                let number = index.saturating_add(1);
-                format!(in alloc; "{name} {number}: {words}")
-            }
-            None => Ok(words),
-        }
-    }
-}
-
 /// Return the number with a comma before each three of its last digits.
 pub(crate) fn grouped(alloc: Global, number: usize) -> Result<String, AllocError> {
     let digits = format!(in alloc; "{number}")?;

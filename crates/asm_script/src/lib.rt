@@ -11,8 +11,9 @@ mod step;
 mod term;
 mod term_form;
 
+pub use block::{TermAction, TermInstruction};
 pub use fault::{FaultyTerm, StepFault};
 pub use parsing::parse_script;
 pub use script::{Script, ScriptCause, ScriptError};
 pub use step::{Step, step_move};
-pub use term::{Found, NoValue};
+pub use term::{Found, NoValue, Term};
