@@ -73,7 +73,7 @@ static const struct row {
     {ASM_FORM_MOVE, "{'fire':[['bagadd',['b'],'e',4294967296]],'reads':[]}",
      "instruction 1: an amount or a count is a whole number, from 1 to 4,294,967,295"},
     {ASM_FORM_MOVE, "{'fire':[['bagremove',['b'],'e']],'reads':[]}",
-     "instruction 1: an element and its amount or count stand in pairs"},
+     "instruction 1: bagadd and bagremove have an element and its amount behind their location"},
     {ASM_FORM_MOVE, "{'fire':[['inc',['x'],'1']],'reads':[]}",
      "instruction 1: a number is whole, from -9,223,372,036,854,775,808 to "
      "9,223,372,036,854,775,807"},

@@ -6,7 +6,7 @@ ghost use Rattle.asm_explain.specs.Bytes.{IsNoJson, IsOtherJson, ReadAs};
 ghost use Rattle.asm_explain.specs.Forms.{IsOfForm, IsOfNoForm};
 ghost use Rattle.asm_explain.specs.declared.explaining.Form.TheVariants as forms;
 
-use crate::fault::{Level, sentence_of, why_not};
+use crate::fault::{LOCATIONS, OBJECT, STATE, sentence_of, why_not};
 use crate::reading::{TextError, fire_of, read_as};
 use crate::script::why_no_script;
 use crate::sentence::{as_one_line, not_json};
@@ -88,9 +88,9 @@ fn accepts(alloc: Global, form: Form, text: &[u8]) -> Result<bool, AllocError>
 fn why_no_move(alloc: Global, json: &Json) -> Result<Option<String>, AllocError> {
     if one_member(json, "read").is_some() {
         let error = FormError::of(alloc, FormCause::Call);
-        return Ok(Some(sentence_of(alloc, Level::Other, json, error)?));
+        return Ok(Some(sentence_of(alloc, OBJECT, json, error)?));
     }
-    why_not::<Call>(alloc, Level::Other, json)
+    why_not::<Call>(alloc, OBJECT, json)
 }
 
 // Where and why a text, which is this JSON, has another form; `None` if it has this one.
@@ -101,10 +101,10 @@ fn why_other(
     json: &Json,
 ) -> Result<Option<String>, AllocError> {
     match form {
-        Form::Locations => why_not::<Listed<Location>>(alloc, Level::Locations, json),
+        Form::Locations => why_not::<Listed<Location>>(alloc, LOCATIONS, json),
         Form::Move => why_no_move(alloc, json),
-        Form::State => why_not::<PlainState>(alloc, Level::State, json),
-        Form::Event => why_not::<Event>(alloc, Level::Other, json),
+        Form::State => why_not::<PlainState>(alloc, STATE, json),
+        Form::Event => why_not::<Event>(alloc, OBJECT, json),
         Form::Script => why_no_script(alloc, text, json),
     }
 }

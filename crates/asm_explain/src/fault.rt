@@ -1,101 +1,59 @@
 //! The faults that the readers of JSON return, in words.
 use crate::sentence::grouped;
-use asm_element::ARGS_LIMIT;
-use asm_journal::{FormCause, FormError, FormFault, FromJson, Part};
+use asm_element::{ARGS_LIMIT, Element, Value};
+use asm_journal::{FormCause, FormError, FormFault, FromJson, Part, read_location};
 use asm_overlay::FRAMES_LIMIT;
 use asm_storage::AGENTS_LIMIT;
-use asm_update::INSTRUCTIONS_LIMIT;
+use asm_update::{INSTRUCTIONS_LIMIT, UpdateSet};
 use serde_json::Value as Json;
 use std::alloc::{AllocError, Global};
 
-/// A part of a text to which a path leads, by the array that it has to be.
-#[derive(Clone, Copy, Drop, PartialEq, Eq)]
-pub(crate) enum Level {
-    Locations,
-    State,
-    Init,
-    Agents,
-    Steps,
-    Blocks,
-    Block,
-    Move,
-    Reads,
-    Values,
-    Set,
-    Bag,
-    Other,
-}
+/// How the items of a text's arrays are called, from the outermost array on, and the number of the first item.
+#[derive(Clone, Copy, Drop)]
+pub(crate) struct Root(pub(crate) &'static [&'static str], usize);
 
-impl Level {
-    // What is said of a part that isn't this array.
-    fn form(self) -> &'static str {
-        match self {
-            Level::Locations => "the locations are an array",
-            Level::State => "a state is an array of pairs",
-            Level::Init => "init is an array of pairs",
-            Level::Agents => "the agents are an array",
-            Level::Steps => "an agent is an array of steps",
-            Level::Blocks => "a step is an array of blocks",
-            Level::Block => "a block is an array of instructions",
-            Level::Move => "the instructions are an array",
-            Level::Reads => "the reads are an array",
-            Level::Values => "the values are an array",
-            Level::Set => "a set is written {\"set\":[..]}",
-            Level::Bag => "a bag is written {\"bag\":[[ELEMENT,COUNT],..]}",
-            Level::Other => "it is no array",
-        }
-    }
+pub(crate) const LOCATIONS: Root = Root(&["location"], 1);
 
-    // What its items are called, if sentences have their numbers, and the number of the first.
-    fn item(self) -> Option<(&'static str, usize)> {
-        match self {
-            Level::Locations => Some(("location", 1)),
-            Level::State => Some(("pair", 1)),
-            Level::Init => Some(("init pair", 0)),
-            Level::Agents => Some(("agent", 0)),
-            Level::Steps => Some(("step", 0)),
-            Level::Blocks => Some(("block", 0)),
-            Level::Block => Some(("instruction", 0)),
-            Level::Move => Some(("instruction", 1)),
-            Level::Reads => Some(("read", 1)),
-            Level::Values => Some(("value", 1)),
-            Level::Set | Level::Bag | Level::Other => None,
-        }
-    }
+pub(crate) const STATE: Root = Root(&["pair"], 1);
 
-    /// Return how few and how many items it may have.
-    pub(crate) fn limits(self) -> (usize, usize) {
-        match self {
-            Level::Agents => (0, AGENTS_LIMIT as usize),
-            Level::Blocks => (1, FRAMES_LIMIT + 1),
-            Level::Block | Level::Move => (0, INSTRUCTIONS_LIMIT),
-            _ => (0, usize::MAX),
-        }
-    }
+pub(crate) const OBJECT: Root = Root(&[], 1);
 
-    fn below(self, part: Part) -> Level {
-        match (part, self) {
-            (Part::Key("read"), _) => Level::Locations,
-            (Part::Key("fire"), _) => Level::Move,
-            (Part::Key("reads"), _) => Level::Reads,
-            (Part::Key("values"), _) => Level::Values,
-            (Part::Key("set"), _) => Level::Set,
-            (Part::Key("bag"), _) => Level::Bag,
-            (Part::Index(_), Level::Agents) => Level::Steps,
-            (Part::Index(_), Level::Steps) => Level::Blocks,
-            (Part::Index(_), Level::Blocks) => Level::Block,
-            _ => Level::Other,
-        }
+pub(crate) const INIT: Root = Root(&["init pair"], 0);
+
+pub(crate) const AGENTS: Root = Root(&["agent", "step", "block", "instruction"], 0);
+
+// The names of the items within this part of what has items with these names.
+fn names_in(names: &'static [&'static str], part: Part) -> &'static [&'static str] {
+    match part {
+        Part::Key("fire") => &["instruction"],
+        Part::Key("read") => &["location"],
+        Part::Key("reads") => &["read"],
+        Part::Key("values") => &["value"],
+        Part::Key(_) => &[],
+        Part::Index(_) => names.get(1..).unwrap_or(&[]),
     }
 }
 
-// The level of the part to which the path leads from this one.
-fn level_at(root: Level, path: &[Part]) -> Level {
-    let mut level = root;
+// What an item of the part is called to which the path leads.
+fn name_at(root: Root, path: &[Part]) -> &'static str {
+    let mut names = root.0;
     for part in path.iter().rev() {
-        level = level.below(*part);
+        names = names_in(names, *part);
     }
-    level
+    match names.first() {
+        Some(name) => name,
+        None => "item",
+    }
+}
+
+/// Return how few and how many items of this name an array may have.
+pub(crate) fn limits(name: &str) -> (usize, usize) {
+    match name {
+        "agent" => (0, AGENTS_LIMIT as usize),
+        "block" => (1, FRAMES_LIMIT + 1),
+        "instruction" => (0, INSTRUCTIONS_LIMIT),
+        _ => (0, usize::MAX),
+    }
 }
 
 // The part to which the path leads.
@@ -110,27 +68,24 @@ fn part_at<'v>(json: &'v Json, path: &[Part]) -> Option<&'v Json> {
     Some(json)
 }
 
-/// Return the word of the instruction to which the path leads.
-pub(crate) fn word_at<'v>(json: &'v Json, path: &[Part]) -> Option<&'v str> {
+// The word of the instruction to which the path leads.
+fn word_at<'v>(json: &'v Json, path: &[Part]) -> Option<&'v str> {
     part_at(json, path)?.as_array()?.first()?.as_str()
 }
 
 // The named parts through which the path leads, with their numbers: `agent 0 step 2`.
-fn place(alloc: Global, root: Level, fault: &FormFault) -> Result<String, AllocError> {
-    let mut level = root;
+fn place(alloc: Global, root: Root, fault: &FormFault) -> Result<String, AllocError> {
+    let Root(mut names, first) = root;
     let mut place = String::new(alloc);
     for part in fault.path().iter().rev() {
-        if let (Part::Index(index), Some((name, first))) = (*part, level.item()) {
+        let space = if place.is_empty() { "" } else { " " };
+        if let (Part::Index(index), Some(name)) = (*part, names.first()) {
             let number = index.saturating_add(first);
-            place = if place.is_empty() {
-                format!(in alloc; "{name} {number}")?
-            } else {
-                format!(in alloc; "{place} {name} {number}")?
-            };
+            place = format!(in alloc; "{place}{space}{name} {number}")?;
         } else if matches!(part, Part::Key("reply")) && fault.cause() != FormCause::Reply {
             place.push_str("reply")?;
         }
-        level = level.below(*part);
+        names = names_in(names, *part);
     }
     Ok(place)
 }
@@ -151,20 +106,25 @@ fn holder(json: &Json, path: &[Part]) -> &'static str {
     }
 }
 
-// Whether JSON is no location only for its name, where its arguments are some.
-fn is_misnamed(json: Option<&Json>) -> bool {
-    match json.and_then(Json::as_array) {
-        Some(items) => {
-            items.len() <= ARGS_LIMIT + 1 && matches!(items.first(), Some(Json::String(_)))
-        }
-        None => false,
-    }
+// What is said of a part that is no array.
+fn array_words(alloc: Global, root: Root, path: &[Part]) -> Result<String, AllocError> {
+    let name = name_at(root, path);
+    let words = match (name, path.first()) {
+        (_, Some(Part::Key("set"))) => "a set is written {\"set\":[..]}",
+        (_, Some(Part::Key("bag"))) => "a bag is written {\"bag\":[[ELEMENT,COUNT],..]}",
+        ("pair", _) => "a state is an array of pairs",
+        ("init pair", _) => "init is an array of pairs",
+        ("step", _) => "an agent is an array of steps",
+        ("block", _) => "a step is an array of blocks",
+        ("instruction", Some(Part::Index(_))) => "a block is an array of instructions",
+        _ => return format!(in alloc; "the {name}s are an array"),
+    };
+    String::from_str(alloc, words)
 }
 
-// So many items, where there may be others.
-fn count_words(alloc: Global, level: Level, count: usize) -> Result<String, AllocError> {
-    let (least, most) = level.limits();
-    let (name, _) = level.item().unwrap_or(("item", 0));
+// What is said of an array with so many items.
+fn count_words(alloc: Global, name: &str, count: usize) -> Result<String, AllocError> {
+    let (least, most) = limits(name);
     if count < least {
         return format!(in alloc; "no {name}, at least {least}");
     }
@@ -172,60 +132,101 @@ fn count_words(alloc: Global, level: Level, count: usize) -> Result<String, Allo
     format!(in alloc; "{count} {name}s, at most {most}")
 }
 
-// What is wrong with the part of the JSON.
-fn words(alloc: Global, root: Level, json: &Json, fault: &FormFault) -> Result<String, AllocError> {
-    let path = fault.path();
-    let holder = holder(json, path);
-    match fault.cause() {
-        FormCause::NoArray => String::from_str(alloc, level_at(root, path).form()),
-        FormCause::Many(count) => count_words(alloc, level_at(root, path), count),
-        FormCause::HeldSet => format!(in alloc; "a {holder} can't hold a set"),
-        FormCause::HeldBag => format!(in alloc; "a {holder} can't hold a bag"),
-        FormCause::StateTwice if !path.is_empty() => {
-            String::from_str(alloc, "its location stands twice")
+// Whether the word may be quoted in a sentence: it is short, and none of its bytes ends a line or a quotation.
+fn is_plain(word: &str) -> bool {
+    word.len() <= 64
+        && word
+            .as_bytes()
+            .iter()
+            .all(|byte| byte.is_ascii_graphic() && *byte != b'"')
+}
+
+// What is said of an instruction's word, which a script's sentence quotes.
+fn word_words(alloc: Global, root: Root, word: Option<&str>) -> Result<String, AllocError> {
+    match word {
+        Some(word) if root.1 == 0 && is_plain(word) => {
+            format!(in alloc; "unknown word \"{word}\"")
         }
-        FormCause::Location if is_misnamed(part_at(json, path)) => {
-            let cause = FormCause::Name;
-            format!(in alloc; "{cause}")
-        }
-        cause => format!(in alloc; "{cause}"),
+        _ => FormCause::Word.to_string(alloc),
     }
 }
 
-/// Return the words behind the place of the fault, if it has one.
-pub(crate) fn placed(
+// The first pair whose location is in an earlier one.
+fn first_twice(alloc: Global, pairs: &[Json]) -> Result<Option<usize>, AllocError> {
+    let mut seen = UpdateSet::new(alloc);
+    for (index, pair) in pairs.iter().enumerate() {
+        let at = pair.as_array().and_then(|items| items.first());
+        let Some(at) = read_location(alloc, at.unwrap_or(&Json::Null))? else {
+            continue;
+        };
+        if seen.get(&at).is_some() {
+            return Ok(Some(index));
+        }
+        seen.put(at, Value::Plain(Element::Undef))?;
+    }
+    Ok(None)
+}
+
+// What is said of a state with a location twice.
+fn twice_words(alloc: Global, root: Root, state: &Json) -> Result<String, AllocError> {
+    if let (0, Json::Array(pairs)) = (root.1, state) {
+        if let Some(index) = first_twice(alloc, pairs)? {
+            return format!(in alloc; "init pair {index}: its location stands twice");
+        }
+    }
+    FormCause::StateTwice.to_string(alloc)
+}
+
+// The cause, which is the name of a location that has arguments.
+fn cause_of(json: &Json, fault: &FormFault) -> FormCause {
+    match (fault.cause(), part_at(json, fault.path())) {
+        (FormCause::Location, Some(Json::Array(items)))
+            if items.len() <= ARGS_LIMIT + 1 && matches!(items.first(), Some(Json::String(_))) => {
+            FormCause::Name
+        }
+        (cause, _) => cause,
+    }
+}
+
+// What is wrong with the part of the JSON.
+fn words(alloc: Global, root: Root, json: &Json, fault: &FormFault) -> Result<String, AllocError> {
+    let path = fault.path();
+    let holder = holder(json, path);
+    match cause_of(json, fault) {
+        FormCause::NoArray => array_words(alloc, root, path),
+        FormCause::Many(count) => count_words(alloc, name_at(root, path), count),
+        FormCause::HeldSet => format!(in alloc; "a {holder} can't hold a set"),
+        FormCause::HeldBag => format!(in alloc; "a {holder} can't hold a bag"),
+        FormCause::Word => word_words(alloc, root, word_at(json, path)),
+        FormCause::StateTwice => twice_words(alloc, root, json),
+        cause => cause.to_string(alloc),
+    }
+}
+
+/// Return where and why JSON has another form, by what its reader returned.
+pub(crate) fn sentence_of(
     alloc: Global,
-    root: Level,
-    fault: &FormFault,
-    words: String,
+    root: Root,
+    json: &Json,
+    error: FormError,
 ) -> Result<String, AllocError> {
-    let place = place(alloc, root, fault)?;
+    let FormError::Form(fault) = error else {
+        return Err(AllocError);
+    };
+    let (place, words) = (
+        place(alloc, root, &fault)?,
+        words(alloc, root, json, &fault)?,
+    );
     if place.is_empty() {
         return Ok(words);
     }
     format!(in alloc; "{place}: {words}")
 }
 
-/// Return where and why the JSON isn't what this level is, by what its reader returned.
-pub(crate) fn sentence_of(
-    alloc: Global,
-    root: Level,
-    json: &Json,
-    error: FormError,
-) -> Result<String, AllocError> {
-    match error {
-        FormError::Form(fault) => {
-            let words = words(alloc, root, json, &fault)?;
-            placed(alloc, root, &fault, words)
-        }
-        FormError::Memory => Err(AllocError),
-    }
-}
-
 /// Return where and why JSON is no value of this type; `None` if it is one.
 pub(crate) fn why_not<T: FromJson>(
     alloc: Global,
-    root: Level,
+    root: Root,
     json: &Json,
 ) -> Result<Option<String>, AllocError> {
     match T::from_json(alloc, json) {

@@ -5,12 +5,12 @@ ghost use Rattle.asm_journal.specs.Reading.{ReadsAs};
 ghost use Rattle.asm_explain.specs.Lines.{last_line as last_of, line_sentence as sentence_of};
 ghost use Rattle.asm_explain.specs.Lines.{ReportsFault, NamesLine, ReportsRefusal};
 
-use crate::fault::{Level, sentence_of};
-use crate::script::why_no_init;
-use crate::sentence::{as_one_line, not_json};
+use crate::fault::{INIT, OBJECT, sentence_of, why_not};
+use crate::sentence::{as_one_line, grouped, not_json};
 use asm_journal::{FromJson, JournalError, from_text};
 use asm_row::CAPACITY_LIMIT;
 use asm_storage::{AGENTS_LIMIT, Event};
+use asm_update::PlainState;
 use serde_json::Value as Json;
 use std::alloc::{AllocError, Global};
 
@@ -52,38 +52,33 @@ fn header_of(alloc: Global, text: &[u8]) -> Result<Option<Json>, AllocError> {
     }
 }
 
-// The numbers of a header: the key, the least, the most, and what is said of another.
-static NUMBERS: [(&str, u32, u32, &str); 4] = [
-    (
-        "agents",
-        0,
-        AGENTS_LIMIT,
-        "agents is a whole number, from 0 to 256",
-    ),
-    (
-        "capacity",
-        1,
-        CAPACITY_LIMIT,
-        "capacity is a whole number, from 1 to 1,048,576",
-    ),
-    (
-        "events",
-        0,
-        u32::MAX,
-        "events is a whole number, from 0 to 4,294,967,295",
-    ),
-    ("version", 1, 2, VERSION),
+// Whether the member of a header is a number in this range.
+fn is_between(header: &Json, key: &str, least: u32, most: u32) -> bool {
+    match number_in(header, key) {
+        Some(number) => least <= number && number <= most,
+        None => false,
+    }
+}
+
+// The numbers of a header but its version: the key, the least and the most.
+static NUMBERS: [(&str, u32, u32); 3] = [
+    ("agents", 0, AGENTS_LIMIT),
+    ("capacity", 1, CAPACITY_LIMIT),
+    ("events", 0, u32::MAX),
 ];
 
 // What is said of a header's numbers, if one is none.
-fn wrong_number(header: &Json) -> Option<&'static str> {
-    for (key, least, most, why) in NUMBERS.iter() {
-        match number_in(header, key) {
-            Some(number) if *least <= number && number <= *most => {}
-            _ => return Some(why),
+fn wrong_number(alloc: Global, header: &Json) -> Result<Option<String>, AllocError> {
+    for (key, least, most) in NUMBERS.iter() {
+        if !is_between(header, key, *least, *most) {
+            let most = grouped(alloc, *most as usize)?;
+            return Ok(Some(format!(in alloc; "{key} is a whole number, from {least} to {most}")?));
         }
     }
-    None
+    if !is_between(header, "version", 1, 2) {
+        return Ok(Some(String::from_str(alloc, VERSION)?));
+    }
+    Ok(None)
 }
 
 fn has_five_members(header: &Json) -> bool {
@@ -101,10 +96,10 @@ fn wrong_header(alloc: Global, header: &Json) -> Result<String, AllocError> {
     let (true, Some(init)) = (has_five_members(header), header.get("init")) else {
         return String::from_str(alloc, HEADER);
     };
-    if let Some(why) = wrong_number(header) {
-        return String::from_str(alloc, why);
+    if let Some(why) = wrong_number(alloc, header)? {
+        return Ok(why);
     }
-    match why_no_init(alloc, init)? {
+    match why_not::<PlainState>(alloc, INIT, init)? {
         Some(why) => Ok(why),
         None => String::from_str(alloc, LISTS),
     }
@@ -114,7 +109,7 @@ fn wrong_header(alloc: Global, header: &Json) -> Result<String, AllocError> {
 fn wrong_event(alloc: Global, agents: u32, json: &Json) -> Result<String, AllocError> {
     let event = match Event::from_json(alloc, json) {
         Ok(event) => event,
-        Err(error) => return sentence_of(alloc, Level::Other, json, error),
+        Err(error) => return sentence_of(alloc, OBJECT, json, error),
     };
     if event.agent >= agents {
         let agent = event.agent;
