@@ -1,4 +1,4 @@
-use Rattle.std.proofs.Common.{◌≡◌, ◌∙◌, append_assoc, sym}
+use Rattle.std.proofs.Common.{◌∙◌, append_assoc, sym}
 use Rattle.std.proofs.lemmas.Result.{IfOk-weaker}
 use Rattle.asm_explain.proofs.journal.line_sentence.Goals as goal
 
