@@ -1,6 +1,6 @@
 //! The faults that the readers of JSON return, in words.
 use crate::sentence::grouped;
-use asm_element::{ARGS_LIMIT, Element, Value};
+use asm_element::{Element, Value};
 use asm_journal::{FormCause, FormError, FormFault, FromJson, Part, read_location};
 use asm_overlay::FRAMES_LIMIT;
 use asm_storage::AGENTS_LIMIT;
@@ -177,22 +177,11 @@ fn twice_words(alloc: Global, root: Root, state: &Json) -> Result<String, AllocE
     FormCause::StateTwice.to_string(alloc)
 }
 
-// The cause, which is the name of a location that has arguments.
-fn cause_of(json: &Json, fault: &FormFault) -> FormCause {
-    match (fault.cause(), part_at(json, fault.path())) {
-        (FormCause::Location, Some(Json::Array(items)))
-            if items.len() <= ARGS_LIMIT + 1 && matches!(items.first(), Some(Json::String(_))) => {
-            FormCause::Name
-        }
-        (cause, _) => cause,
-    }
-}
-
 // What is wrong with the part of the JSON.
 fn words(alloc: Global, root: Root, json: &Json, fault: &FormFault) -> Result<String, AllocError> {
     let path = fault.path();
     let holder = holder(json, path);
-    match cause_of(json, fault) {
+    match fault.cause() {
         FormCause::NoArray => array_words(alloc, root, path),
         FormCause::Many(count) => count_words(alloc, name_at(root, path), count),
         FormCause::HeldSet => format!(in alloc; "a {holder} can't hold a set"),

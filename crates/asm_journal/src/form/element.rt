@@ -170,7 +170,7 @@ impl FromJson for Location {
         let args = read_items(alloc, rest, 1)?;
         match Location::new(String::from_str(alloc, name)?, args.into_vec()) {
             Ok(location) => Ok(location),
-            Err(_) => Err(FormError::of(alloc, FormCause::Location)),
+            Err(error) => Err(FormError::of(alloc, location_cause(error))),
         }
     }
 }
