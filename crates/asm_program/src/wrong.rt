@@ -81,7 +81,7 @@ fn answer_sentence(
     let call = shown_text(alloc, event.call.to_json(alloc)?.to_string(alloc)?.as_str())?;
     let reply = shown_text(
         alloc,
-        event.run_on.to_json(alloc)?.to_string(alloc)?.as_str(),
+        event.answer.to_json(alloc)?.to_string(alloc)?.as_str(),
     )?;
     let (agent, line) = (event.agent, number.saturating_add(2));
     format!(in alloc;
