@@ -136,9 +136,9 @@ class Interleaved(unittest.TestCase):
                 pass
 
         self.states_by([waits, count_blindly], 1)
-        with self.assertRaisesRegex(EndlessError, "agents 0, 1 are still at work after 500 turns"):
+        with self.assertRaisesRegex(EndlessError, "agents 0, 1 are still running after 500 turns"):
             self.states_by([waits, count_blindly], [], most=500)
-        with self.assertRaisesRegex(EndlessError, "agent 0 is still at work after 300 turns"):
+        with self.assertRaisesRegex(EndlessError, "agent 0 is still running after 300 turns"):
             explore(counting, [waits], turns=300)
 
     def test_ctrl_c_ends_it(self):
@@ -228,7 +228,7 @@ class Explored(unittest.TestCase):
         self.assertEqual((explored.turns, explored.schedules, explored.is_exhaustive), (None, 30, False))
         found = explore(counting, [waits, count_blindly, count_blindly], lambda values: values[("count",)] != 2)
         self.assert_breaks(found, counting, [waits, count_blindly, count_blindly], lambda values: values[("count",)] != 2)
-        with self.assertRaisesRegex(EndlessError, "agents 0, 1 are still at work after 200 turns"):
+        with self.assertRaisesRegex(EndlessError, "agents 0, 1 are still running after 200 turns"):
             explore(counting, [waits, waits], turns=200)
 
     def test_programs_that_draw_are_refused(self):
