@@ -17,7 +17,7 @@ use Rattle.asm_audit.specs.declared.progress.Progress.{Progress}
 use Rattle.asm_audit.proofs.Ended.{one_ending, plain_lines}
 use Rattle.asm_audit.proofs.OneSoFar.{one_count}
 use Rattle.asm_aggregate.specs.Standard.{standard_part}
-use Rattle.asm_driver.specs.Watch.{IsDueText, IsToldOfLine, IsToldOfLines, IsToldOf}
+use Rattle.asm_driver.specs.Watch.{IsDueText, IsReportOfLine, IsReportOfLines, IsReportOf}
 
 enumerate_from-push : {X : Type 0} (n : ℕ) (xs : List X) (x : X) →
     enumerate_from n (xs ++ x ∷ []) ≡ enumerate_from n xs ++ (n + length xs, x) ∷ []
@@ -55,12 +55,12 @@ not_fired agent step o never = refl
 -- ---- one more line of a run
 
 -- the text for lines, with the text for one more
-reported_push : (every : ℕ) (ls : List (List ℕ)) (l taken reported first : List ℕ) → IsToldOfLines every ls taken reported →
-    IsToldOfLine every (taken ++ ended_lines ls) l first → IsToldOfLines every (ls ++ l ∷ []) taken (reported ++ first)
+reported_push : (every : ℕ) (ls : List (List ℕ)) (l taken reported first : List ℕ) → IsReportOfLines every ls taken reported →
+    IsReportOfLine every (taken ++ ended_lines ls) l first → IsReportOfLines every (ls ++ l ∷ []) taken (reported ++ first)
 reported_push every [] l taken reported first is of_line = (
   first,
   [],
-  subst (λ (t : List ℕ). IsToldOfLine every t l first) (append-nil taken) of_line,
+  subst (λ (t : List ℕ). IsReportOfLine every t l first) (append-nil taken) of_line,
   ap (λ t. t ++ first) is ∙ sym (append-nil first),
   refl,
 )
@@ -70,7 +70,7 @@ reported_push every (m ∷ ms) l taken reported first (one, rest, fits, all, fur
   fits,
   ap (λ t. t ++ first) all ∙ append_assoc one rest first,
   reported_push every ms l (taken ++ (m ++ 10 ∷ [])) rest first further
-      (subst (λ (t : List ℕ). IsToldOfLine every t l first)
+      (subst (λ (t : List ℕ). IsReportOfLine every t l first)
       (sym (append_assoc taken (m ++ 10 ∷ []) (ended_lines ms))) of_line),
 )
 
@@ -90,9 +90,9 @@ lines_and ls l =
     flat_map-append (λ (x : List ℕ). x ++ 10 ∷ []) ls (l ∷ []) ∙ ap (λ t. ended_lines ls ++ t) (append-nil (l ++ 10 ∷ []))
 
 -- bytes behind the lines whose text is known
-module _ (every : ℕ) (text reported front : List ℕ) (w : IsToldOf every text reported) where
+module _ (every : ℕ) (text reported front : List ℕ) (w : IsReportOf every text reported) where
   -- none of them ends a line
-  pub reported_bytes : HasNoLineFeed front → IsToldOf every (text ++ front) reported
+  pub reported_bytes : HasNoLineFeed front → IsReportOf every (text ++ front) reported
   reported_bytes none = record {
     lines = w.lines;
     line = w.line ++ front;
@@ -112,7 +112,7 @@ module _ (every : ℕ) (text reported front : List ℕ) (w : IsToldOf every text
         (ended_is text is.0 w.lines w.line is.1 w.all w.ended w.open_line) is.2
 
     -- the last ends a line, with what is due behind it
-    reported_line : (body : List ℕ) → EndsLine front body [] → IsToldOf every (text ++ front) (reported ++ first)
+    reported_line : (body : List ℕ) → EndsLine front body [] → IsReportOf every (text ++ front) (reported ++ first)
     reported_line body (is, none) =
         let l : List ℕ = w.line ++ body in
         let lines = w.lines ++ l ∷ [] in
@@ -139,7 +139,7 @@ module _ (every : ℕ) (text reported front : List ℕ) (w : IsToldOf every text
         }
 
     -- nothing is due if no line ends
-    reported_none : HasNoLineFeed front → IsToldOf every (text ++ front) (reported ++ first)
+    reported_none : HasNoLineFeed front → IsReportOf every (text ++ front) (reported ++ first)
     unfolding reported_bytes
     reported_none none =
         let more = reported_bytes none in
@@ -147,7 +147,7 @@ module _ (every : ℕ) (text reported front : List ℕ) (w : IsToldOf every text
         let same = one_count standard_part (ended_lines w.lines) x y here
         (subst (λ (t : List ℕ). HasCounts standard_part t y)
         (ended_is (text ++ front) there.0 more.lines more.line there.1 more.all more.ended more.open_line) there.2) in
-        subst (λ (t : List ℕ). IsToldOf every (text ++ front) t)
+        subst (λ (t : List ℕ). IsReportOf every (text ++ front) t)
         (sym (append-nil reported) ∙ ap (λ t. reported ++ t) (sym (nothing_due same due))) more
       where
         nothing_due : x ≡ y → IsDueText every x y first → first ≡ []
@@ -156,6 +156,6 @@ module _ (every : ℕ) (text reported front : List ℕ) (w : IsToldOf every text
 
     pub reported_more : (behind : List ℕ) →
         ((body : List ℕ) × EndsLine front body []) ⊎ (HasNoLineFeed front × (behind ≡ [])) →
-        IsToldOf every (text ++ front) (reported ++ first)
+        IsReportOf every (text ++ front) (reported ++ first)
     reported_more behind (inl (body, ends)) = reported_line body ends
     reported_more behind (inr (none, nothing)) = reported_none none

@@ -10,7 +10,7 @@ use Rattle.asm_audit.proofs.Extended.{ended}
 use Rattle.asm_driver.specs.Audit.{is_failed_read}
 use Rattle.asm_driver.specs.Ports.{Known, TakesAny}
 use Rattle.asm_driver.specs.Lines.{Takes, IsLineAt, IsLongLine, IsLineRead}
-use Rattle.asm_driver.specs.Parts.{IsAt, IsOneLine, IsToldBehind}
+use Rattle.asm_driver.specs.Parts.{IsAt, IsOneLine, IsReportedAfter}
 use Rattle.asm_driver.specs.Refusal.{refusal_of_input}
 use Rattle.asm_driver.specs.declared.ports.input.InputError.{InputError}
 use Rattle.asm_driver.specs.declared.ports.input.InputError.TheVariants.{TooLarge, Fault, Memory}
@@ -41,7 +41,7 @@ any_taken had old new text before at (more, consumed) =
 module _ (had left : Known) (failed : Bool) (text : List ℕ) (Report : List ℕ → Refusal → Type 0) where
   -- what is reported of any text
   pub reported_anywhere : (r : Refusal) (behind : List ℕ) → Consumes had left (text ++ behind) →
-      failed ≡ is_failed_read (Err r) → ((all : List ℕ) → Report all r) → IsToldBehind had left failed text Report r
+      failed ≡ is_failed_read (Err r) → ((all : List ℕ) → Report all r) → IsReportedAfter had left failed text Report r
   reported_anywhere r behind consumed noted any = record {
     line = [];
     behind = behind;
@@ -54,7 +54,7 @@ module _ (had left : Known) (failed : Bool) (text : List ℕ) (Report : List ℕ
   -- what is reported at a line, whatever follows it
   pub reported_at : (r : Refusal) (line behind : List ℕ) → IsAt had left (text ++ line) behind → IsLineAt left behind line →
       failed ≡ is_failed_read (Err r) → ((rest : List ℕ) → IsLineOf line rest → Report (text ++ (line ++ rest)) r) →
-      IsToldBehind had left failed text Report r
+      IsReportedAfter had left failed text Report r
   reported_at r line behind at (inl (body, ends)) noted is = record {
     line = line;
     behind = behind;
@@ -82,7 +82,7 @@ pub unread_reported : (had old new : Known) (failed : Bool) (text before behind 
     IsLineRead old new failed before behind line (Err e) → ((all : List ℕ) → Report all refusal.InputFault) →
     ((all : List ℕ) → Report all refusal.Memory) →
     ((long more : List ℕ) → IsLongLine long → Report (text ++ (long ++ more)) refusal.TooLarge) →
-    IsToldBehind had new failed text Report (refusal_of_input e)
+    IsReportedAfter had new failed text Report (refusal_of_input e)
 unread_reported had old new failed text before behind line Report TooLarge at (long, taken, is, noted) fault memory large = record {
   line = long;
   behind = behind;

@@ -17,7 +17,7 @@ use Rattle.asm_audit.specs.declared.progress.Progress.{Progress}
 use Rattle.asm_aggregate.specs.Standard.{standard_part}
 use Rattle.asm_driver.specs.Audit.{IsBadRun, is_failed_read, refusal_of_audit}
 use Rattle.asm_driver.specs.Ports.{Known, AppendsSome}
-use Rattle.asm_driver.specs.Watch.{IsToldOf, IsToldBehind, IsWatchTold, IsWatched, IsStopped, IsWatchAnswer, AddsDue}
+use Rattle.asm_driver.specs.Watch.{IsReportOf, IsReportedAfter, IsWatchReported, IsWatched, IsStopped, IsWatchAnswer, AddsDue}
 use Rattle.asm_driver.specs.Watch.{IsWrittenAnswer, IsWatchEnd}
 use Rattle.asm_driver.specs.declared.program.refusal.Refusal.{Refusal}
 use Rattle.asm_driver.specs.declared.program.refusal.Refusal.TheVariants as refusal
@@ -80,7 +80,7 @@ line_taken every text before old new rest p q line left n x y w t here there (fi
     let fed = t.taken text w.fed in
     record {
       fed = fed;
-      watched = subst (λ (l : List ℕ). IsToldOf every (text ++ t.front) l)
+      watched = subst (λ (l : List ℕ). IsReportOf every (text ++ t.front) l)
           (append_assoc before old first ∙ ap (λ l. before ++ l) (sym added))
           (reported_more every text (before ++ old) t.front w.watched p q line left x y first w.fed fed here there due t.behind
           t.ends.1);
@@ -96,7 +96,7 @@ stopped_more every text done rest whole reported r all s =
       next = s.next;
       behind = s.behind;
       all = append_assoc done s.front (s.next ∷ s.behind) ∙ ap (λ t. done ++ t) s.all ∙ all;
-      watched = subst (λ (t : List ℕ). IsToldOf every t reported) here s.watched;
+      watched = subst (λ (t : List ℕ). IsReportOf every t reported) here s.watched;
       noted = s.noted;
       ends = λ more. subst (λ (t : List ℕ). IsBadRun (t ++ s.next ∷ more) r) here (s.ends more);
     }
@@ -106,7 +106,7 @@ stopped_more every text done rest whole reported r all s =
 -- the text that was due, if the output failed
 cut_within : (every : ℕ) (text bytes : List ℕ) (q : Progress) (left reported : List ℕ) (r : Result (Unit {0}) AuditError) →
     IsWatchAnswer every text bytes q left reported r →
-    (front behind : List ℕ) × (front ++ behind ≡ bytes) × IsToldOf every (text ++ front) reported
+    (front behind : List ℕ) × (front ++ behind ≡ bytes) × IsReportOf every (text ++ front) reported
 cut_within every text bytes q left reported (Ok u) w = (bytes, [], append-nil bytes, w.watched)
 cut_within every text bytes q left reported (Err e) s = (s.front, s.next ∷ s.behind, s.all, s.watched)
 
@@ -226,7 +226,7 @@ module _ (every : ℕ) (had mid held wrote : Known) (p : Progress) (line : List 
     all_consumed = Consumes-trans had mid left w.bytes bytes w.consumed taken
 
     stopped_to : (reported : List ℕ) (r : Refusal) → IsStopped every w.bytes bytes reported r →
-        IsWatchTold every had left failed (Err r) reported
+        IsWatchReported every had left failed (Err r) reported
     stopped_to reported r s = record {
       taken = w.bytes ++ s.front;
       behind = s.next ∷ s.behind;
@@ -269,7 +269,7 @@ module _ (every : ℕ) (had mid held wrote : Known) (p : Progress) (line : List 
 
 -- there is no memory for the line of a legal run
 pub memory_instead : (every : ℕ) (had left : Known) (failed : Bool) (v : Counts) (reported : List ℕ) →
-    IsWatchTold every had left failed (Ok v) reported → IsWatchTold every had left failed (Err refusal.Memory) reported
+    IsWatchReported every had left failed (Ok v) reported → IsWatchReported every had left failed (Err refusal.Memory) reported
 memory_instead every had left failed v reported w = record {
   taken = w.taken;
   behind = w.behind;
@@ -278,8 +278,8 @@ memory_instead every had left failed v reported w = record {
   ends = by_behind w.behind w.ends;
   noted = w.noted;
 } where
-  by_behind : (behind : List ℕ) → IsToldBehind left w.taken behind (Ok v) →
-      IsToldBehind left w.taken behind (Err refusal.Memory)
+  by_behind : (behind : List ℕ) → IsReportedAfter left w.taken behind (Ok v) →
+      IsReportedAfter left w.taken behind (Err refusal.Memory)
   by_behind [] (inl is) = inl (is.0, tt)
   by_behind [] (inr e) = absurd (cc (e))
   by_behind (b ∷ bs) is = (refl, λ more. tt)

@@ -18,7 +18,7 @@ use Rattle.asm_trace.specs.Note.{Note, IsNoteOf, AreNotesOf}
 use Rattle.asm_trace.specs.Text.{notes_text, note_json_of, IsNoteAppended}
 use Rattle.asm_trace.proofs.Noted.{notes_more, text_more, few_moves}
 use Rattle.asm_driver.specs.Ports.{Known}
-use Rattle.asm_driver.specs.Parts.{HasSegments, IsPartRead, IsAt, IsOneLine, IsBadAlone, IsBadBehind, IsToldBehind}
+use Rattle.asm_driver.specs.Parts.{HasSegments, IsPartRead, IsAt, IsOneLine, IsBadAlone, IsBadBehind, IsReportedAfter}
 use Rattle.std.specs.FinMap as finite
 use Rattle.serde_json.specs.Data.{Data}
 use Rattle.serde_json.specs.Written.{has_float}
@@ -43,7 +43,7 @@ bad_window w text (refusal.FewParts parts) is = absurd is.3
 bad_window w text r is = inl is
 
 pub refused_window : (w : Window) (had left : Known) (failed : Bool) (text : List ℕ) (r : Refusal) → IsInside w text →
-    IsToldBehind had left failed text (IsBadBehind IsBadAlone w.part) r → IsNoWindow w had left failed r
+    IsReportedAfter had left failed text (IsBadBehind IsBadAlone w.part) r → IsNoWindow w had left failed r
 refused_window w had left failed text r inside reported = (
   text,
   inside,

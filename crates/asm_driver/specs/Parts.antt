@@ -102,7 +102,7 @@ IsBadBehind Bad number text r =
 
 -- behind the bytes that were consumed, this is reported at one line: at the end of the input, or whatever follows the
 -- line
-pub record IsToldBehind (had left : Known) (failed : Bool) (taken : List ℕ) (Report : List ℕ → Refusal → Type 0)
+pub record IsReportedAfter (had left : Known) (failed : Bool) (taken : List ℕ) (Report : List ℕ → Refusal → Type 0)
     (r : Refusal) : Type 0 where
   pub line : List ℕ
   pub behind : List ℕ
@@ -122,4 +122,4 @@ abbrev pub IsEventRead : Known → Known → Bool → ℕ → List ℕ → List 
 IsEventRead had left failed number text behind new A es (Ok e) =
     (failed ≡ false) × ((more : List ℕ) × IsAt had left more behind × IsPartRead number more new A (es ++ e ∷ []))
 IsEventRead had left failed number text behind new A es (Err r) =
-    IsToldBehind had left failed text (IsBadBehind IsBadAlone number) r
+    IsReportedAfter had left failed text (IsBadBehind IsBadAlone number) r

@@ -9,7 +9,7 @@ use Rattle.asm_driver.specs.Words.{Words, AsksFor, AsksForHelp, AsksForVersion, 
 use Rattle.asm_driver.specs.Report.{line}
 use Rattle.asm_audit.specs.declared.progress.Counts.{Counts}
 use Rattle.asm_driver.specs.Audit.{legal_line}
-use Rattle.asm_driver.specs.Watch.{IsWatchTold, IsWatchCut}
+use Rattle.asm_driver.specs.Watch.{IsWatchReported, IsWatchCut}
 use Rattle.asm_driver.specs.Window.{IsWindow, IsNoWindow}
 use Rattle.asm_driver.specs.Commands.{IsDone, IsNotDone}
 use Rattle.asm_driver.specs.Refusal.{refusal_line, refusal_status, has_number}
@@ -61,14 +61,14 @@ abbrev pub version_line : List ℕ
 version_line = line (codes "asm_driver 0.2.0")
 
 -- the text is the help, if the words ask for that, or the line with the version, if they ask for that
-abbrev pub IsToldOf : Words → List ℕ → Type 0
-IsToldOf words text = AsksForHelp words ⊎ (AsksForVersion words × (text ≡ version_line))
+abbrev pub IsReportOf : Words → List ℕ → Type 0
+IsReportOf words text = AsksForHelp words ⊎ (AsksForVersion words × (text ≡ version_line))
 
 -- the answer to the words: their request carried out; or help or the version, before anything is read
 abbrev pub IsAnswer : Words → Input → ℕ → List ℕ → Type 0
 IsAnswer words i status text =
     IsAsked words i status text ⊎ IsShownOf words i status text
-    ⊎ ((status ≡ 0) × IsToldOf words text × IsUnread i)
+    ⊎ ((status ≡ 0) × IsReportOf words text × IsUnread i)
 
 -- why the words are refused
 abbrev pub IsWordsRefusal : Words → Refusal → Type 0
@@ -183,7 +183,7 @@ WritesLegal w o result =
 -- an audit, which writes its progress after each so many calls, and then how it ends
 abbrev pub TellsAll : ℕ → Input → Output → ℕ → Type 0
 TellsAll every i o result =
-    (r : Result Counts Refusal) × (reported text : List ℕ) × (status : ℕ) × IsWatchTold every i.had i.left i.failed r reported
+    (r : Result Counts Refusal) × (reported text : List ℕ) × (status : ℕ) × IsWatchReported every i.had i.left i.failed r reported
     × EndsAs r status text × Writes o status (reported ++ text) result
 
 -- such an audit, or one whose output failed before its end

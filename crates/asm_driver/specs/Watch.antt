@@ -36,42 +36,42 @@ IsDueText every w x text =
 
 -- the text for this line of the run, behind those that were consumed: what is due by the counts before it and behind
 -- it
-abbrev pub IsToldOfLine : ℕ → List ℕ → List ℕ → List ℕ → Type 0
-IsToldOfLine every taken l text =
+abbrev pub IsReportOfLine : ℕ → List ℕ → List ℕ → List ℕ → Type 0
+IsReportOfLine every taken l text =
     (w x : Counts) × HasCounts standard_part taken w × HasCounts standard_part (taken ++ (l ++ 10 ∷ [])) x
     × IsDueText every w x text
 
 -- the texts for these lines of the run in turn, behind those that were consumed
-abbrev pub IsToldOfLines : ℕ → List (List ℕ) → List ℕ → List ℕ → Type 0
-IsToldOfLines every [] taken reported = reported ≡ []
-IsToldOfLines every (l ∷ ls) taken reported =
-    (first rest : List ℕ) × IsToldOfLine every taken l first × (reported ≡ first ++ rest)
-    × IsToldOfLines every ls (taken ++ (l ++ 10 ∷ [])) rest
+abbrev pub IsReportOfLines : ℕ → List (List ℕ) → List ℕ → List ℕ → Type 0
+IsReportOfLines every [] taken reported = reported ≡ []
+IsReportOfLines every (l ∷ ls) taken reported =
+    (first rest : List ℕ) × IsReportOfLine every taken l first × (reported ≡ first ++ rest)
+    × IsReportOfLines every ls (taken ++ (l ++ 10 ∷ [])) rest
 
 -- the text for these bytes of a run: that for each line that ends in them
-pub record IsToldOf (every : ℕ) (taken reported : List ℕ) : Type 0 where
+pub record IsReportOf (every : ℕ) (taken reported : List ℕ) : Type 0 where
   pub lines : List (List ℕ)
   pub line : List ℕ
   pub all : ended_lines lines ++ line ≡ taken
   pub ended : All HasNoLineFeed lines
   pub open_line : HasNoLineFeed line
-  pub of_lines : IsToldOfLines every lines [] reported
+  pub of_lines : IsReportOfLines every lines [] reported
 
 -- how the audit ends behind the bytes that were consumed: there is no further one, or a read failed, or the audit
 -- reports it at the next one, whatever follows that
-abbrev pub IsToldBehind : Known → List ℕ → List ℕ → Result Counts Refusal → Type 0
-IsToldBehind left taken [] r = (IsAtEnd left × IsAuditOf taken r) ⊎ (r ≡ Err refusal.InputFault)
-IsToldBehind left taken (b ∷ bs) r = (is_failed_read r ≡ false) × ((more : List ℕ) → IsAuditOf (taken ++ b ∷ more) r)
+abbrev pub IsReportedAfter : Known → List ℕ → List ℕ → Result Counts Refusal → Type 0
+IsReportedAfter left taken [] r = (IsAtEnd left × IsAuditOf taken r) ⊎ (r ≡ Err refusal.InputFault)
+IsReportedAfter left taken (b ∷ bs) r = (is_failed_read r ≡ false) × ((more : List ℕ) → IsAuditOf (taken ++ b ∷ more) r)
 
 -- an audit of the input, with the text that is written meanwhile: some bytes of it were read, and the first of these
 -- were consumed
-pub record IsWatchTold (every : ℕ) (had left : Known) (failed : Bool) (r : Result Counts Refusal) (reported : List ℕ) : Type 0
+pub record IsWatchReported (every : ℕ) (had left : Known) (failed : Bool) (r : Result Counts Refusal) (reported : List ℕ) : Type 0
   where
     pub taken : List ℕ
     pub behind : List ℕ
     pub consumed : Consumes had left (taken ++ behind)
-    pub watched : IsToldOf every taken reported
-    pub ends : IsToldBehind left taken behind r
+    pub watched : IsReportOf every taken reported
+    pub ends : IsReportedAfter left taken behind r
     pub noted : failed ≡ is_failed_read r
 
 -- an audit that ends within the input, with the text that was due up to there
@@ -79,14 +79,14 @@ pub record IsWatchCut (every : ℕ) (had left : Known) (reported : List ℕ) : T
   pub taken : List ℕ
   pub behind : List ℕ
   pub consumed : Consumes had left (taken ++ behind)
-  pub watched : IsToldOf every taken reported
+  pub watched : IsReportOf every taken reported
 
 -- ---- on the way
 
 -- these bytes were fed, and this text was due meanwhile
 pub record IsWatched (every : ℕ) (text : List ℕ) (p : Progress) (line reported : List ℕ) : Type 0 where
   pub fed : IsFed standard_part text p line
-  pub watched : IsToldOf every text reported
+  pub watched : IsReportOf every text reported
 
 -- of the bytes behind a text the first were consumed, this text was due, and the audit ends in this way at the next
 -- one
@@ -95,7 +95,7 @@ pub record IsStopped (every : ℕ) (text bytes reported : List ℕ) (r : Refusal
   pub next : ℕ
   pub behind : List ℕ
   pub all : front ++ next ∷ behind ≡ bytes
-  pub watched : IsToldOf every (text ++ front) reported
+  pub watched : IsReportOf every (text ++ front) reported
   pub noted : is_failed_read (Err r) ≡ false
   pub ends : (more : List ℕ) → IsBadRun ((text ++ front) ++ next ∷ more) r
 
@@ -122,13 +122,13 @@ IsWrittenAnswer every text bytes q left before held holds (Err (Refused r)) =
     (more : List ℕ) × Appends held holds more × IsStopped every text bytes (before ++ more) r
 IsWrittenAnswer every text bytes q left before held holds (Err Unwritten) =
     (more front behind : List ℕ) × AppendsSome held holds more × (front ++ behind ≡ bytes)
-    × IsToldOf every (text ++ front) (before ++ more)
+    × IsReportOf every (text ++ front) (before ++ more)
 
 -- how a watched audit of the input ends, with what went out meanwhile
 abbrev pub IsWatchEnd : ℕ → Known → Known → Bool → Known → Known → Result Counts Stop → Type 0
 IsWatchEnd every had left failed held holds (Ok w) =
-    (reported : List ℕ) × Appends held holds reported × IsWatchTold every had left failed (Ok w) reported
+    (reported : List ℕ) × Appends held holds reported × IsWatchReported every had left failed (Ok w) reported
 IsWatchEnd every had left failed held holds (Err (Refused r)) =
-    (reported : List ℕ) × Appends held holds reported × IsWatchTold every had left failed (Err r) reported
+    (reported : List ℕ) × Appends held holds reported × IsWatchReported every had left failed (Err r) reported
 IsWatchEnd every had left failed held holds (Err Unwritten) =
     (reported : List ℕ) × AppendsSome held holds reported × IsWatchCut every had left reported × (failed ≡ false)

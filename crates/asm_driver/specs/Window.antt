@@ -18,7 +18,7 @@ use Rattle.asm_audit.specs.declared.part_auditor.PartAuditor.{PartAuditor}
 use Rattle.asm_trace.specs.Note.{Note, AreNotesOf}
 use Rattle.asm_trace.specs.Text.{notes_text}
 use Rattle.asm_driver.specs.Ports.{Known}
-use Rattle.asm_driver.specs.Parts.{HasHeaderLine, HasSegments, HasSomeLines, IsPartRead, IsAt, IsOneLine, IsBadAlone, IsNotPassed, IsBadBehind, IsToldBehind}
+use Rattle.asm_driver.specs.Parts.{HasHeaderLine, HasSegments, HasSomeLines, IsPartRead, IsAt, IsOneLine, IsBadAlone, IsNotPassed, IsBadBehind, IsReportedAfter}
 use Rattle.asm_driver.specs.declared.program.refusal.Refusal.{Refusal}
 use Rattle.asm_driver.specs.declared.program.refusal.Refusal.TheVariants as refusal
 use Rattle.asm_driver.specs.declared.program.words.Window.{Window}
@@ -116,7 +116,7 @@ pub record IsWindow (w : Window) (had left : Known) (failed : Bool) (reported : 
 -- end
 abbrev pub IsNoWindow : Window → Known → Known → Bool → Refusal → Type 0
 IsNoWindow w had left failed r =
-    (taken : List ℕ) × IsInside w taken × IsToldBehind had left failed taken (IsBadWindow w) r
+    (taken : List ℕ) × IsInside w taken × IsReportedAfter had left failed taken (IsBadWindow w) r
 
 -- ---- on the way
 

@@ -206,8 +206,8 @@ abbrev pub AsksForVersion : Words → Type 0
 AsksForVersion words = IsAmong kind.DisplayVersion (faults words)
 
 -- what clap found is no mistake: help or the version is written
-abbrev pub IsTold : ErrorKind → Type 0
-IsTold k = (k ≡ kind.DisplayHelp) ⊎ (k ≡ kind.DisplayVersion)
+abbrev pub IsHelpOrVersion : ErrorKind → Type 0
+IsHelpOrVersion k = (k ≡ kind.DisplayHelp) ⊎ (k ≡ kind.DisplayVersion)
 
 -- there is another command, or none, or one that explains another text or traces a window that ends before it begins
 abbrev pub IsNoCommand : Option (Text × List Row) → Type 0
@@ -220,7 +220,7 @@ IsNoCommand (Some p) =
 -- the words have a mistake: one that clap may find, or clap accepts them and they are no command of the program's
 abbrev pub HasMistake : Words → Type 0
 HasMistake words =
-    ((k : ErrorKind) × IsAmong k (faults words) × ¬ IsTold k)
+    ((k : ErrorKind) × IsAmong k (faults words) × ¬ IsHelpOrVersion k)
     ⊎ ((faults words ≡ []) × IsNoCommand (subcommand_of program words))
 
 -- why the words are refused; nothing is claimed of an allocation failure
@@ -234,5 +234,5 @@ IsRefusal words Memory = Unit {0}
 abbrev pub IsMadeOf : ErrorKind → WordsError → Type 0
 IsMadeOf k (Help text) = k ≡ kind.DisplayHelp
 IsMadeOf k Version = k ≡ kind.DisplayVersion
-IsMadeOf k Bad = ¬ (k ≡ kind.OutOfMemory) × ¬ IsTold k
+IsMadeOf k Bad = ¬ (k ≡ kind.OutOfMemory) × ¬ IsHelpOrVersion k
 IsMadeOf k Memory = (k ≡ kind.OutOfMemory) ⊎ (k ≡ kind.DisplayHelp)
