@@ -1,7 +1,8 @@
 //! What an agent has seen and counted, and what it learns and takes from another.
-ghost use Rattle.std.specs.Prelude.{◌≡◌, ◌≢◌, ◌⊎◌, ◌∷◌, [], length};
+ghost use Rattle.std.specs.Prelude.{◌≡◌, ◌≢◌, length};
 ghost use Rattle.asm_slots.specs.AgentCalls.{Learns};
-ghost use Rattle.asm_slots.specs.Codes.{IsOneOf, ASM_DONE, ASM_EMPTY, ASM_OTHER};
+ghost use Rattle.asm_slots.specs.Answers.{Answers, AreNotTwo};
+ghost use Rattle.asm_slots.specs.Codes.{ASM_DONE};
 ghost use Rattle.asm_slots.specs.OwnState.{TakesState};
 ghost use Rattle.asm_slots.specs.Slots.{AreOfOneStorage, HoldsNoAgent, IfHolds, content_of};
 
@@ -54,17 +55,14 @@ pub extern "C" fn asm_misses(alloc: Global, agent: &mut Slot) -> u64
 #[unsafe(no_mangle)]
 pub extern "C" fn asm_learn(alloc: Global, agent: &mut Slot, other: &mut Slot) -> i32
     requires { AreOfOneStorage (content_of agent.old) (content_of other.old) }
-    ensures codes { IsOneOf (ASM_DONE ∷ ASM_EMPTY ∷ ASM_OTHER ∷ []) result }
-    ensures learnt { result ≡ ASM_DONE →
-        Learns (content_of other.old) (content_of agent.old) (content_of agent.new) }
+    ensures answers { Answers result (Learns (content_of other.old) (content_of agent.old) (content_of agent.new))
+        (AreNotTwo (content_of agent.old) (content_of other.old)) }
     ensures theirs { content_of other.new ≡ content_of other.old }
     ensures kept { result ≢ ASM_DONE → content_of agent.new ≡ content_of agent.old }
-    ensures empty { result ≡ ASM_EMPTY →
-        HoldsNoAgent (content_of agent.old) ⊎ HoldsNoAgent (content_of other.old) }
 {
     let both = match take_agents(alloc, agent, other) {
         Ok(both) => both,
-        Err(code) => return code,
+        Err(code) => return code.number(),
     };
     let (theirs, mark) = both.other.mark(alloc);
     put_agent(other, both.other_shell, theirs);
@@ -87,17 +85,15 @@ pub extern "C" fn asm_learn(alloc: Global, agent: &mut Slot, other: &mut Slot) -
 #[unsafe(no_mangle)]
 pub extern "C" fn asm_take_state(alloc: Global, agent: &mut Slot, other: &mut Slot) -> i32
     requires { AreOfOneStorage (content_of agent.old) (content_of other.old) }
-    ensures codes { IsOneOf (ASM_DONE ∷ ASM_EMPTY ∷ ASM_OTHER ∷ []) result }
-    ensures taken { result ≡ ASM_DONE → TakesState (content_of agent.old) (content_of other.old)
-        (content_of agent.new) (content_of other.new) }
+    ensures answers { Answers result
+        (TakesState (content_of agent.old) (content_of other.old) (content_of agent.new) (content_of other.new))
+        (AreNotTwo (content_of agent.old) (content_of other.old)) }
     ensures kept { result ≢ ASM_DONE → content_of agent.new ≡ content_of agent.old }
     ensures theirs { result ≢ ASM_DONE → content_of other.new ≡ content_of other.old }
-    ensures empty { result ≡ ASM_EMPTY →
-        HoldsNoAgent (content_of agent.old) ⊎ HoldsNoAgent (content_of other.old) }
 {
     let mut both = match take_agents(alloc, agent, other) {
         Ok(both) => both,
-        Err(code) => return code,
+        Err(code) => return code.number(),
     };
     both.agent.take_state(&mut both.other);
     let TwoAgents {

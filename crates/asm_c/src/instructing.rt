@@ -1,16 +1,13 @@
 //! Preparing locations, and building moves in slots.
-ghost use Rattle.std.specs.Prelude.{◌≡◌, ◌≢◌, ◌<◌, ◌+◌, ◌↔◌, ◌∷◌, ◌++◌, [], length, None};
-ghost use Rattle.asm_update.specs.Limits.{instructions_limit};
-ghost use Rattle.asm_slots.specs.Answers.{Answers, IsNotInstructed, IsNotPrepared};
-ghost use Rattle.asm_slots.specs.Codes.{IsOneOf, ASM_DONE, ASM_MEMORY, ASM_EMPTY, ASM_LONG_MOVE, ASM_TAKEN};
+ghost use Rattle.std.specs.Prelude.{◌≡◌, ◌≢◌, ◌++◌, None};
+ghost use Rattle.asm_slots.specs.Answers.{Answers, IsNotInstructed, IsNotPrepared, IsNotUnited};
+ghost use Rattle.asm_slots.specs.Codes.{ASM_DONE};
 ghost use Rattle.asm_slots.specs.Kinds.{IsInstructed};
 ghost use Rattle.asm_slots.specs.Slots.{HasRoomForMove, HoldsLocation, HoldsMove, content_of, move_of};
 ghost use Rattle.asm_slots.specs.Bytes.{ReadAsLocation};
 
-use asm_slots::codes::{EMPTY, TAKEN};
-use asm_slots::instructing::{instruct, prepare, unite_first, unite_in};
-use asm_slots::take_and_put::{put_shell, take_shell};
-use asm_slots::{Content, Slot, answer};
+use asm_slots::instructing::{instruct, prepare, unite};
+use asm_slots::{Slot, answer};
 use std::alloc::Global;
 
 /// Append an instruction at a prepared location to the move in a slot.
@@ -60,29 +57,13 @@ pub extern "C" fn asm_instruct(
 /// - `ASM_MEMORY`: out of memory.
 #[unsafe(no_mangle)]
 pub extern "C" fn asm_unite(alloc: Global, instrs: &mut Slot, other: &mut Slot) -> i32
-    ensures codes { IsOneOf (ASM_DONE ∷ ASM_MEMORY ∷ ASM_EMPTY ∷ ASM_LONG_MOVE ∷ ASM_TAKEN ∷ []) result }
-    ensures done { result ≡ ASM_DONE → HoldsMove (content_of instrs.new)
-        (λ united. united ≡ move_of (content_of instrs.old) ++ move_of (content_of other.old)) }
-    ensures taken { (result ≡ ASM_TAKEN) ↔ ¬ HasRoomForMove (content_of instrs.old) }
-    ensures empty { result ≡ ASM_EMPTY → ¬ HasRoomForMove (content_of other.old) }
-    ensures room { IsOneOf (ASM_DONE ∷ ASM_MEMORY ∷ ASM_LONG_MOVE ∷ []) result → HasRoomForMove (content_of other.old) }
-    ensures many { result ≡ ASM_LONG_MOVE →
-        instructions_limit < length (move_of (content_of instrs.old)) + length (move_of (content_of other.old)) }
+    ensures answers { Answers result (HasRoomForMove (content_of instrs.old) × HasRoomForMove (content_of other.old)
+        × HoldsMove (content_of instrs.new) (λ united. united ≡ move_of (content_of instrs.old) ++ move_of (content_of other.old)))
+        (IsNotUnited (content_of instrs.old) (content_of other.old)) }
     ensures kept { result ≢ ASM_DONE → content_of instrs.new ≡ content_of instrs.old }
     ensures held { content_of other.new ≡ content_of other.old }
 {
-    let was_full = other.is_full();
-    let Some(mut shell) = take_shell(alloc, instrs) else {
-        return unite_first(alloc, instrs, other);
-    };
-    let code = match &mut *shell {
-        // If C passes one slot twice, it is empty by now.
-        Content::Move(_) if other.is_full() != was_full => EMPTY,
-        Content::Move(gathered) => unite_in(alloc, gathered, other),
-        _ => TAKEN,
-    };
-    put_shell(instrs, shell);
-    code
+    answer(unite(alloc, instrs, other))
 }
 
 /// Prepare the location `LOC` in an empty slot.

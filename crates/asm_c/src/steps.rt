@@ -1,19 +1,19 @@
 //! Beginning a step, what is seen through its pushed moves, and popping the last of them.
-ghost use Rattle.std.specs.Prelude.{◌≡◌, ◌≢◌, ◌↔◌, ◌∷◌, [], Ok, length};
-ghost use Rattle.asm_slots.specs.Codes.{IsOneOf, ASM_CLASH, ASM_DONE, ASM_EMPTY, ASM_LARGE, ASM_MANY, ASM_LONG_MOVE};
-ghost use Rattle.asm_slots.specs.Codes.{ASM_MEMORY, ASM_NO_PUSH, ASM_TAKEN};
+ghost use Rattle.std.specs.Prelude.{◌≡◌, ◌≢◌, Ok, length};
+ghost use Rattle.asm_slots.specs.Codes.{ASM_DONE};
 ghost use Rattle.asm_slots.specs.StepAnswers.{Gets, Sees, GetsAll};
 ghost use Rattle.asm_slots.specs.AgentAnswers.{Begins};
-ghost use Rattle.asm_slots.specs.Popping.{IsComposedLast, IsNotPoppedLast};
+ghost use Rattle.asm_slots.specs.Answers.{Answers};
+ghost use Rattle.asm_slots.specs.Popping.{IsComposedLast, IsNotPoppedIn, IsNotPoppedInto};
 ghost use Rattle.asm_slots.specs.Slots.{ChangesStep, HasRoomForMove, HoldsMove, HoldsNoStep, HoldsStep, IfHoldsStep, content_of};
-ghost use Rattle.asm_slots.specs.StepCalls.{HasPoppedOver, WouldTakeMany};
+ghost use Rattle.asm_slots.specs.StepCalls.{HasPoppedOver};
 ghost use Rattle.asm_slots.specs.Tracked.{last_partial_places, dependencies_last};
 
 use asm_slots::codes::{DONE, EMPTY, MEMORY, TAKEN};
 use asm_slots::getting_all::get_all_in;
 use asm_slots::popping::{has_room_for_move, pop_in, pop_into};
 use asm_slots::steps::{get_in, has_room, open_step, see_in};
-use asm_slots::{Content, Slot, in_place};
+use asm_slots::{Content, Slot, answer, in_place};
 use std::alloc::{AllocError, Global};
 
 /// Begin a step of the agent in a slot that is empty or holds a step.
@@ -140,15 +140,13 @@ pub extern "C" fn asm_see(
 /// - `ASM_MEMORY`: out of memory.
 #[unsafe(no_mangle)]
 pub extern "C" fn asm_pop(alloc: Global, step: &mut Slot) -> i32
-    ensures codes { IsOneOf (ASM_DONE ∷ ASM_MEMORY ∷ ASM_EMPTY ∷ ASM_MANY ∷ ASM_NO_PUSH ∷ []) result }
-    ensures popped { result ≡ ASM_DONE →
-        ChangesStep (content_of step.old) (content_of step.new) (λ s. HasPoppedOver (last_partial_places s) s) }
-    ensures none { result ≡ ASM_NO_PUSH → HoldsStep (content_of step.old) (λ s. s.layers ≡ []) }
-    ensures many { result ≡ ASM_MANY → HoldsStep (content_of step.old) (λ s. WouldTakeMany (last_partial_places s) s) }
-    ensures empty { result ≡ ASM_EMPTY → HoldsNoStep (content_of step.old) }
+    ensures answers { Answers result
+        (ChangesStep (content_of step.old) (content_of step.new) (λ s. HasPoppedOver (last_partial_places s) s))
+        (IsNotPoppedIn (content_of step.old)) }
     ensures kept { result ≢ ASM_DONE → content_of step.new ≡ content_of step.old }
 {
-    in_place!(step, Step, EMPTY, taken => pop_in(alloc, taken))
+    let popped = in_place!(step, Step, EMPTY, taken => pop_in(alloc, taken));
+    answer(popped)
 }
 
 /// Take away the last pushed move as `asm_pop` does, and put it into a slot.
@@ -170,24 +168,18 @@ pub extern "C" fn asm_pop(alloc: Global, step: &mut Slot) -> i32
 /// - `ASM_MEMORY`: out of memory.
 #[unsafe(no_mangle)]
 pub extern "C" fn asm_pop_move(alloc: Global, step: &mut Slot, instrs: &mut Slot) -> i32
-    ensures codes { IsOneOf (ASM_DONE ∷ ASM_CLASH ∷ ASM_MEMORY ∷ ASM_EMPTY ∷ ASM_MANY ∷ ASM_TAKEN ∷ ASM_LARGE ∷ ASM_NO_PUSH
-        ∷ ASM_LONG_MOVE ∷ []) result }
-    ensures popped { result ≡ ASM_DONE →
-        ChangesStep (content_of step.old) (content_of step.new) (λ s. HasPoppedOver (dependencies_last s) s) }
-    ensures done { result ≡ ASM_DONE →
-        HoldsStep (content_of step.old) (λ s. HoldsMove (content_of instrs.new) (λ M. IsComposedLast s (Ok M))) }
-    ensures taken { (result ≡ ASM_TAKEN) ↔ ¬ HasRoomForMove (content_of instrs.old) }
-    ensures empty { result ≡ ASM_EMPTY → HoldsNoStep (content_of step.old) }
-    ensures none { result ≡ ASM_NO_PUSH → HoldsStep (content_of step.old) (λ s. s.layers ≡ []) }
-    ensures refused { IsOneOf (ASM_CLASH ∷ ASM_MANY ∷ ASM_LARGE ∷ ASM_LONG_MOVE ∷ []) result →
-        HoldsStep (content_of step.old) (λ s. IsNotPoppedLast s result) }
+    ensures answers { Answers result (HasRoomForMove (content_of instrs.old)
+        × ChangesStep (content_of step.old) (content_of step.new) (λ s. HasPoppedOver (dependencies_last s) s)
+        × HoldsStep (content_of step.old) (λ s. HoldsMove (content_of instrs.new) (λ M. IsComposedLast s (Ok M))))
+        (IsNotPoppedInto (content_of step.old) (content_of instrs.old)) }
     ensures kept { result ≢ ASM_DONE → content_of step.new ≡ content_of step.old }
     ensures held { result ≢ ASM_DONE → content_of instrs.new ≡ content_of instrs.old }
 {
     if !has_room_for_move(instrs) {
         return TAKEN;
     }
-    in_place!(step, Step, EMPTY, taken => pop_into(alloc, taken, instrs))
+    let popped = in_place!(step, Step, EMPTY, taken => pop_into(alloc, taken, instrs));
+    answer(popped)
 }
 
 /// Write what is seen through the pushed moves at all locations of a function.

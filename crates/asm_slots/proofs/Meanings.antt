@@ -10,7 +10,7 @@ use Rattle.asm_update.specs.declared.action.Action.TheVariants.{Regular, SetAdd,
 use Rattle.asm_journal.specs.Value.{IsValueForm}
 use Rattle.asm_journal.proofs.Values.{value_once}
 use Rattle.asm_explain.specs.Bytes.{IsOtherJson, ReadAs}
-use Rattle.asm_slots.specs.Kinds.{ASM_KIND_BAG, ASM_KIND_BOOL, ASM_KIND_LIST, ASM_KIND_NUM, ASM_KIND_SET, ASM_KIND_TEXT, ASM_KIND_UNDEF}
+use Rattle.asm_slots.specs.Kinds.{ASM_KIND_BAG, ASM_KIND_BOOL, ASM_KIND_NUM, ASM_KIND_SET, ASM_KIND_TEXT, ASM_KIND_UNDEF}
 use Rattle.asm_slots.specs.Kinds.{IsAction, IsAmount, IsByJson, IsKindForm, IsNoAction, IsOperand, IsTextOrPlain, kind_of, verb_of}
 use Rattle.asm_slots.specs.Kinds.{CannotTake, IsActionOn, IsVerb}
 use Rattle.asm_slots.specs.declared.operands.Verb.{Verb}

@@ -1,14 +1,21 @@
 -- What is refused for one reason is refused for another.
-use Rattle.std.proofs.Common.{◌≡◌, inl, ℤ, ℕ, List, Option, None}
+use Rattle.std.proofs.Common.{◌≡◌, Some, inl, refl, subst, sym, ℤ, ℕ, Err, List, Option, None}
 use Rattle.asm_journal.specs.Element.{IsLocationForm}
 use Rattle.asm_slots.specs.Kinds.{IsByJson}
 use Rattle.asm_slots.specs.Answers.{IsNoActionFor, IsNoElementFor, IsNoOperandFor, IsNoRoomFor, IsNotGathered, IsNotInstructed, IsNotPrepared, IsUnreadAs}
+use Rattle.asm_slots.specs.Answers.{IsNotAppended, IsNotTracked, IsNotUnited, code_of_compose}
 use Rattle.asm_slots.specs.Slots.{HasRoomForMove, move_of}
 use Rattle.asm_update.specs.Action as action
 use Rattle.asm_update.specs.Move.{Move}
+use Rattle.asm_aggregate.specs.declared.composition.ComposeError.{ComposeError}
+use Rattle.asm_aggregate.specs.declared.composition.ComposeError.TheVariants as compose_error
+use Rattle.asm_slots.specs.Popping.{IsComposedLast, IsNotPopped, IsNotPoppedIn, IsNotPoppedInto, IsNotPoppedLast}
+use Rattle.asm_slots.specs.StepView.{StepView}
+use Rattle.asm_slots.specs.Tracked.{dependencies_last, last_partial_places}
 use Rattle.asm_slots.specs.declared.codes.Code.{Code}
 use Rattle.asm_slots.specs.declared.codes.Code.TheVariants as code
 use Rattle.asm_slots.specs.declared.content.Content.{Content}
+use Rattle.asm_slots.specs.declared.content.Content.TheVariants as content
 use Rattle.asm_slots.proofs.Meanings.{none_means}
 
 pub no_operand : (kind number : ℤ) (bytes : List ℕ) (c : Code) → ¬ IsByJson kind → IsNoElementFor kind number bytes c →
@@ -46,3 +53,32 @@ no_instructed at old verb kind number bytes amount _ room none = (room, none)
 pub not_prepared : (at : Option Content) (bytes : List ℕ) (c : Code) → at ≡ None → IsUnreadAs IsLocationForm bytes c → IsNotPrepared at bytes c
 not_prepared at bytes code.Taken empty none = absurd none
 not_prepared at bytes _ empty none = (empty, none)
+
+pub not_united : (old other : Option Content) (c : Code) → HasRoomForMove old → IsNotAppended (move_of old) other c → IsNotUnited old other c
+not_united old other code.Taken room none = absurd none
+not_united old other _ room none = (room, none)
+
+pub not_popped : (s : StepView) (c : Code) → IsNotTracked (last_partial_places s) s c → IsNotPopped s c
+not_popped s code.NoPush none = absurd none
+not_popped s _ none = none
+
+pub not_popped_last : (s : StepView) (c : Code) → IsNotTracked (dependencies_last s) s c → IsNotPoppedLast s c
+not_popped_last s code.Memory none = tt
+not_popped_last s code.Many none = none
+not_popped_last s _ none = absurd none
+
+pub not_composed : (s : StepView) (c : Code) (e : ComposeError) → IsComposedLast s (Err e) → c ≡ code_of_compose e → IsNotPoppedLast s c
+not_composed s c (compose_error.Clash x) none is = subst (IsNotPoppedLast s) (sym is) (compose_error.Clash x, none, refl)
+not_composed s c (compose_error.Large x) none is = subst (IsNotPoppedLast s) (sym is) (compose_error.Large x, none, refl)
+not_composed s c compose_error.ManyInstructions none is = subst (IsNotPoppedLast s) (sym is) (compose_error.ManyInstructions, none, refl)
+not_composed s c compose_error.Memory none is = subst (IsNotPoppedLast s) (sym is) tt
+
+pub not_popped_in : (step : Option Content) (s : StepView) → step ≡ Some (content.Step s) → (c : Code) → IsNotPopped s c → IsNotPoppedIn step c
+not_popped_in step s is code.Empty none = absurd none
+not_popped_in step s is c none = subst (λ (x : Option Content). IsNotPoppedIn x c) (sym is) none
+
+pub not_popped_into : (step old : Option Content) (s : StepView) → step ≡ Some (content.Step s) → HasRoomForMove old → (c : Code) →
+    IsNotPoppedLast s c → IsNotPoppedInto step old c
+not_popped_into step old s is room code.Taken none = absurd none
+not_popped_into step old s is room code.Empty none = absurd none
+not_popped_into step old s is room c none = subst (λ (x : Option Content). IsNotPoppedInto x old c) (sym is) (room, none)

@@ -1,5 +1,5 @@
 -- Scanned functions are unchanged before a move that fired over their scans.
-use Rattle.std.proofs.Common.{IsTrue, string_bytes, Ok, ◌≡◌, ◌≤◌, ◌<◌, ◌+◌, ◌-◌, ◌∙◌, ◌||◌, ℕ, ℤ, zero, suc, Bool, true, false, List, [], ◌∷◌, All, get_or, length, map, take, arith, ap, refl, subst, sym}
+use Rattle.std.proofs.Common.{IsTrue, string_bytes, Ok, ◌≡◌, ◌≤◌, ◌<◌, ◌+◌, ◌-◌, ◌∙◌, ◌||◌, ℕ, ℤ, zero, suc, Bool, true, false, List, [], ◌∷◌, All, get_or, length, take, arith, ap, refl, subst, sym}
 use Rattle.std.specs.Prelude.{nat_lt}
 use Rattle.std.specs.List.{list_any}
 use mathlib.Core.List.{IsPrefix}

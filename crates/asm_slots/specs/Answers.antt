@@ -1,10 +1,16 @@
 -- What calls answer, and the numbers of their codes.
-use Rattle.std.specs.Prelude.{◌≡◌, ◌⊎◌, ℤ, Result, Ok, Err, ◌≢◌, ℕ, List, length, IsUtf8, Option, None}
+use Rattle.std.specs.Prelude.{◌≡◌, ◌⊎◌, ◌<◌, ◌≤◌, ◌+◌, ℤ, Result, Ok, Err, ◌≢◌, ℕ, List, length, IsUtf8, Option, None}
 use Rattle.asm_explain.specs.declared.reading.TextError.{TextError}
 use Rattle.asm_explain.specs.declared.reading.TextError.TheVariants as text_error
 use Rattle.asm_update.specs.declared.instructions.InstructionsError.{InstructionsError}
 use Rattle.asm_update.specs.declared.instructions.InstructionsError.TheVariants as instructions_error
-use Rattle.asm_slots.specs.Codes.{ASM_DONE, ASM_EMPTY, ASM_LONG_MOVE, ASM_MEMORY, ASM_NOT_JSON, ASM_OPERAND, ASM_SHAPE, ASM_TAKEN}
+use Rattle.asm_slots.specs.Codes.{ASM_CLASH, ASM_DONE, ASM_EMPTY, ASM_LARGE, ASM_LONG_MOVE, ASM_MANY, ASM_MEMORY, ASM_MOVED}
+use Rattle.asm_slots.specs.Codes.{ASM_NOT_JSON, ASM_NO_PUSH, ASM_OPERAND, ASM_OTHER, ASM_SHAPE, ASM_TAKEN}
+use Rattle.asm_aggregate.specs.declared.composition.ComposeError.{ComposeError}
+use Rattle.asm_aggregate.specs.declared.composition.ComposeError.TheVariants as compose_error
+use Rattle.asm_element.specs.Place.{Place}
+use Rattle.asm_slots.specs.StepCalls.{WouldTakeMany}
+use Rattle.asm_slots.specs.StepView.{StepView}
 use Rattle.asm_slots.specs.declared.codes.Code.{Code}
 use Rattle.asm_slots.specs.declared.codes.Code.TheVariants as code
 use Rattle.serde_json.specs.Data.{Data}
@@ -15,7 +21,7 @@ use Rattle.asm_update.specs.Move.{Move}
 use Rattle.asm_explain.specs.Bytes.{IsNoJson, IsOtherJson}
 use Rattle.asm_journal.specs.Element.{IsLocationForm}
 use Rattle.asm_slots.specs.Kinds.{ASM_KIND_TEXT, IsByJson, IsMisshapen, IsNoAction, IsOperand, IsTextOrPlain}
-use Rattle.asm_slots.specs.Slots.{HasRoomForMove, HoldsNoLocation, move_of}
+use Rattle.asm_slots.specs.Slots.{HasRoomForMove, HoldsNoAgent, HoldsNoLocation, move_of}
 use Rattle.asm_slots.specs.declared.content.Content.{Content}
 
 -- the number of a code
@@ -27,6 +33,12 @@ number_of code.NotJson = ASM_NOT_JSON
 number_of code.Shape = ASM_SHAPE
 number_of code.Operand = ASM_OPERAND
 number_of code.LongMove = ASM_LONG_MOVE
+number_of code.Moved = ASM_MOVED
+number_of code.Many = ASM_MANY
+number_of code.NoPush = ASM_NO_PUSH
+number_of code.Clash = ASM_CLASH
+number_of code.Large = ASM_LARGE
+number_of code.Other = ASM_OTHER
 
 -- the number that C gets
 abbrev pub answer_of : Result (Unit {0}) Code → ℤ
@@ -47,6 +59,13 @@ code_of_text text_error.Memory = code.Memory
 abbrev pub code_of_instructions : InstructionsError → Code
 code_of_instructions instructions_error.ManyInstructions = code.LongMove
 code_of_instructions instructions_error.Memory = code.Memory
+
+-- the code of moves that don't compose
+abbrev pub code_of_compose : ComposeError → Code
+code_of_compose (compose_error.Clash c) = code.Clash
+code_of_compose (compose_error.Large l) = code.Large
+code_of_compose compose_error.ManyInstructions = code.LongMove
+code_of_compose compose_error.Memory = code.Memory
 
 -- no value of this form has the bytes as its JSON
 abbrev pub IsUnreadAs : {X : Type 0} → (X → Data → Type 0) → List ℕ → Code → Type 0
@@ -100,3 +119,27 @@ IsNotInstructed at old verb kind number bytes amount c =
 abbrev pub IsNotPrepared : Option Content → List ℕ → Code → Type 0
 IsNotPrepared at bytes code.Taken = at ≢ None
 IsNotPrepared at bytes c = (at ≡ None) × IsUnreadAs IsLocationForm bytes c
+
+-- there is no other move to append, or no room for it
+abbrev pub IsNotAppended : Move → Option Content → Code → Type 0
+IsNotAppended old other code.Empty = ¬ HasRoomForMove other
+IsNotAppended old other code.LongMove = HasRoomForMove other × (instructions_limit < length old + length (move_of other))
+IsNotAppended old other code.Memory = HasRoomForMove other × (length old + length (move_of other) ≤ instructions_limit)
+IsNotAppended old other _ = ⊥
+
+-- or the first slot holds something else; that comes before all others
+abbrev pub IsNotUnited : Option Content → Option Content → Code → Type 0
+IsNotUnited old other code.Taken = ¬ HasRoomForMove old
+IsNotUnited old other c = HasRoomForMove old × IsNotAppended (move_of old) other c
+
+-- the agents are not two of one storage
+abbrev pub AreNotTwo : Option Content → Option Content → Code → Type 0
+AreNotTwo agent other code.Empty = HoldsNoAgent agent ⊎ HoldsNoAgent other
+AreNotTwo agent other code.Other = Unit {0}
+AreNotTwo agent other _ = ⊥
+
+-- the locations would take too many places
+abbrev pub IsNotTracked : List Place → StepView → Code → Type 0
+IsNotTracked locations s code.Memory = Unit {0}
+IsNotTracked locations s code.Many = WouldTakeMany locations s
+IsNotTracked locations s _ = ⊥

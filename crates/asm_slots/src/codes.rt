@@ -6,6 +6,7 @@ ghost use Rattle.asm_slots.specs.WrittenText.{Writes, WritesText};
 ghost use Rattle.asm_slots.specs.Answers.{answer_of, code_of_text, number_of};
 ghost use Rattle.asm_slots.specs.declared.codes.Code.TheVariants as variant;
 
+use asm_aggregate::ComposeError;
 use asm_explain::TextError;
 use asm_update::InstructionsError;
 use std::alloc::{AllocError, AllocFailed};
@@ -204,6 +205,12 @@ pub enum Code {
     Shape,
     Operand,
     LongMove,
+    Moved,
+    Many,
+    NoPush,
+    Clash,
+    Large,
+    Other,
 }
 
 impl Code {
@@ -219,6 +226,12 @@ impl Code {
             Code::Shape => SHAPE,
             Code::Operand => OPERAND,
             Code::LongMove => LONG_MOVE,
+            Code::Moved => MOVED,
+            Code::Many => MANY,
+            Code::NoPush => NO_PUSH,
+            Code::Clash => CLASH,
+            Code::Large => LARGE,
+            Code::Other => OTHER,
         }
     }
 }
@@ -270,6 +283,21 @@ impl From<InstructionsError> for Code {
         match error {
             InstructionsError::ManyInstructions => Code::LongMove,
             InstructionsError::Memory => Code::Memory,
+        }
+    }
+}
+
+impl From<ComposeError> for Code {
+    ghost use Rattle.asm_slots.specs.Answers.{code_of_compose};
+
+    ghost from_gives = { λ e c. c ≡ code_of_compose e };
+
+    fn from(error: ComposeError) -> Code {
+        match error {
+            ComposeError::Clash(_) => Code::Clash,
+            ComposeError::Large(_) => Code::Large,
+            ComposeError::ManyInstructions => Code::LongMove,
+            ComposeError::Memory => Code::Memory,
         }
     }
 }

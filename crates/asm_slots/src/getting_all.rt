@@ -8,10 +8,9 @@ ghost use Rattle.asm_slots.specs.StepCalls.{WouldScanMany, has_scan};
 ghost use Rattle.asm_slots.specs.StepView.{names_of};
 ghost use Rattle.asm_slots.specs.WrittenText.{WritesText};
 
-use crate::codes::{DONE, MANY, MEMORY, MOVED, SHAPE, copied};
+use crate::codes::{Code, DONE, MANY, MEMORY, MOVED, SHAPE, copied};
 use crate::owned_agent::OwnedAgent;
 use crate::owned_step::OwnedStep;
-use crate::steps::GetError;
 use asm_journal::state_text;
 use asm_state::Scanned;
 use asm_storage::READS_LIMIT;
@@ -25,14 +24,14 @@ fn found_in(
     agent: &OwnedAgent,
     step: &OwnedStep,
     name: &str,
-) -> Result<PlainState, GetError>
+) -> Result<PlainState, Code>
     ensures found { IfOk result (IsFound name.now agent.now step.now) }
     ensures reached { OnOk result (HasReached agent.now step.now) }
-    ensures moved { IfErr result (λ e. e ≡ GetError.Moved → IsElsewhere agent.now step.now) }
+    ensures moved { IfErr result (λ e. e ≡ Code.Moved → IsElsewhere agent.now step.now) }
 {
     let state = agent.state();
     if state.number() != step.number {
-        return Err(GetError::Moved);
+        return Err(Code::Moved);
     }
     let below = state.of_name(alloc, name)?;
     let found = step.step.scan(alloc, below, name)?;
@@ -47,10 +46,10 @@ fn found_text(
     agent: &OwnedAgent,
     step: &OwnedStep,
     name: &str,
-) -> Result<String, GetError>
+) -> Result<String, Code>
     ensures text { IfOk result (λ text. IsFoundText name.now agent.now step.now (string_bytes text)) }
     ensures reached { OnOk result (HasReached agent.now step.now) }
-    ensures moved { IfErr result (λ e. e ≡ GetError.Moved → IsElsewhere agent.now step.now) }
+    ensures moved { IfErr result (λ e. e ≡ Code.Moved → IsElsewhere agent.now step.now) }
 {
     let found = found_in(alloc, agent, step, name)?;
     Ok(state_text(alloc, &found)?)
@@ -70,18 +69,18 @@ fn scan_for(
     scans: &mut Vec<Scanned>,
     name: &str,
     number: u32,
-) -> Result<Option<Scanned>, GetError>
+) -> Result<Option<Scanned>, Code>
     ensures kept { scans.new.items ≡ scans.old.items }
     ensures scan { IfOk result (IsScanFor limit scans.old.items name.now number) }
     ensures room { IfOk result (λ scan. IsSome scan → vec_len scans.new < vec_capacity scans.new) }
-    ensures many { IfErr result (λ e. e ≡ GetError.Many →
+    ensures many { IfErr result (λ e. e ≡ Code.Many →
         (limit ≤ length scans.old.items) × ¬ Contains (names_of scans.old.items) name.now) }
 {
     if is_scanned(scans, name) {
         return Ok(None);
     }
     if scans.len() >= limit {
-        return Err(GetError::Many);
+        return Err(Code::Many);
     }
     let name = String::from_str(alloc, name)?;
     scans.reserve_exact(scans.len().max(1))?;
@@ -120,13 +119,13 @@ fn get_all_of_name(
 {
     let text = match found_text(alloc, agent, step, name) {
         Ok(text) => text,
-        Err(GetError::Moved) => return MOVED,
+        Err(Code::Moved) => return MOVED,
         Err(_) => return MEMORY,
     };
     let limit = READS_LIMIT - step.tracked.len();
     let scan = match scan_for(alloc, limit, &mut step.scanned, name, step.number) {
         Ok(scan) => scan,
-        Err(GetError::Many) => return MANY,
+        Err(Code::Many) => return MANY,
         Err(_) => return MEMORY,
     };
     let code = copied(text.as_bytes(), out, written);

@@ -1,22 +1,20 @@
 //! Preparing locations, and building moves in slots.
-ghost use Rattle.std.specs.Prelude.{◌≡◌, ◌≢◌, ◌↔◌, ◌≤◌, ◌<◌, ◌+◌, ◌∷◌, ◌++◌, [], IfErr, OnErr, OnOk, Some, length, IfOk, None};
-ghost use Rattle.asm_update.specs.Limits.{instructions_limit};
-ghost use Rattle.asm_slots.specs.Codes.{IsOneOf, ASM_DONE, ASM_MEMORY, ASM_EMPTY, ASM_LONG_MOVE};
+ghost use Rattle.std.specs.Prelude.{◌≡◌, ◌∷◌, ◌++◌, [], IfErr, OnErr, OnOk, Some, IfOk, None};
 ghost use Rattle.asm_slots.specs.Kinds.{IsInstructed};
-ghost use Rattle.asm_slots.specs.Answers.{IsNoRoomFor, IsNotGathered, IsNotInstructed, IsNotPrepared, IsUnreadAs};
+ghost use Rattle.asm_slots.specs.Answers.{IsNoRoomFor, IsNotAppended, IsNotGathered, IsNotInstructed, IsNotPrepared, IsNotUnited, IsUnreadAs};
 ghost use Rattle.asm_slots.specs.Slots.{HasRoomForMove, HoldsLocation, HoldsMove, content_of, move_of};
 ghost use Rattle.asm_slots.specs.declared.content.Content.TheVariants as content;
 ghost use Rattle.asm_journal.specs.Element.{IsLocationForm};
 ghost use Rattle.asm_slots.specs.Bytes.{ReadAsLocation};
 
-use crate::codes::{Code, DONE, EMPTY, LONG_MOVE, MEMORY};
+use crate::codes::Code;
 use crate::content::Content;
 use crate::operands::action_of;
 use crate::slot::Slot;
 use crate::take_and_put::{put_shell, take_shell};
 use asm_element::Location;
 use asm_explain::read_quickly;
-use asm_update::{Action, Instruction, Instructions, InstructionsError};
+use asm_update::{Action, Instruction, Instructions};
 use std::alloc::{AllocError, Global};
 
 // Append the instruction of the action at the location.
@@ -107,68 +105,68 @@ pub fn instruct(
     gather(alloc, gathered, at, verb, kind, number, bytes, amount)
 }
 
-// Append the instructions of the other move.
-fn append_all(gathered: &mut Instructions, other: &Instructions) -> i32
-    ensures codes { IsOneOf (ASM_DONE ∷ ASM_MEMORY ∷ ASM_LONG_MOVE ∷ []) result }
-    ensures done { result ≡ ASM_DONE → gathered.new ≡ gathered.old ++ other.now }
-    ensures many { (result ≡ ASM_LONG_MOVE) ↔ (instructions_limit < length gathered.old + length other.now) }
-    ensures kept { result ≢ ASM_DONE → gathered.new ≡ gathered.old }
-{
-    match gathered.append(other) {
-        Ok(()) => DONE,
-        Err(InstructionsError::ManyInstructions) => LONG_MOVE,
-        Err(InstructionsError::Memory) => MEMORY,
-    }
-}
-
-/// Do what `asm_unite` does, with the first move.
-pub fn unite_in(alloc: Global, gathered: &mut Instructions, other: &mut Slot) -> i32
-    ensures codes { IsOneOf (ASM_DONE ∷ ASM_MEMORY ∷ ASM_EMPTY ∷ ASM_LONG_MOVE ∷ []) result }
-    ensures done { result ≡ ASM_DONE → gathered.new ≡ gathered.old ++ move_of (content_of other.old) }
-    ensures empty { (result ≡ ASM_EMPTY) ↔ ¬ HasRoomForMove (content_of other.old) }
-    ensures many { result ≡ ASM_LONG_MOVE →
-        instructions_limit < length gathered.old + length (move_of (content_of other.old)) }
-    ensures few { result ≡ ASM_MEMORY →
-        length gathered.old + length (move_of (content_of other.old)) ≤ instructions_limit }
-    ensures kept { result ≢ ASM_DONE → gathered.new ≡ gathered.old }
+// Append the instructions of the move in the slot.
+fn append_all(gathered: &mut Instructions, other: &mut Slot) -> Result<(), Code>
+    ensures room { OnOk result (HasRoomForMove (content_of other.old)) }
+    ensures done { OnOk result (gathered.new ≡ gathered.old ++ move_of (content_of other.old)) }
+    ensures err { IfErr result (IsNotAppended gathered.old (content_of other.old)) }
+    ensures kept { OnErr result (gathered.new ≡ gathered.old) }
     ensures held { content_of other.new ≡ content_of other.old }
 {
-    let Some(shell) = take_shell(alloc, other) else {
-        return DONE;
+    let Some(held) = other.as_mut() else {
+        return Ok(());
     };
-    let code = match &*shell {
-        Content::Move(added) => append_all(gathered, added),
-        _ => EMPTY,
+    let Content::Move(added) = held else {
+        return Err(Code::Empty);
     };
-    put_shell(other, shell);
-    code
+    gathered.append(added)?;
+    Ok(())
 }
 
-/// Do what `asm_unite` does, with an empty first slot.
-pub fn unite_first(alloc: Global, instrs: &mut Slot, other: &mut Slot) -> i32
-    ensures codes { IsOneOf (ASM_DONE ∷ ASM_MEMORY ∷ ASM_EMPTY ∷ ASM_LONG_MOVE ∷ []) result }
-    ensures done { result ≡ ASM_DONE →
-        HoldsMove (content_of instrs.new) (λ united. united ≡ move_of (content_of other.old)) }
-    ensures empty { (result ≡ ASM_EMPTY) ↔ ¬ HasRoomForMove (content_of other.old) }
-    ensures many { result ≡ ASM_LONG_MOVE → instructions_limit < length (move_of (content_of other.old)) }
-    ensures kept { result ≢ ASM_DONE → content_of instrs.new ≡ content_of instrs.old }
+// Put a move of the other's instructions into an empty slot.
+fn unite_first(alloc: Global, instrs: &mut Slot, other: &mut Slot) -> Result<(), Code>
+    requires { content_of instrs.old ≡ None }
+    ensures room { OnOk result (HasRoomForMove (content_of other.old)) }
+    ensures done { OnOk result (HoldsMove (content_of instrs.new) (λ united. united ≡ move_of (content_of other.old))) }
+    ensures err { IfErr result (IsNotAppended [] (content_of other.old)) }
+    ensures kept { OnErr result (content_of instrs.new ≡ content_of instrs.old) }
     ensures held { content_of other.new ≡ content_of other.old }
 {
     let mut gathered = Instructions::new(alloc);
-    let code = unite_in(alloc, &mut gathered, other);
-    if code != DONE {
-        return code;
-    }
+    append_all(&mut gathered, other)?;
     let was_full = other.is_full();
-    if let Err(AllocError) = hold(alloc, instrs, gathered) {
-        return MEMORY;
-    }
+    hold(alloc, instrs, gathered)?;
     // If C passes one empty slot twice, it is full now.
     if other.is_full() != was_full {
         *instrs = Slot::empty(alloc);
-        return EMPTY;
+        return Err(Code::Empty);
     }
-    DONE
+    Ok(())
+}
+
+/// Do what `asm_unite` does.
+#[tactic(auto, using(crate::proofs::Refused::not_united))]
+pub fn unite(alloc: Global, instrs: &mut Slot, other: &mut Slot) -> Result<(), Code>
+    ensures room { OnOk result (HasRoomForMove (content_of instrs.old)) }
+    ensures rooms { OnOk result (HasRoomForMove (content_of other.old)) }
+    ensures done { OnOk result (HoldsMove (content_of instrs.new)
+        (λ united. united ≡ move_of (content_of instrs.old) ++ move_of (content_of other.old))) }
+    ensures err { IfErr result (IsNotUnited (content_of instrs.old) (content_of other.old)) }
+    ensures kept { OnErr result (content_of instrs.new ≡ content_of instrs.old) }
+    ensures held { content_of other.new ≡ content_of other.old }
+{
+    let was_full = other.is_full();
+    let Some(mut shell) = take_shell(alloc, instrs) else {
+        return unite_first(alloc, instrs, other);
+    };
+    let united = match &mut *shell {
+        // If C passes one slot twice, it is empty by now.
+        Content::Move(_) if other.is_full() != was_full => Err(Code::Empty),
+        Content::Move(gathered) => append_all(gathered, other),
+        _ => Err(Code::Taken),
+    };
+    put_shell(instrs, shell);
+    united
 }
 
 fn read_location(alloc: Global, bytes: &[u8]) -> Result<Location, Code>

@@ -15,7 +15,7 @@ ghost use Rattle.asm_slots.specs.WrittenText.{WritesOneOf};
 ghost use Rattle.asm_slots.specs.declared.owned_step.PushMode.TheVariants as ways;
 
 use crate::codes::{
-    CLASH, CodedText, DEEP, DONE, EMPTY, LARGE, LONG_MOVE, MANY, MEMORY, MOVED, written_as,
+    CLASH, Code, CodedText, DEEP, DONE, EMPTY, LARGE, LONG_MOVE, MANY, MEMORY, MOVED, written_as,
 };
 use crate::composing::{clash_text, large_text};
 use crate::content::Content;
@@ -23,7 +23,6 @@ use crate::owned_agent::OwnedAgent;
 use crate::owned_step::{OwnedStep, PushMode, grow};
 use crate::parsing::{code_of_text_error, move_of};
 use crate::slot::Slot;
-use crate::steps::GetError;
 use crate::tracking::{refusal_places, track};
 use asm_element::Location;
 use asm_step::StepError;
@@ -68,13 +67,13 @@ fn refusal_of(
     step: &OwnedStep,
     instrs: &Instructions,
     error: StepError,
-) -> Result<Refused, GetError>
+) -> Result<Refused, Code>
     ensures reported { IfOk result (λ r. ReportsRefusal error r.reported.code (string_bytes r.reported.text)) }
     ensures codes { IfOk result (λ r. IsOneOf (ASM_CLASH ∷ ASM_MANY ∷ ASM_LARGE ∷ ASM_DEEP ∷ ASM_LONG_MOVE ∷ []) r.reported.code) }
     ensures deep { IfOk result (λ r. r.reported.code ≡ ASM_DEEP → error ≡ StepError.Deep) }
     ensures tracked { IfOk result (λ r. AreEach (step.now.tracked ++ from_below step.now (refusal_places instrs.now error)) r.tracked.items) }
     ensures few { IfOk result (λ r. length r.tracked.items + length step.now.scanned ≤ reads_limit) }
-    ensures many { IfErr result (λ e. e ≡ GetError.Many → WouldTakeMany (refusal_places instrs.now error) step.now) }
+    ensures many { IfErr result (λ e. e ≡ Code.Many → WouldTakeMany (refusal_places instrs.now error) step.now) }
 {
     let tracked = track(alloc, step, refusal_places(alloc, instrs, &error)?)?;
     let reported = refusal_text(alloc, error)?;
@@ -101,7 +100,7 @@ fn refuse(
             step.tracked = refused.tracked;
             written_as(&refused.reported, out, written)
         }
-        Err(GetError::Many) => MANY,
+        Err(Code::Many) => MANY,
         Err(_) => MEMORY,
     }
 }

@@ -17,7 +17,7 @@ ghost use Rattle.std.specs.Vec.{vec_capacity};
 ghost use Rattle.std.specs.List.Sorted.{IsStrictlySortedBy};
 ghost use Rattle.asm_slots.specs.StepAnswers.{GetsAt, WritesValue};
 
-use crate::codes::{DONE, EMPTY, MANY, MEMORY, MOVED, SHAPE, copied};
+use crate::codes::{Code, DONE, EMPTY, MANY, MEMORY, MOVED, copied};
 use crate::content::Content;
 use crate::own_state::text_of_values;
 use crate::owned_agent::OwnedAgent;
@@ -52,26 +52,6 @@ pub fn open_step(alloc: Global, slot: &mut Slot, number: u32) -> Result<(), Allo
     Ok(())
 }
 
-/// Why a read through a step fails.
-#[derive(Drop)]
-pub(crate) enum GetError {
-    Moved,
-    Many,
-    Shape,
-    Memory,
-}
-
-impl From<AllocError> for GetError {
-    ghost use Rattle.std.specs.Prelude.{◌≡◌};
-    ghost use Rattle.asm_slots.specs.declared.steps.GetError.TheVariants as get_error;
-
-    ghost from_gives = { λ _ e. e ≡ get_error.Memory };
-
-    fn from(_error: AllocError) -> GetError {
-        GetError::Memory
-    }
-}
-
 /// A read through a step: its text, and all locations that are tracked by then.
 #[derive(Drop)]
 pub(crate) struct StepRead {
@@ -86,16 +66,16 @@ fn seen_text(
     agent: &OwnedAgent,
     step: &OwnedStep,
     locations: &[Location],
-) -> Result<String, GetError>
+) -> Result<String, Code>
     ensures text { IfOk result (λ text. string_bytes text
         ≡ values_text step.now.number (seen agent.now step.now) locations.now) }
     ensures reached { OnOk result (HasReached agent.now step.now) }
-    ensures err { IfErr result (λ e. ¬ (e ≡ GetError.Many) × ¬ (e ≡ GetError.Shape)) }
-    ensures moved { IfErr result (λ e. e ≡ GetError.Moved → IsElsewhere agent.now step.now) }
+    ensures err { IfErr result (λ e. ¬ (e ≡ Code.Many)) }
+    ensures moved { IfErr result (λ e. e ≡ Code.Moved → IsElsewhere agent.now step.now) }
 {
     let state = agent.state();
     if state.number() != step.number {
-        return Err(GetError::Moved);
+        return Err(Code::Moved);
     }
     Ok(text_of_values(alloc, step.number, &step.step.over(state), locations)?)
 }
@@ -106,16 +86,15 @@ fn read_and_track(
     agent: &OwnedAgent,
     step: &OwnedStep,
     locations: Vec<Location>,
-) -> Result<StepRead, GetError>
+) -> Result<StepRead, Code>
     ensures text { IfOk result (λ g. string_bytes g.text
         ≡ values_text step.now.number (seen agent.now step.now) locations.items) }
     ensures reached { OnOk result (HasReached agent.now step.now) }
     ensures all { IfOk result (λ g. AreEach (step.now.tracked ++ from_below step.now locations.items) g.all.items) }
     ensures few { IfOk result (λ g. length g.all.items + length step.now.scanned ≤ reads_limit) }
-    ensures many { IfErr result (λ e. e ≡ GetError.Many → WouldTakeMany locations.items step.now) }
-    ensures moved { IfErr result (λ e. e ≡ GetError.Moved → IsElsewhere agent.now step.now) }
-    ensures many_reached { IfErr result (λ e. e ≡ GetError.Many → HasReached agent.now step.now) }
-    ensures shape { IfErr result (λ e. ¬ (e ≡ GetError.Shape)) }
+    ensures many { IfErr result (λ e. e ≡ Code.Many → WouldTakeMany locations.items step.now) }
+    ensures moved { IfErr result (λ e. e ≡ Code.Moved → IsElsewhere agent.now step.now) }
+    ensures many_reached { IfErr result (λ e. e ≡ Code.Many → HasReached agent.now step.now) }
 {
     let text = seen_text(alloc, agent, step, &locations)?;
     let all = track(alloc, step, locations)?;
@@ -145,7 +124,7 @@ pub fn see_in(
     };
     match seen_text(alloc, agent, step, &locations) {
         Ok(text) => copied(text.as_bytes(), out, written),
-        Err(GetError::Moved) => MOVED,
+        Err(Code::Moved) => MOVED,
         Err(_) => MEMORY,
     }
 }
@@ -183,10 +162,9 @@ pub fn get_in(
             }
             code
         }
-        Err(GetError::Moved) => MOVED,
-        Err(GetError::Many) => MANY,
-        Err(GetError::Shape) => SHAPE,
-        Err(GetError::Memory) => MEMORY,
+        Err(Code::Moved) => MOVED,
+        Err(Code::Many) => MANY,
+        Err(_) => MEMORY,
     }
 }
 
@@ -196,18 +174,18 @@ fn copy_for(
     limit: usize,
     tracked: &mut Vec<Location>,
     at: &Location,
-) -> Result<Option<Location>, GetError>
+) -> Result<Option<Location>, Code>
     ensures kept { tracked.new.items ≡ tracked.old.items }
     ensures copy { IfOk result (IsCopyFor limit tracked.old.items at.now) }
     ensures room { IfOk result (λ copy. IsSome copy → vec_len tracked.new < vec_capacity tracked.new) }
-    ensures many { IfErr result (λ e. e ≡ GetError.Many →
+    ensures many { IfErr result (λ e. e ≡ Code.Many →
         (limit ≤ length tracked.old.items) × ¬ Contains tracked.old.items at.now) }
 {
     if tracked.contains(at) {
         return Ok(None);
     }
     if tracked.len() >= limit {
-        return Err(GetError::Many);
+        return Err(Code::Many);
     }
     let copy = at.copy(alloc)?;
     // At most twice as many places, and one for the first.
@@ -261,7 +239,7 @@ fn get_one(
     let limit = READS_LIMIT - step.scanned.len();
     let copy = match copy_for(alloc, limit, &mut step.tracked, at) {
         Ok(copy) => copy,
-        Err(GetError::Many) => return MANY,
+        Err(Code::Many) => return MANY,
         Err(_) => return MEMORY,
     };
     let code = write_value_at(alloc, &step.step.over(own), at, value, out, written);

@@ -1,12 +1,12 @@
 //! Taking the content of slots out of them, in its box or without it, and putting it in again.
-ghost use Rattle.std.specs.Prelude.{◌≡◌, ◌⊎◌, ◌∷◌, [], IfErr, IfNone, IfOk, IfSome, None, OnErr, Some};
+ghost use Rattle.std.specs.Prelude.{◌≡◌, IfErr, IfNone, IfOk, IfSome, None, OnErr, Some};
 ghost use denote.Param.Send.{IsSend};
-ghost use Rattle.asm_slots.specs.Codes.{IsOneOf, ASM_EMPTY, ASM_OTHER};
+ghost use Rattle.asm_slots.specs.Answers.{AreNotTwo};
 ghost use Rattle.asm_slots.specs.Slots.{AreOfOneStorage, HoldsNoAgent, HoldsNoStore, content_of};
 ghost use Rattle.asm_slots.specs.contracts.content.Content.{the_row as content_row};
 ghost use Rattle.asm_slots.specs.declared.content.Content.TheVariants as content;
 
-use crate::codes::{EMPTY, OTHER};
+use crate::codes::Code;
 use crate::content::Content;
 use crate::owned_agent::OwnedAgent;
 use crate::shared::are_one;
@@ -74,28 +74,26 @@ pub struct TwoAgents {
 ///
 /// - `ASM_EMPTY`: one of the slots has no agent.
 /// - `ASM_OTHER`: `are_one` reports that the agents are of two storages.
-pub fn take_agents(alloc: Global, agent: &mut Slot, other: &mut Slot) -> Result<TwoAgents, i32>
+pub fn take_agents(alloc: Global, agent: &mut Slot, other: &mut Slot) -> Result<TwoAgents, Code>
     requires { AreOfOneStorage (content_of agent.old) (content_of other.old) }
     ensures agent { IfOk result (λ both. content_of agent.old ≡ Some (content.Agent both.agent)) }
     ensures other { IfOk result (λ both. content_of other.old ≡ Some (content.Agent both.other)) }
     ensures one { IfOk result (λ both. both.agent.storage ≡ both.other.storage) }
-    ensures codes { IfErr result (IsOneOf (ASM_EMPTY ∷ ASM_OTHER ∷ [])) }
     ensures kept { OnErr result (content_of agent.new ≡ content_of agent.old) }
     ensures theirs { OnErr result (content_of other.new ≡ content_of other.old) }
-    ensures empty { IfErr result (λ code. code ≡ ASM_EMPTY →
-        HoldsNoAgent (content_of agent.old) ⊎ HoldsNoAgent (content_of other.old)) }
+    ensures err { IfErr result (AreNotTwo (content_of agent.old) (content_of other.old)) }
 {
     let Some((other_shell, theirs)) = take_agent(alloc, other) else {
-        return Err(EMPTY);
+        return Err(Code::Empty);
     };
     let Some((shell, inner)) = take_agent(alloc, agent) else {
         put_agent(other, other_shell, theirs);
-        return Err(EMPTY);
+        return Err(Code::Empty);
     };
     if !are_one(theirs.shared(), inner.shared()) {
         put_agent(other, other_shell, theirs);
         put_agent(agent, shell, inner);
-        return Err(OTHER);
+        return Err(Code::Other);
     }
     Ok(TwoAgents {
         shell,

@@ -6,11 +6,12 @@ ghost use Rattle.asm_step.specs.Places.{AreEach, all_partial_places, partial_pla
 ghost use Rattle.asm_step.specs.Dependencies.{one_writes, puts, depends};
 ghost use Rattle.asm_storage.specs.Limits.{reads_limit};
 ghost use Rattle.asm_update.specs.Move.{writes};
-ghost use Rattle.asm_slots.specs.StepCalls.{WouldTakeMany, from_below};
+ghost use Rattle.asm_slots.specs.Answers.{IsNotTracked};
+ghost use Rattle.asm_slots.specs.StepCalls.{from_below};
 ghost use Rattle.asm_slots.specs.Tracked.{refusal_places, last_partial_places, refusal_places_to, dependencies_last};
 
+use crate::codes::Code;
 use crate::owned_step::{OwnedStep, each_of, from_below};
-use crate::steps::GetError;
 use asm_element::Location;
 use asm_step::{Popped, StepError};
 use asm_storage::READS_LIMIT;
@@ -24,16 +25,15 @@ pub(crate) fn track(
     alloc: Global,
     step: &OwnedStep,
     locations: Vec<Location>,
-) -> Result<Vec<Location>, GetError>
+) -> Result<Vec<Location>, Code>
     ensures all { IfOk result (λ all. AreEach (step.now.tracked ++ from_below step.now locations.items) all.items) }
     ensures few { IfOk result (λ all. length all.items + length step.now.scanned ≤ reads_limit) }
-    ensures many { IfErr result (λ e. e ≡ GetError.Many → WouldTakeMany locations.items step.now) }
-    ensures others { IfErr result (λ e. ¬ (e ≡ GetError.Moved) × ¬ (e ≡ GetError.Shape)) }
+    ensures err { IfErr result (IsNotTracked locations.items step.now) }
 {
     let below = from_below(alloc, &step.step, locations)?;
     let all = each_of(alloc, &step.tracked, below)?;
     if all.len() > READS_LIMIT - step.scanned.len() {
-        return Err(GetError::Many);
+        return Err(Code::Many);
     }
     Ok(all)
 }
