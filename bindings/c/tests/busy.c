@@ -13,7 +13,7 @@
 
 #define REQUIRE(holds) require((holds), #holds, __LINE__)
 
-enum { OTHERS = 2, INSTRS = 4096, TRIES = 100, CAPACITY = 1000000 };
+enum { OTHERS = 2, INSTRS = 4096, TRIES = 5000, CAPACITY = 1000000 };
 
 static struct asm_storage storage;
 static struct asm_agent agents[OTHERS + 1];
