@@ -1,7 +1,7 @@
 //! The faults that the readers of JSON return, in words.
 use crate::sentence::grouped;
 use asm_element::{Element, Value};
-use asm_journal::{FormCause, FormError, FormFault, FromJson, Part, read_location};
+use asm_journal::{FormCause, FormError, FormFault, FromJson, PathStep, read_location};
 use asm_overlay::FRAMES_LIMIT;
 use asm_storage::AGENTS_LIMIT;
 use asm_update::{INSTRUCTIONS_LIMIT, UpdateSet};
@@ -23,19 +23,19 @@ pub(crate) const INIT: Root = Root(&["init pair"], 0);
 pub(crate) const AGENTS: Root = Root(&["agent", "step", "block", "instruction"], 0);
 
 // The names of the items within this part of what has items with these names.
-fn names_in(names: &'static [&'static str], part: Part) -> &'static [&'static str] {
+fn names_in(names: &'static [&'static str], part: PathStep) -> &'static [&'static str] {
     match part {
-        Part::Key("fire") => &["instruction"],
-        Part::Key("read") => &["location"],
-        Part::Key("reads") => &["read"],
-        Part::Key("values") => &["value"],
-        Part::Key(_) => &[],
-        Part::Index(_) => names.get(1..).unwrap_or(&[]),
+        PathStep::Key("fire") => &["instruction"],
+        PathStep::Key("read") => &["location"],
+        PathStep::Key("reads") => &["read"],
+        PathStep::Key("values") => &["value"],
+        PathStep::Key(_) => &[],
+        PathStep::Index(_) => names.get(1..).unwrap_or(&[]),
     }
 }
 
 // What an item of the part is called to which the path leads.
-fn name_at(root: Root, path: &[Part]) -> &'static str {
+fn name_at(root: Root, path: &[PathStep]) -> &'static str {
     let mut names = root.0;
     for part in path.iter().rev() {
         names = names_in(names, *part);
@@ -57,19 +57,19 @@ pub(crate) fn limits(name: &str) -> (usize, usize) {
 }
 
 // The part to which the path leads.
-fn part_at<'v>(json: &'v Json, path: &[Part]) -> Option<&'v Json> {
+fn part_at<'v>(json: &'v Json, path: &[PathStep]) -> Option<&'v Json> {
     let mut json = json;
     for part in path.iter().rev() {
         json = match *part {
-            Part::Index(index) => json.as_array()?.get(index)?,
-            Part::Key(key) => json.get(key)?,
+            PathStep::Index(index) => json.as_array()?.get(index)?,
+            PathStep::Key(key) => json.get(key)?,
         };
     }
     Some(json)
 }
 
 // The word of the instruction to which the path leads.
-fn word_at<'v>(json: &'v Json, path: &[Part]) -> Option<&'v str> {
+fn word_at<'v>(json: &'v Json, path: &[PathStep]) -> Option<&'v str> {
     part_at(json, path)?.as_array()?.first()?.as_str()
 }
 
@@ -79,10 +79,10 @@ fn place(alloc: Global, root: Root, fault: &FormFault) -> Result<String, AllocEr
     let mut place = String::new(alloc);
     for part in fault.path().iter().rev() {
         let space = if place.is_empty() { "" } else { " " };
-        if let (Part::Index(index), Some(name)) = (*part, names.first()) {
+        if let (PathStep::Index(index), Some(name)) = (*part, names.first()) {
             let number = index.saturating_add(first);
             place = format!(in alloc; "{place}{space}{name} {number}")?;
-        } else if matches!(part, Part::Key("reply")) && fault.cause() != FormCause::Reply {
+        } else if matches!(part, PathStep::Key("reply")) && fault.cause() != FormCause::Reply {
             place.push_str("reply")?;
         }
         names = names_in(names, *part);
@@ -91,12 +91,18 @@ fn place(alloc: Global, root: Root, fault: &FormFault) -> Result<String, AllocEr
 }
 
 // What holds the element to which the path leads.
-fn holder(json: &Json, path: &[Part]) -> &'static str {
+fn holder(json: &Json, path: &[PathStep]) -> &'static str {
     match path {
-        [Part::Index(_), Part::Key("list"), ..] => "list",
-        [Part::Index(_), Part::Key("set"), ..] => "set",
-        [Part::Index(_), Part::Index(_), Part::Key("bag"), ..] => "bag",
-        [Part::Index(2), at @ ..] if matches!(at, [Part::Index(_), Part::Key("fire"), ..]) => {
+        [PathStep::Index(_), PathStep::Key("list"), ..] => "list",
+        [PathStep::Index(_), PathStep::Key("set"), ..] => "set",
+        [
+            PathStep::Index(_),
+            PathStep::Index(_),
+            PathStep::Key("bag"),
+            ..
+        ] => "bag",
+        [PathStep::Index(2), at @ ..]
+            if matches!(at, [PathStep::Index(_), PathStep::Key("fire"), ..]) => {
             match word_at(json, at) {
                 Some("add" | "remove") => "set",
                 _ => "bag",
@@ -107,16 +113,16 @@ fn holder(json: &Json, path: &[Part]) -> &'static str {
 }
 
 // What is said of a part that is no array.
-fn array_words(alloc: Global, root: Root, path: &[Part]) -> Result<String, AllocError> {
+fn array_words(alloc: Global, root: Root, path: &[PathStep]) -> Result<String, AllocError> {
     let name = name_at(root, path);
     let words = match (name, path.first()) {
-        (_, Some(Part::Key("set"))) => "a set is written {\"set\":[..]}",
-        (_, Some(Part::Key("bag"))) => "a bag is written {\"bag\":[[ELEMENT,COUNT],..]}",
+        (_, Some(PathStep::Key("set"))) => "a set is written {\"set\":[..]}",
+        (_, Some(PathStep::Key("bag"))) => "a bag is written {\"bag\":[[ELEMENT,COUNT],..]}",
         ("pair", _) => "a state is an array of pairs",
         ("init pair", _) => "init is an array of pairs",
         ("step", _) => "an agent is an array of steps",
         ("block", _) => "a step is an array of blocks",
-        ("instruction", Some(Part::Index(_))) => "a block is an array of instructions",
+        ("instruction", Some(PathStep::Index(_))) => "a block is an array of instructions",
         _ => return format!(in alloc; "the {name}s are an array"),
     };
     String::from_str(alloc, words)

@@ -23,7 +23,7 @@ pub use answer::word_of_cause;
 pub use array::{Listed, read_one, two_items};
 pub(crate) use call::instructions_of;
 pub use element::{location_json, read_location};
-pub use fault::{FormCause, FormError, FormFault, OfPart, Part};
+pub use fault::{FormCause, FormError, FormFault, OfPart, PathStep};
 pub use instruction::{instruction_json, instruction_parts, read_instruction};
 pub(crate) use object::five_members;
 pub use object::{one_member, two_members};

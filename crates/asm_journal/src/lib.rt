@@ -20,7 +20,7 @@ mod writing;
 pub use checking::{Legality, check, judge_event};
 pub use error::{JournalError, WriteError};
 pub use form::{
-    FormCause, FormError, FormFault, FromJson, Listed, OfPart, Part, ToJson, instruction_json,
+    FormCause, FormError, FormFault, FromJson, Listed, OfPart, PathStep, ToJson, instruction_json,
     instruction_parts, location_json, one_member, pair_json, read_amount, read_form,
     read_instruction, read_location, read_one, read_value, two_items, two_members, value_json,
     word_of_cause,

@@ -1,14 +1,15 @@
 //! Where JSON has another form than its reader wants, and why.
 ghost use Rattle.std.specs.Prelude.{◌≡◌};
-ghost use Rattle.asm_journal.specs.Form.{IsFault, IsCarried};
+ghost use Rattle.asm_journal.specs.Form.{IsCarried, IsFault, IsFaultIn, IsFaultOf, IsPlaced};
 ghost use Rattle.asm_journal.specs.declared.form.fault.FormError.TheVariants as form_error;
+ghost use Rattle.asm_journal.specs.declared.form.fault.PathStep.TheVariants as path_step;
 
 use std::alloc::{AllocError, AllocFailed, Global};
 use thiserror::Error;
 
 /// A step from a value to one of its parts.
 #[derive(Clone, Copy, Debug, Drop, PartialEq, Eq)]
-pub enum Part {
+pub enum PathStep {
     /// The item of an array with this index.
     Index(usize),
     /// The member of an object with this key.
@@ -117,24 +118,40 @@ pub enum FormCause {
     /// The terms of a sum are wanted.
     #[error("a sum is written {{\"sum\":[TERM,TERM]}}")]
     Sum,
+    /// A script is wanted.
+    #[error("a script is an object with the members agents and init")]
+    Script,
+    /// A script has so many agents, which are too many.
+    #[error("a script has at most 256 agents")]
+    ManyAgents(usize),
+    /// A step has so many blocks: none, or too many.
+    #[error("a step has 1 to 65 blocks")]
+    BlockCount(usize),
+    /// A step reads too many locations.
+    #[error("more than 256 locations to read")]
+    ManyReads,
 }
 
 /// Where JSON has another form than its reader wants, and why.
 #[derive(Debug, Drop)]
 pub struct FormFault {
     // from the part at fault up to the whole value
-    path: Vec<Part>,
+    path: Vec<PathStep>,
     cause: FormCause,
 }
 
 impl FormFault {
     /// Return the steps to the part at fault, the innermost one first.
-    pub fn path(&self) -> &[Part] {
+    pub fn path(&self) -> &[PathStep]
+        ensures { result.now ≡ self.now.path.items }
+    {
         self.path.as_slice()
     }
 
     /// Return why the part has another form.
-    pub fn cause(&self) -> FormCause {
+    pub fn cause(&self) -> FormCause
+        ensures { result ≡ self.now.cause }
+    {
         self.cause
     }
 }
@@ -166,7 +183,9 @@ impl<T: Drop> From<AllocFailed<T>> for FormError {
 
 impl FormError {
     /// Return the fault of a complete value.
-    pub fn of(alloc: Global, cause: FormCause) -> FormError {
+    pub fn of(alloc: Global, cause: FormCause) -> FormError
+        ensures { IsFaultOf cause result }
+    {
         FormError::Form(FormFault {
             path: Vec::new(alloc),
             cause,
@@ -174,8 +193,9 @@ impl FormError {
     }
 
     /// Return the same fault, of the value that has the faulty one as this part.
-    fn in_part(self, part: Part) -> FormError
-        ensures { IsFault result → IsFault self }
+    fn in_part(self, part: PathStep) -> FormError
+        ensures fault { IsFault result → IsFault self }
+        ensures placed { IsFaultIn part self result }
     {
         match self {
             FormError::Form(mut fault) => match fault.path.push(part) {
@@ -198,20 +218,22 @@ pub trait OfPart {
 
 impl<T: Drop> OfPart for Result<T, FormError> {
     fn within(self, index: usize) -> Result<T, FormError>
-        ensures { IsCarried self result }
+        ensures carried { IsCarried self result }
+        ensures placed { IsPlaced (path_step.Index index) self result }
     {
         match self {
             Ok(read) => Ok(read),
-            Err(error) => Err(error.in_part(Part::Index(index))),
+            Err(error) => Err(error.in_part(PathStep::Index(index))),
         }
     }
 
     fn at(self, key: &'static str) -> Result<T, FormError>
-        ensures { IsCarried self result }
+        ensures carried { IsCarried self result }
+        ensures placed { IsPlaced (path_step.Key key.entry) self result }
     {
         match self {
             Ok(read) => Ok(read),
-            Err(error) => Err(error.in_part(Part::Key(key))),
+            Err(error) => Err(error.in_part(PathStep::Key(key))),
         }
     }
 }

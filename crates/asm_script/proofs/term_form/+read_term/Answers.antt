@@ -14,7 +14,7 @@ returns-in_err-at t c =
     let at = view c.in-Some.at.now in
     refused IsTermForm d _ c.in_err-at.field-0.0 c.from_residual.ensures.1
     (λ fault. no_val d plain at c.in-Some.ensures.some
-    (carried_err IsLocationForm at _ _ c.from_json-in-Some.ensures c.in_err-at.ensures fault))
+    (carried_err IsLocationForm at _ _ c.from_json-in-Some.ensures c.in_err-at.ensures.carried fault))
 
 pub returns-in_default-terms_of : goal.returns-in_default-terms_of
 returns-in_default-terms_of t c =
@@ -32,10 +32,10 @@ returns-in_err-first t c =
     let d = view c.args.json.now in
     let plain = c.in-Err-Form.ensures (subst IsFault (sym c.in-Err-Form.field-0-is) tt) in
     let a = view c.in-Some-terms_of.first.now in
-    let read = carried IsTermForm a _ _ c.read_term.ensures c.within.ensures in
+    let read = carried IsTermForm a _ _ c.read_term.ensures c.within.ensures.carried in
     refused IsTermForm d _ c.in_err-first.field-0.0 c.from_residual-in_err-first.ensures.1
     (λ fault. no_first d plain a _ c.in-Some-terms_of.ensures.some
-    (carried_err IsTermForm a _ _ read c.in_err-first.ensures fault))
+    (carried_err IsTermForm a _ _ read c.in_err-first.ensures.carried fault))
 
 pub read_term-requires-2 : goal.read_term-requires-2
 read_term-requires-2 t c =
@@ -47,7 +47,7 @@ returns-in_err-second t c =
     let d = view c.args.json.now in
     let plain = c.in-Err-Form.ensures (subst IsFault (sym c.in-Err-Form.field-0-is) tt) in
     let b = view c.in-Some-terms_of.second.now in
-    let read = carried IsTermForm b _ _ c.read_term-2.ensures c.within-2.ensures in
+    let read = carried IsTermForm b _ _ c.read_term-2.ensures c.within-2.ensures.carried in
     refused IsTermForm d _ c.in_err-second.field-0.0 c.from_residual-in_err-second.ensures.1
     (λ fault. no_second d plain _ b c.in-Some-terms_of.ensures.some
-    (carried_err IsTermForm b _ _ read c.in_err-second.ensures fault))
+    (carried_err IsTermForm b _ _ read c.in_err-second.ensures.carried fault))

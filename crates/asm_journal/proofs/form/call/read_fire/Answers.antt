@@ -11,19 +11,19 @@ returns-in_err-instrs c =
     let m = view c.args.instrs.now in
     let n = view c.args.reads.now in
     refused IsCallForm (two_of (codes "fire") m (codes "reads") n) _ c.in_err-instrs.field-0.0 c.from_residual.ensures.1
-    (λ fault. no_move m n (carried_err IsMoveForm m _ _ c.from_json.ensures c.in_err-instrs.ensures fault))
+    (λ fault. no_move m n (carried_err IsMoveForm m _ _ c.from_json.ensures c.in_err-instrs.ensures.carried fault))
 
 pub returns-in_err-reads : goal.returns-in_err-reads
 returns-in_err-reads c =
     let m = view c.args.instrs.now in
     let n = view c.args.reads.now in
     refused IsCallForm (two_of (codes "fire") m (codes "reads") n) _ c.in_err-reads.field-0.0 c.from_residual-in_err-reads.ensures.1
-    (λ fault. no_reads m n (carried_err (IsListForm IsNamedForm) n _ _ c.from_json-2.ensures c.in_err-reads.ensures fault))
+    (λ fault. no_reads m n (carried_err (IsListForm IsNamedForm) n _ _ c.from_json-2.ensures c.in_err-reads.ensures.carried fault))
 
 pub returns : goal.returns
 returns c =
     let m = view c.args.instrs.now in
     let n = view c.args.reads.now in
-    let move = carried_ok IsMoveForm m _ c.in_ok-instrs.instrs c.from_json.ensures c.in_ok-instrs.ensures in
-    let reads = carried_ok (IsListForm IsNamedForm) n _ c.in_ok-reads.reads c.from_json-2.ensures c.in_ok-reads.ensures in
+    let move = carried_ok IsMoveForm m _ c.in_ok-instrs.instrs c.from_json.ensures c.in_ok-instrs.ensures.carried in
+    let reads = carried_ok (IsListForm IsNamedForm) n _ c.in_ok-reads.reads c.from_json-2.ensures c.in_ok-reads.ensures.carried in
     (m, n, refl, move, subst (λ l. IsListForm IsNamedForm l n) (sym (c.new.ensures ∙ c.into_vec.ensures)) reads)

@@ -11,10 +11,10 @@ pub returns-in_err-locations : goal.returns-in_err-locations
 returns-in_err-locations c =
     let d = view c.args.locations.now in
     refused IsCallForm (one_of (codes "read") d) _ c.in_err-locations.field-0.0 c.from_residual.ensures.1
-    (λ fault. no_read d (carried_err (IsListForm IsLocationForm) d _ _ c.from_json.ensures c.in_err-locations.ensures fault))
+    (λ fault. no_read d (carried_err (IsListForm IsLocationForm) d _ _ c.from_json.ensures c.in_err-locations.ensures.carried fault))
 
 pub returns : goal.returns
 returns c =
     let d = view c.args.locations.now in
-    let read = carried_ok (IsListForm IsLocationForm) d _ c.in_ok-locations.locations c.from_json.ensures c.in_ok-locations.ensures in
+    let read = carried_ok (IsListForm IsLocationForm) d _ c.in_ok-locations.locations c.from_json.ensures c.in_ok-locations.ensures.carried in
     (d, refl, subst (λ l. IsListForm IsLocationForm l d) (sym (c.new.ensures ∙ c.into_vec.ensures)) read)

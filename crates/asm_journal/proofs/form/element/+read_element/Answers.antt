@@ -24,13 +24,13 @@ read_list-returns-in_err-within t c =
     refused IsElementForm (list_json ds) _ c.in_err-within.field-0.0 c.from_residual-in_err-within.ensures.1
     (λ fault. no_list ds
     (no_forms IsElementForm c.args.items.now c.loop-index.index v c.loop-index-test.true
-    (λ x. rw (← c.index-items-index.is) (carried_err IsElementForm (view v) _ _ c.read_element.ensures c.in_err-within.ensures fault x))))
+    (λ x. rw (← c.index-items-index.is) (carried_err IsElementForm (view v) _ _ c.read_element.ensures c.in_err-within.ensures.carried fault x))))
 
 pub read_list-loop-index-preserved : goal.read_list-loop-index-preserved
 read_list-loop-index-preserved t c =
     let v = c.index-items-index.result in
     let x = c.in_ok-within.field-0 in
-    let some = carried_ok IsElementForm (view v) _ x c.read_element.ensures c.in_ok-within.ensures in
+    let some = carried_ok IsElementForm (view v) _ x c.read_element.ensures c.in_ok-within.ensures.carried in
     let pushed = AreForms-push IsElementForm c.loop-index.found.items x _ v c.loop-index.invariant some in
     rw (c.in_ok-push.ensures.items, take_more c.args.items.now c.loop-index.index v c.loop-index-test.true, ← c.index-items-index.is) pushed
 

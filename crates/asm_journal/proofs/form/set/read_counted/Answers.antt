@@ -11,5 +11,5 @@ returns-in_err-element c =
     let e = view c.in-Some.element.now in
     refused (λ x. IsCounted (x.0, x.1)) (items_view c.args.items.now) _ c.in_err-element.field-0.0 c.from_residual.ensures.1
     (λ fault x h.
-    carried_err IsElementForm e _ _ c.from_json.ensures c.in_err-element.ensures fault x.0
+    carried_err IsElementForm e _ _ c.from_json.ensures c.in_err-element.ensures.carried fault x.0
     (subst (IsElementForm x.0) (same_items _ _ _ _ (sym h.2 ∙ c.in-Some.ensures.some)).0 h.3))

@@ -10,4 +10,4 @@ returns-in_err-clash c =
     let d = view c.args.json.now in
     let clash = view c.in-Some-one_member-3.clash.now in
     refused IsReplyForm d _ c.in_err-clash.field-0.0 c.from_residual-in_err-clash.ensures.1
-    (λ fault. clash_read d clash None c.in-Some-one_member-3.ensures.some (carried_err IsClashForm clash _ _ c.from_json-2.ensures c.in_err-clash.ensures fault))
+    (λ fault. clash_read d clash None c.in-Some-one_member-3.ensures.some (carried_err IsClashForm clash _ _ c.from_json-2.ensures c.in_err-clash.ensures.carried fault))

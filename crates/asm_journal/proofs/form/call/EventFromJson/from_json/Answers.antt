@@ -10,7 +10,7 @@ returns-in_err-call c =
     let call = view c.in-Some.call.now in
     refused IsEventForm (view c.args.json.now) _ c.in_err-call.field-0.0 c.from_residual.ensures.1
     (λ fault e h.
-    carried_err IsCallForm call _ _ c.from_json.ensures c.in_err-call.ensures fault e.call
+    carried_err IsCallForm call _ _ c.from_json.ensures c.in_err-call.ensures.carried fault e.call
     (subst (IsCallForm e.call) (same_three _ _ _ _ _ _ _ _ _ (sym h.3 ∙ c.in-Some.ensures.some)).1 h.5))
 
 pub returns-in_err-answer : goal.returns-in_err-answer
@@ -18,13 +18,13 @@ returns-in_err-answer c =
     let reply = view c.in-Some.reply.now in
     refused IsEventForm (view c.args.json.now) _ c.in_err-answer.field-0.0 c.from_residual-in_err-answer.ensures.1
     (λ fault e h.
-    carried_err IsAnswerForm reply _ _ c.from_json-2.ensures c.in_err-answer.ensures fault e.answer
+    carried_err IsAnswerForm reply _ _ c.from_json-2.ensures c.in_err-answer.ensures.carried fault e.answer
     (subst (IsAnswerForm e.answer) (same_three _ _ _ _ _ _ _ _ _ (sym h.3 ∙ c.in-Some.ensures.some)).2 h.6))
 
 pub returns : goal.returns
 returns c =
     let call = view c.in-Some.call.now in
     let reply = view c.in-Some.reply.now in
-    let called = carried_ok IsCallForm call _ c.in_ok-call.call c.from_json.ensures c.in_ok-call.ensures in
-    let answered = carried_ok IsAnswerForm reply _ c.in_ok-answer.answer c.from_json-2.ensures c.in_ok-answer.ensures in
+    let called = carried_ok IsCallForm call _ c.in_ok-call.call c.from_json.ensures c.in_ok-call.ensures.carried in
+    let answered = carried_ok IsAnswerForm reply _ c.in_ok-answer.answer c.from_json-2.ensures c.in_ok-answer.ensures.carried in
     (view c.in-Some.agent.now, call, reply, c.in-Some.ensures.some, c.in-Some-read_number.ensures, called, answered)
