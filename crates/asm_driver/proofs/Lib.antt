@@ -2,6 +2,7 @@ mod Lines
 mod TextPieces
 mod Refusing
 mod Asking
+mod Grammar
 mod Runs
 mod Faulting
 mod Watching

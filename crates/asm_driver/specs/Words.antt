@@ -2,8 +2,11 @@
 use Rattle.std.specs.Prelude.{◌≡◌, ◌<◌, ◌≤◌, ◌^◌, ◌⊎◌, ℕ, Bool, pos, true, false, List, [], ◌∷◌, Option, Some, None}
 use Rattle.std.specs.Prelude.{IfSome, unwrap_or, codes}
 use Rattle.std.specs.Str.Parse.{IsNumeral, digits_value, without_leading_plus}
-use Rattle.clap.specs.Words.{App, Row, Rule, Text, Kinds, IsAmong, fault_of, first_of, new_app, new_rule, one_of}
-use Rattle.clap.specs.Words.{subcommand_of}
+use Rattle.clap.specs.Words.{App, Row, Rule, Text, Kinds, IsAmong, app_of, fault_of, first_of, new_app, new_rule, one_of}
+use Rattle.clap.specs.Words.{rule_of, subcommand_of}
+use Rattle.clap.specs.declared.builder.arg.Arg.{Arg}
+use Rattle.clap.specs.declared.builder.command.Command.{Command}
+use Rattle.clap.specs.declared.builder.command.Command.TheViews.{out-Command}
 use Rattle.clap.specs.Words.{with_rule, with_subcommand}
 use Rattle.clap.specs.declared.builder.action.ArgAction.TheVariants.{Set, SetTrue}
 use Rattle.clap.specs.declared.builder.value_parser.ValueParser.TheVariants.{Signed}
@@ -36,17 +39,9 @@ journal = record (new_rule (codes "journal")) { long = Some (codes "journal"); a
 abbrev pub terms : Rule
 terms = record (new_rule (codes "terms")) { long = Some (codes "terms"); action = Some SetTrue }
 
--- the command run, with its options
-abbrev pub run : App
-run = with_rule (with_rule (with_rule (new_app (codes "run")) capacity) journal) terms
-
--- the command check
-abbrev pub check : App
-check = new_app (codes "check")
-
--- the command rewrite
-abbrev pub rewrite : App
-rewrite = new_app (codes "rewrite")
+-- the options of run
+abbrev pub run_rules : List Rule
+run_rules = capacity ∷ journal ∷ terms ∷ []
 
 -- --NAME N, with N from 0 to 4,294,967,295
 abbrev pub number_rule : Text → Rule
@@ -57,11 +52,9 @@ number_rule name = record (new_rule name) {
   value_names = 1;
 }
 
--- the command trace, with the options of a window
-abbrev pub trace : App
-trace =
-    let named = new_app (codes "trace") in
-    with_rule (with_rule (with_rule named (number_rule (codes "part"))) (number_rule (codes "from"))) (number_rule (codes "to"))
+-- the options of trace, which say which calls are its window
+abbrev pub trace_rules : List Rule
+trace_rules = number_rule (codes "part") ∷ number_rule (codes "from") ∷ number_rule (codes "to") ∷ []
 
 -- --every N, with N from 1 to 4,294,967,295
 abbrev pub every : Rule
@@ -72,41 +65,52 @@ every = record (new_rule (codes "every")) {
   value_names = 1;
 }
 
--- the command audit, with its option
-abbrev pub audit : App
-audit = with_rule (new_app (codes "audit")) every
-
 -- the kind of text that is explained, which must be given
 abbrev pub kind_rule : Rule
 kind_rule = record (new_rule (codes "kind")) { action = Some Set; value_names = 1; required = true }
 
--- the command explain, with the kind of text
-abbrev pub explain : App
-explain = with_rule (new_app (codes "explain")) kind_rule
+-- the command with these options too
+abbrev pub with_rules : App → List Rule → App
+with_rules a [] = a
+with_rules a (rule ∷ rules) = with_rules (with_rule a rule) rules
 
--- with the commands that read a journal and have no option
-abbrev pub with_journals : App → App
-with_journals a = with_subcommand (with_subcommand a check.top) rewrite.top
+-- the command with these commands too
+abbrev pub with_commands : App → List App → App
+with_commands a [] = a
+with_commands a (c ∷ cs) = with_commands (with_subcommand a c.top) cs
 
--- with the command that traces a journal, or a window of a run
-abbrev pub with_trace : App → App
-with_trace a = with_subcommand a trace.top
+-- the commands, with their options
+abbrev pub commands : List App
+commands =
+    with_rules (new_app (codes "run")) run_rules ∷ new_app (codes "check") ∷ new_app (codes "rewrite")
+    ∷ with_rules (new_app (codes "trace")) trace_rules ∷ with_rules (new_app (codes "explain")) (kind_rule ∷ [])
+    ∷ with_rules (new_app (codes "audit")) (every ∷ []) ∷ []
 
--- with the command that audits a run
-abbrev pub with_audit : App → App
-with_audit a = with_subcommand a audit.top
-
--- with the command that explains a text
-abbrev pub with_explain : App → App
-with_explain a = with_subcommand a explain.top
-
--- the commands run, check, rewrite, trace, explain and audit, of which one must be given unless help or the version
--- is asked for
-abbrev pub program : App
-program =
+-- the program, before its commands: one of them must be given unless help or the version is asked for
+abbrev pub bare_program : App
+bare_program =
     let named = new_app (codes "asm_driver") in
-    let required = record named { top = record named.top { has_version = true; subcommand_required = true } } in
-    with_audit (with_explain (with_trace (with_journals (with_subcommand required run.top))))
+    record named { top = record named.top { has_version = true; subcommand_required = true } }
+
+-- the program
+abbrev pub program : App
+program = with_commands bare_program commands
+
+-- the options have these rules, and none is one of the subcommands too
+abbrev pub AreOptions : List Rule → List Arg → Type 0
+AreOptions [] [] = Unit {0}
+AreOptions (rule ∷ rules) (o ∷ os) = (rule_of o ≡ rule) × (o.global ≡ false) × AreOptions rules os
+AreOptions rules os = ⊥
+
+-- the command is this one, and none of its options is one of its subcommands too
+abbrev pub IsCommand : App → Command → Type 0
+IsCommand a c = (app_of c ≡ a) × ((out-Command c).has_globals ≡ false)
+
+-- they are these commands, one by one
+abbrev pub AreCommands : List App → List Command → Type 0
+AreCommands [] [] = Unit {0}
+AreCommands (a ∷ apps) (c ∷ cs) = IsCommand a c × AreCommands apps cs
+AreCommands apps cs = ⊥
 
 -- the words, each with its bytes
 abbrev pub Words : Type 0

@@ -11,6 +11,6 @@ mod terms;
 
 pub use asm_play::{Gate, Open, Outcome, Played, RunError, run_script};
 pub use asm_script::{Script, ScriptCause, ScriptError, parse_script};
-pub use program::{run_given, run_main};
+pub use program::{bare_program, run_given, run_main, subcommands};
 pub use reporting::report;
 pub use shown::shown_text;

@@ -10,6 +10,7 @@ ghost use Rattle.asm_driver.specs.Run.{input_of, output_of, Runs, RunsOver, HasF
 
 mod commands;
 mod explained;
+mod grammar;
 mod refusal;
 mod watching;
 mod windowing;
@@ -25,6 +26,7 @@ use crate::program::watching::{Stop, legal_line, watched};
 use crate::program::windowing::window_input;
 use crate::program::words::{Request, WordsError, read_words};
 use asm_audit::Counts;
+pub use grammar::{bare_program, subcommands};
 use std::alloc::{AllocError, Global};
 use std::io;
 use std::io::{ErrorKind, Read, Write};

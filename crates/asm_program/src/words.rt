@@ -1,5 +1,5 @@
 //! The words of the program, with the name of a file, which `asm_driver` doesn't take.
-use asm_driver::shown_text;
+use asm_driver::{bare_program, shown_text, subcommands};
 use clap::builder::ValueParser;
 use clap::error::ErrorKind;
 use clap::{Arg, ArgAction, ArgMatches, Command, Error};
@@ -83,62 +83,13 @@ fn file<'a>(alloc: Global) -> Arg<'a> {
         .value_name("FILE")
 }
 
-// Return an option with a number in this range.
-fn number<'a>(alloc: Global, name: &'a str, least: i64, most: i64) -> Arg<'a> {
-    Arg::new(alloc, name)
-        .long(name)
-        .action(ArgAction::Set)
-        .value_parser(ValueParser::Signed(least, most))
-        .value_name("N")
-}
-
-fn flag<'a>(alloc: Global, name: &'a str) -> Arg<'a> {
-    Arg::new(alloc, name).long(name).action(ArgAction::SetTrue)
-}
-
-fn kind<'a>(alloc: Global) -> Arg<'a> {
-    Arg::new(alloc, "kind")
-        .action(ArgAction::Set)
-        .required(true)
-        .value_parser(ValueParser::Names(&KINDS))
-        .value_name("script|journal")
-}
-
-fn run<'a>(alloc: Global) -> Result<Command<'a>, AllocError> {
-    Command::new(alloc, "run")
-        .arg(number(alloc, "capacity", 1, 1_048_576))?
-        .arg(flag(alloc, "journal"))?
-        .arg(flag(alloc, "terms"))?
-        .arg(file(alloc))
-}
-
-fn trace<'a>(alloc: Global) -> Result<Command<'a>, AllocError> {
-    Command::new(alloc, "trace")
-        .arg(number(alloc, "part", 0, 4_294_967_295))?
-        .arg(number(alloc, "from", 0, 4_294_967_295))?
-        .arg(number(alloc, "to", 0, 4_294_967_295))?
-        .arg(file(alloc))
-}
-
-// Return the commands of `asm_driver`, each with a file.
+// Return the program of `asm_driver`, where each command takes a file.
 fn program<'a>(alloc: Global) -> Result<Command<'a>, AllocError> {
-    Command::new(alloc, "asm_driver")
-        .version("0")
-        .subcommand_required(true)
-        .subcommand(run(alloc)?)?
-        .subcommand(Command::new(alloc, "check").arg(file(alloc))?)?
-        .subcommand(Command::new(alloc, "rewrite").arg(file(alloc))?)?
-        .subcommand(trace(alloc)?)?
-        .subcommand(
-            Command::new(alloc, "explain")
-                .arg(kind(alloc))?
-                .arg(file(alloc))?,
-        )?
-        .subcommand(
-            Command::new(alloc, "audit")
-                .arg(number(alloc, "every", 1, 4_294_967_295))?
-                .arg(file(alloc))?,
-        )
+    let mut program = bare_program(alloc);
+    for command in subcommands(alloc)? {
+        program = program.subcommand(command.arg(file(alloc))?)?;
+    }
+    Ok(program)
 }
 
 // Return what is said of an error.
@@ -202,17 +153,47 @@ fn is_backward(options: &ArgMatches<'_>) -> bool {
     }
 }
 
+// Return what `clap` says of a text's kind, if there is no such kind.
+fn why_no_kind(alloc: Global, kind: &str) -> Result<Option<String>, AllocError> {
+    let mut words = Vec::new(alloc);
+    words.push(String::from_str(alloc, "asm_driver")?)?;
+    words.push(String::from_str(alloc, "--")?)?;
+    words.push(shown_text(alloc, kind)?)?;
+    let known = Arg::new(alloc, "kind")
+        .required(true)
+        .value_parser(ValueParser::Names(&KINDS))
+        .value_name("script|journal");
+    match Command::new(alloc, "asm_driver")
+        .arg(known)?
+        .try_get_matches_from(words.as_slice())
+    {
+        Ok(_) => Ok(None),
+        Err(error) => Ok(Some(error.to_string(alloc)?)),
+    }
+}
+
+// Return why `asm_driver` refuses the options, if it does.
+fn why_refused(alloc: Global, options: &ArgMatches<'_>) -> Result<Option<String>, AllocError> {
+    if let Some(kind) = options.get_str("kind") {
+        return why_no_kind(alloc, kind);
+    }
+    if is_backward(options) {
+        let from = options.get_one::<u32>("from").unwrap_or(0);
+        let to = options.get_one::<u32>("to").unwrap_or(0);
+        return Ok(Some(format!(in alloc;
+            "error: --from {from} stands behind --to {to}, so there is no such window\n"
+        )?));
+    }
+    Ok(None)
+}
+
 fn invocation_of<'a>(
     alloc: Global,
     command: &'a str,
     options: &ArgMatches<'a>,
 ) -> Result<Invocation<'a>, NoRequest> {
-    if is_backward(options) {
-        let from = options.get_one::<u32>("from").unwrap_or(0);
-        let to = options.get_one::<u32>("to").unwrap_or(0);
-        return Err(NoRequest::Wrong(format!(in alloc;
-            "error: --from {from} stands behind --to {to}, so there is no such window\n"
-        )?));
+    if let Some(why) = why_refused(alloc, options)? {
+        return Err(NoRequest::Wrong(why));
     }
     Ok(Invocation {
         command,

@@ -1,16 +1,13 @@
 //! The program's words.
-ghost use Rattle.std.specs.Prelude.{◌≡◌, ◌↔◌, false, map, IfOk, IfErr, IfSome, IfNone, IsTrue, string_bytes};
-ghost use Rattle.clap.specs.Words.{FailsBy, app_of, found_of, kind_of, rows_of, rule_of, subcommand_of};
-ghost use Rattle.clap.specs.Words.{subcommand_rows_of};
-ghost use Rattle.asm_driver.specs.Words.{capacity as capacity_rule, journal as journal_rule, terms as terms_rule};
-ghost use Rattle.asm_driver.specs.Words.{every as every_rule, kind_rule, number_rule};
-ghost use Rattle.asm_driver.specs.Words.{with_audit, with_explain, with_journals, with_trace, program, faults, Asks, AsksKind, AsksRun};
+ghost use Rattle.std.specs.Prelude.{◌≡◌, ◌↔◌, map, IfOk, IfErr, IfSome, IfNone, IsTrue, string_bytes};
+ghost use Rattle.clap.specs.Words.{FailsBy, found_of, kind_of, rows_of, subcommand_of, subcommand_rows_of};
+ghost use Rattle.asm_driver.specs.Words.{program, faults, Asks, AsksKind, AsksRun};
 ghost use Rattle.asm_driver.specs.Words.{AsksAudit, AsksTrace, IsForward, AsksFor, IsNoCommand, IsMadeOf, IsRefusal};
 
-use asm_row::CAPACITY_LIMIT;
+use crate::program::grammar::program_command;
 use clap::error::ErrorKind;
-use clap::{Arg, ArgAction, ArgMatches, Command, Error, value_parser};
-use std::alloc::{AllocError, Global};
+use clap::{ArgMatches, Error};
+use std::alloc::Global;
 
 // The capacity if none is given; the option's default has the same digits.
 const DEFAULT_CAPACITY: u32 = 4096;
@@ -85,157 +82,6 @@ pub enum WordsError {
     Bad,
     /// Memory was refused.
     Memory,
-}
-
-fn capacity_option<'a>(alloc: Global) -> Arg<'a>
-    ensures rule { rule_of result ≡ capacity_rule }
-    ensures local { result.global ≡ false }
-{
-    Arg::new(alloc, "capacity")
-        .long("capacity")
-        .action(ArgAction::Set)
-        .value_parser(value_parser!(u32).range(1..=i64::from(CAPACITY_LIMIT)))
-        .default_value("4096")
-        .value_name("N")
-        .help("How many moves may be fired, from 1 to 1048576")
-}
-
-fn journal_option<'a>(alloc: Global) -> Arg<'a>
-    ensures rule { rule_of result ≡ journal_rule }
-    ensures local { result.global ≡ false }
-{
-    Arg::new(alloc, "journal")
-        .long("journal")
-        .action(ArgAction::SetTrue)
-        .help("Writes the journal of the calls in place of the report")
-}
-
-fn terms_option<'a>(alloc: Global) -> Arg<'a>
-    ensures rule { rule_of result ≡ terms_rule }
-    ensures local { result.global ≡ false }
-{
-    Arg::new(alloc, "terms")
-        .long("terms")
-        .action(ArgAction::SetTrue)
-        .help("Writes behind the report where terms had no value, and why")
-}
-
-// Return an option with a number of 32 bits.
-fn number_option<'a>(alloc: Global, name: &'a str, help: &'a str) -> Arg<'a>
-    ensures rule { rule_of result ≡ number_rule name.now }
-    ensures local { result.global ≡ false }
-{
-    Arg::new(alloc, name)
-        .long(name)
-        .action(ArgAction::Set)
-        .value_parser(value_parser!(u32).range(0..=4_294_967_295))
-        .value_name("N")
-        .help(help)
-}
-
-/// Add the commands that read a journal and have no option.
-fn with_journals<'a>(alloc: Global, command: Command<'a>) -> Result<Command<'a>, AllocError>
-    ensures app { IfOk result (λ c. app_of c ≡ with_journals (app_of command.entry)) }
-{
-    let check = Command::new(alloc, "check").about(
-        "Checks a journal of at most 16777216 bytes, which is read from standard input, and writes whether it is legal; audit has no such limit",
-    );
-    let rewrite = Command::new(alloc, "rewrite").about(
-        "Rewrites a journal of at most 16777216 bytes, which is read from standard input, in version 2, and doesn't check it; audit has no such limit",
-    );
-    command.subcommand(check)?.subcommand(rewrite)
-}
-
-/// Add the command that traces a journal, or a window of a run.
-fn with_trace<'a>(alloc: Global, command: Command<'a>) -> Result<Command<'a>, AllocError>
-    ensures app { IfOk result (λ c. app_of c ≡ with_trace (app_of command.entry)) }
-{
-    let trace = Command::new(alloc, "trace")
-        .about(
-            "Traces a journal of at most 16777216 bytes, which is read from standard input, and writes what each call did; with an option it traces a window of a run of any length, judges only the part with that window, from the state in its header, and holds the window's text in memory until its end was read",
-        )
-        .arg(number_option(
-            alloc,
-            "part",
-            "Which part of the run, counted from 0; 0 where it isn't given",
-        ))?
-        .arg(number_option(
-            alloc,
-            "from",
-            "The window's first call, counted from 0 in its part; 0 where it isn't given",
-        ))?
-        .arg(number_option(
-            alloc,
-            "to",
-            "The call behind the window's last one; the end of its part where it isn't given",
-        ))?;
-    command.subcommand(trace)
-}
-
-fn every_option<'a>(alloc: Global) -> Arg<'a>
-    ensures rule { rule_of result ≡ every_rule }
-    ensures local { result.global ≡ false }
-{
-    Arg::new(alloc, "every")
-        .long("every")
-        .action(ArgAction::Set)
-        .value_parser(value_parser!(u32).range(1..=4_294_967_295))
-        .value_name("N")
-        .help("Writes so far CALLS MOVES PARTS after each N calls, from 1 to 4294967295")
-}
-
-/// Add the command that audits a run.
-fn with_audit<'a>(alloc: Global, command: Command<'a>) -> Result<Command<'a>, AllocError>
-    ensures app { IfOk result (λ c. app_of c ≡ with_audit (app_of command.entry)) }
-{
-    let audit = Command::new(alloc, "audit")
-        .about(
-            "Audits a run of any length, whose parts are journals and are read from standard input, and writes whether it is legal",
-        )
-        .arg(every_option(alloc))?;
-    command.subcommand(audit)
-}
-
-fn kind_word<'a>(alloc: Global) -> Arg<'a>
-    ensures rule { rule_of result ≡ kind_rule }
-    ensures local { result.global ≡ false }
-{
-    Arg::new(alloc, "kind")
-        .action(ArgAction::Set)
-        .required(true)
-        .value_name("script|journal")
-        .help("What the text should be")
-}
-
-/// Add the command that explains a text.
-fn with_explain<'a>(alloc: Global, command: Command<'a>) -> Result<Command<'a>, AllocError>
-    ensures app { IfOk result (λ c. app_of c ≡ with_explain (app_of command.entry)) }
-{
-    let explain = Command::new(alloc, "explain")
-        .about(
-            "Explains where and why a script or a journal, which is read from standard input, is refused",
-        )
-        .arg(kind_word(alloc))?;
-    command.subcommand(explain)
-}
-
-fn program_command<'a>(alloc: Global) -> Result<Command<'a>, AllocError>
-    ensures app { IfOk result (λ c. app_of c ≡ program) }
-{
-    let run = Command::new(alloc, "run")
-        .about("Plays a script, which is read from standard input, and writes the report")
-        .arg(capacity_option(alloc))?
-        .arg(journal_option(alloc))?
-        .arg(terms_option(alloc))?;
-    let named = Command::new(alloc, "asm_driver")
-        .about(
-            "Plays the steps of an abstract state machine's agents on one storage, checks, rewrites and traces journals, audits runs, and explains why a text is refused",
-        )
-        .version("0.2.0")
-        .subcommand_required(true);
-    let journals = with_journals(alloc, named.subcommand(run)?)?;
-    let explain = with_explain(alloc, with_trace(alloc, journals)?)?;
-    with_audit(alloc, explain)
 }
 
 fn parse<'a>(alloc: Global, words: &'a [String]) -> Result<ArgMatches<'a>, Error>
