@@ -1,12 +1,17 @@
--- How a run ends: by an answer or a refusal, or by what an audit reports meanwhile and at its end.
-use Rattle.std.proofs.Common.{◌≡◌, ◌↔◌, ℕ, Bool, true, List, ◌++◌, Result, Ok, Err, IfOk, IfErr, string_bytes, refl, sym, subst, inl, inr}
+-- How a run ends: by an answer or a refusal, or by what an audit or a trace writes meanwhile and at its end.
+use Rattle.std.proofs.Common.{◌≡◌, ℕ, Bool, true, false, List, ◌++◌, Result, Ok, Err, IfOk, IfErr, string_bytes, refl, sym, subst, ◌∙◌, inl, inr}
 use Rattle.std.proofs.KnownBytes.{Appends-trans}
 use Rattle.std.specs.Io.KnownBytes.{Appends}
+use Rattle.asm_aggregate.specs.Standard.{standard_part}
 use Rattle.asm_audit.specs.declared.progress.Counts.{Counts}
+use Rattle.asm_journal.specs.Reading.{ReadsAs}
+use Rattle.asm_storage.specs.declared.history.History.{History}
+use Rattle.asm_trace.specs.Text.{IsTrace}
 use Rattle.asm_driver.specs.Ports.{Known}
 use Rattle.asm_driver.specs.Refusal.{refusal_line, refusal_status}
-use Rattle.asm_driver.specs.Run.{Input, Output, output_of, input_of, IsUnread, IsAnswer, IsNoAnswer, IsAnswerTo, Writes, Refuses, WritesLegal, Watches, Runs, HasFailed, Takes}
+use Rattle.asm_driver.specs.Run.{Input, Output, output_of, input_of, IsUnread, IsWhole, IsAnswer, IsNoAnswer, IsAnswerTo, Writes, Refuses, WritesLegal, Watches, Runs}
 use Rattle.asm_driver.specs.Watch.{IsWatchEnd}
+use Rattle.asm_driver.specs.Trace.{IsTraceStopped}
 use Rattle.asm_driver.specs.Window.{IsWindow}
 use Rattle.asm_driver.specs.Words.{Words, AsksFor, IsRefusal}
 use Rattle.asm_driver.specs.declared.program.words.Request.{Request}
@@ -16,11 +21,9 @@ use Rattle.asm_driver.specs.declared.program.refusal.Refusal.TheVariants as refu
 use Rattle.asm_driver.specs.declared.program.watching.Stop.TheVariants.{Refused, Unwritten}
 use Rattle.asm_driver.specs.declared.program.words.WordsError.{WordsError}
 use Rattle.asm_driver.specs.declared.program.words.WordsError.TheVariants.{Help, Version, Bad, Memory}
-use Rattle.asm_driver.specs.declared.program.words.Request.TheVariants.{Show, Audit}
+use Rattle.asm_driver.specs.declared.program.words.Request.TheVariants.{Show, Trace}
 use Rattle.asm_driver.specs.declared.program.words.Window.{Window}
-use Rattle.asm_driver.proofs.Faulting.{faults_answered, faults_refused, faults_watched}
-use Rattle.asm_driver.proofs.Runs.{answered, refused}
-use Rattle.asm_driver.proofs.Runs.{answered_taken, refused_taken, watched_taken}
+use Rattle.asm_driver.proofs.Runs.{refused}
 use Rattle.asm_driver.proofs.Watching.{some_behind, memory_instead}
 
 -- ---- words that ask for nothing that is carried out
@@ -60,29 +63,16 @@ shown_answered w had left failed q (Err r) asked status is = tt
 
 -- ---- what is written of an answer
 
-pub record IsRun (words : Words) (i : Input) (o : Output) (result : ℕ) : Type 0 where
-  pub runs : Runs words i o result
-  pub faults : (result ≡ 4) ↔ HasFailed i o
-  pub taken : Takes words i.had i.left
-
--- the same words
-pub run_of : (given words : Words) (i : Input) (o : Output) (result : ℕ) → given ≡ words → IsRun given i o result →
-    IsRun words i o result
-run_of given words i o result same run = subst (λ (w : Words). IsRun w i o result) same run
-
 pub run_is : (words : Words) (i : Input) (o : Output) (result : ℕ) (r : Result Ending Refusal) → IsAnswered words i r →
     IfOk r (λ e. Writes o e.status (string_bytes e.text) result) → IfErr r (λ x. Refuses o x result) →
-    IsRun words i o result
-run_is words i o result (Ok e) is writes refuses = record {
-  runs = answered words words i o e.status (string_bytes e.text) (string_bytes e.text) result refl refl is writes;
-  faults = faults_answered words i o e.status (string_bytes e.text) (string_bytes e.text) result is writes;
-  taken = answered_taken words i e.status (string_bytes e.text) is;
-}
-run_is words i o result (Err r) is writes refuses = record {
-  runs = refused words words i o r result refl is refuses;
-  faults = faults_refused words i o r result is refuses;
-  taken = refused_taken words i r is;
-}
+    Runs words i o result
+run_is words i o result (Ok e) is writes refuses = inl (e.status, string_bytes e.text, inl is, writes)
+run_is words i o result (Err r) is writes refuses = refused words i o r result is refuses
+
+-- for the same words
+pub run_of : (given words : Words) (i : Input) (o : Output) (result : ℕ) → given ≡ words → Runs given i o result →
+    Runs words i o result
+run_of given words i o result same runs = subst (λ (w : Words). Runs w i o result) same runs
 
 -- ---- what is written of an audit
 
@@ -136,10 +126,34 @@ pub watched_cut : (every : ℕ) (had left held holds : Known) (read failed flush
 watched_cut every had left held holds read failed flushed result (reported, some, cut, reads) noted four =
     inr (reported, cut, reads, four, record { some = some; failed = noted })
 
-pub run_watched : (words : Words) (i : Input) (o : Output) (every result : ℕ) → AsksFor words (Audit every) →
-    Watches every i o result → IsRun words i o result
-run_watched words i o every result asks is = record {
-  runs = inr (every, asks, is);
-  faults = faults_watched every i o result is;
-  taken = watched_taken words i o every result asks is;
-}
+-- ---- what is written of a trace
+
+-- an allocation failure is shown as itself
+memory_written : (o : Output) (r : Refusal) (result : ℕ) → r ≡ refusal.Memory → Refuses o r result →
+    Writes o 3 (refusal_line refusal.Memory) result
+memory_written o r result same (shown, inl is, writes) =
+    subst (λ (x : Refusal). Writes o (refusal_status x) (refusal_line x) result) (is ∙ same) writes
+memory_written o r result same (shown, inr (is, number), writes) =
+    subst (λ (x : Refusal). Writes o (refusal_status x) (refusal_line x) result) is writes
+
+module _ (words : Words) (i : Input) (held holds : Known) (failed flushed : Bool) (result : ℕ) (h : History)
+    (read : (bytes : List ℕ) × IsWhole i bytes × ReadsAs bytes h) (asks : AsksFor words Trace) where
+  abbrev ended : Output
+  ended = output_of held holds failed flushed
+
+  pub traced_all : result ≡ 0 → (text : List ℕ) × IsTrace standard_part h text × Appends held holds text → failed ≡ false →
+      flushed ≡ true → Runs words i ended result
+  traced_all same (text, is, all) whole flushes =
+      let done = inl (inl (read.0, Trace, read.1, asks, (refl, (h, read.2, is)))) in
+      inl (0, text, done, inl (same, record { all = all; whole = whole; flushed = flushes }))
+
+  pub traced_memory : (mid : Known) (r : Refusal) → IsTraceStopped h held mid (Refused r) →
+      Refuses (output_of mid holds failed flushed) r result → Runs words i ended result
+  traced_memory mid r (begun, is, ends) refuses =
+      let line = memory_written (output_of mid holds failed flushed) r result ends.0 refuses in
+      let all = writes_behind held mid holds failed flushed begun (refusal_line refusal.Memory) 3 result ends.1 line in
+      inr (inr (asks, (read.0, begun, h, read.1, read.2, is, inl all)))
+
+  pub traced_cut : result ≡ 4 → IsTraceStopped h held holds Unwritten → failed ≡ true → Runs words i ended result
+  traced_cut same (begun, is, some) noted =
+      inr (inr (asks, (read.0, begun, h, read.1, read.2, is, inr (same, record { some = some; failed = noted }))))

@@ -7,7 +7,7 @@ use Rattle.asm_journal.specs.declared.checking.Legality.TheVariants.{Legal, Ille
 use Rattle.asm_driver.specs.Commands.{legality_status, IsDone, IsNotDone}
 use Rattle.asm_driver.specs.Refusal.{refusal_status, refusal_line, journal_status, has_number}
 use Rattle.asm_driver.specs.Words.{Words}
-use Rattle.asm_driver.specs.Run.{Input, Output, IsAnswer, IsNoAnswer, IsShown, Writes, Refuses, HasFailed, EndsAs, Watches}
+use Rattle.asm_driver.specs.Run.{Input, Output, IsAnswer, IsNoAnswer, IsShown, Writes, HasFailed, EndsAs, Runs}
 use Rattle.asm_driver.specs.declared.program.refusal.Refusal.{Refusal}
 use Rattle.asm_driver.specs.declared.program.refusal.Refusal.TheVariants as refusal
 use Rattle.asm_driver.specs.declared.program.words.Request.{Request}
@@ -46,18 +46,6 @@ answer_reads : (words : Words) (i : Input) (status : ℕ) (text : List ℕ) → 
 answer_reads words i status text (inl (bytes, request, whole, asks, done)) = whole.whole
 answer_reads words i status text (inr (inl (w, asks, same, is))) = is.noted
 answer_reads words i status text (inr (inr (same, asks, unread))) = unread.whole
-
-pub faults_answered : (given : Words) (i : Input) (o : Output) (status : ℕ) (text bytes : List ℕ) (result : ℕ)
-    → IsAnswer given i status text → Writes o status bytes result → (result ≡ 4) ↔ HasFailed i o
-faults_answered given i o status text bytes result answer writes = (there writes, back writes) where
-  there : Writes o status bytes result → result ≡ 4 → HasFailed i o
-  there (inl (is, written)) e = absurd (answer_works given i status text answer (sym is ∙ e))
-  there (inr (is, cut)) e = inr cut.failed
-
-  back : Writes o status bytes result → HasFailed i o → result ≡ 4
-  back w (inl read) = absurd (both (sym read ∙ answer_reads given i status text answer))
-  back (inl (is, written)) (inr failed) = absurd (both (sym failed ∙ written.whole))
-  back (inr (is, cut)) (inr failed) = is
 
 -- only a failed read has the status 4
 journal_four : (e : JournalError) → journal_status e ≡ 4 → ⊥
@@ -109,22 +97,6 @@ failed_fault words i r (inr (inl (taken, is))) e = absurd is
 failed_fault words i r (inr (inr (inl (bytes, request, whole, asks, is)))) e = absurd (both (sym e ∙ whole.whole))
 failed_fault words i r (inr (inr (inr (w, asks, reported)))) e = fault_read r (sym reported.2.noted ∙ e)
 
-pub faults_refused : (given : Words) (i : Input) (o : Output) (r : Refusal) (result : ℕ)
-    → IsNoAnswer given i r → Refuses o r result → (result ≡ 4) ↔ HasFailed i o
-faults_refused given i o r result none (shown, is, writes) = (there writes, back writes) where
-  there : Writes o (refusal_status shown) (refusal_line shown) result → result ≡ 4 → HasFailed i o
-  there (inl (same, written)) e =
-      let fault = shown_fault r shown is (four shown (sym same ∙ e)) in
-      inl (fault_failed given i (subst (IsNoAnswer given i) fault none))
-  there (inr (same, cut)) e = inr cut.failed
-
-  back : Writes o (refusal_status shown) (refusal_line shown) result → HasFailed i o → result ≡ 4
-  back (inr (same, cut)) failed = same
-  back (inl (same, written)) (inr failed) = absurd (both (sym failed ∙ written.whole))
-  back (inl (same, written)) (inl read) =
-      let fault = fault_shown r shown is (failed_fault given i r none read) in
-      subst (λ x. result ≡ refusal_status x) fault same
-
 -- a watched audit has the status of a fault if a read failed
 ends_four : (r : Result Counts Refusal) (status : ℕ) (text : List ℕ) → EndsAs r status text → status ≡ 4 →
     is_failed_read r ≡ true
@@ -138,15 +110,35 @@ read_four (Ok v) status text ends e = absurd (both (sym e))
 read_four (Err r) status text (shown, is, same, written) e =
     same ∙ ap refusal_status (fault_shown r shown is (fault_read r e))
 
-pub faults_watched : (every : ℕ) (i : Input) (o : Output) (result : ℕ) → Watches every i o result →
-    (result ≡ 4) ↔ HasFailed i o
-faults_watched every i o result (inl (r, reported, text, status, is, ends, writes)) = (there writes, back writes) where
-  there : Writes o status (reported ++ text) result → result ≡ 4 → HasFailed i o
-  there (inl (same, written)) e = inl (is.noted ∙ ends_four r status text ends (sym same ∙ e))
+-- the status of what is written is that of a failed read, if a read failed
+faults_writes : (i : Input) (o : Output) (status : ℕ) (text : List ℕ) (result : ℕ) → (status ≡ 4 → i.failed ≡ true) →
+    (i.failed ≡ true → status ≡ 4) → Writes o status text result → (result ≡ 4) ↔ HasFailed i o
+faults_writes i o status text result read reads writes = (there writes, back writes) where
+  there : Writes o status text result → result ≡ 4 → HasFailed i o
+  there (inl (same, written)) e = inl (read (sym same ∙ e))
   there (inr (same, cut)) e = inr cut.failed
 
-  back : Writes o status (reported ++ text) result → HasFailed i o → result ≡ 4
-  back (inr (same, cut)) failed = same
+  back : Writes o status text result → HasFailed i o → result ≡ 4
+  back (inl (same, written)) (inl failed) = same ∙ reads failed
   back (inl (same, written)) (inr failed) = absurd (both (sym failed ∙ written.whole))
-  back (inl (same, written)) (inl read) = same ∙ read_four r status text ends (sym is.noted ∙ read)
-faults_watched every i o result (inr (reported, cut, reads, same, some)) = (λ e. inr some.failed, λ failed. same)
+  back (inr (same, cut)) failed = same
+
+pub faults_run : (words : Words) (i : Input) (o : Output) (result : ℕ) → Runs words i o result →
+    (result ≡ 4) ↔ HasFailed i o
+faults_run words i o result (inl (status, text, inl is, writes)) =
+    faults_writes i o status text result (λ e. absurd (answer_works words i status text is e))
+    (λ e. absurd (both (sym e ∙ answer_reads words i status text is))) writes
+faults_run words i o result (inl (status, text, inr (r, none, same, written), writes)) =
+    faults_writes i o status text result
+    (λ e. fault_failed words i (subst (IsNoAnswer words i) (four r (sym same ∙ e)) none))
+    (λ e. same ∙ ap refusal_status (failed_fault words i r none e)) writes
+faults_run words i o result (inr (inl (every, asks, inl (r, reported, text, status, is, ends, writes)))) =
+    faults_writes i o status (reported ++ text) result (λ e. is.noted ∙ ends_four r status text ends e)
+    (λ e. read_four r status text ends (sym is.noted ∙ e)) writes
+faults_run words i o result (inr (inl (every, asks, inr (reported, cut, reads, same, some)))) =
+    (λ e. inr some.failed, λ failed. same)
+faults_run words i o result (inr (inr (asks, (bytes, begun, h, whole, reads, is, inl writes)))) =
+    faults_writes i o 3 (begun ++ refusal_line refusal.Memory) result (λ e. absurd (omega (arith, e)))
+    (λ e. absurd (both (sym e ∙ whole.whole))) writes
+faults_run words i o result (inr (inr (asks, (bytes, begun, h, whole, reads, is, inr (same, cut))))) =
+    (λ e. inr cut.failed, λ failed. same)

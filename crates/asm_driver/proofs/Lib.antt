@@ -6,6 +6,7 @@ mod Grammar
 mod Runs
 mod Faulting
 mod Watching
+mod Tracing
 mod BytesTaken
 mod PartLines
 mod LinesTaken

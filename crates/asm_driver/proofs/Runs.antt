@@ -4,9 +4,9 @@ use Rattle.std.proofs.Common.{◌++◌, length, arith}
 use Rattle.asm_driver.specs.Commands.{IsNotDone}
 use Rattle.asm_driver.specs.Ports.{Known, TakesSome}
 use Rattle.asm_driver.specs.Refusal.{refusal_line, refusal_status, has_number}
-use Rattle.asm_driver.specs.Words.{Words, AsksFor}
-use Rattle.asm_driver.specs.Run.{Input, Output, IsAnswer, IsNoAnswer, IsNoInput, IsShown, Writes, Refuses, Runs}
-use Rattle.asm_driver.specs.Run.{RunsOver, input_of, output_of, IsUnread, IsWhole, Takes, Watches}
+use Rattle.asm_driver.specs.Words.{Words}
+use Rattle.asm_driver.specs.Run.{Input, Output, IsAnswer, IsNoAnswer, IsNoInput, IsShown, Refuses, Runs}
+use Rattle.asm_driver.specs.Run.{RunsOver, input_of, output_of, IsUnread, IsWhole, Takes}
 use Rattle.asm_driver.specs.declared.program.refusal.Refusal.{Refusal}
 use Rattle.asm_driver.specs.declared.program.refusal.Refusal.TheVariants as refusal
 use Rattle.asm_driver.specs.declared.program.words.Request.{Request}
@@ -17,16 +17,6 @@ use Rattle.asm_driver.specs.declared.program.words.Window.{Window}
 use Rattle.std.proofs.KnownBytes.{Consumes-nil}
 use Rattle.std.specs.Io.KnownBytes.{Consumes}
 use Rattle.asm_driver.specs.Limits.{input_limit}
-
-pub answered : (given words : Words) (i : Input) (o : Output) (status : ℕ) (text bytes : List ℕ) (result : ℕ) →
-    given ≡ words → bytes ≡ text → IsAnswer given i status text → Writes o status bytes result → Runs words i o result
-answered given words i o status text bytes result same written answer writes = inl (
-  status,
-  text,
-  inl (subst (λ w. IsAnswer w i status text) same answer),
-  subst (λ t. Writes o status t result)
-      written writes,
-)
 
 -- an allocation failure is possible whenever something is carried out
 memory_done : (bytes : List ℕ) (request : Request) (r : Refusal) → IsNotDone bytes request r →
@@ -82,12 +72,12 @@ shown_reported words i r shown none (inl is) = subst (IsNoAnswer words i) (sym i
 shown_reported words i r shown none (inr (is, number)) = subst (IsNoAnswer words i) (sym is)
     (memory_reported words i r number none)
 
-pub refused : (given words : Words) (i : Input) (o : Output) (r : Refusal) (result : ℕ) → given ≡ words →
-    IsNoAnswer given i r → Refuses o r result → Runs words i o result
-refused given words i o r result same none (shown, is, writes) = inl (
+pub refused : (words : Words) (i : Input) (o : Output) (r : Refusal) (result : ℕ) → IsNoAnswer words i r →
+    Refuses o r result → Runs words i o result
+refused words i o r result none (shown, is, writes) = inl (
   refusal_status shown,
   refusal_line shown,
-  inr (shown, subst (λ w. IsNoAnswer w i shown) same (shown_reported given i r shown none is), refl, refl),
+  inr (shown, shown_reported words i r shown none is, refl, refl),
   writes,
 )
 
@@ -120,7 +110,7 @@ all_taken : (i : Input) (bytes : List ℕ) → IsWhole i bytes → TakesSome i.h
 all_taken i bytes whole =
     let within : length bytes ≤ input_limit = whole.all.within in (bytes, whole.all.consumed, omega (arith, within))
 
-pub answered_taken : (words : Words) (i : Input) (status : ℕ) (text : List ℕ) → IsAnswer words i status text →
+answered_taken : (words : Words) (i : Input) (status : ℕ) (text : List ℕ) → IsAnswer words i status text →
     Takes words i.had i.left
 answered_taken words i status text (inl (bytes, request, whole, asks, done)) = inl (all_taken i bytes whole)
 answered_taken words i status text (inr (inl (w, asks, same, is))) = inr (inr (w, asks), (is.bytes, is.consumed))
@@ -133,16 +123,18 @@ input_taken i refusal.InputFault is = is.0
 input_taken i refusal.Memory is = is.0
 input_taken i r is = absurd is
 
-pub refused_taken : (words : Words) (i : Input) (r : Refusal) → IsNoAnswer words i r → Takes words i.had i.left
+refused_taken : (words : Words) (i : Input) (r : Refusal) → IsNoAnswer words i r → Takes words i.had i.left
 refused_taken words i r (inl (bad, unread)) = inl (none_taken i unread)
 refused_taken words i r (inr (inl (taken, is))) = inl (input_taken i r is)
 refused_taken words i r (inr (inr (inl (bytes, request, whole, asks, is)))) = inl (all_taken i bytes whole)
 refused_taken words i r (inr (inr (inr (w, asks, reported)))) =
     inr (inr (w, asks), (reported.0 ++ (reported.2.line ++ reported.2.behind), reported.2.consumed))
 
-pub watched_taken : (words : Words) (i : Input) (o : Output) (every result : ℕ) → AsksFor words (Audit every) →
-    Watches every i o result → Takes words i.had i.left
-watched_taken words i o every result asks (inl (r, reported, text, status, is, ends, writes)) =
+pub run_taken : (words : Words) (i : Input) (o : Output) (result : ℕ) → Runs words i o result → Takes words i.had i.left
+run_taken words i o result (inl (status, text, inl is, writes)) = answered_taken words i status text is
+run_taken words i o result (inl (status, text, inr (r, none, same, written), writes)) = refused_taken words i r none
+run_taken words i o result (inr (inl (every, asks, inl (r, reported, text, status, is, ends, writes)))) =
     inr (inl (every, asks), (is.taken ++ is.behind, is.consumed))
-watched_taken words i o every result asks (inr (reported, cut, reads, four, some)) =
+run_taken words i o result (inr (inl (every, asks, inr (reported, cut, reads, four, some)))) =
     inr (inl (every, asks), (cut.taken ++ cut.behind, cut.consumed))
+run_taken words i o result (inr (inr (asks, (bytes, begun, h, whole, reads, is, ways)))) = inl (all_taken i bytes whole)

@@ -6,6 +6,7 @@ pub mod Words
 pub mod Refusal
 pub mod Audit
 pub mod Watch
+pub mod Trace
 pub mod Parts
 pub mod Window
 pub mod Explained

@@ -12,12 +12,15 @@ use Rattle.asm_driver.specs.Audit.{legal_line}
 use Rattle.asm_driver.specs.Watch.{IsWatchReported, IsWatchCut}
 use Rattle.asm_driver.specs.Window.{IsWindow, IsNoWindow}
 use Rattle.asm_driver.specs.Commands.{IsDone, IsNotDone}
+use Rattle.asm_driver.specs.Trace.{IsTraceBegun}
+use Rattle.asm_journal.specs.Reading.{ReadsAs}
+use Rattle.asm_storage.specs.declared.history.History.{History}
 use Rattle.asm_driver.specs.Refusal.{refusal_line, refusal_status, has_number}
 use Rattle.asm_driver.specs.declared.program.commands.Ending.{Ending}
 use Rattle.asm_driver.specs.declared.program.refusal.Refusal.{Refusal}
 use Rattle.asm_driver.specs.declared.program.refusal.Refusal.TheVariants as refusal
 use Rattle.asm_driver.specs.declared.program.words.Request.{Request}
-use Rattle.asm_driver.specs.declared.program.words.Request.TheVariants.{Audit, Show}
+use Rattle.asm_driver.specs.declared.program.words.Request.TheVariants.{Audit, Show, Trace}
 use Rattle.asm_driver.specs.declared.program.words.Window.{Window}
 use Rattle.asm_driver.specs.declared.program.words.WordsError.{WordsError}
 use Rattle.asm_driver.specs.declared.program.words.WordsError.TheVariants as words
@@ -192,11 +195,19 @@ Watches every i o result =
     TellsAll every i o result
     ⊎ ((reported : List ℕ) × IsWatchCut every i.had i.left reported × (i.failed ≡ false) × (result ≡ 4) × IsCut o reported)
 
--- a run of the program: how it ends, and what it wrote; an audit may write before its end
+-- a trace that ends early, behind its first lines: with the line of an allocation failure, or as the output failed
+abbrev pub BreaksOff : Input → Output → ℕ → Type 0
+BreaksOff i o result =
+    (bytes begun : List ℕ) × (h : History) × IsWhole i bytes × ReadsAs bytes h × IsTraceBegun h begun
+    × (Writes o (refusal_status refusal.Memory) (begun ++ refusal_line refusal.Memory) result
+    ⊎ ((result ≡ 4) × IsCut o begun))
+
+-- a run of the program: how it ends, and what it wrote; an audit and a trace may write before their end
 abbrev pub Runs : Words → Input → Output → ℕ → Type 0
 Runs words i o result =
     ((status : ℕ) × (text : List ℕ) × Ends words i status text × Writes o status text result)
     ⊎ ((every : ℕ) × AsksFor words (Audit every) × Watches every i o result)
+    ⊎ (AsksFor words Trace × BreaksOff i o result)
 
 -- a read of the input or a call of the output failed
 abbrev pub HasFailed : Input → Output → Type 0

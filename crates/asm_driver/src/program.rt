@@ -12,6 +12,7 @@ mod commands;
 mod explained;
 mod grammar;
 mod refusal;
+mod tracing;
 mod watching;
 mod windowing;
 mod words;
@@ -22,6 +23,7 @@ use crate::ports::sink::{NotedWriter, Sink};
 use crate::ports::source::{NotedReader, Source};
 use crate::program::commands::{Ending, carry_out};
 use crate::program::refusal::Refusal;
+use crate::program::tracing::{read_journal, write_trace};
 use crate::program::watching::{Stop, legal_line, watched};
 use crate::program::windowing::window_input;
 use crate::program::words::{Request, WordsError, read_words};
@@ -64,6 +66,7 @@ fn answer<T: Threads + Wait + Sync, S: Source>(
 ) -> Result<Ending, Refusal>
     requires unread { S.failed input.old ≡ false }
     requires audit { (every : ℕ) → request ≢ requests.Audit every }
+    requires trace { request ≢ requests.Trace }
     ensures same_reference { S.lender input.new ≡ S.lender input.old }
     ensures ok { IfOk result (λ e. (words : Words) → AsksFor words request → IsAnswer words
         (input_of (S.remaining input.old) (S.remaining input.new) (S.failed input.new))
@@ -167,6 +170,62 @@ fn watch<T: Wait, S: Source, K: Sink>(
     }
 }
 
+/// Write the trace of the journal on the input, and return the program's status.
+///
+/// It writes nothing before it has read the complete journal, and then the events one by one.
+fn trace<S: Source, K: Sink>(alloc: Global, input: &mut S, output: &mut K) -> u8
+    requires input { S.failed input.old ≡ false }
+    requires output { K.failed output.old ≡ false }
+    ensures same_input { S.lender input.new ≡ S.lender input.old }
+    ensures same_output { K.lender output.new ≡ K.lender output.old }
+    ensures runs { (words : Words) → AsksFor words requests.Trace → Runs words
+        (input_of (S.remaining input.old) (S.remaining input.new) (S.failed input.new))
+        (output_of (K.contents output.old) (K.contents output.new) (K.failed output.new) (K.flushed output.new)) result }
+{
+    let history = match read_journal(alloc, input) {
+        Ok(history) => history,
+        Err(refusal) => return refuse(alloc, output, refusal),
+    };
+    match write_trace(alloc, &history, output) {
+        Ok(()) => 0,
+        Err(stop) => match stop {
+            Stop::Refused(refusal) => refuse(alloc, output, refusal),
+            Stop::Unwritten => 4,
+        },
+    }
+}
+
+// Do what the words ask for, and return the program's status.
+fn run_words<T: Threads + Wait + Sync, S: Source, K: Sink>(
+    rt: &T,
+    alloc: Global,
+    words: &[String],
+    input: &mut S,
+    output: &mut K,
+) -> u8
+    requires input { S.failed input.old ≡ false }
+    requires output { K.failed output.old ≡ false }
+    ensures same_input { S.lender input.new ≡ S.lender input.old }
+    ensures same_output { K.lender output.new ≡ K.lender output.old }
+    ensures runs { Runs (map string_bytes words.now)
+        (input_of (S.remaining input.old) (S.remaining input.new) (S.failed input.new))
+        (output_of (K.contents output.old) (K.contents output.new) (K.failed output.new) (K.flushed output.new)) result }
+    ensures unread { ¬ (faults (map string_bytes words.now) ≡ []) → input.new ≡ input.old }
+{
+    let request = match read_words(alloc, words) {
+        Ok(request) => request,
+        Err(error) => return write_answer(alloc, output, answer_to(alloc, error)),
+    };
+    match request {
+        Request::Audit { every } => watch(rt, alloc, every, input, output),
+        Request::Trace => trace(alloc, input, output),
+        _ => {
+            let answered = answer(rt, alloc, request, input);
+            write_answer(alloc, output, answered)
+        }
+    }
+}
+
 /// Do what the words ask for, and return the program's status.
 ///
 /// It works as `run_main`, over an input and an output that record whether a call failed. The status is 4 exactly if a
@@ -191,17 +250,7 @@ pub fn run_noted<T: Threads + Wait + Sync, S: Source, K: Sink>(
     ensures taken { Takes (map string_bytes words.items) (S.remaining input.old) (S.remaining input.new) }
     ensures unread { ¬ (faults (map string_bytes words.items) ≡ []) → input.new ≡ input.old }
 {
-    let request = match read_words(alloc, words.as_slice()) {
-        Ok(request) => request,
-        Err(error) => return write_answer(alloc, output, answer_to(alloc, error)),
-    };
-    match request {
-        Request::Audit { every } => watch(rt, alloc, every, input, output),
-        _ => {
-            let answered = answer(rt, alloc, request, input);
-            write_answer(alloc, output, answered)
-        }
-    }
+    run_words(rt, alloc, words.as_slice(), input, output)
 }
 
 /// Do what the words ask for, and return the program's status.
@@ -213,7 +262,8 @@ pub fn run_noted<T: Threads + Wait + Sync, S: Source, K: Sink>(
 /// - `check`: the input is a journal. The text is `legal CALLS MOVES` with status 0, or `illegal CALL` with status 1.
 /// - `rewrite`: the input is a journal, whether legal or not. The text is the journal of the same history, with status
 ///   0.
-/// - `trace`: the input is a journal, whether legal or not. The text is its trace, with status 0.
+/// - `trace`: the input is a journal, whether legal or not. The text is its trace, with status 0. It is written event by
+///   event: if an allocation fails meanwhile, the line with that cause comes after the trace's first lines.
 /// - `explain script` and `explain journal`: if `run` or `check` would accept the input, the text is empty, with status
 ///   0. Else it is a line that says where and why not, with status 1.
 /// - `audit`: the input is a run of any length, whose segments are journals. No line of it may have more than

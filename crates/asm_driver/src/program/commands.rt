@@ -3,7 +3,7 @@ ghost use Rattle.std.specs.Prelude.{◌≡◌, ◌≢◌, ℕ, false, IfOk, IfEr
 ghost use Rattle.asm_driver.specs.declared.program.words.Request.TheVariants as requests;
 ghost use Rattle.asm_driver.specs.declared.program.words.Window.{Window as Wanted};
 ghost use Rattle.asm_driver.specs.Commands.{text_of_played, IsNoText, IsRunText, IsTermsText, IsNoRun, IsCheck};
-ghost use Rattle.asm_driver.specs.Commands.{IsNoJournal, IsRewrite, IsTraceOf};
+ghost use Rattle.asm_driver.specs.Commands.{IsNoJournal, IsRewrite};
 ghost use Rattle.asm_driver.specs.Commands.{legality_line, legality_status, IsDone, IsNotDone};
 
 use crate::program::explained::explained;
@@ -15,7 +15,6 @@ use asm_journal::{Legality, check, from_text, to_text};
 use asm_play::aggregator::script_aggregator;
 use asm_play::{Open, Played, run_script};
 use asm_script::parse_script;
-use asm_trace::standard_trace_text;
 use std::alloc::{AllocError, Global};
 use std::sync::Wait;
 use std::thread::Threads;
@@ -115,17 +114,6 @@ fn rewrite(alloc: Global, bytes: &[u8]) -> Result<String, Refusal>
     Ok(to_text(alloc, &history)?)
 }
 
-/// Read the bytes as a journal, legal or not, and write its trace.
-///
-/// What was read always fits a journal.
-fn trace(alloc: Global, bytes: &[u8]) -> Result<String, Refusal>
-    ensures ok { IfOk result (λ text. IsTraceOf bytes.now (string_bytes text)) }
-    ensures err { IfErr result (IsNoJournal bytes.now) }
-{
-    let history = from_text(alloc, bytes)?;
-    Ok(standard_trace_text(alloc, &history)?)
-}
-
 /// Carry out the request on the bytes of the complete input.
 pub(crate) fn carry_out<T: Threads + Wait + Sync>(
     rt: &T,
@@ -135,6 +123,7 @@ pub(crate) fn carry_out<T: Threads + Wait + Sync>(
 ) -> Result<Ending, Refusal>
     requires audit { (every : ℕ) → request ≢ requests.Audit every }
     requires show { (w : Wanted) → request ≢ requests.Show w }
+    requires trace { request ≢ requests.Trace }
     ensures ok { IfOk result (λ e. IsDone bytes.now request e.status (string_bytes e.text)) }
     ensures err { IfErr result (IsNotDone bytes.now request) }
 {
@@ -152,10 +141,7 @@ pub(crate) fn carry_out<T: Threads + Wait + Sync>(
             status: 0,
             text: rewrite(alloc, bytes)?,
         }),
-        Request::Trace => Ok(Ending {
-            status: 0,
-            text: trace(alloc, bytes)?,
-        }),
+        Request::Trace => unreachable!(),
         Request::Show(_) => unreachable!(),
         Request::Audit { every: _ } => unreachable!(),
         Request::Explain(kind) => Ok(explained(alloc, kind, bytes)?),

@@ -7,6 +7,7 @@ ghost use Rattle.asm_driver.specs.Audit.{refusal_of_audit, legal_line as line_of
 ghost use Rattle.asm_driver.specs.Ports.{AppendsSome};
 ghost use Rattle.asm_driver.specs.Watch.{so_far_line as line_of_counts, IsDue, AddsDue, IsWatched, IsWatchAnswer};
 ghost use Rattle.asm_driver.specs.Watch.{is_unwritten, IsWrittenAnswer, IsWatchEnd};
+ghost use Rattle.asm_driver.specs.declared.program.refusal.Refusal.TheVariants as refusals;
 ghost use Rattle.asm_driver.specs.declared.program.watching.Stop.TheVariants as stops;
 
 use crate::ports::PortFailed;
@@ -23,7 +24,7 @@ use std::sync::Wait;
 // Number of bytes that a read asks for.
 const CHUNK: usize = 4096;
 
-/// Why a watched audit ends.
+/// Why an audit or a trace ends early.
 #[derive(Clone, Copy, Debug, PartialEq, Eq)]
 pub enum Stop {
     /// What is asked for is refused.
@@ -37,6 +38,14 @@ impl From<PortFailed> for Stop {
 
     fn from(_failed: PortFailed) -> Stop {
         Stop::Unwritten
+    }
+}
+
+impl From<AllocError> for Stop {
+    ghost from_gives = { λ _ s. s ≡ stops.Refused refusals.Memory };
+
+    fn from(_refused: AllocError) -> Stop {
+        Stop::Refused(Refusal::Memory)
     }
 }
 
