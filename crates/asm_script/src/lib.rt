@@ -13,7 +13,7 @@ mod term_form;
 
 pub use block::{TermAction, TermInstruction};
 pub use fault::{FaultyTerm, StepFault};
-pub use parsing::parse_script;
+pub use parsing::{parse_script, read_script};
 pub use script::{Script, ScriptCause, ScriptError};
 pub use step::{Step, step_move};
 pub use term::{Found, NoValue, Term};

@@ -1,18 +1,16 @@
 //! How a script is read from its text.
-ghost use Rattle.std.specs.Prelude.{◌≡◌, [], IfOk, IfErr, false};
+ghost use Rattle.std.specs.Prelude.{◌≡◌, IfOk, IfErr, List, map};
 ghost use Rattle.std.specs.Arc.{arc_value};
-ghost use Rattle.std.specs.List.{list_any};
 ghost use Rattle.serde_json.specs.View.{view};
-ghost use Rattle.asm_journal.specs.Shape.{IsParsed as ReadsForm};
 ghost use Rattle.asm_journal.specs.Reading.{IsJson};
-ghost use Rattle.asm_script.specs.Script.{IsNotJson, IsScriptForm, is_long, IsLong, step_faults, agent_faults};
-ghost use Rattle.asm_script.specs.Script.{faults, IsFirst, IsPlanOf, IsScriptOf, IsRefusedScript};
+ghost use Rattle.asm_script.specs.Script.{Fault, IsChecked, each, block_faults, step_faults, agent_faults, faults};
+ghost use Rattle.asm_script.specs.Script.{IsNotJson, IsScriptForm, plan_of, IsReadScript, IsScriptOf, IsRefusedScript, limit_of};
 
 use crate::block::{Block, TermInstruction};
 use crate::script::{BLOCKS_LIMIT, Script, ScriptCause, ScriptError};
 use crate::step::Step;
 use asm_element::Items;
-use asm_journal::{Listed, read_form, two_members};
+use asm_journal::{FormCause, FormError, FromJson, Listed, OfPart, read_form, two_members};
 use asm_storage::{AGENTS_LIMIT, READS_LIMIT};
 use asm_update::PlainState;
 use serde_json::Value as Json;
@@ -24,6 +22,19 @@ use std::sync::Arc;
 struct UncheckedScript {
     init: PlainState,
     agents: Listed<Listed<Listed<Listed<TermInstruction>>>>,
+}
+
+impl FromJson for UncheckedScript {
+    ghost is_form = { IsScriptForm };
+
+    fn from_json(alloc: Global, json: &Json) -> Result<UncheckedScript, FormError> {
+        let Some((agents, init)) = two_members(json, "agents", "init") else {
+            return Err(FormError::of(alloc, FormCause::Script));
+        };
+        let agents = FromJson::from_json(alloc, agents).at("agents")?;
+        let init = PlainState::from_json(alloc, init).at("init")?;
+        Ok(UncheckedScript { init, agents })
+    }
 }
 
 /// Return the bytes as JSON.
@@ -38,87 +49,83 @@ fn json_of(alloc: Global, bytes: &[u8]) -> Result<Json, ScriptError>
     }
 }
 
-/// Read the script from JSON, with its limits unchecked.
-///
-/// `None` means that the JSON has another form.
-fn unchecked_of(alloc: Global, json: &Json) -> Result<Option<UncheckedScript>, AllocError>
-    ensures { IfOk result (ReadsForm IsScriptForm (view json.now)) }
+/// A part of a script, which is made of its written form.
+trait Checked<W>: Drop {
+    // the written form of the part
+    ghost written: { Self → W };
+    // where the form is beyond the limits, and why
+    ghost faults: { W → List Fault };
+
+    /// Return the part with this form, where it is within the limits.
+    fn checked(alloc: Global, form: W) -> Result<Self, FormError>
+    where
+        Self: Sized,
+        ensures { IsChecked (λ part. written part ≡ form) (faults form) result };
+}
+
+/// Return the parts with these forms, where all are within the limits.
+fn each_checked<W: Drop, T: Checked<W>>(alloc: Global, forms: Vec<W>) -> Result<Vec<T>, FormError>
+    ensures { IsChecked (λ done. map T.written done.items ≡ forms.items)
+        (each T.faults forms.items) result }
 {
-    let Some((agents, init)) = two_members(json, "agents", "init") else {
-        return Ok(None);
-    };
-    let Some(agents) = read_form(alloc, agents)? else {
-        return Ok(None);
-    };
-    match read_form(alloc, init)? {
-        Some(init) => Ok(Some(UncheckedScript { init, agents })),
-        None => Ok(None),
+    let mut done = Vec::new(alloc);
+    for form in forms {
+        let part = T::checked(alloc, form).within(done.len())?;
+        done.push(part)?;
+    }
+    Ok(done)
+}
+
+impl Checked<Listed<TermInstruction>> for Block {
+    ghost written = { λ b. b };
+
+    ghost faults = { block_faults };
+
+    #[tactic(auto, using(crate::proofs::Faults::first_of))]
+    fn checked(alloc: Global, form: Listed<TermInstruction>) -> Result<Block, FormError> {
+        let instructions = form.into_vec();
+        let count = instructions.len();
+        match Block::new(instructions) {
+            Some(block) => Ok(block.prepared(alloc)?),
+            None => Err(FormError::of(alloc, FormCause::Many(count))),
+        }
     }
 }
 
-/// Return the block of these instructions, ready if all its terms are literal.
-fn block_of(alloc: Global, written: Listed<TermInstruction>) -> Result<Block, ScriptError>
-    ensures ok { IfOk result (λ b. (b ≡ written) × (is_long written ≡ false)) }
-    ensures err { IfErr result (IsLong (is_long written)) }
-{
-    match Block::new(written.into_vec()) {
-        Some(block) => Ok(block.prepared(alloc)?),
-        None => Err(ScriptError::BadScript(ScriptCause::Instructions)),
+impl Checked<Listed<Listed<TermInstruction>>> for Step {
+    ghost written = { λ s. s };
+
+    ghost faults = { step_faults };
+
+    #[tactic(auto, using(crate::proofs::Faults::first_of, crate::proofs::Faults::count_of_reads))]
+    fn checked(alloc: Global, form: Listed<Listed<TermInstruction>>) -> Result<Step, FormError> {
+        let blocks = form.into_vec();
+        let count = blocks.len();
+        if count == 0 || count > BLOCKS_LIMIT {
+            return Err(FormError::of(alloc, FormCause::BlockCount(count)));
+        }
+        let blocks = each_checked(alloc, blocks)?;
+        let Some(step) = Step::new(alloc, blocks)? else {
+            unreachable!()
+        };
+        if step.reads().len() > READS_LIMIT {
+            return Err(FormError::of(alloc, FormCause::ManyReads));
+        }
+        Ok(step)
     }
 }
 
-/// Return the blocks of a step.
-fn blocks_of(
-    alloc: Global,
-    written: Vec<Listed<TermInstruction>>,
-) -> Result<Vec<Block>, ScriptError>
-    ensures ok { IfOk result (λ bs. (bs.items ≡ written.items)
-        × (list_any is_long written.items ≡ false)) }
-    ensures err { IfErr result (IsLong (list_any is_long written.items)) }
-{
-    let mut blocks = Vec::new(alloc);
-    for block in written {
-        blocks.push(block_of(alloc, block)?)?;
-    }
-    Ok(blocks)
-}
+impl Checked<Listed<Listed<Listed<TermInstruction>>>> for Items<Step> {
+    ghost written = { λ ss. ss };
 
-/// Return the step of these blocks, where it is within the limits.
-fn step_of(alloc: Global, written: Listed<Listed<TermInstruction>>) -> Result<Step, ScriptError>
-    ensures ok { IfOk result (λ s. (s ≡ written) × (step_faults written ≡ [])) }
-    ensures err { IfErr result (IsFirst (step_faults written)) }
-{
-    let written = written.into_vec();
-    let count = written.len();
-    if count == 0 {
-        return Err(ScriptError::BadScript(ScriptCause::Blocks));
-    }
-    if count > BLOCKS_LIMIT {
-        return Err(ScriptError::BadScript(ScriptCause::Blocks));
-    }
-    let blocks = blocks_of(alloc, written)?;
-    let Some(step) = Step::new(alloc, blocks)? else {
-        unreachable!()
-    };
-    if step.reads().len() > READS_LIMIT {
-        return Err(ScriptError::BadScript(ScriptCause::Reads));
-    }
-    Ok(step)
-}
+    ghost faults = { agent_faults };
 
-/// Return the steps of an agent.
-fn steps_of(
-    alloc: Global,
-    written: Listed<Listed<Listed<TermInstruction>>>,
-) -> Result<Items<Step>, ScriptError>
-    ensures ok { IfOk result (λ steps. (steps ≡ written) × (agent_faults written ≡ [])) }
-    ensures err { IfErr result (IsFirst (agent_faults written)) }
-{
-    let mut steps = Vec::new(alloc);
-    for step in written.into_vec() {
-        steps.push(step_of(alloc, step)?)?;
+    fn checked(
+        alloc: Global,
+        form: Listed<Listed<Listed<TermInstruction>>>,
+    ) -> Result<Items<Step>, FormError> {
+        Ok(Items::new(each_checked(alloc, form.into_vec())?))
     }
-    Ok(Items::new(steps))
 }
 
 /// Return the opening state, for storages to share.
@@ -131,24 +138,48 @@ fn shared(alloc: Global, init: PlainState) -> Result<Arc<PlainState>, AllocError
     }
 }
 
-/// Return the script that is written, where it is within the limits.
-fn script_of(alloc: Global, written: UncheckedScript) -> Result<Script, ScriptError>
-    ensures ok { IfOk result (IsPlanOf written) }
-    ensures err { IfErr result (IsFirst (faults written.agents)) }
+/// Return the script that is written, where its agents are within the limits.
+#[tactic(auto, using(crate::proofs::Faults::first_of))]
+fn script_of(alloc: Global, written: UncheckedScript) -> Result<Script, FormError>
+    ensures { IsChecked (λ p. p ≡ plan_of written) (faults written.agents) result }
 {
     let UncheckedScript { init, agents } = written;
     let agents = agents.into_vec();
-    if agents.len() > AGENTS_LIMIT as usize {
-        return Err(ScriptError::BadScript(ScriptCause::Agents));
+    let count = agents.len();
+    if count > AGENTS_LIMIT as usize {
+        return Err(FormError::of(alloc, FormCause::ManyAgents(count)));
     }
-    let mut done = Vec::new(alloc);
-    for steps in agents {
-        done.push(steps_of(alloc, steps)?)?;
-    }
+    let agents = each_checked(alloc, agents)?;
     let init = shared(alloc, init)?;
-    match Script::of(init, Items::new(done)) {
+    match Script::of(init, Items::new(agents)) {
         Some(script) => Ok(script),
         None => unreachable!(),
+    }
+}
+
+/// Read a script from its JSON.
+///
+/// # Errors
+///
+/// - `Form` exactly if `parse_script` refuses a text of this JSON: where it is no script, and why.
+/// - `Memory` only if memory is refused.
+pub fn read_script(alloc: Global, json: &Json) -> Result<Script, FormError>
+    ensures { IsReadScript (view json.now) result }
+{
+    let written = UncheckedScript::from_json(alloc, json)?;
+    script_of(alloc, written).at("agents")
+}
+
+/// Return the cause of a script that is beyond this limit.
+fn limit_of(cause: FormCause) -> ScriptCause
+    ensures { result ≡ limit_of cause }
+{
+    match cause {
+        FormCause::ManyAgents(_) => ScriptCause::Agents,
+        FormCause::BlockCount(_) => ScriptCause::Blocks,
+        FormCause::Many(_) => ScriptCause::Instructions,
+        FormCause::ManyReads => ScriptCause::Reads,
+        _ => ScriptCause::Shape,
     }
 }
 
@@ -165,8 +196,12 @@ pub fn parse_script(alloc: Global, bytes: &[u8]) -> Result<Script, ScriptError>
     ensures err { IfErr result (IsRefusedScript bytes.now) }
 {
     let json = json_of(alloc, bytes)?;
-    match unchecked_of(alloc, &json)? {
-        Some(written) => script_of(alloc, written),
-        None => Err(ScriptError::BadScript(ScriptCause::Shape)),
+    let Some(written) = read_form(alloc, &json)? else {
+        return Err(ScriptError::BadScript(ScriptCause::Shape));
+    };
+    match script_of(alloc, written) {
+        Ok(script) => Ok(script),
+        Err(FormError::Form(fault)) => Err(ScriptError::BadScript(limit_of(fault.cause()))),
+        Err(FormError::Memory) => Err(ScriptError::Memory),
     }
 }

@@ -1,20 +1,18 @@
-use Rattle.std.proofs.lemmas.Result.{IfOk-weaker, IfErr-weaker}
+use Rattle.std.proofs.Common.{ap, subst, ◌∙◌}
 use Rattle.serde_json.specs.View.{view}
 use Rattle.asm_journal.proofs.Parsed.{IsParsed-some}
-use Rattle.asm_script.specs.Script.{IsScriptForm}
-use Rattle.asm_script.proofs.Faults.{beyond}
+use Rattle.asm_script.specs.Script.{faults, IsFirst, IsScriptForm, limit_of}
+use Rattle.asm_script.proofs.Faults.{limit_first}
 use Rattle.asm_script.proofs.parsing.parse_script.Goals as goal
 
-pub returns-in-Some-clause-ok : goal.returns-in-Some-clause-ok
-returns-in-Some-clause-ok c =
+pub returns-in-Ok-clause-ok : goal.returns-in-Ok-clause-ok
+returns-in-Ok-clause-ok c =
     let form = IsParsed-some IsScriptForm _ _ _ c.in-Some.is c.in_ok-written.ensures in
-    IfOk-weaker c.script_of.result _ _
-    (λ p is. (c.in-Some.written, (view c.in_ok-json.json, c.in_ok-json.ensures.ok, form), is))
-    c.script_of.ensures.ok
+    (c.in-Some.written, (view c.in_ok-json.json, c.in_ok-json.ensures.ok, form), c.in-Ok.ensures)
 
-pub returns-in-Some-clause-err : goal.returns-in-Some-clause-err
-returns-in-Some-clause-err c =
+pub returns-in-Err-Form-clause-err : goal.returns-in-Err-Form-clause-err
+returns-in-Err-Form-clause-err c =
     let form = IsParsed-some IsScriptForm _ _ _ c.in-Some.is c.in_ok-written.ensures in
-    IfErr-weaker c.script_of.result _ _
-    (beyond c.args.bytes.now c.in-Some.written (view c.in_ok-json.json, c.in_ok-json.ensures.ok, form))
-    c.script_of.ensures.err
+    let first = subst (IsFirst (faults c.in-Some.written.agents)) c.in-Err-Form.field-0-is c.in-Err-Form.ensures in
+    limit_first c.args.bytes.now c.in-Some.written c.in-Err-Form.fault c.limit_of.result
+    (view c.in_ok-json.json, c.in_ok-json.ensures.ok, form) first (c.limit_of.ensures ∙ ap limit_of c.cause.ensures)
