@@ -6,13 +6,12 @@ ghost use Rattle.asm_explain.specs.Bytes.{IsNoJson, IsOtherJson, ReadAs};
 ghost use Rattle.asm_explain.specs.Forms.{IsOfForm, IsOfNoForm};
 ghost use Rattle.asm_explain.specs.declared.explaining.Form.TheVariants as forms;
 
-use crate::fault::{LOCATIONS, OBJECT, STATE, sentence_of, why_not};
+use crate::fault::{LOCATIONS, OBJECT, SCRIPT, STATE, sentence_of, why_not};
 use crate::reading::{TextError, fire_of, read_as};
-use crate::script::why_no_script;
 use crate::sentence::{as_one_line, not_json};
 use asm_element::Location;
 use asm_journal::{FormCause, FormError, FromJson, Listed, one_member};
-use asm_script::{ScriptError, parse_script};
+use asm_script::{ScriptError, parse_script, read_script};
 use asm_storage::{Call, Event};
 use asm_update::PlainState;
 use serde_json::Value as Json;
@@ -93,19 +92,22 @@ fn why_no_move(alloc: Global, json: &Json) -> Result<Option<String>, AllocError>
     why_not::<Call>(alloc, OBJECT, json)
 }
 
-// Where and why a text, which is this JSON, has another form; `None` if it has this one.
-fn why_other(
-    alloc: Global,
-    form: Form,
-    text: &[u8],
-    json: &Json,
-) -> Result<Option<String>, AllocError> {
+// Where and why JSON is no script; `None` if it is one.
+fn why_no_script(alloc: Global, json: &Json) -> Result<Option<String>, AllocError> {
+    match read_script(alloc, json) {
+        Ok(_script) => Ok(None),
+        Err(error) => Ok(Some(sentence_of(alloc, SCRIPT, json, error)?)),
+    }
+}
+
+// Where and why JSON has another form; `None` if it has this one.
+fn why_other(alloc: Global, form: Form, json: &Json) -> Result<Option<String>, AllocError> {
     match form {
         Form::Locations => why_not::<Listed<Location>>(alloc, LOCATIONS, json),
         Form::Move => why_no_move(alloc, json),
         Form::State => why_not::<PlainState>(alloc, STATE, json),
         Form::Event => why_not::<Event>(alloc, OBJECT, json),
-        Form::Script => why_no_script(alloc, text, json),
+        Form::Script => why_no_script(alloc, json),
     }
 }
 
@@ -115,7 +117,7 @@ fn sentence(alloc: Global, form: Form, text: &[u8]) -> Result<String, AllocError
     ensures one_line { IfOk result (λ s. HasNoLineFeed (string_bytes s)) }
 {
     let said = match Json::from_slice(alloc, text) {
-        Ok(json) => why_other(alloc, form, text, &json)?.unwrap_or(String::new(alloc)),
+        Ok(json) => why_other(alloc, form, &json)?.unwrap_or(String::new(alloc)),
         Err(error) if error.is_memory() => return Err(AllocError),
         Err(error) => not_json(alloc, text, &error, form == Form::Script)?,
     };

@@ -1,6 +1,7 @@
 //! The faults that the readers of JSON return, in words.
 use crate::sentence::grouped;
 use asm_element::{Element, Value};
+use asm_journal::PathStep::{Index, Key};
 use asm_journal::{FormCause, FormError, FormFault, FromJson, PathStep, read_location};
 use asm_overlay::FRAMES_LIMIT;
 use asm_storage::AGENTS_LIMIT;
@@ -20,17 +21,19 @@ pub(crate) const OBJECT: Root = Root(&[], 1);
 
 pub(crate) const INIT: Root = Root(&["init pair"], 0);
 
-pub(crate) const AGENTS: Root = Root(&["agent", "step", "block", "instruction"], 0);
+pub(crate) const SCRIPT: Root = Root(&[], 0);
 
 // The names of the items within this part of what has items with these names.
 fn names_in(names: &'static [&'static str], part: PathStep) -> &'static [&'static str] {
     match part {
-        PathStep::Key("fire") => &["instruction"],
-        PathStep::Key("read") => &["location"],
-        PathStep::Key("reads") => &["read"],
-        PathStep::Key("values") => &["value"],
-        PathStep::Key(_) => &[],
-        PathStep::Index(_) => names.get(1..).unwrap_or(&[]),
+        Key("agents") => &["agent", "step", "block", "instruction"],
+        Key("init") => &["init pair"],
+        Key("fire") => &["instruction"],
+        Key("read") => &["location"],
+        Key("reads") => &["read"],
+        Key("values") => &["value"],
+        Key(_) => &[],
+        Index(_) => names.get(1..).unwrap_or(&[]),
     }
 }
 
@@ -46,23 +49,13 @@ fn name_at(root: Root, path: &[PathStep]) -> &'static str {
     }
 }
 
-/// Return how few and how many items of this name an array may have.
-pub(crate) fn limits(name: &str) -> (usize, usize) {
-    match name {
-        "agent" => (0, AGENTS_LIMIT as usize),
-        "block" => (1, FRAMES_LIMIT + 1),
-        "instruction" => (0, INSTRUCTIONS_LIMIT),
-        _ => (0, usize::MAX),
-    }
-}
-
 // The part to which the path leads.
 fn part_at<'v>(json: &'v Json, path: &[PathStep]) -> Option<&'v Json> {
     let mut json = json;
     for part in path.iter().rev() {
         json = match *part {
-            PathStep::Index(index) => json.as_array()?.get(index)?,
-            PathStep::Key(key) => json.get(key)?,
+            Index(index) => json.as_array()?.get(index)?,
+            Key(key) => json.get(key)?,
         };
     }
     Some(json)
@@ -79,10 +72,10 @@ fn place(alloc: Global, root: Root, fault: &FormFault) -> Result<String, AllocEr
     let mut place = String::new(alloc);
     for part in fault.path().iter().rev() {
         let space = if place.is_empty() { "" } else { " " };
-        if let (PathStep::Index(index), Some(name)) = (*part, names.first()) {
+        if let (Index(index), Some(name)) = (*part, names.first()) {
             let number = index.saturating_add(first);
             place = format!(in alloc; "{place}{space}{name} {number}")?;
-        } else if matches!(part, PathStep::Key("reply")) && fault.cause() != FormCause::Reply {
+        } else if matches!(part, Key("reply")) && fault.cause() != FormCause::Reply {
             place.push_str("reply")?;
         }
         names = names_in(names, *part);
@@ -93,16 +86,10 @@ fn place(alloc: Global, root: Root, fault: &FormFault) -> Result<String, AllocEr
 // What holds the element to which the path leads.
 fn holder(json: &Json, path: &[PathStep]) -> &'static str {
     match path {
-        [PathStep::Index(_), PathStep::Key("list"), ..] => "list",
-        [PathStep::Index(_), PathStep::Key("set"), ..] => "set",
-        [
-            PathStep::Index(_),
-            PathStep::Index(_),
-            PathStep::Key("bag"),
-            ..
-        ] => "bag",
-        [PathStep::Index(2), at @ ..]
-            if matches!(at, [PathStep::Index(_), PathStep::Key("fire"), ..]) => {
+        [Index(_), Key("list"), ..] => "list",
+        [Index(_), Key("set"), ..] => "set",
+        [Index(_), Index(_), Key("bag"), ..] => "bag",
+        [Index(2), at @ ..] if matches!(at, [Index(_), Key("fire"), ..]) => {
             match word_at(json, at) {
                 Some("add" | "remove") => "set",
                 _ => "bag",
@@ -116,26 +103,22 @@ fn holder(json: &Json, path: &[PathStep]) -> &'static str {
 fn array_words(alloc: Global, root: Root, path: &[PathStep]) -> Result<String, AllocError> {
     let name = name_at(root, path);
     let words = match (name, path.first()) {
-        (_, Some(PathStep::Key("set"))) => "a set is written {\"set\":[..]}",
-        (_, Some(PathStep::Key("bag"))) => "a bag is written {\"bag\":[[ELEMENT,COUNT],..]}",
+        (_, Some(Key("set"))) => "a set is written {\"set\":[..]}",
+        (_, Some(Key("bag"))) => "a bag is written {\"bag\":[[ELEMENT,COUNT],..]}",
         ("pair", _) => "a state is an array of pairs",
         ("init pair", _) => "init is an array of pairs",
         ("step", _) => "an agent is an array of steps",
         ("block", _) => "a step is an array of blocks",
-        ("instruction", Some(PathStep::Index(_))) => "a block is an array of instructions",
+        ("instruction", Some(Index(_))) => "a block is an array of instructions",
         _ => return format!(in alloc; "the {name}s are an array"),
     };
     String::from_str(alloc, words)
 }
 
-// What is said of an array with so many items.
-fn count_words(alloc: Global, name: &str, count: usize) -> Result<String, AllocError> {
-    let (least, most) = limits(name);
-    if count < least {
-        return format!(in alloc; "no {name}, at least {least}");
-    }
+// What is said of an array with so many items, which are too many.
+fn count_words(alloc: Global, name: &str, count: usize, most: usize) -> Result<String, AllocError> {
     let (count, most) = (grouped(alloc, count)?, grouped(alloc, most)?);
-    format!(in alloc; "{count} {name}s, at most {most}")
+    format!(in alloc; "{count} {name}, at most {most}")
 }
 
 // Whether the word may be quoted in a sentence: it is short, and none of its bytes ends a line or a quotation.
@@ -174,8 +157,8 @@ fn first_twice(alloc: Global, pairs: &[Json]) -> Result<Option<usize>, AllocErro
 }
 
 // What is said of a state with a location twice.
-fn twice_words(alloc: Global, root: Root, state: &Json) -> Result<String, AllocError> {
-    if let (0, Json::Array(pairs)) = (root.1, state) {
+fn twice_words(alloc: Global, root: Root, state: Option<&Json>) -> Result<String, AllocError> {
+    if let (0, Some(Json::Array(pairs))) = (root.1, state) {
         if let Some(index) = first_twice(alloc, pairs)? {
             return format!(in alloc; "init pair {index}: its location stands twice");
         }
@@ -189,11 +172,14 @@ fn words(alloc: Global, root: Root, json: &Json, fault: &FormFault) -> Result<St
     let holder = holder(json, path);
     match fault.cause() {
         FormCause::NoArray => array_words(alloc, root, path),
-        FormCause::Many(count) => count_words(alloc, name_at(root, path), count),
+        FormCause::ManyAgents(count) => count_words(alloc, "agents", count, AGENTS_LIMIT as usize),
+        FormCause::BlockCount(0) => String::from_str(alloc, "no block, at least 1"),
+        FormCause::BlockCount(count) => count_words(alloc, "blocks", count, FRAMES_LIMIT + 1),
+        FormCause::Many(count) => count_words(alloc, "instructions", count, INSTRUCTIONS_LIMIT),
         FormCause::HeldSet => format!(in alloc; "a {holder} can't hold a set"),
         FormCause::HeldBag => format!(in alloc; "a {holder} can't hold a bag"),
         FormCause::Word => word_words(alloc, root, word_at(json, path)),
-        FormCause::StateTwice => twice_words(alloc, root, json),
+        FormCause::StateTwice => twice_words(alloc, root, part_at(json, path)),
         cause => cause.to_string(alloc),
     }
 }

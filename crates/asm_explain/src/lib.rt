@@ -8,7 +8,6 @@ mod explaining;
 mod fault;
 mod journal;
 mod reading;
-mod script;
 mod sentence;
 
 pub use explaining::{Form, explain};
