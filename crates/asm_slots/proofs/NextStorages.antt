@@ -1,5 +1,5 @@
 -- Storages that are opened, and that continue where others ended.
-use Rattle.std.proofs.Common.{◌≡◌, ◌∙◌, ◌⊎◌, ℕ, ℤ, List, length, Option, Some, None, Result, Ok, Err, IfOk, inl, inr, refl, ap, subst, sym, w32, to_z, of_z}
+use Rattle.std.proofs.Common.{◌≡◌, ◌∙◌, ℕ, List, length, Option, Some, None, Result, Ok, Err, IfOk, ap, subst, sym}
 use Rattle.asm_element.specs.Place.{Place}
 use Rattle.asm_update.specs.Fire.{Old, state_of}
 use Rattle.asm_update.specs.State.{State, IsProper, val}
@@ -10,7 +10,6 @@ use Rattle.asm_storage.specs.declared.error.StorageError.{StorageError}
 use Rattle.asm_storage.specs.declared.history.History.{History}
 use Rattle.asm_journal.specs.Reading.{ReadsAs}
 use Rattle.asm_journal.specs.Text.{text_of}
-use Rattle.asm_slots.specs.Codes.{ASM_MEMORY, ASM_NOT_FULL, ASM_CAPACITY}
 use Rattle.asm_slots.specs.AgentCalls.{IsOpened}
 use Rattle.asm_slots.specs.Bytes.{ReadAsState}
 use Rattle.asm_slots.specs.NextStore.{Continues, ContinuesFrom, HasOpened}
@@ -91,10 +90,3 @@ continues_from o n a s left most own stands end proper values init room =
 
 pub holds_store : (o : Option Content) (s : StoreView) (P : StoreView → Type 0) → o ≡ Some (content.Store s) → P s → HoldsStore o P
 holds_store o s P is p = subst (λ (x : Option Content). HoldsStore x P) (sym is) p
-
--- one of these codes as an i32
-pub coded : (code : ℤ) → (code ≡ ASM_MEMORY) ⊎ ((code ≡ ASM_CAPACITY) ⊎ ((code ≡ ASM_NOT_FULL) ⊎ ⊥)) → to_z w32 (of_z w32 code) ≡ code
-coded code (inl e) = subst (λ (z : ℤ). to_z w32 (of_z w32 z) ≡ z) (sym e) refl
-coded code (inr (inl e)) = subst (λ (z : ℤ). to_z w32 (of_z w32 z) ≡ z) (sym e) refl
-coded code (inr (inr (inl e))) = subst (λ (z : ℤ). to_z w32 (of_z w32 z) ≡ z) (sym e) refl
-coded code (inr (inr (inr h))) = absurd h

@@ -4,12 +4,16 @@ use Rattle.asm_journal.specs.Element.{IsLocationForm}
 use Rattle.asm_slots.specs.Kinds.{IsByJson}
 use Rattle.asm_slots.specs.Answers.{IsNoActionFor, IsNoElementFor, IsNoOperandFor, IsNoRoomFor, IsNotGathered, IsNotInstructed, IsNotPrepared, IsUnreadAs}
 use Rattle.asm_slots.specs.Answers.{IsNotAppended, IsNotTracked, IsNotUnited, code_of_compose}
-use Rattle.asm_slots.specs.Slots.{HasRoomForMove, move_of}
+use Rattle.asm_slots.specs.Slots.{HasRoomForMove, HoldsStore, move_of}
+use Rattle.asm_slots.specs.Store.{StoreView}
+use Rattle.asm_storage.specs.Storage.{AgentAt}
 use Rattle.asm_update.specs.Action as action
 use Rattle.asm_update.specs.Move.{Move}
 use Rattle.asm_aggregate.specs.declared.composition.ComposeError.{ComposeError}
 use Rattle.asm_aggregate.specs.declared.composition.ComposeError.TheVariants as compose_error
+use Rattle.asm_slots.specs.MadeAgents.{IsNotAdded, IsNotGiven, IsNotReturned, TakesNoAgent}
 use Rattle.asm_slots.specs.Popping.{IsComposedLast, IsNotPopped, IsNotPoppedIn, IsNotPoppedInto, IsNotPoppedLast}
+use Rattle.asm_slots.specs.Standard.{Standard}
 use Rattle.asm_slots.specs.StepView.{StepView}
 use Rattle.asm_slots.specs.Tracked.{dependencies_last, last_partial_places}
 use Rattle.asm_slots.specs.declared.codes.Code.{Code}
@@ -73,12 +77,25 @@ not_composed s c (compose_error.Large x) none is = subst (IsNotPoppedLast s) (sy
 not_composed s c compose_error.ManyInstructions none is = subst (IsNotPoppedLast s) (sym is) (compose_error.ManyInstructions, none, refl)
 not_composed s c compose_error.Memory none is = subst (IsNotPoppedLast s) (sym is) tt
 
-pub not_popped_in : (step : Option Content) (s : StepView) → step ≡ Some (content.Step s) → (c : Code) → IsNotPopped s c → IsNotPoppedIn step c
-not_popped_in step s is code.Empty none = absurd none
-not_popped_in step s is c none = subst (λ (x : Option Content). IsNotPoppedIn x c) (sym is) none
+pub not_popped_in : (step : Option Content) (s : StepView) (c : Code) → step ≡ Some (content.Step s) → IsNotPopped s c → IsNotPoppedIn step c
+not_popped_in step s code.Empty is none = absurd none
+not_popped_in step s c is none = subst (λ (x : Option Content). IsNotPoppedIn x c) (sym is) none
 
-pub not_popped_into : (step old : Option Content) (s : StepView) → step ≡ Some (content.Step s) → HasRoomForMove old → (c : Code) →
+pub not_popped_into : (step old : Option Content) (s : StepView) (c : Code) → step ≡ Some (content.Step s) → HasRoomForMove old →
     IsNotPoppedLast s c → IsNotPoppedInto step old c
-not_popped_into step old s is room code.Taken none = absurd none
-not_popped_into step old s is room code.Empty none = absurd none
-not_popped_into step old s is room c none = subst (λ (x : Option Content). IsNotPoppedInto x old c) (sym is) (room, none)
+not_popped_into step old s code.Taken is room none = absurd none
+not_popped_into step old s code.Empty is room none = absurd none
+not_popped_into step old s c is room none = subst (λ (x : Option Content). IsNotPoppedInto x old c) (sym is) (room, none)
+
+pub takes_none : (number : ℕ) (store agent : Option Content) (s : StoreView) (c : Code) → agent ≡ None → store ≡ Some (content.Store s) →
+    IsNotReturned number s c → TakesNoAgent number store agent c
+takes_none number store agent s code.Taken empty is none = absurd none
+takes_none number store agent s code.Empty empty is none = absurd none
+takes_none number store agent s c empty is none = (empty, subst (λ (x : Option Content). HoldsStore x (λ t. IsNotReturned number t c)) (sym is) none)
+
+pub not_given : (store agent : Option Content) (s : StoreView) (a : AgentAt Standard) (c : Code) → store ≡ Some (content.Store s) →
+    agent ≡ Some (content.Agent a) → IsNotAdded s a c → IsNotGiven store agent c
+not_given store agent s a code.Empty is so none = absurd none
+not_given store agent s a code.Other is so none = absurd none
+not_given store agent s a c is so none = subst (λ (x : Option Content). IsNotGiven x agent c) (sym is)
+    (subst (λ (x : Option Content). IsNotGiven (Some (content.Store s)) x c) (sym so) none)

@@ -1,6 +1,6 @@
 -- The effects of reading, firing and polling.
 use Rattle.std.specs.Prelude.{◌≡◌, nat_lt, ℕ, List, Bool, true, false, length, ◌≢◌, ◌≤◌, ◌+◌, ℤ, [], ◌∷◌, Option, ◌<◌}
-use Rattle.std.specs.Prelude.{◌-◌, ◌||◌, All, Ok, IsTrue, string_bytes, ◌↔◌}
+use Rattle.std.specs.Prelude.{◌-◌, ◌||◌, All, Ok, IsTrue, string_bytes}
 use Rattle.std.specs.List.{list_any}
 use Rattle.asm_update.specs.Move.{Move}
 use Rattle.asm_state.specs.declared.named.Named.{Named}
@@ -12,8 +12,11 @@ use Rattle.asm_storage.specs.Limits.{offers_limit, reads_limit}
 use Rattle.asm_slots.specs.AgentCalls.{HasTriedFire, HasPolled, HasRead, IsReplyCode, MayHavePolled, MayHaveOffered}
 use Rattle.asm_slots.specs.AgentCalls.{MissedFew, MissedOne, SeesOn, WasBusy, IsRepliedOver, code_of, number_of}
 use Rattle.asm_slots.specs.Codes.{IsOneOf, ASM_DONE, ASM_STALE, ASM_CLASH, ASM_MEMORY, ASM_FULL, ASM_EMPTY, ASM_AHEAD}
-use Rattle.asm_slots.specs.Codes.{ASM_BUSY, ASM_MANY, ASM_NOT_JSON, ASM_SHAPE, ASM_SMALL, ASM_TAKEN}
-use Rattle.asm_slots.specs.Slots.{Changes, Holds, HoldsNoAgent, HasRoomForStep, HoldsStep}
+use Rattle.asm_slots.specs.Codes.{ASM_BUSY, ASM_MANY, ASM_NOT_JSON, ASM_SHAPE, ASM_SMALL}
+use Rattle.asm_slots.specs.Slots.{Changes, Holds, HoldsNoAgent}
+use Rattle.asm_slots.specs.Answers.{IsUnreadAs}
+use Rattle.asm_slots.specs.declared.codes.Code.{Code}
+use Rattle.asm_slots.specs.declared.codes.Code.TheVariants as refusal
 use Rattle.asm_slots.specs.declared.content.Content.{Content}
 use Rattle.asm_slots.specs.declared.read_and_fire.Numbers.{Numbers}
 use Rattle.serde_json.specs.Data.{Data, string}
@@ -25,8 +28,7 @@ use Rattle.asm_storage.specs.Calls.{MadeOffers}
 use Rattle.asm_storage.specs.declared.call.Reply.{Reply}
 use Rattle.asm_storage.specs.declared.call.Reply.TheVariants.{Fired}
 use Rattle.asm_journal.specs.Shape.{pair_of, IsListForm, IsNumberForm}
-use Rattle.asm_slots.specs.OwnState.{state_at, NoneIsStale, HasFollowed, HasPolledOn, IsStaleOf}
-use Rattle.asm_slots.specs.StepView.{new_step}
+use Rattle.asm_slots.specs.OwnState.{state_at, NoneIsStale, HasPolledOn, IsStaleOf}
 use Rattle.asm_slots.specs.WrittenText.{Writes}
 
 -- whether one of the reads has a number above this one
@@ -55,19 +57,17 @@ abbrev pub ReadsWithin : List ℕ → AgentAt Standard → Type 0
 ReadsWithin bytes a =
     (reads : List Named) × ReadAsReads bytes reads × (is_any_above reads (length a.account.seen) ≡ false)
 
--- the locations of these bytes are read; or the code says why not
-pub record Reads (locations : List ℕ) (agent after : Option Content) (code : ℤ) : Type 0 where
-  pub codes : IsOneOf (ASM_DONE ∷ ASM_MEMORY ∷ ASM_EMPTY ∷ ASM_MANY ∷ ASM_NOT_JSON ∷ ASM_SHAPE ∷ []) code
-  pub answered : code ≡ ASM_DONE → Changes agent after (HasRead locations)
-  pub memory : code ≡ ASM_MEMORY → Changes agent after MayHavePolled
-  pub many : code ≡ ASM_MANY → ReadAsManyLocations locations
-  pub not_json : code ≡ ASM_NOT_JSON → IsNoJson locations
-  pub shape : code ≡ ASM_SHAPE → IsOtherJson AreLocations locations
-  pub refused : IsOneOf (ASM_MEMORY ∷ ASM_MANY ∷ ASM_NOT_JSON ∷ ASM_SHAPE ∷ []) code → Changes agent after HasPolled
-  pub same : code ≢ ASM_EMPTY → Changes agent after IsSameAgent
-  pub seen : code ≢ ASM_EMPTY → Changes agent after SeesOn
-  pub empty : code ≡ ASM_EMPTY → HoldsNoAgent agent
-  pub kept : IsOneOf (ASM_EMPTY ∷ ASM_MANY ∷ ASM_NOT_JSON ∷ ASM_SHAPE ∷ []) code → after ≡ agent
+-- the locations of these bytes are read
+abbrev pub Reads : List ℕ → Option Content → Option Content → Type 0
+Reads locations agent after = Changes agent after (λ a b. HasRead locations a b × IsSameAgent a b × SeesOn a b)
+
+-- there is no agent, memory was refused, there are too many locations, or the bytes are none
+abbrev pub IsNotRead : List ℕ → Option Content → Option Content → Code → Type 0
+IsNotRead locations agent after refusal.Empty = HoldsNoAgent agent × (after ≡ agent)
+IsNotRead locations agent after refusal.Memory =
+    Changes agent after (λ a b. HasPolled a b × MayHavePolled a b × IsSameAgent a b × SeesOn a b)
+IsNotRead locations agent after refusal.Many = Changes agent after (λ a b. b ≡ a) × ReadAsManyLocations locations
+IsNotRead locations agent after c = Changes agent after (λ a b. b ≡ a) × IsUnreadAs AreLocations locations c
 
 -- the fire of these bytes is answered, as code and numbers report; or the code says why not. A number above what the
 -- agent has seen is reported before the agent polls, and before more than 256 declared reads are
@@ -197,18 +197,3 @@ pub record Validates (reads : List ℕ) (agent after : Option Content) (out out_
   pub shape : code ≡ ASM_SHAPE → IsOtherJson AreReads reads
   pub empty : code ≡ ASM_EMPTY → HoldsNoAgent agent
   pub kept : IsOneOf (ASM_EMPTY ∷ ASM_AHEAD ∷ ASM_MANY ∷ ASM_NOT_JSON ∷ ASM_SHAPE ∷ []) code → after ≡ agent
-
--- the agent has polled, and the other slot holds a step at this version; or the code says why not, and the slot is
--- unchanged
-pub record Begins (agent after step step_after : Option Content) (number : ℕ) (code : ℤ) : Type 0 where
-  pub codes : IsOneOf (ASM_DONE ∷ ASM_MEMORY ∷ ASM_EMPTY ∷ ASM_TAKEN ∷ []) code
-  pub followed : code ≡ ASM_DONE → Changes agent after (HasFollowed number)
-  pub starts : code ≡ ASM_DONE → HoldsStep step_after (λ s. s ≡ new_step number)
-  pub memory : code ≡ ASM_MEMORY → Changes agent after HasPolledOn
-  pub same : IsOneOf (ASM_DONE ∷ ASM_MEMORY ∷ []) code → Changes agent after IsSameAgent
-  pub seen : IsOneOf (ASM_DONE ∷ ASM_MEMORY ∷ []) code → Changes agent after SeesOn
-  pub kept : IsOneOf (ASM_EMPTY ∷ ASM_TAKEN ∷ []) code → after ≡ agent
-  pub stays : code ≢ ASM_DONE → step_after ≡ step
-  pub taken : (code ≡ ASM_TAKEN) ↔ ¬ HasRoomForStep step
-  pub empty : code ≡ ASM_EMPTY → HoldsNoAgent agent
-  pub none : code ≢ ASM_DONE → number ≡ 0

@@ -149,11 +149,6 @@ HasNumber s id =
     (before after : List (AgentAt Standard)) × (b : AgentAt Standard) × (s.agents ≡ before ++ b ∷ after)
     × (b.account.id ≡ id)
 
--- a returned agent of the storage has the number of this one
-abbrev pub IsThere : Option Content → Option Content → Type 0
-IsThere (Some (content.Store s)) (Some (content.Agent a)) = HasNumber s a.account.id
-IsThere _ _ = ⊥
-
 -- the storage retains this journal of its returned agents
 abbrev pub KeepsJournal : StoreView → Option (List ℕ) → Type 0
 KeepsJournal s None = ⊥

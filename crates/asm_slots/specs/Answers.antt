@@ -6,8 +6,11 @@ use Rattle.asm_update.specs.declared.instructions.InstructionsError.{Instruction
 use Rattle.asm_update.specs.declared.instructions.InstructionsError.TheVariants as instructions_error
 use Rattle.asm_slots.specs.Codes.{ASM_CLASH, ASM_DONE, ASM_EMPTY, ASM_LARGE, ASM_LONG_MOVE, ASM_MANY, ASM_MEMORY, ASM_MOVED}
 use Rattle.asm_slots.specs.Codes.{ASM_NOT_JSON, ASM_NO_PUSH, ASM_OPERAND, ASM_OTHER, ASM_SHAPE, ASM_TAKEN}
+use Rattle.asm_slots.specs.Codes.{ASM_AGENTS, ASM_CAPACITY, ASM_MANY_CALLS, ASM_MISSING, ASM_NOT_FULL, ASM_NO_AGENT, ASM_NO_JOURNAL, ASM_NUMBER}
 use Rattle.asm_aggregate.specs.declared.composition.ComposeError.{ComposeError}
 use Rattle.asm_aggregate.specs.declared.composition.ComposeError.TheVariants as compose_error
+use Rattle.asm_storage.specs.declared.error.StorageError.{StorageError}
+use Rattle.asm_storage.specs.declared.error.StorageError.TheVariants as storage_error
 use Rattle.asm_element.specs.Place.{Place}
 use Rattle.asm_slots.specs.StepCalls.{WouldTakeMany}
 use Rattle.asm_slots.specs.StepView.{StepView}
@@ -39,6 +42,14 @@ number_of code.NoPush = ASM_NO_PUSH
 number_of code.Clash = ASM_CLASH
 number_of code.Large = ASM_LARGE
 number_of code.Other = ASM_OTHER
+number_of code.Capacity = ASM_CAPACITY
+number_of code.NoJournal = ASM_NO_JOURNAL
+number_of code.NotFull = ASM_NOT_FULL
+number_of code.Agents = ASM_AGENTS
+number_of code.Number = ASM_NUMBER
+number_of code.NoAgent = ASM_NO_AGENT
+number_of code.Missing = ASM_MISSING
+number_of code.ManyCalls = ASM_MANY_CALLS
 
 -- the number that C gets
 abbrev pub answer_of : Result (Unit {0}) Code → ℤ
@@ -54,6 +65,11 @@ abbrev pub code_of_text : TextError → Code
 code_of_text text_error.NotJson = code.NotJson
 code_of_text text_error.Shape = code.Shape
 code_of_text text_error.Memory = code.Memory
+
+-- the code of a storage that isn't made
+abbrev pub code_of_storage : StorageError → Code
+code_of_storage storage_error.BadCapacity = code.Capacity
+code_of_storage storage_error.Memory = code.Memory
 
 -- the code of an instruction that isn't appended
 abbrev pub code_of_instructions : InstructionsError → Code

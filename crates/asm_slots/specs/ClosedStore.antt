@@ -1,5 +1,5 @@
 -- What a closed storage reports.
-use Rattle.std.specs.Prelude.{◌≡◌, ◌⊎◌, ◌+◌, ◌≤◌, ℕ, List, length, ℤ}
+use Rattle.std.specs.Prelude.{◌≡◌, ◌⊎◌, ◌+◌, ◌≤◌, ℕ, List, length, Option}
 use Rattle.asm_storage.specs.declared.history.History.{History}
 use Rattle.asm_storage.specs.Agents.{NoneMissing, most_seen}
 use Rattle.asm_storage.specs.Closed.{IsClosed}
@@ -8,7 +8,10 @@ use Rattle.asm_storage.specs.History.{Fits}
 use Rattle.asm_storage.specs.Storage.{AgentAt, StorageView, accounts, IsMissing}
 use Rattle.asm_journal.specs.Text.{text_of}
 use Rattle.asm_slots.specs.Standard.{Standard, meaning}
-use Rattle.asm_slots.specs.Codes.{ASM_MEMORY, ASM_MISSING, ASM_MANY_CALLS}
+use Rattle.asm_slots.specs.Slots.{HoldsNoStore, HoldsStore}
+use Rattle.asm_slots.specs.declared.codes.Code.{Code}
+use Rattle.asm_slots.specs.declared.codes.Code.TheVariants as code
+use Rattle.asm_slots.specs.declared.content.Content.{Content}
 use Rattle.asm_slots.specs.declared.store_close.Unclosed.{Unclosed}
 use Rattle.asm_slots.specs.declared.store_close.Unclosed.TheVariants as unclosed
 
@@ -44,8 +47,11 @@ IsUnwritten s all history (unclosed.Missing number) = IsUnseen s all number
 IsUnwritten s all history unclosed.Large = ¬ Fits history
 IsUnwritten s all history unclosed.Memory = Unit {0}
 
--- the code of why, with the number of the move that has no receipt, or 0
-abbrev pub ReportsUnclosed : Unclosed → ℤ → ℕ → Type 0
-ReportsUnclosed (unclosed.Missing n) code number = (code ≡ ASM_MISSING) × (number ≡ n)
-ReportsUnclosed unclosed.Large code number = (code ≡ ASM_MANY_CALLS) × (number ≡ 0)
-ReportsUnclosed unclosed.Memory code number = (code ≡ ASM_MEMORY) × (number ≡ 0)
+-- the storage of the slot isn't closed, for want of one, of a receipt of the move with this number, or of room in a
+-- journal; without a move, the number is 0
+abbrev pub IsNotClosed : Option Content → ℕ → Code → Type 0
+IsNotClosed store number code.Empty = (number ≡ 0) × HoldsNoStore store
+IsNotClosed store number code.Missing = HoldsStore store (λ s. LacksReceipt s.storage s.agents number)
+IsNotClosed store number code.ManyCalls = (number ≡ 0) × HoldsStore store (λ s. IsTooLarge s.storage s.agents)
+IsNotClosed store number code.Memory = number ≡ 0
+IsNotClosed store number _ = ⊥

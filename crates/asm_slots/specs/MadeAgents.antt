@@ -1,12 +1,15 @@
--- The numbers of the agents that were made, and the effects of making agents and checking them out.
-use Rattle.std.specs.Prelude.{ℕ, List, Bool, nat_eq, nat_lt, ◌≡◌, ◌≢◌, ◌≤◌, ◌<◌, ◌↔◌, ℤ, [], ◌∷◌, length, true, false}
+-- The numbers of the agents that were made, and the effects of making agents, returning them and checking them out.
+use Rattle.std.specs.Prelude.{ℕ, List, Bool, nat_eq, nat_lt, ◌≡◌, ◌≢◌, ◌⊎◌, ◌≤◌, ◌<◌, [], ◌∷◌, length, true, false}
 use Rattle.std.specs.Prelude.{Option, None}
 use Rattle.std.specs.List.{list_any, range_with_len}
 use Rattle.asm_slots.specs.Store.{StoreView}
 use Rattle.asm_storage.specs.Limits.{agents_limit}
+use Rattle.asm_storage.specs.Storage.{AgentAt}
 use Rattle.asm_slots.specs.AgentCalls.{HasLost, HasNumber, Makes}
-use Rattle.asm_slots.specs.Codes.{IsOneOf, ASM_DONE, ASM_MEMORY, ASM_EMPTY, ASM_AGENTS, ASM_NO_AGENT, ASM_TAKEN, ASM_NUMBER}
-use Rattle.asm_slots.specs.Slots.{AreEmpty, AreNew, Holds, HoldsNew, HoldsNoStore, HoldsStore}
+use Rattle.asm_slots.specs.Slots.{AreEmpty, AreNew, Holds, HoldsNew, HoldsNoAgent, HoldsNoStore, HoldsStore}
+use Rattle.asm_slots.specs.Standard.{Standard}
+use Rattle.asm_slots.specs.declared.codes.Code.{Code}
+use Rattle.asm_slots.specs.declared.codes.Code.TheVariants as code
 use Rattle.asm_slots.specs.declared.content.Content.{Content}
 use Rattle.asm_slots.specs.declared.slot.Slot.{Slot}
 
@@ -26,43 +29,65 @@ was_made s id = is_among s.numbers id
 abbrev pub was_any_made : StoreView → ℕ → Bool
 was_any_made s count = is_any_below s.numbers count
 
--- an agent of the storage with this number is made; or the code says why not
-pub record MakesAgent (id : ℕ) (store after agent agent_after : Option Content) (code : ℤ) : Type 0 where
-  pub codes : IsOneOf (ASM_DONE ∷ ASM_MEMORY ∷ ASM_EMPTY ∷ ASM_AGENTS ∷ ASM_TAKEN ∷ ASM_NUMBER ∷ []) code
-  pub makes : code ≡ ASM_DONE → Makes (id ∷ []) store after
-  pub kept : code ≢ ASM_DONE → after ≡ store
-  pub made : code ≡ ASM_DONE → HoldsNew store agent_after id
-  pub refused : code ≢ ASM_DONE → agent_after ≡ agent
-  pub range : (code ≡ ASM_AGENTS) ↔ (agents_limit ≤ id)
-  pub taken : code ≡ ASM_TAKEN → agent ≢ None
-  pub free : IsOneOf (ASM_DONE ∷ ASM_MEMORY ∷ ASM_EMPTY ∷ ASM_NUMBER ∷ []) code → agent ≡ None
-  pub empty : code ≡ ASM_EMPTY → HoldsNoStore store
-  pub number : code ≡ ASM_NUMBER → HoldsStore store (λ s. was_made s id ≡ true)
-  pub fresh : IsOneOf (ASM_DONE ∷ ASM_MEMORY ∷ []) code → HoldsStore store (λ s. was_made s id ≡ false)
+-- an agent of the storage with this number, which no other had, is made in the empty slot
+abbrev pub MakesAgent : ℕ → Option Content → Option Content → Option Content → Option Content → Type 0
+MakesAgent id store after agent agent_after =
+    (id < agents_limit) × (agent ≡ None) × HoldsStore store (λ s. was_made s id ≡ false)
+    × Makes (id ∷ []) store after × HoldsNew store agent_after id
 
--- an agent of the storage is made in each of the slots, with the numbers from 0 up; or the code says why not
-pub record MakesAgents (store after : Option Content) (agents agents_after : List Slot) (code : ℤ) : Type 0 where
-  pub codes : IsOneOf (ASM_DONE ∷ ASM_MEMORY ∷ ASM_EMPTY ∷ ASM_AGENTS ∷ ASM_TAKEN ∷ ASM_NUMBER ∷ []) code
-  pub makes : code ≡ ASM_DONE → Makes (range_with_len 0 (length agents)) store after
-  pub unmade : code ≢ ASM_DONE → after ≡ store
-  pub made : code ≡ ASM_DONE → HoldsStore store (λ s. AreNew s.storage agents_after)
-  pub range : (code ≡ ASM_AGENTS) ↔ (agents_limit < length agents)
-  pub taken : code ≡ ASM_TAKEN → ¬ AreEmpty agents
-  pub free : IsOneOf (ASM_DONE ∷ ASM_MEMORY ∷ ASM_EMPTY ∷ ASM_NUMBER ∷ []) code → AreEmpty agents
-  pub none : code ≡ ASM_MEMORY → AreEmpty agents_after
-  pub kept : IsOneOf (ASM_EMPTY ∷ ASM_AGENTS ∷ ASM_TAKEN ∷ ASM_NUMBER ∷ []) code → agents_after ≡ agents
-  pub empty : code ≡ ASM_EMPTY → HoldsNoStore store
-  pub number : code ≡ ASM_NUMBER → HoldsStore store (λ s. was_any_made s (length agents) ≡ true)
-  pub fresh : IsOneOf (ASM_DONE ∷ ASM_MEMORY ∷ []) code → HoldsStore store (λ s. was_any_made s (length agents) ≡ false)
+-- the number is too large, the slot is full, there is no storage, or an agent with the number was made
+abbrev pub MakesNoAgent : ℕ → Option Content → Option Content → Code → Type 0
+MakesNoAgent id store agent code.Agents = agents_limit ≤ id
+MakesNoAgent id store agent code.Taken = (id < agents_limit) × (agent ≢ None)
+MakesNoAgent id store agent code.Empty = (id < agents_limit) × (agent ≡ None) × HoldsNoStore store
+MakesNoAgent id store agent code.Number = (id < agents_limit) × (agent ≡ None) × HoldsStore store (λ s. was_made s id ≡ true)
+MakesNoAgent id store agent code.Memory = (id < agents_limit) × (agent ≡ None) × HoldsStore store (λ s. was_made s id ≡ false)
+MakesNoAgent id store agent _ = ⊥
 
--- the returned agent with this number is checked out; or the code says why not
-pub record TakesAgent (number : ℕ) (store after agent agent_after : Option Content) (code : ℤ) : Type 0 where
-  pub codes : IsOneOf (ASM_DONE ∷ ASM_MEMORY ∷ ASM_EMPTY ∷ ASM_NO_AGENT ∷ ASM_TAKEN ∷ []) code
-  pub lost : code ≡ ASM_DONE → HoldsStore store (λ s. Holds agent_after (λ a. HoldsStore after (HasLost a s)))
-  pub numbered : code ≡ ASM_DONE → Holds agent_after (λ a. a.account.id ≡ number)
-  pub kept : code ≢ ASM_DONE → after ≡ store
-  pub refused : code ≢ ASM_DONE → agent_after ≡ agent
-  pub taken : (code ≡ ASM_TAKEN) ↔ (agent ≢ None)
-  pub empty : code ≡ ASM_EMPTY → HoldsNoStore store
-  pub none : code ≡ ASM_NO_AGENT → HoldsStore store (λ s. ¬ HasNumber s number)
-  pub there : code ≡ ASM_MEMORY → HoldsStore store (λ s. HasNumber s number)
+-- an agent of the storage is made in each of the empty slots, with the numbers from 0 up, which no other had
+abbrev pub MakesAgents : Option Content → Option Content → List Slot → List Slot → Type 0
+MakesAgents store after agents agents_after =
+    (length agents ≤ agents_limit) × AreEmpty agents × HoldsStore store (λ s. was_any_made s (length agents) ≡ false)
+    × Makes (range_with_len 0 (length agents)) store after × HoldsStore store (λ s. AreNew s.storage agents_after)
+
+-- there are too many slots, one is full, there is no storage, or an agent with one of the numbers was made; the slots
+-- are unchanged, and without memory empty
+abbrev pub MakesNoAgents : Option Content → List Slot → List Slot → Code → Type 0
+MakesNoAgents store agents after code.Agents = (agents_limit < length agents) × (after ≡ agents)
+MakesNoAgents store agents after code.Taken = (length agents ≤ agents_limit) × ¬ AreEmpty agents × (after ≡ agents)
+MakesNoAgents store agents after code.Empty = (length agents ≤ agents_limit) × AreEmpty agents × HoldsNoStore store × (after ≡ agents)
+MakesNoAgents store agents after code.Number = (length agents ≤ agents_limit) × AreEmpty agents
+    × HoldsStore store (λ s. was_any_made s (length agents) ≡ true) × (after ≡ agents)
+MakesNoAgents store agents after code.Memory = (length agents ≤ agents_limit) × AreEmpty agents
+    × HoldsStore store (λ s. was_any_made s (length agents) ≡ false) × AreEmpty after
+MakesNoAgents store agents after _ = ⊥
+
+-- the agent isn't added to the returned ones
+abbrev pub IsNotAdded : StoreView → AgentAt Standard → Code → Type 0
+IsNotAdded s a code.Number = HasNumber s a.account.id
+IsNotAdded s a code.Memory = Unit {0}
+IsNotAdded s a _ = ⊥
+
+-- or there is none, or no storage, or they are of two storages
+abbrev pub IsNotGiven : Option Content → Option Content → Code → Type 0
+IsNotGiven store agent code.Empty = HoldsNoStore store ⊎ HoldsNoAgent agent
+IsNotGiven store agent code.Other = Unit {0}
+IsNotGiven store agent c = HoldsStore store (λ s. Holds agent (λ a. IsNotAdded s a c))
+
+-- the returned agent with this number is checked out into the empty slot
+abbrev pub TakesAgent : ℕ → Option Content → Option Content → Option Content → Option Content → Type 0
+TakesAgent number store after agent agent_after =
+    (agent ≡ None) × HoldsStore store (λ s. Holds agent_after (λ a. HoldsStore after (HasLost a s)))
+    × Holds agent_after (λ a. a.account.id ≡ number)
+
+-- no returned agent has this number
+abbrev pub IsNotReturned : ℕ → StoreView → Code → Type 0
+IsNotReturned number s code.NoAgent = ¬ HasNumber s number
+IsNotReturned number s code.Memory = HasNumber s number
+IsNotReturned number s _ = ⊥
+
+-- or the slot is full, or there is no storage
+abbrev pub TakesNoAgent : ℕ → Option Content → Option Content → Code → Type 0
+TakesNoAgent number store agent code.Taken = agent ≢ None
+TakesNoAgent number store agent code.Empty = (agent ≡ None) × HoldsNoStore store
+TakesNoAgent number store agent c = (agent ≡ None) × HoldsStore store (λ s. IsNotReturned number s c)

@@ -1,17 +1,29 @@
--- Storages that continue where others ended.
-use Rattle.std.specs.Prelude.{◌≡◌, ◌≢◌, ◌↔◌, ℕ, ℤ, List, [], ◌∷◌, length, Option, None, Some}
+-- Storages that are opened, and those that continue where others ended.
+use Rattle.std.specs.Prelude.{◌≡◌, ◌≢◌, ℕ, List, length, Option, None, Some}
 use Rattle.asm_element.specs.Place.{Place}
 use Rattle.asm_update.specs.State.{IsProper, val}
 use Rattle.asm_storage.specs.Storage.{AgentAt, StorageView}
-use Rattle.asm_slots.specs.AgentCalls.{IsNoCapacity}
-use Rattle.asm_slots.specs.Codes.{IsOneOf, ASM_DONE, ASM_MEMORY, ASM_EMPTY, ASM_CAPACITY, ASM_NOT_FULL, ASM_TAKEN}
+use Rattle.asm_journal.specs.Value.{IsStateForm}
+use Rattle.asm_slots.specs.AgentCalls.{IsNoCapacity, IsOpened}
+use Rattle.asm_slots.specs.Answers.{IsUnreadAs}
 use Rattle.asm_slots.specs.ClosedJournal.{Leaves}
 use Rattle.asm_slots.specs.OwnState.{state_at}
-use Rattle.asm_slots.specs.Slots.{Holds, HoldsNoAgent, HoldsStore}
+use Rattle.asm_slots.specs.Slots.{Holds, HoldsNoAgent, HoldsNoStore, HoldsStore}
 use Rattle.asm_slots.specs.Standard.{Standard}
 use Rattle.asm_slots.specs.Store.{StoreView, IsUnused}
+use Rattle.asm_slots.specs.declared.codes.Code.{Code}
+use Rattle.asm_slots.specs.declared.codes.Code.TheVariants as code
 use Rattle.asm_slots.specs.declared.content.Content.{Content}
-use Rattle.asm_slots.specs.declared.content.Content.TheVariants as content
+
+-- a storage with this opening state and this capacity is opened in the empty slot
+abbrev pub Opens : List ℕ → ℕ → Option Content → Option Content → Type 0
+Opens bytes capacity old new = (old ≡ None) × HoldsStore new (IsOpened bytes capacity)
+
+-- the slot is full, the bytes are no state, or no storage has this capacity
+abbrev pub IsNotOpened : List ℕ → ℕ → Option Content → Code → Type 0
+IsNotOpened bytes capacity old code.Taken = old ≢ None
+IsNotOpened bytes capacity old code.Capacity = (old ≡ None) × IsNoCapacity capacity
+IsNotOpened bytes capacity old c = (old ≡ None) × IsUnreadAs IsStateForm bytes c
 
 -- the bytes read as a journal, and the storage with this capacity opens with the state that its moves leave
 pub record HasOpened (bytes : List ℕ) (most : ℕ) (s : StorageView Standard) : Type 0 where
@@ -26,14 +38,22 @@ IsOpenedAfter bytes most s = HasOpened bytes most s.storage × IsUnused s
 abbrev pub Continues : ℕ → StoreView → StoreView → Type 0
 Continues most old new = (text : List ℕ) × (old.journal ≡ Some text) × IsOpenedAfter text most new
 
--- the storage of the one slot continues in the other
-abbrev pub IsNextOf : ℕ → Option Content → Option Content → Type 0
-IsNextOf capacity (Some (content.Store s)) new = HoldsStore new (Continues capacity s)
-IsNextOf capacity _ new = ⊥
-
 -- the storage retains no journal
 abbrev pub LacksJournal : StoreView → Type 0
 LacksJournal s = s.journal ≡ None
+
+-- the storage of the one slot continues in the other, which was empty
+abbrev pub IsNextOf : ℕ → Option Content → Option Content → Option Content → Type 0
+IsNextOf capacity store old new = (old ≡ None) × HoldsStore store (λ s. HoldsStore new (Continues capacity s))
+
+-- that slot is full, there is no storage or no journal to continue, or no storage has this capacity
+abbrev pub IsNotNext : ℕ → Option Content → Option Content → Code → Type 0
+IsNotNext capacity store old code.Taken = old ≢ None
+IsNotNext capacity store old code.Empty = (old ≡ None) × HoldsNoStore store
+IsNotNext capacity store old code.NoJournal = (old ≡ None) × HoldsStore store LacksJournal
+IsNotNext capacity store old code.Capacity = (old ≡ None) × IsNoCapacity capacity
+IsNotNext capacity store old code.Memory = old ≡ None
+IsNotNext capacity store old _ = ⊥
 
 -- the agent's own state has followed as many moves as its storage has room for
 abbrev pub IsAtEnd : AgentAt Standard → Type 0
@@ -48,14 +68,16 @@ pub record ContinuesFrom (most : ℕ) (a : AgentAt Standard) (new : StoreView) :
   pub capacity : length new.storage.row ≡ most
   pub unused : IsUnused new
 
--- the storage of the agent in the one slot continues in the other; or the code says why not
-pub record ContinuesInto (capacity : ℕ) (agent next after : Option Content) (code : ℤ) : Type 0 where
-  pub codes : IsOneOf (ASM_DONE ∷ ASM_MEMORY ∷ ASM_EMPTY ∷ ASM_CAPACITY ∷ ASM_NOT_FULL ∷ ASM_TAKEN ∷ []) code
-  pub opened : code ≡ ASM_DONE → Holds agent (λ a. HoldsStore after (ContinuesFrom capacity a))
-  pub refused : code ≢ ASM_DONE → after ≡ next
-  pub taken : (code ≡ ASM_TAKEN) ↔ (next ≢ None)
-  pub empty : code ≡ ASM_EMPTY → HoldsNoAgent agent
-  pub none : code ≡ ASM_NOT_FULL → Holds agent (λ a. ¬ IsAtEnd a)
-  pub at_end : IsOneOf (ASM_MEMORY ∷ ASM_CAPACITY ∷ []) code → Holds agent IsAtEnd
-  pub range : code ≡ ASM_CAPACITY → IsNoCapacity capacity
-  pub sized : IsOneOf (ASM_DONE ∷ ASM_MEMORY ∷ []) code → ¬ IsNoCapacity capacity
+-- the storage of the agent in the one slot continues in the other, which was empty
+abbrev pub GoesOn : ℕ → Option Content → Option Content → Option Content → Type 0
+GoesOn capacity agent old new =
+    (old ≡ None) × ¬ IsNoCapacity capacity × Holds agent (λ a. HoldsStore new (ContinuesFrom capacity a))
+
+-- that slot is full, there is no agent that has followed all moves, or no storage has this capacity
+abbrev pub DoesNotGoOn : ℕ → Option Content → Option Content → Code → Type 0
+DoesNotGoOn capacity agent old code.Taken = old ≢ None
+DoesNotGoOn capacity agent old code.Empty = (old ≡ None) × HoldsNoAgent agent
+DoesNotGoOn capacity agent old code.NotFull = (old ≡ None) × Holds agent (λ a. ¬ IsAtEnd a)
+DoesNotGoOn capacity agent old code.Capacity = (old ≡ None) × IsNoCapacity capacity × Holds agent IsAtEnd
+DoesNotGoOn capacity agent old code.Memory = (old ≡ None) × ¬ IsNoCapacity capacity × Holds agent IsAtEnd
+DoesNotGoOn capacity agent old _ = ⊥

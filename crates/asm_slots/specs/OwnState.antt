@@ -9,17 +9,20 @@ use Rattle.asm_update.specs.State.{State, IsProper, val}
 use Rattle.asm_state.specs.declared.named.Named.{Named}
 use Rattle.asm_storage.specs.Agents.{moves_seen}
 use Rattle.asm_storage.specs.Calls.{IsStaleRead}
-use Rattle.asm_storage.specs.Storage.{AgentAt, last_poll, Missed}
+use Rattle.asm_storage.specs.Storage.{AgentAt, IsSameAgent, last_poll, Missed}
 use Rattle.asm_storage.specs.Taken.{HasTaken}
 use Rattle.asm_storage.specs.declared.call.Answer.TheVariants as answer
 use Rattle.asm_storage.specs.declared.call.Reply.TheVariants as reply
 use Rattle.asm_journal.specs.Event.{answer_json_of, reply_json_of}
 use Rattle.asm_journal.specs.Text.{state_json_of}
 use Rattle.asm_slots.specs.Bytes.{ReadAsLocations, ReadAsReads}
-use Rattle.asm_slots.specs.AgentCalls.{HasPolled}
+use Rattle.asm_slots.specs.AgentCalls.{HasPolled, SeesOn}
 use Rattle.asm_slots.specs.Kinds.{IsValueBy, bytes_of}
-use Rattle.asm_slots.specs.Slots.{Holds}
+use Rattle.asm_slots.specs.Slots.{Changes, HasRoomForStep, Holds, HoldsNoAgent, HoldsStep}
 use Rattle.asm_slots.specs.Standard.{Standard, meaning, part}
+use Rattle.asm_slots.specs.StepView.{new_step}
+use Rattle.asm_slots.specs.declared.codes.Code.{Code}
+use Rattle.asm_slots.specs.declared.codes.Code.TheVariants as code
 use Rattle.asm_slots.specs.declared.content.Content.{Content}
 use Rattle.asm_slots.specs.declared.content.Content.TheVariants as content
 
@@ -73,6 +76,26 @@ HasPolledOn old new = HasPolled old new × Missed old (last_poll new) new
 -- it has polled until it found nothing more; its own state is at this version, and it has seen as many moves
 abbrev pub HasFollowed : ℕ → AgentAt Standard → AgentAt Standard → Type 0
 HasFollowed n old new = HasPolledOn old new × (n ≡ length new.account.seen) × (n ≡ new.number)
+
+-- the agent has polled until it found nothing more, and its own state is at this version
+abbrev pub Follows : ℕ → Option Content → Option Content → Type 0
+Follows number agent after = Changes agent after (λ a b. HasFollowed number a b × IsSameAgent a b × SeesOn a b)
+
+-- there is no agent, or memory was refused while it polled
+abbrev pub DoesNotFollow : Option Content → Option Content → Code → Type 0
+DoesNotFollow agent after code.Empty = HoldsNoAgent agent × (after ≡ agent)
+DoesNotFollow agent after code.Memory = Changes agent after (λ a b. HasPolledOn a b × IsSameAgent a b × SeesOn a b)
+DoesNotFollow agent after _ = ⊥
+
+-- it has followed, and the other slot, which was empty or held a step, holds a new one at this version
+abbrev pub Begins : ℕ → Option Content → Option Content → Option Content → Option Content → Type 0
+Begins number agent after step step_after =
+    HasRoomForStep step × Follows number agent after × HoldsStep step_after (λ s. s ≡ new_step number)
+
+-- the other slot holds something else; or the agent doesn't follow, or memory was refused once it had
+abbrev pub DoesNotBegin : Option Content → Option Content → Option Content → Code → Type 0
+DoesNotBegin agent after step code.Taken = ¬ HasRoomForStep step × (after ≡ agent)
+DoesNotBegin agent after step c = HasRoomForStep step × DoesNotFollow agent after c
 
 -- the bytes are JSON of declared reads, and none of them is stale after what the agent has then seen
 abbrev pub NoneIsStale : List ℕ → AgentAt Standard → Type 0

@@ -8,6 +8,7 @@ ghost use Rattle.asm_slots.specs.declared.codes.Code.TheVariants as variant;
 
 use asm_aggregate::ComposeError;
 use asm_explain::TextError;
+use asm_storage::StorageError;
 use asm_update::InstructionsError;
 use std::alloc::{AllocError, AllocFailed};
 
@@ -211,6 +212,14 @@ pub enum Code {
     Clash,
     Large,
     Other,
+    Capacity,
+    NoJournal,
+    NotFull,
+    Agents,
+    Number,
+    NoAgent,
+    Missing,
+    ManyCalls,
 }
 
 impl Code {
@@ -232,6 +241,14 @@ impl Code {
             Code::Clash => CLASH,
             Code::Large => LARGE,
             Code::Other => OTHER,
+            Code::Capacity => CAPACITY,
+            Code::NoJournal => NO_JOURNAL,
+            Code::NotFull => NOT_FULL,
+            Code::Agents => AGENTS,
+            Code::Number => NUMBER,
+            Code::NoAgent => NO_AGENT,
+            Code::Missing => MISSING,
+            Code::ManyCalls => MANY_CALLS,
         }
     }
 }
@@ -270,6 +287,19 @@ impl From<TextError> for Code {
             TextError::NotJson => Code::NotJson,
             TextError::Shape => Code::Shape,
             TextError::Memory => Code::Memory,
+        }
+    }
+}
+
+impl From<StorageError> for Code {
+    ghost use Rattle.asm_slots.specs.Answers.{code_of_storage};
+
+    ghost from_gives = { λ e c. c ≡ code_of_storage e };
+
+    fn from(error: StorageError) -> Code {
+        match error {
+            StorageError::BadCapacity => Code::Capacity,
+            StorageError::Memory => Code::Memory,
         }
     }
 }

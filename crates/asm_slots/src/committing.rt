@@ -15,7 +15,7 @@ ghost use Rattle.asm_journal.specs.Event.{call_json_of};
 ghost use Rattle.asm_slots.specs.WrittenText.{WritesText};
 
 use crate::codes::{BUSY, DONE, EMPTY, MANY, MEMORY, MOVED, copied};
-use crate::content::Content;
+use crate::lend;
 use crate::owned_agent::OwnedAgent;
 use crate::owned_step::OwnedStep;
 use crate::read_and_fire::{Numbers, code_of_reply};
@@ -173,18 +173,8 @@ fn fire_recorded(alloc: Global, agent: &mut OwnedAgent, step: &OwnedStep) -> (i3
 pub fn commit(alloc: Global, agent: &mut Slot, step: &mut Slot) -> (i32, Numbers)
     ensures { Commits (content_of agent.old) (content_of agent.new) (content_of step.old) (content_of step.new) result.1 result.0 }
 {
-    let Some(held) = agent.as_mut() else {
-        return (EMPTY, Numbers::none());
-    };
-    let Content::Agent(inner) = held else {
-        return (EMPTY, Numbers::none());
-    };
-    let Some(held) = step.as_mut() else {
-        return (EMPTY, Numbers::none());
-    };
-    let Content::Step(taken) = held else {
-        return (EMPTY, Numbers::none());
-    };
+    lend!(inner: Agent = agent, (EMPTY, Numbers::none()));
+    lend!(taken: Step = step, (EMPTY, Numbers::none()));
     let (code, numbers) = fire_step(alloc, inner, taken);
     if code == DONE {
         *step = Slot::empty(alloc);
@@ -196,18 +186,8 @@ pub fn commit(alloc: Global, agent: &mut Slot, step: &mut Slot) -> (i32, Numbers
 pub fn commit_recorded(alloc: Global, agent: &mut Slot, step: &mut Slot) -> (i32, Numbers)
     ensures { CommitsRecorded (content_of agent.old) (content_of agent.new) (content_of step.old) (content_of step.new) result.1 result.0 }
 {
-    let Some(held) = agent.as_mut() else {
-        return (EMPTY, Numbers::none());
-    };
-    let Content::Agent(inner) = held else {
-        return (EMPTY, Numbers::none());
-    };
-    let Some(held) = step.as_mut() else {
-        return (EMPTY, Numbers::none());
-    };
-    let Content::Step(taken) = held else {
-        return (EMPTY, Numbers::none());
-    };
+    lend!(inner: Agent = agent, (EMPTY, Numbers::none()));
+    lend!(taken: Step = step, (EMPTY, Numbers::none()));
     let (code, numbers) = fire_recorded(alloc, inner, taken);
     if code == DONE {
         *step = Slot::empty(alloc);

@@ -1,84 +1,28 @@
-//! Returning agents to their storage, and the codes of a close that fails.
-ghost use Rattle.std.specs.Prelude.{◌≡◌, ◌≢◌, ◌∷◌, [], None, Some, ◌<◌, ◌≤◌, All, IfNone, IfSome, IfErr, OnOk, length};
-ghost use Rattle.std.specs.Prelude.{map, slice_get, take, IfOk, OnErr};
-ghost use Rattle.asm_slots.specs.AgentCalls.{HasNumber, HasTaken, HasLost};
-ghost use Rattle.asm_slots.specs.Codes.{IsOneOf, ASM_DONE, ASM_MEMORY, ASM_NUMBER, ASM_MISSING, ASM_MANY_CALLS, ASM_NO_AGENT};
-ghost use Rattle.asm_slots.specs.ClosedStore.{ReportsUnclosed};
-ghost use Rattle.asm_slots.specs.Slots.{HoldsStore, content_of, Holds};
-ghost use Rattle.asm_slots.specs.declared.content.Content.TheVariants as content;
-ghost use Rattle.asm_slots.specs.declared.store_close.Unclosed.TheVariants as unclosed;
+//! Returning agents to their storage, checking them out again, and closing them into a journal.
+ghost use Rattle.std.specs.Prelude.{◌≡◌, ◌≢◌, None, Some, ◌<◌, ◌≤◌, All, IfNone, IfSome, IfErr, OnOk, length};
+ghost use Rattle.std.specs.Prelude.{map, slice_get, take, IfOk, MatchResult, OnErr};
 ghost use Rattle.std.specs.List.Sorted.{IsStrictlyIncreasing};
 ghost use Rattle.asm_storage.specs.Part.{agent_of, IsPartOf};
 ghost use Rattle.asm_storage.specs.declared.part.AgentPart.{AgentPart};
+ghost use Rattle.asm_slots.specs.AgentCalls.{Closes, Gives, HasLost, HasTaken};
+ghost use Rattle.asm_slots.specs.ClosedStore.{IsNotClosed};
 ghost use Rattle.asm_slots.specs.InsertPoint.{IsInsertPoint, IsAmong};
+ghost use Rattle.asm_slots.specs.MadeAgents.{IsNotAdded, IsNotGiven, IsNotReturned, TakesAgent, TakesNoAgent};
+ghost use Rattle.asm_slots.specs.Slots.{content_of, Holds, IsOfStore};
 ghost use Rattle.asm_slots.specs.Standard.{meaning};
 
-use crate::codes::{DONE, MANY_CALLS, MEMORY, MISSING, NO_AGENT, NUMBER};
+use crate::codes::Code;
 use crate::content::Content;
+use crate::lend;
 use crate::owned_agent::OwnedAgent;
+use crate::shared::are_one;
 use crate::slot::Slot;
 use crate::store::Store;
 use crate::store_close::Unclosed;
-use crate::take_and_put::{put_agent, put_store};
+use crate::take_and_put::{put_agent, put_store, take_agent, take_store};
 use asm_storage::AgentPart;
 use std::alloc::Global;
 use std::sync::Arc;
-
-/// Return the agent to the storage.
-///
-/// On success, the agent's slot is empty. On error, both are in their slots, unchanged.
-///
-/// # Errors
-///
-/// - `ASM_NUMBER`: an agent with this number was returned before.
-/// - `ASM_MEMORY`
-pub fn give_at(
-    alloc: Global,
-    store: &mut Slot,
-    agent: &mut Slot,
-    kept: (Box<Content>, Store),
-    given: (Box<Content>, OwnedAgent),
-) -> i32
-    requires { given.1.storage ≡ kept.1.storage }
-    ensures codes { IsOneOf (ASM_DONE ∷ ASM_MEMORY ∷ ASM_NUMBER ∷ []) result }
-    ensures given { result ≡ ASM_DONE → HoldsStore (content_of store.new) (HasTaken given.1 kept.1) }
-    ensures gone { result ≡ ASM_DONE → content_of agent.new ≡ None }
-    ensures kept { result ≢ ASM_DONE → content_of store.new ≡ Some (content.Store kept.1) }
-    ensures back { result ≢ ASM_DONE → content_of agent.new ≡ Some (content.Agent given.1) }
-    ensures there { result ≡ ASM_NUMBER → HasNumber kept.1 given.1.account.id }
-{
-    let (store_shell, kept) = kept;
-    let (shell, inner) = given;
-    let (kept, answer) = kept.give(inner);
-    put_store(store, store_shell, kept);
-    match answer {
-        Ok(()) => {
-            *agent = Slot::empty(alloc);
-            DONE
-        }
-        Err((code, inner)) => {
-            put_agent(agent, shell, inner);
-            code
-        }
-    }
-}
-
-/// Return the code of the error, with the number of the move without a receipt.
-///
-/// With any code except `ASM_MISSING`, the number is 0.
-pub fn code_of_unclosed(error: Unclosed) -> (i32, u32)
-    ensures codes { IsOneOf (ASM_MEMORY ∷ ASM_MISSING ∷ ASM_MANY_CALLS ∷ []) result.0 }
-    ensures reported { ReportsUnclosed error result.0 result.1 }
-    ensures missing { result.0 ≡ ASM_MISSING → error ≡ unclosed.Missing result.1 }
-    ensures large { result.0 ≡ ASM_MANY_CALLS → error ≡ unclosed.Large }
-    ensures none { result.0 ≢ ASM_MISSING → result.1 ≡ 0 }
-{
-    match error {
-        Unclosed::Missing(missing) => (MISSING, missing),
-        Unclosed::Large => (MANY_CALLS, 0),
-        Unclosed::Memory => (MEMORY, 0),
-    }
-}
 
 // Return how many of the parts, whose numbers ascend, have a number below this one.
 fn below(parts: &[AgentPart], id: u32) -> usize
@@ -117,27 +61,53 @@ fn part_of(agent: OwnedAgent) -> AgentPart
 }
 
 impl Store {
-    /// Add the agent to the returned ones, and discard the journal.
-    ///
-    /// On error, the storage is unchanged; the agent comes back with the code.
-    pub(crate) fn give(mut self, agent: OwnedAgent) -> (Store, Result<(), (i32, OwnedAgent)>)
-        requires { agent.storage ≡ self.storage }
-        ensures given { OnOk result.1 (HasTaken agent self result.0) }
-        ensures codes { IfErr result.1 (λ p. IsOneOf (ASM_MEMORY ∷ ASM_NUMBER ∷ []) p.0) }
-        ensures refused { IfErr result.1 (λ p. (result.0 ≡ self) × (p.1 ≡ agent)) }
-        ensures there { IfErr result.1 (λ p. p.0 ≡ ASM_NUMBER → HasNumber self agent.account.id) }
+    // Add the agent to the returned ones, and discard the journal.
+    //
+    // On error, the storage is unchanged; the agent comes back with the code.
+    fn give(&mut self, agent: OwnedAgent) -> Result<(), (Code, OwnedAgent)>
+        requires { agent.storage ≡ self.old.storage }
+        ensures given { OnOk result (HasTaken agent self.old self.new) }
+        ensures err { IfErr result (λ p. IsNotAdded self.old agent p.0) }
+        ensures back { IfErr result (λ p. p.1 ≡ agent) }
+        ensures kept { OnErr result (self.new ≡ self.old) }
     {
         let id = agent.id();
         let Some(at) = insert_point(&self.parts, id) else {
-            return (self, Err((NUMBER, agent)));
+            return Err((Code::Number, agent));
         };
         if self.parts.reserve(1).is_err() {
-            return (self, Err((MEMORY, agent)));
+            return Err((Code::Memory, agent));
         }
         self.parts.insert(at, part_of(agent)).unwrap();
         self.journal = None;
-        (self, Ok(()))
+        Ok(())
     }
+}
+
+/// Do what `asm_give` does.
+#[tactic(auto, using(crate::proofs::Refused::not_given))]
+pub fn give(alloc: Global, store: &mut Slot, agent: &mut Slot) -> Result<(), Code>
+    requires { IsOfStore (content_of agent.old) (content_of store.old) }
+    ensures answers { MatchResult result
+        (λ done. Gives (content_of store.old) (content_of agent.old) (content_of store.new) × (content_of agent.new ≡ None))
+        (IsNotGiven (content_of store.old) (content_of agent.old)) }
+    ensures kept { OnErr result (content_of store.new ≡ content_of store.old) }
+    ensures back { OnErr result (content_of agent.new ≡ content_of agent.old) }
+{
+    lend!(kept: Store = store, Err(Code::Empty));
+    let Some((shell, inner)) = take_agent(alloc, agent) else {
+        return Err(Code::Empty);
+    };
+    if !are_one(kept.shared(), inner.shared()) {
+        put_agent(agent, shell, inner);
+        return Err(Code::Other);
+    }
+    if let Err((code, inner)) = kept.give(inner) {
+        put_agent(agent, shell, inner);
+        return Err(code);
+    }
+    *agent = Slot::empty(alloc);
+    Ok(())
 }
 
 // Return the index of the part with this number, if there is one.
@@ -155,27 +125,67 @@ fn place_of(parts: &[AgentPart], number: u32) -> Option<usize>
 }
 
 impl Store {
-    /// Check out the returned agent with this number as `asm_take` does, in a slot's box.
-    pub fn take_back(mut self, alloc: Global, number: u32) -> (Store, Result<Box<Content>, i32>)
-        ensures lost { IfOk result.1 (λ b. Holds (Some b.value) (λ a. HasLost a self result.0)) }
-        ensures numbered { IfOk result.1 (λ b. Holds (Some b.value) (λ a. a.account.id ≡ number)) }
-        ensures codes { IfErr result.1 (IsOneOf (ASM_MEMORY ∷ ASM_NO_AGENT ∷ [])) }
-        ensures kept { OnErr result.1 (result.0 ≡ self) }
-        ensures none { IfErr result.1 (λ code. code ≡ ASM_NO_AGENT → ¬ HasNumber self number) }
-        ensures there { IfErr result.1 (λ code. code ≡ ASM_MEMORY → HasNumber self number) }
+    /// Check out the returned agent with this number, in a slot's box.
+    fn take_back(&mut self, alloc: Global, number: u32) -> Result<Box<Content>, Code>
+        ensures lost { IfOk result (λ b. Holds (Some b.value) (λ a. HasLost a self.old self.new)) }
+        ensures numbered { IfOk result (λ b. Holds (Some b.value) (λ a. a.account.id ≡ number)) }
+        ensures err { IfErr result (IsNotReturned number self.old) }
+        ensures kept { OnErr result (self.new ≡ self.old) }
     {
         let Some(at) = place_of(&self.parts, number) else {
-            return (self, Err(NO_AGENT));
+            return Err(Code::NoAgent);
         };
         let Ok(shared) = Arc::try_clone(&self.shared) else {
-            return (self, Err(MEMORY));
+            return Err(Code::Memory);
         };
         let Ok(mut made) = Box::new(alloc, Content::Nothing) else {
-            return (self, Err(MEMORY));
+            return Err(Code::Memory);
         };
         let part = self.parts.remove(at);
         self.journal = None;
         *made = Content::Agent(OwnedAgent { shared, part });
-        (self, Ok(made))
+        Ok(made)
+    }
+}
+
+/// Do what `asm_take` does.
+#[tactic(auto, using(crate::proofs::Refused::takes_none))]
+pub fn check_out(alloc: Global, store: &mut Slot, number: u32, agent: &mut Slot) -> Result<(), Code>
+    ensures answers { MatchResult result
+        (λ done. TakesAgent number (content_of store.old) (content_of store.new) (content_of agent.old) (content_of agent.new))
+        (TakesNoAgent number (content_of store.old) (content_of agent.old)) }
+    ensures kept { OnErr result (content_of store.new ≡ content_of store.old) }
+    ensures held { OnErr result (content_of agent.new ≡ content_of agent.old) }
+{
+    if agent.is_full() {
+        return Err(Code::Taken);
+    }
+    lend!(kept: Store = store, Err(Code::Empty));
+    *agent = Slot::holding(kept.take_back(alloc, number)?);
+    Ok(())
+}
+
+/// Do what `asm_close` does.
+pub fn close(alloc: Global, store: &mut Slot, number: &mut u32) -> Result<(), Code>
+    ensures answers { MatchResult result (λ done. (number.new ≡ 0) × Closes (content_of store.old) (content_of store.new))
+        (IsNotClosed (content_of store.old) number.new) }
+    ensures kept { OnErr result (content_of store.new ≡ content_of store.old) }
+{
+    *number = 0;
+    let Some((shell, kept)) = take_store(alloc, store) else {
+        return Err(Code::Empty);
+    };
+    let (kept, closed) = kept.close(alloc);
+    put_store(store, shell, kept);
+    let Err(error) = closed else {
+        return Ok(());
+    };
+    match error {
+        Unclosed::Missing(missing) => {
+            *number = missing;
+            Err(Code::Missing)
+        }
+        Unclosed::Large => Err(Code::ManyCalls),
+        Unclosed::Memory => Err(Code::Memory),
     }
 }

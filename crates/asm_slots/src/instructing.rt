@@ -1,5 +1,5 @@
 //! Preparing locations, and building moves in slots.
-ghost use Rattle.std.specs.Prelude.{◌≡◌, ◌∷◌, ◌++◌, [], IfErr, OnErr, OnOk, Some, IfOk, None};
+ghost use Rattle.std.specs.Prelude.{◌≡◌, ◌∷◌, ◌++◌, [], IfErr, MatchResult, OnErr, OnOk, Some, IfOk, None};
 ghost use Rattle.asm_slots.specs.Kinds.{IsInstructed};
 ghost use Rattle.asm_slots.specs.Answers.{IsNoRoomFor, IsNotAppended, IsNotGathered, IsNotInstructed, IsNotPrepared, IsNotUnited, IsUnreadAs};
 ghost use Rattle.asm_slots.specs.Slots.{HasRoomForMove, HoldsLocation, HoldsMove, content_of, move_of};
@@ -9,6 +9,7 @@ ghost use Rattle.asm_slots.specs.Bytes.{ReadAsLocation};
 
 use crate::codes::Code;
 use crate::content::Content;
+use crate::lend;
 use crate::operands::action_of;
 use crate::slot::Slot;
 use crate::take_and_put::{put_shell, take_shell};
@@ -74,20 +75,15 @@ pub fn instruct(
     bytes: &[u8],
     amount: u32,
 ) -> Result<(), Code>
-    ensures room { OnOk result (HasRoomForMove (content_of instrs.old)) }
-    ensures done { OnOk result (HoldsLocation (content_of at.old) (λ l. HoldsMove (content_of instrs.new)
-        (IsInstructed l verb kind number bytes.now amount (move_of (content_of instrs.old))))) }
-    ensures err { IfErr result (IsNotInstructed (content_of at.old) (content_of instrs.old) verb kind number bytes.now amount) }
+    ensures answers { MatchResult result (λ done. HasRoomForMove (content_of instrs.old)
+        × HoldsLocation (content_of at.old) (λ l. HoldsMove (content_of instrs.new)
+        (IsInstructed l verb kind number bytes.now amount (move_of (content_of instrs.old)))))
+        (IsNotInstructed (content_of at.old) (content_of instrs.old) verb kind number bytes.now amount) }
     ensures kept { OnErr result (content_of instrs.new ≡ content_of instrs.old) }
     ensures held { content_of at.new ≡ content_of at.old }
 {
     let Some(held) = instrs.as_mut() else {
-        let Some(held) = at.as_mut() else {
-            return Err(Code::Empty);
-        };
-        let Content::Location(at) = held else {
-            return Err(Code::Empty);
-        };
+        lend!(at: Location = at, Err(Code::Empty));
         let mut gathered = Instructions::new(alloc);
         gather(alloc, &mut gathered, at, verb, kind, number, bytes, amount)?;
         hold(alloc, instrs, gathered)?;
@@ -96,13 +92,9 @@ pub fn instruct(
     let Content::Move(gathered) = held else {
         return Err(Code::Taken);
     };
-    let Some(held) = at.as_mut() else {
-        return Err(Code::Empty);
-    };
-    let Content::Location(at) = held else {
-        return Err(Code::Empty);
-    };
-    gather(alloc, gathered, at, verb, kind, number, bytes, amount)
+    lend!(at: Location = at, Err(Code::Empty));
+    gather(alloc, gathered, at, verb, kind, number, bytes, amount)?;
+    Ok(())
 }
 
 // Append the instructions of the move in the slot.
@@ -147,11 +139,9 @@ fn unite_first(alloc: Global, instrs: &mut Slot, other: &mut Slot) -> Result<(),
 /// Do what `asm_unite` does.
 #[tactic(auto, using(crate::proofs::Refused::not_united))]
 pub fn unite(alloc: Global, instrs: &mut Slot, other: &mut Slot) -> Result<(), Code>
-    ensures room { OnOk result (HasRoomForMove (content_of instrs.old)) }
-    ensures rooms { OnOk result (HasRoomForMove (content_of other.old)) }
-    ensures done { OnOk result (HoldsMove (content_of instrs.new)
-        (λ united. united ≡ move_of (content_of instrs.old) ++ move_of (content_of other.old))) }
-    ensures err { IfErr result (IsNotUnited (content_of instrs.old) (content_of other.old)) }
+    ensures answers { MatchResult result (λ done. HasRoomForMove (content_of instrs.old) × HasRoomForMove (content_of other.old)
+        × HoldsMove (content_of instrs.new) (λ united. united ≡ move_of (content_of instrs.old) ++ move_of (content_of other.old)))
+        (IsNotUnited (content_of instrs.old) (content_of other.old)) }
     ensures kept { OnErr result (content_of instrs.new ≡ content_of instrs.old) }
     ensures held { content_of other.new ≡ content_of other.old }
 {
@@ -180,9 +170,9 @@ fn read_location(alloc: Global, bytes: &[u8]) -> Result<Location, Code>
 /// Do what `asm_location` does.
 #[tactic(auto, using(crate::proofs::Refused::not_prepared))]
 pub fn prepare(alloc: Global, location: &[u8], at: &mut Slot) -> Result<(), Code>
-    ensures prepared { OnOk result (HoldsLocation (content_of at.new) (ReadAsLocation location.now)) }
-    ensures empty { OnOk result (content_of at.old ≡ None) }
-    ensures err { IfErr result (IsNotPrepared (content_of at.old) location.now) }
+    ensures answers { MatchResult result
+        (λ done. (content_of at.old ≡ None) × HoldsLocation (content_of at.new) (ReadAsLocation location.now))
+        (IsNotPrepared (content_of at.old) location.now) }
     ensures kept { OnErr result (content_of at.new ≡ content_of at.old) }
 {
     if at.is_full() {

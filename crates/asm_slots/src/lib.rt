@@ -33,7 +33,7 @@ mod shared;
 mod slot;
 pub mod steps;
 mod store;
-mod store_agents;
+pub mod store_agents;
 mod store_close;
 pub mod take_and_put;
 mod tracking;

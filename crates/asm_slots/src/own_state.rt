@@ -1,7 +1,8 @@
 //! An agent's own state: its text, values at locations, and the validation of declared reads.
-ghost use Rattle.std.specs.Prelude.{◌≡◌, ◌∷◌, [], string_bytes, IsUtf8, IfOk, IfErr, map, Some};
+ghost use Rattle.std.specs.Prelude.{◌≡◌, ◌∷◌, [], string_bytes, IsUtf8, IfOk, IfErr, MatchResult, OnErr, map, Some};
 ghost use Rattle.asm_slots.specs.Codes.{IsOneOf, ASM_MEMORY, ASM_SHAPE, ASM_DONE, ASM_STALE, ASM_SMALL, ASM_AHEAD};
 ghost use Rattle.asm_slots.specs.Codes.{ASM_MANY, ASM_NOT_JSON};
+ghost use Rattle.asm_slots.specs.OwnState.{DoesNotFollow, Follows};
 ghost use Rattle.asm_slots.specs.OwnState.{IsOwnOfName, IsOwnState, NoneIsStale, HasPolledOn, IsPeekOf, IsStaleText, values_text};
 ghost use Rattle.asm_slots.specs.Slots.{content_of, Holds};
 ghost use Rattle.asm_slots.specs.StepAnswers.{PeeksAt};
@@ -13,8 +14,9 @@ ghost use Rattle.asm_slots.specs.AgentCalls.{HasPolled, MayHavePolled, SeesOn};
 ghost use Rattle.asm_slots.specs.WrittenText.{Writes};
 ghost use Rattle.asm_slots.specs.declared.content.Content.TheVariants as content;
 
-use crate::codes::{AHEAD, CodedText, DONE, EMPTY, MANY, MEMORY, SHAPE, STALE, written_as};
+use crate::codes::{AHEAD, Code, CodedText, DONE, EMPTY, MANY, MEMORY, SHAPE, STALE, written_as};
 use crate::content::Content;
+use crate::lend;
 use crate::owned_agent::OwnedAgent;
 use crate::parsing::{code_of_text_error, locations_of, reads_of};
 use crate::slot::Slot;
@@ -26,6 +28,18 @@ use asm_storage::{Answer, ReadError, Reply};
 use asm_update::Lookup;
 use std::alloc::{AllocError, Global};
 use std::str;
+
+/// Do what `asm_follow` does.
+pub fn follow(alloc: Global, agent: &mut Slot, number: &mut u32) -> Result<(), Code>
+    ensures answers { MatchResult result (λ done. Follows number.new (content_of agent.old) (content_of agent.new))
+        (DoesNotFollow (content_of agent.old) (content_of agent.new)) }
+    ensures none { OnErr result (number.new ≡ 0) }
+{
+    *number = 0;
+    lend!(inner: Agent = agent, Err(Code::Empty));
+    *number = inner.follow(alloc)?;
+    Ok(())
+}
 
 /// The text of a state, with its version.
 #[derive(Drop)]
@@ -95,18 +109,8 @@ pub fn peek(
     *written = 0;
     *number = 0;
     *value = ValueHead::none();
-    let Some(held) = at.as_mut() else {
-        return EMPTY;
-    };
-    let Content::Location(at) = held else {
-        return EMPTY;
-    };
-    let Some(held) = agent.as_mut() else {
-        return EMPTY;
-    };
-    let Content::Agent(inner) = held else {
-        return EMPTY;
-    };
+    lend!(at: Location = at, EMPTY);
+    lend!(inner: Agent = agent, EMPTY);
     let state = inner.state();
     let code = write_value_at(alloc, state, at, value, out, written);
     if code == DONE {

@@ -5,10 +5,11 @@ ghost use Rattle.asm_explain.specs.Bytes.{AreLocations, IsMisread, ReadAs};
 ghost use Rattle.asm_explain.specs.declared.reading.TextError.TheVariants as text_errors;
 ghost use Rattle.asm_slots.specs.Bytes.{AreReads, IsEitherMisread, ReadAsMove, ReadAsReads};
 ghost use Rattle.asm_journal.specs.Event.{IsMoveForm};
+ghost use Rattle.asm_slots.specs.Answers.{IsUnreadAs};
 ghost use Rattle.asm_slots.specs.Bytes.{ReadAsLocations, ReadAsState, text_error_code};
 ghost use Rattle.asm_slots.specs.Codes.{IsOneOf, ASM_MEMORY, ASM_NOT_JSON, ASM_SHAPE};
 
-use crate::codes::{MEMORY, NOT_JSON, SHAPE};
+use crate::codes::{Code, MEMORY, NOT_JSON, SHAPE};
 use asm_element::Location;
 use asm_explain::{TextError, read_as, read_quickly};
 use asm_journal::{FromJson, Listed};
@@ -81,9 +82,9 @@ pub(crate) fn read_both<T: FromJson, U: FromJson>(
 }
 
 /// Read the opening state of `[PAIR, ..]`.
-pub(crate) fn state_of(alloc: Global, bytes: &[u8]) -> Result<PlainState, TextError>
+pub(crate) fn state_of(alloc: Global, bytes: &[u8]) -> Result<PlainState, Code>
     ensures ok { IfOk result (ReadAsState bytes.now) }
-    ensures err { IfErr result (IsMisread IsStateForm bytes.now) }
+    ensures err { IfErr result (IsUnreadAs IsStateForm bytes.now) }
 {
-    read_as::<PlainState>(alloc, bytes)
+    Ok(read_as::<PlainState>(alloc, bytes)?)
 }

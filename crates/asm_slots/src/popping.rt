@@ -2,15 +2,16 @@
 #![tactic(auto, unfolding(asm_aggregate::specs::Standard::standard_meaning))]
 
 ghost use Rattle.std.specs.Bool.{OnFalse, OnTrue};
-ghost use Rattle.std.specs.Prelude.{◌≡◌, ◌≢◌, [], Err, IfErr, IfOk, IfSome, IsNone, Ok, OnErr, OnOk};
-ghost use Rattle.asm_slots.specs.Popping.{IsComposedLast, IsNotPopped, IsNotPoppedLast};
-ghost use Rattle.asm_slots.specs.Slots.{HasRoomForMove, HoldsMove, content_of};
+ghost use Rattle.std.specs.Prelude.{◌≡◌, ◌≢◌, [], Err, IfErr, IfOk, IfSome, IsNone, MatchResult, Ok, OnErr, OnOk};
+ghost use Rattle.asm_slots.specs.Popping.{IsComposedLast, IsNotPopped, IsNotPoppedIn, IsNotPoppedInto, IsNotPoppedLast};
+ghost use Rattle.asm_slots.specs.Slots.{ChangesStep, HasRoomForMove, HoldsMove, HoldsStep, content_of};
 ghost use Rattle.asm_slots.specs.StepCalls.{HasPoppedOver};
 ghost use Rattle.asm_slots.specs.Tracked.{last_partial_places, dependencies_last};
 
 use crate::codes::Code;
 use crate::content::Content;
 use crate::instructing::hold;
+use crate::lend;
 use crate::owned_step::OwnedStep;
 use crate::slot::Slot;
 use crate::tracking::track;
@@ -18,8 +19,8 @@ use asm_aggregate::{ComposeError, standard};
 use asm_update::Instructions;
 use std::alloc::Global;
 
-/// Return whether the slot is empty or holds a move.
-pub fn has_room_for_move(slot: &mut Slot) -> bool
+// Return whether the slot is empty or holds a move.
+fn has_room_for_move(slot: &mut Slot) -> bool
     ensures kept { content_of slot.new ≡ content_of slot.old }
     ensures yes { OnTrue result (HasRoomForMove (content_of slot.old)) }
     ensures no { OnFalse result (¬ HasRoomForMove (content_of slot.old)) }
@@ -45,9 +46,8 @@ impl OwnedStep {
     }
 }
 
-/// Do what `asm_pop` does, with the step.
 #[tactic(auto, using(crate::proofs::Refused::not_popped))]
-pub fn pop_in(alloc: Global, step: &mut OwnedStep) -> Result<(), Code>
+fn pop_in(alloc: Global, step: &mut OwnedStep) -> Result<(), Code>
     ensures popped { OnOk result (HasPoppedOver (last_partial_places step.old) step.old step.new) }
     ensures err { IfErr result (IsNotPopped step.old) }
     ensures kept { OnErr result (step.new ≡ step.old) }
@@ -60,9 +60,21 @@ pub fn pop_in(alloc: Global, step: &mut OwnedStep) -> Result<(), Code>
     Ok(())
 }
 
-/// Do what `asm_pop_move` does, with the step.
+/// Do what `asm_pop` does.
+#[tactic(auto, using(crate::proofs::Refused::not_popped_in))]
+pub fn pop(alloc: Global, step: &mut Slot) -> Result<(), Code>
+    ensures answers { MatchResult result
+        (λ done. ChangesStep (content_of step.old) (content_of step.new) (λ s. HasPoppedOver (last_partial_places s) s))
+        (IsNotPoppedIn (content_of step.old)) }
+    ensures kept { OnErr result (content_of step.new ≡ content_of step.old) }
+{
+    lend!(step: Step = step, Err(Code::Empty));
+    pop_in(alloc, step)?;
+    Ok(())
+}
+
 #[tactic(auto, using(crate::proofs::Refused::not_popped_last, crate::proofs::Refused::not_composed))]
-pub fn pop_into(alloc: Global, step: &mut OwnedStep, instrs: &mut Slot) -> Result<(), Code>
+fn pop_into(alloc: Global, step: &mut OwnedStep, instrs: &mut Slot) -> Result<(), Code>
     ensures popped { OnOk result (HasPoppedOver (dependencies_last step.old) step.old step.new) }
     ensures done { OnOk result (HoldsMove (content_of instrs.new) (λ M. IsComposedLast step.old (Ok M))) }
     ensures err { IfErr result (IsNotPoppedLast step.old) }
@@ -77,5 +89,23 @@ pub fn pop_into(alloc: Global, step: &mut OwnedStep, instrs: &mut Slot) -> Resul
     hold(alloc, instrs, one)?;
     step.tracked = tracked;
     step.pop();
+    Ok(())
+}
+
+/// Do what `asm_pop_move` does.
+#[tactic(auto, using(crate::proofs::Refused::not_popped_into))]
+pub fn pop_move(alloc: Global, step: &mut Slot, instrs: &mut Slot) -> Result<(), Code>
+    ensures answers { MatchResult result (λ done. HasRoomForMove (content_of instrs.old)
+        × ChangesStep (content_of step.old) (content_of step.new) (λ s. HasPoppedOver (dependencies_last s) s)
+        × HoldsStep (content_of step.old) (λ s. HoldsMove (content_of instrs.new) (λ M. IsComposedLast s (Ok M))))
+        (IsNotPoppedInto (content_of step.old) (content_of instrs.old)) }
+    ensures kept { OnErr result (content_of step.new ≡ content_of step.old) }
+    ensures held { OnErr result (content_of instrs.new ≡ content_of instrs.old) }
+{
+    if !has_room_for_move(instrs) {
+        return Err(Code::Taken);
+    }
+    lend!(step: Step = step, Err(Code::Empty));
+    pop_into(alloc, step, instrs)?;
     Ok(())
 }

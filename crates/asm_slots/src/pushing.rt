@@ -18,7 +18,7 @@ use crate::codes::{
     CLASH, Code, CodedText, DEEP, DONE, EMPTY, LARGE, LONG_MOVE, MANY, MEMORY, MOVED, written_as,
 };
 use crate::composing::{clash_text, large_text};
-use crate::content::Content;
+use crate::lend;
 use crate::owned_agent::OwnedAgent;
 use crate::owned_step::{OwnedStep, PushMode, grow};
 use crate::parsing::{code_of_text_error, move_of};
@@ -176,18 +176,8 @@ pub fn grow_of(
     ensures kept { content_of agent.new ≡ content_of agent.old }
 {
     *written = 0;
-    let Some(held) = agent.as_mut() else {
-        return EMPTY;
-    };
-    let Content::Agent(agent) = held else {
-        return EMPTY;
-    };
-    let Some(held) = step.as_mut() else {
-        return EMPTY;
-    };
-    let Content::Step(step) = held else {
-        return EMPTY;
-    };
+    lend!(agent: Agent = agent, EMPTY);
+    lend!(step: Step = step, EMPTY);
     grow_in(alloc, agent, step, way, instrs, out, written)
 }
 
@@ -207,23 +197,8 @@ pub fn grow_from(
     ensures held { content_of instrs.new ≡ content_of instrs.old }
 {
     *written = 0;
-    let Some(held) = instrs.as_mut() else {
-        return EMPTY;
-    };
-    let Content::Move(instrs) = held else {
-        return EMPTY;
-    };
-    let Some(held) = agent.as_mut() else {
-        return EMPTY;
-    };
-    let Content::Agent(agent) = held else {
-        return EMPTY;
-    };
-    let Some(held) = step.as_mut() else {
-        return EMPTY;
-    };
-    let Content::Step(step) = held else {
-        return EMPTY;
-    };
+    lend!(instrs: Move = instrs, EMPTY);
+    lend!(agent: Agent = agent, EMPTY);
+    lend!(step: Step = step, EMPTY);
     grow_by(alloc, agent, step, way, instrs, out, written)
 }

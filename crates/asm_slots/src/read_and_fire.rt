@@ -1,64 +1,50 @@
 //! Reading and firing, with their codes and numbers.
-ghost use Rattle.std.specs.Prelude.{◌≡◌, ◌≢◌, ◌≤◌, ◌+◌, ◌∷◌, [], ℕ, Some, IfOk, IfErr};
+ghost use Rattle.std.specs.Prelude.{◌≡◌, ◌≢◌, ◌≤◌, ◌+◌, ◌∷◌, [], ℕ, IfOk, IfErr, MatchResult};
 ghost use Rattle.asm_storage.specs.Limits.{offers_limit};
 ghost use Rattle.asm_storage.specs.declared.call.Reply.TheVariants.{Fired};
 ghost use Rattle.asm_storage.specs.Storage.{IsSameAgent};
 ghost use Rattle.asm_slots.specs.AgentAnswers.{FiresAhead, FiresWithin, AreScans, FiresOverAhead, FiresOverWithin};
-ghost use Rattle.asm_slots.specs.AgentAnswers.{HasTriedFireOver, ReadAsFireOver, ReadAsManyOver};
-ghost use Rattle.asm_explain.specs.Bytes.{AreLocations, IsFireForm, IsNoJson, IsOtherJson};
-ghost use Rattle.asm_slots.specs.Bytes.{ReadAsManyLocations, ReadAsManyReads, AreMisread, IsEitherMisread};
-ghost use Rattle.asm_slots.specs.AgentCalls.{HasTriedFire, HasPolled, HasRead, IsReplyCode, WasBusy, MayHavePolled};
+ghost use Rattle.asm_slots.specs.AgentAnswers.{HasTriedFireOver, IsNotRead, ReadAsFireOver, ReadAsManyOver, Reads};
+ghost use Rattle.asm_explain.specs.Bytes.{IsFireForm, IsNoJson, IsOtherJson};
+ghost use Rattle.asm_slots.specs.Bytes.{ReadAsManyReads, AreMisread, IsEitherMisread};
+ghost use Rattle.asm_slots.specs.AgentCalls.{HasTriedFire, HasPolled, IsReplyCode, WasBusy};
 ghost use Rattle.asm_slots.specs.AgentCalls.{MayHaveOffered, MissedFew, MissedOne, SeesOn, code_of, number_of};
 ghost use Rattle.asm_slots.specs.Codes.{IsOneOf, ASM_DONE, ASM_STALE, ASM_CLASH, ASM_MEMORY, ASM_FULL, ASM_AHEAD};
 ghost use Rattle.asm_slots.specs.Codes.{ASM_BUSY, ASM_MANY, ASM_NOT_JSON, ASM_SHAPE};
-ghost use Rattle.asm_slots.specs.Slots.{Holds, content_of};
-ghost use Rattle.asm_slots.specs.declared.content.Content.TheVariants as content;
+ghost use Rattle.asm_slots.specs.Slots.{content_of};
 
-use crate::codes::{AHEAD, BUSY, CLASH, DONE, FULL, MANY, MEMORY, STALE};
-use crate::content::Content;
+use crate::codes::{AHEAD, BUSY, CLASH, Code, DONE, FULL, MANY, MEMORY, STALE};
 use crate::owned_agent::OwnedAgent;
 use crate::parsing::{code_of_text_error, locations_of};
 use crate::reading_scans::scans_of;
 use crate::slot::Slot;
-use crate::take_and_put::put_agent;
+use crate::take_and_put::{put_agent, take_agent};
 use asm_explain::{Fire, TextError, fire_of};
 use asm_state::Scanned;
 use asm_storage::{FireError, ReadError, Reply};
 use std::alloc::Global;
 
-/// Do what `asm_read` does, and put the agent into the slot.
-pub fn read_at(
-    alloc: Global,
-    slot: &mut Slot,
-    shell: Box<Content>,
-    agent: OwnedAgent,
-    locations: &[u8],
-) -> i32
-    ensures codes { IsOneOf (ASM_DONE ∷ ASM_MEMORY ∷ ASM_MANY ∷ ASM_NOT_JSON ∷ ASM_SHAPE ∷ []) result }
-    ensures answered { result ≡ ASM_DONE → Holds (content_of slot.new) (HasRead locations.now agent) }
-    ensures refused { result ≢ ASM_DONE → Holds (content_of slot.new) (HasPolled agent) }
-    ensures same { Holds (content_of slot.new) (IsSameAgent agent) }
-    ensures seen { Holds (content_of slot.new) (SeesOn agent) }
-    ensures memory { result ≡ ASM_MEMORY → Holds (content_of slot.new) (MayHavePolled agent) }
-    ensures many { result ≡ ASM_MANY → ReadAsManyLocations locations.now }
-    ensures not_json { result ≡ ASM_NOT_JSON → IsNoJson locations.now }
-    ensures shape { result ≡ ASM_SHAPE → IsOtherJson AreLocations locations.now }
-    ensures kept { IsOneOf (ASM_MANY ∷ ASM_NOT_JSON ∷ ASM_SHAPE ∷ []) result →
-        content_of slot.new ≡ Some (content.Agent agent) }
+/// Do what `asm_read` does.
+pub fn read(alloc: Global, agent: &mut Slot, locations: &[u8]) -> Result<(), Code>
+    ensures { MatchResult result (λ done. Reads locations.now (content_of agent.old) (content_of agent.new))
+        (IsNotRead locations.now (content_of agent.old) (content_of agent.new)) }
 {
+    let Some((shell, inner)) = take_agent(alloc, agent) else {
+        return Err(Code::Empty);
+    };
     let locations = match locations_of(alloc, locations) {
         Ok(locations) => locations,
         Err(error) => {
-            put_agent(slot, shell, agent);
-            return code_of_text_error(error);
+            put_agent(agent, shell, inner);
+            return Err(Code::from(error));
         }
     };
-    let (agent, answer) = agent.read(alloc, &locations);
-    put_agent(slot, shell, agent);
+    let (inner, answer) = inner.read(alloc, &locations);
+    put_agent(agent, shell, inner);
     match answer {
-        Ok(_) => DONE,
-        Err(ReadError::ManyLocations) => MANY,
-        Err(ReadError::Memory) => MEMORY,
+        Ok(_) => Ok(()),
+        Err(ReadError::ManyLocations) => Err(Code::Many),
+        Err(ReadError::Memory) => Err(Code::Memory),
     }
 }
 

@@ -1,5 +1,5 @@
 //! Beginning a step, and reading through its pushed moves.
-ghost use Rattle.std.specs.Prelude.{◌≡◌, ◌≢◌, ◌≤◌, ◌<◌, ◌+◌, ◌∷◌, ◌++◌, [], length, string_bytes, OnOk, OnErr};
+ghost use Rattle.std.specs.Prelude.{◌≡◌, ◌≢◌, ◌≤◌, ◌<◌, ◌+◌, ◌∷◌, ◌++◌, [], length, string_bytes, MatchResult, OnOk, OnErr};
 ghost use Rattle.std.specs.Prelude.{IfOk, IfErr, Some, ℕ, Contains, IsSome, vec_len};
 ghost use Rattle.std.specs.Bool.{OnTrue, OnFalse};
 ghost use Rattle.asm_element.specs.Place.{Place, location_cmp};
@@ -7,11 +7,10 @@ ghost use Rattle.asm_storage.specs.Limits.{reads_limit};
 ghost use Rattle.asm_step.specs.Places.{AreEach};
 ghost use Rattle.asm_explain.specs.Bytes.{AreLocations, IsNoJson, IsOtherJson};
 ghost use Rattle.asm_slots.specs.Codes.{IsOneOf, ASM_DONE, ASM_MEMORY, ASM_SMALL, ASM_MANY, ASM_NOT_JSON, ASM_SHAPE, ASM_MOVED};
-ghost use Rattle.asm_slots.specs.OwnState.{values_text};
-ghost use Rattle.asm_slots.specs.Slots.{HasRoomForStep, HoldsStep, content_of};
+ghost use Rattle.asm_slots.specs.OwnState.{Begins, DoesNotBegin, values_text};
+ghost use Rattle.asm_slots.specs.Slots.{HasRoomForStep, content_of};
 ghost use Rattle.asm_slots.specs.StepCalls.{HasTracked, HasReached, IsElsewhere, IsSeenText, WouldTrackMany, WouldTakeMany};
 ghost use Rattle.asm_slots.specs.StepCalls.{from_below, seen, HasTrackedOne, IsCopyFor, WouldTrackOneMore};
-ghost use Rattle.asm_slots.specs.StepView.{new_step};
 ghost use Rattle.asm_slots.specs.WrittenText.{WritesText};
 ghost use Rattle.std.specs.Vec.{vec_capacity};
 ghost use Rattle.std.specs.List.Sorted.{IsStrictlySortedBy};
@@ -19,6 +18,7 @@ ghost use Rattle.asm_slots.specs.StepAnswers.{GetsAt, WritesValue};
 
 use crate::codes::{Code, DONE, EMPTY, MANY, MEMORY, MOVED, copied};
 use crate::content::Content;
+use crate::lend;
 use crate::own_state::text_of_values;
 use crate::owned_agent::OwnedAgent;
 use crate::owned_step::OwnedStep;
@@ -28,10 +28,10 @@ use crate::tracking::track;
 use crate::value_head::{ValueHead, write_value_at};
 use asm_element::Location;
 use asm_storage::READS_LIMIT;
-use std::alloc::{AllocError, Global};
+use std::alloc::Global;
 
-/// Return whether the slot is empty or holds a step.
-pub fn has_room(slot: &mut Slot) -> bool
+// Return whether the slot is empty or holds a step.
+fn has_room(slot: &mut Slot) -> bool
     ensures kept { content_of slot.new ≡ content_of slot.old }
     ensures yes { OnTrue result (HasRoomForStep (content_of slot.old)) }
     ensures no { OnFalse result (¬ HasRoomForStep (content_of slot.old)) }
@@ -42,13 +42,23 @@ pub fn has_room(slot: &mut Slot) -> bool
     matches!(held, Content::Step(_))
 }
 
-/// Replace what the slot holds with a step at this version, without moves.
-pub fn open_step(alloc: Global, slot: &mut Slot, number: u32) -> Result<(), AllocError>
-    ensures new_step { OnOk result (HoldsStep (content_of slot.new) (λ s. s ≡ new_step number)) }
-    ensures kept { OnErr result (content_of slot.new ≡ content_of slot.old) }
+/// Do what `asm_begin` does.
+pub fn begin(alloc: Global, agent: &mut Slot, step: &mut Slot, number: &mut u32) -> Result<(), Code>
+    ensures answers { MatchResult result
+        (λ done. Begins number.new (content_of agent.old) (content_of agent.new) (content_of step.old) (content_of step.new))
+        (DoesNotBegin (content_of agent.old) (content_of agent.new) (content_of step.old)) }
+    ensures stays { OnErr result (content_of step.new ≡ content_of step.old) }
+    ensures none { OnErr result (number.new ≡ 0) }
 {
-    let made = Box::new(alloc, Content::Step(OwnedStep::at(alloc, number)))?;
-    *slot = Slot::holding(made);
+    *number = 0;
+    if !has_room(step) {
+        return Err(Code::Taken);
+    }
+    lend!(inner: Agent = agent, Err(Code::Empty));
+    let seen = inner.follow(alloc)?;
+    let made = Box::new(alloc, Content::Step(OwnedStep::at(alloc, seen)))?;
+    *step = Slot::holding(made);
+    *number = seen;
     Ok(())
 }
 
@@ -266,23 +276,8 @@ pub fn get(
 {
     *written = 0;
     *value = ValueHead::none();
-    let Some(held) = at.as_mut() else {
-        return EMPTY;
-    };
-    let Content::Location(at) = held else {
-        return EMPTY;
-    };
-    let Some(held) = agent.as_mut() else {
-        return EMPTY;
-    };
-    let Content::Agent(agent) = held else {
-        return EMPTY;
-    };
-    let Some(held) = step.as_mut() else {
-        return EMPTY;
-    };
-    let Content::Step(step) = held else {
-        return EMPTY;
-    };
+    lend!(at: Location = at, EMPTY);
+    lend!(agent: Agent = agent, EMPTY);
+    lend!(step: Step = step, EMPTY);
     get_one(alloc, agent, step, at, value, out, written)
 }

@@ -1,22 +1,23 @@
 //! Making agents of a storage, each number once.
-ghost use Rattle.std.specs.Prelude.{◌≡◌, ◌+◌, ◌<◌, ◌≤◌, ◌∷◌, ◌++◌, [], true, false, length, vec_capacity};
-ghost use Rattle.std.specs.Prelude.{IfOk, IfErr, OnOk, OnErr, Some};
-ghost use Rattle.std.specs.Bool.{OnTrue};
+ghost use Rattle.std.specs.Prelude.{◌≡◌, ◌+◌, ◌<◌, ◌≤◌, ◌∷◌, ◌++◌, [], length, vec_capacity};
+ghost use Rattle.std.specs.Prelude.{IfOk, MatchResult, OnOk, OnErr, Some};
 ghost use Rattle.std.specs.List.{range_with_len};
 ghost use Rattle.std_alloc.specs.Arc.{arc_value};
 ghost use Rattle.asm_storage.specs.Limits.{agents_limit};
 ghost use Rattle.asm_storage.specs.Storage.{at_start};
 ghost use Rattle.asm_slots.specs.AgentCalls.{HasMade};
-ghost use Rattle.asm_slots.specs.Codes.{IsOneOf, ASM_DONE, ASM_MEMORY, ASM_NUMBER};
-ghost use Rattle.asm_slots.specs.MadeAgents.{is_among, is_any_below, was_any_made, was_made};
-ghost use Rattle.asm_slots.specs.Slots.{AreNew, Holds};
+ghost use Rattle.asm_slots.specs.MadeAgents.{MakesAgent, MakesAgents, MakesNoAgent, MakesNoAgents, is_any_below, was_any_made, was_made};
+ghost use Rattle.asm_slots.specs.Slots.{AreEmpty, AreNew, Holds, content_of};
 
-use crate::codes::{DONE, MEMORY, NUMBER};
+use crate::codes::Code;
 use crate::content::Content;
+use crate::lend;
+use crate::opening::{clear, is_any_full};
 use crate::owned_agent::OwnedAgent;
 use crate::shared::Shared;
 use crate::slot::Slot;
 use crate::store::Store;
+use asm_storage::AGENTS_LIMIT;
 use std::alloc::{AllocError, Global};
 use std::sync::Arc;
 
@@ -28,35 +29,6 @@ fn agent_of(alloc: Global, shared: &Arc<Shared>, id: u32) -> Result<Box<Content>
     Ok(Box::new(alloc, Content::Agent(agent))?)
 }
 
-// Make an agent and record its number, unless that was recorded before.
-fn make_agent_once(
-    alloc: Global,
-    shared: &Arc<Shared>,
-    numbers: &mut Vec<u32>,
-    id: u32,
-) -> Result<Box<Content>, i32>
-    requires { id < agents_limit }
-    ensures made { IfOk result (λ b. Holds (Some b.value) (λ a. a ≡ at_start (arc_value shared.now).storage id)) }
-    ensures noted { OnOk result (numbers.new.items ≡ numbers.old.items ++ id ∷ []) }
-    ensures codes { IfErr result (IsOneOf (ASM_MEMORY ∷ ASM_NUMBER ∷ [])) }
-    ensures kept { OnErr result (numbers.new.items ≡ numbers.old.items) }
-    ensures number { IfErr result (λ code. code ≡ ASM_NUMBER → is_among numbers.old.items id ≡ true) }
-    ensures fresh { OnOk result (is_among numbers.old.items id ≡ false) }
-    ensures memory { IfErr result (λ code. code ≡ ASM_MEMORY → is_among numbers.old.items id ≡ false) }
-{
-    if numbers.contains(&id) {
-        return Err(NUMBER);
-    }
-    if numbers.reserve(1).is_err() {
-        return Err(MEMORY);
-    }
-    let Ok(made) = agent_of(alloc, shared, id) else {
-        return Err(MEMORY);
-    };
-    numbers.push(id).unwrap();
-    Ok(made)
-}
-
 // Return whether one of the numbers is below this one.
 fn has_below(numbers: &[u32], count: u32) -> bool
     ensures { result ≡ is_any_below numbers.now count }
@@ -64,19 +36,20 @@ fn has_below(numbers: &[u32], count: u32) -> bool
     numbers.iter().any(|number| *number < count)
 }
 
-// Make an agent in each of the slots, with the numbers from 0 up; return false if memory is refused.
-fn fill(alloc: Global, shared: &Arc<Shared>, agents: &mut [Slot]) -> bool
+// Make an agent in each of the slots, with the numbers from 0 up; without memory, empty them.
+fn fill(alloc: Global, shared: &Arc<Shared>, agents: &mut [Slot]) -> Result<(), AllocError>
     requires { length agents.old ≤ agents_limit }
-    ensures made { OnTrue result (AreNew (arc_value shared.now).storage agents.new) }
-    ensures len { length agents.new ≡ length agents.old }
+    ensures made { OnOk result (AreNew (arc_value shared.now).storage agents.new) }
+    ensures none { OnErr result (AreEmpty agents.new) }
 {
     for id in 0..agents.len() {
         let Ok(made) = agent_of(alloc, shared, id as u32) else {
-            return false;
+            clear(alloc, agents);
+            return Err(AllocError);
         };
         agents[id] = Slot::holding(made);
     }
-    true
+    Ok(())
 }
 
 // Record the numbers from 0 up, in room that was reserved for them.
@@ -89,67 +62,89 @@ fn note(numbers: &mut Vec<u32>, count: u32)
     }
 }
 
-// Make agents in the slots and record their numbers, unless one of these was recorded before.
-fn make_agents_once(
-    alloc: Global,
-    shared: &Arc<Shared>,
-    numbers: &mut Vec<u32>,
-    agents: &mut [Slot],
-) -> i32
-    requires { length agents.old ≤ agents_limit }
-    ensures codes { IsOneOf (ASM_DONE ∷ ASM_MEMORY ∷ ASM_NUMBER ∷ []) result }
-    ensures made { result ≡ ASM_DONE → AreNew (arc_value shared.now).storage agents.new }
-    ensures noted { result ≡ ASM_DONE →
-        numbers.new.items ≡ numbers.old.items ++ range_with_len 0 (length agents.old) }
-    ensures kept { IsOneOf (ASM_MEMORY ∷ ASM_NUMBER ∷ []) result → numbers.new.items ≡ numbers.old.items }
-    ensures number { result ≡ ASM_NUMBER → is_any_below numbers.old.items (length agents.old) ≡ true }
-    ensures fresh { IsOneOf (ASM_DONE ∷ ASM_MEMORY ∷ []) result →
-        is_any_below numbers.old.items (length agents.old) ≡ false }
-    ensures same { result ≡ ASM_NUMBER → agents.new ≡ agents.old }
-{
-    let count = agents.len();
-    if has_below(numbers, count as u32) {
-        return NUMBER;
+impl Store {
+    // Return whether an agent with this number was made.
+    fn has_made(&self, id: u32) -> bool
+        ensures { result ≡ was_made self.now id }
+    {
+        self.numbers.contains(&id)
     }
-    if numbers.reserve(count).is_err() {
-        return MEMORY;
+
+    // Return whether an agent with a number below this one was made.
+    fn has_made_below(&self, count: u32) -> bool
+        ensures { result ≡ was_any_made self.now count }
+    {
+        has_below(&self.numbers, count)
     }
-    if !fill(alloc, shared, agents) {
-        return MEMORY;
+
+    // Make an agent, and record its number.
+    fn add_agent(&mut self, alloc: Global, id: u32) -> Result<Box<Content>, AllocError>
+        requires { id < agents_limit }
+        ensures agent { IfOk result (λ b. Holds (Some b.value) (λ a. a ≡ at_start self.old.storage id)) }
+        ensures made { OnOk result (HasMade (id ∷ []) self.old self.new) }
+        ensures kept { OnErr result (self.new ≡ self.old) }
+    {
+        self.numbers.reserve(1)?;
+        let made = agent_of(alloc, &self.shared, id)?;
+        self.numbers.push(id).unwrap();
+        Ok(made)
     }
-    note(numbers, count as u32);
-    DONE
+
+    // Make an agent in each of the empty slots, and record their numbers.
+    fn add_agents(&mut self, alloc: Global, agents: &mut [Slot]) -> Result<(), AllocError>
+        requires few { length agents.old ≤ agents_limit }
+        requires empty { AreEmpty agents.old }
+        ensures agents { OnOk result (AreNew self.old.storage agents.new) }
+        ensures made { OnOk result (HasMade (range_with_len 0 (length agents.old)) self.old self.new) }
+        ensures kept { OnErr result (self.new ≡ self.old) }
+        ensures none { OnErr result (AreEmpty agents.new) }
+    {
+        let count = agents.len();
+        self.numbers.reserve(count)?;
+        fill(alloc, &self.shared, agents)?;
+        note(&mut self.numbers, count as u32);
+        Ok(())
+    }
 }
 
-impl Store {
-    /// Make an agent as `asm_agent` does, in a slot's box.
-    pub fn make_agent(mut self, alloc: Global, id: u32) -> (Store, Result<Box<Content>, i32>)
-        requires { id < agents_limit }
-        ensures agent { IfOk result.1 (λ b. Holds (Some b.value) (λ a. a ≡ at_start self.storage id)) }
-        ensures made { OnOk result.1 (HasMade (id ∷ []) self result.0) }
-        ensures codes { IfErr result.1 (IsOneOf (ASM_MEMORY ∷ ASM_NUMBER ∷ [])) }
-        ensures kept { OnErr result.1 (result.0 ≡ self) }
-        ensures number { IfErr result.1 (λ code. code ≡ ASM_NUMBER → was_made self id ≡ true) }
-        ensures fresh { OnOk result.1 (was_made self id ≡ false) }
-        ensures memory { IfErr result.1 (λ code. code ≡ ASM_MEMORY → was_made self id ≡ false) }
-    {
-        let made = make_agent_once(alloc, &self.shared, &mut self.numbers, id);
-        (self, made)
+/// Do what `asm_agent` does.
+pub fn make_agent(alloc: Global, store: &mut Slot, id: u32, agent: &mut Slot) -> Result<(), Code>
+    ensures answers { MatchResult result
+        (λ done. MakesAgent id (content_of store.old) (content_of store.new) (content_of agent.old) (content_of agent.new))
+        (MakesNoAgent id (content_of store.old) (content_of agent.old)) }
+    ensures kept { OnErr result (content_of store.new ≡ content_of store.old) }
+    ensures held { OnErr result (content_of agent.new ≡ content_of agent.old) }
+{
+    if id >= AGENTS_LIMIT {
+        return Err(Code::Agents);
     }
+    if agent.is_full() {
+        return Err(Code::Taken);
+    }
+    lend!(kept: Store = store, Err(Code::Empty));
+    if kept.has_made(id) {
+        return Err(Code::Number);
+    }
+    *agent = Slot::holding(kept.add_agent(alloc, id)?);
+    Ok(())
+}
 
-    /// Make an agent in each of the slots as `asm_agents` does; only with `ASM_MEMORY` the slots may change.
-    pub fn make_agents(mut self, alloc: Global, agents: &mut [Slot]) -> (Store, i32)
-        requires { length agents.old ≤ agents_limit }
-        ensures codes { IsOneOf (ASM_DONE ∷ ASM_MEMORY ∷ ASM_NUMBER ∷ []) result.1 }
-        ensures agents { result.1 ≡ ASM_DONE → AreNew self.storage agents.new }
-        ensures made { result.1 ≡ ASM_DONE → HasMade (range_with_len 0 (length agents.old)) self result.0 }
-        ensures kept { IsOneOf (ASM_MEMORY ∷ ASM_NUMBER ∷ []) result.1 → result.0 ≡ self }
-        ensures number { result.1 ≡ ASM_NUMBER → was_any_made self (length agents.old) ≡ true }
-        ensures fresh { IsOneOf (ASM_DONE ∷ ASM_MEMORY ∷ []) result.1 →
-            was_any_made self (length agents.old) ≡ false }
-        ensures same { result.1 ≡ ASM_NUMBER → agents.new ≡ agents.old }
-    {
-        let code = make_agents_once(alloc, &self.shared, &mut self.numbers, agents);
-        (self, code)
+/// Do what `asm_agents` does.
+pub fn make_agents(alloc: Global, store: &mut Slot, agents: &mut [Slot]) -> Result<(), Code>
+    ensures answers { MatchResult result (λ done. MakesAgents (content_of store.old) (content_of store.new) agents.old agents.new)
+        (MakesNoAgents (content_of store.old) agents.old agents.new) }
+    ensures kept { OnErr result (content_of store.new ≡ content_of store.old) }
+{
+    if agents.len() > AGENTS_LIMIT as usize {
+        return Err(Code::Agents);
     }
+    if is_any_full(agents) {
+        return Err(Code::Taken);
+    }
+    lend!(kept: Store = store, Err(Code::Empty));
+    if kept.has_made_below(agents.len() as u32) {
+        return Err(Code::Number);
+    }
+    kept.add_agents(alloc, agents)?;
+    Ok(())
 }

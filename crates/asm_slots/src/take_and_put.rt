@@ -130,21 +130,20 @@ pub fn put_store(slot: &mut Slot, mut shell: Box<Content>, store: Store)
     put_shell(slot, shell);
 }
 
-/// Make the call with what the slot holds of this kind, in place; return its answer.
+/// Borrow what the slot holds of this kind, in place, for the rest of the block.
 ///
 /// Without it, the caller returns `$none`.
 // Proof: what is lent must not leave the block, or nothing is known of the slot afterwards.
 #[macro_export]
-macro_rules! in_place {
-    ($slot:ident, $kind:ident, $none:expr, $inner:ident => $call:expr) => {{
+macro_rules! lend {
+    ($inner:ident: $kind:ident = $slot:ident, $none:expr) => {
         let Some(held) = $slot.as_mut() else {
             return $none;
         };
         let $crate::Content::$kind($inner) = held else {
             return $none;
         };
-        $call
-    }};
+    };
 }
 
 // Proof: no goal needs this claim, which can only be proved at a function: the content of a slot may be sent to another

@@ -11,12 +11,12 @@ use Rattle.asm_slots.proofs.Ascending.{all_in, rises_in}
 use Rattle.asm_slots.proofs.GivenAgents.{number_among, put_in, the_store}
 use Rattle.asm_slots.proofs.store.Store.give.Goals as goal
 
-pub returns-in_default-clause-there : goal.returns-in_default-clause-there
-returns-in_default-clause-there c _ =
+pub returns-in_default-clause-err : goal.returns-in_default-clause-err
+returns-in_default-clause-err c =
     let s = (arc_value c.self.inside.shared).storage in
     let parts = c.self.inside.parts.items in
     let among : IsAmong parts c.id-id.result = subst (λ (l : List AgentPart). IsAmong l c.id-id.result) c.deref.ensures.value c.in_default.ensures.none in
-    number_among s parts c.id-id.result c.args.agent.account.id c.args.self (ap (λ (v : StoreView). v.agents) (sym c.self.view_is)) c.id-id.ensures.id among
+    number_among s parts c.id-id.result c.args.agent.account.id c.args.self.now (ap (λ (v : StoreView). v.agents) (sym c.self.view_is)) c.id-id.ensures.id among
 
 pub invariant_of-self-2 : goal.invariant_of-self-2
 invariant_of-self-2 c =
@@ -52,5 +52,5 @@ returns-clause-given c =
     let is : agent_of s part ≡ c.args.agent =
     ap (λ (x : StorageView Standard). agent_of x part) (sym here) ∙ c.part_of.ensures.agent in (
       ap (λ (v : StoreView). the_store v.storage v.numbers (map (agent_of s) new)) c.self.view_is,
-      put_in s old new part at c.args.agent c.args.self.agents whole is (ap (λ (v : StoreView). v.agents) (sym c.self.view_is)),
+      put_in s old new part at c.args.agent c.args.self.now.agents whole is (ap (λ (v : StoreView). v.agents) (sym c.self.view_is)),
     )

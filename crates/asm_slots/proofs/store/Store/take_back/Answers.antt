@@ -12,22 +12,22 @@ use Rattle.asm_slots.proofs.Ascending.{all_out, tracked, placed, rises_out}
 use Rattle.asm_slots.proofs.GivenAgents.{no_number, number_at, put_out, the_store}
 use Rattle.asm_slots.proofs.store.Store.take_back.Goals as goal
 
-pub returns-in_default-clause-none : goal.returns-in_default-clause-none
-returns-in_default-clause-none c _ =
-    no_number (arc_value c.self.inside.shared).storage c.deref.result.now c.args.number c.args.self
+pub returns-in_default-clause-err : goal.returns-in_default-clause-err
+returns-in_default-clause-err c =
+    no_number (arc_value c.self.inside.shared).storage c.deref.result.now c.args.number c.args.self.now
     (ap (λ (v : StoreView). v.agents) (sym c.self.view_is)
     ∙ ap (map (agent_of (arc_value c.self.inside.shared).storage)) (sym c.deref.ensures.value)) c.in_default.ensures.none
 
-pub returns-in_default-try_clone-clause-there : goal.returns-in_default-try_clone-clause-there
-returns-in_default-try_clone-clause-there c _ =
-    number_at (arc_value c.self.inside.shared).storage c.deref.result.now c.in-Some.at c.args.number c.args.self
+pub returns-in_default-try_clone-clause-err : goal.returns-in_default-try_clone-clause-err
+returns-in_default-try_clone-clause-err c =
+    number_at (arc_value c.self.inside.shared).storage c.deref.result.now c.in-Some.at c.args.number c.args.self.now
     (ap (λ (v : StoreView). v.agents) (sym c.self.view_is)
     ∙ ap (map (agent_of (arc_value c.self.inside.shared).storage)) (sym c.deref.ensures.value))
     c.in-Some.ensures.within c.in-Some.ensures.there
 
-pub returns-in_default-new-clause-there : goal.returns-in_default-new-clause-there
-returns-in_default-new-clause-there c _ =
-    number_at (arc_value c.self.inside.shared).storage c.deref.result.now c.in-Some.at c.args.number c.args.self
+pub returns-in_default-new-clause-err : goal.returns-in_default-new-clause-err
+returns-in_default-new-clause-err c =
+    number_at (arc_value c.self.inside.shared).storage c.deref.result.now c.in-Some.at c.args.number c.args.self.now
     (ap (λ (v : StoreView). v.agents) (sym c.self.view_is)
     ∙ ap (map (agent_of (arc_value c.self.inside.shared).storage)) (sym c.deref.ensures.value))
     c.in-Some.ensures.within c.in-Some.ensures.there
@@ -56,8 +56,8 @@ returns-clause-lost c =
     let lt : at < length old = subst (λ (l : List AgentPart). at < length l) c.deref.ensures.value c.in-Some.ensures.within in
     let same : (arc_value c.in-Ok.shared).storage ≡ s = ap (λ (x : Shared). x.storage) c.in-Ok.ensures in (
       ap (λ (v : StoreView). the_store v.storage v.numbers (map (agent_of s) new)) c.self.view_is,
-      subst (λ (x : StorageView Standard). IsPutIn (agent_of x part) (map (agent_of s) new) c.args.self.agents) (sym same)
-          (put_out s old new part at c.args.self.agents c.remove-part.ensures.by_index.2
+      subst (λ (x : StorageView Standard). IsPutIn (agent_of x part) (map (agent_of s) new) c.args.self.now.agents) (sym same)
+          (put_out s old new part at c.args.self.now.agents c.remove-part.ensures.by_index.2
           (placed old at part lt c.remove-part.ensures.value) (ap (λ (v : StoreView). v.agents) (sym c.self.view_is))),
     )
 
