@@ -8,7 +8,7 @@ ghost use Rattle.asm_slots.specs.WrittenText.{WritesText};
 use asm_slots::auditing::{audit_state, ended, feed_first, feed_in};
 use asm_slots::codes::{EMPTY, copied};
 use asm_slots::take_and_put::take_shell;
-use asm_slots::{AuditNumbers, Content, Slot, in_place};
+use asm_slots::{AuditNumbers, Slot, lend};
 use std::alloc::Global;
 
 /// Take the next bytes of a run into a slot that holds an audit or is empty.
@@ -62,7 +62,8 @@ pub extern "C" fn asm_audited(alloc: Global, audit: &mut Slot, reported: &mut Au
     ensures kept { content_of audit.new ≡ content_of audit.old }
 {
     *reported = AuditNumbers::none();
-    let (code, numbers) = in_place!(audit, Audit, EMPTY, inner => ended(alloc, inner));
+    lend!(inner: Audit = audit, EMPTY);
+    let (code, numbers) = ended(alloc, inner);
     *reported = numbers;
     code
 }
@@ -90,12 +91,7 @@ pub extern "C" fn asm_audit_state(
     ensures empty { result ≡ ASM_EMPTY → HoldsNoAudit (content_of audit.old) }
 {
     *written = 0;
-    let Some(held) = audit.as_mut() else {
-        return EMPTY;
-    };
-    let Content::Audit(inner) = held else {
-        return EMPTY;
-    };
+    lend!(inner: Audit = audit, EMPTY);
     match audit_state(alloc, inner) {
         Ok(text) => copied(text.as_bytes(), out, written),
         Err(code) => code,

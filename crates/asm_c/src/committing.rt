@@ -7,7 +7,7 @@ ghost use Rattle.asm_slots.specs.WrittenText.{WritesText};
 
 use asm_slots::codes::EMPTY;
 use asm_slots::committing::{commit, commit_recorded, offer_in};
-use asm_slots::{Numbers, Slot, in_place};
+use asm_slots::{Numbers, Slot, lend};
 use std::alloc::Global;
 
 /// Fire the one move that does what the pushed moves do in turn.
@@ -94,5 +94,6 @@ pub extern "C" fn asm_offer(
     ensures kept { content_of step.new ≡ content_of step.old }
 {
     *written = 0;
-    in_place!(step, Step, EMPTY, taken => offer_in(alloc, taken, out, written))
+    lend!(taken: Step = step, EMPTY);
+    offer_in(alloc, taken, out, written)
 }

@@ -8,7 +8,7 @@ ghost use Rattle.asm_slots.specs.Slots.{AreOfOneStorage, HoldsNoAgent, IfHolds, 
 
 use asm_slots::codes::DONE;
 use asm_slots::take_and_put::{TwoAgents, put_agent, take_agents};
-use asm_slots::{Slot, in_place};
+use asm_slots::{Slot, lend};
 use std::alloc::Global;
 
 /// Return how many moves the agent has seen; 0 for a slot without an agent.
@@ -18,7 +18,8 @@ pub extern "C" fn asm_seen(alloc: Global, agent: &mut Slot) -> u32
     ensures value { IfHolds (content_of agent.old) (λ a. result ≡ length a.account.seen) }
     ensures none { HoldsNoAgent (content_of agent.old) → result ≡ 0 }
 {
-    in_place!(agent, Agent, 0, inner => inner.seen())
+    lend!(inner: Agent = agent, 0);
+    inner.seen()
 }
 
 /// Return how many moves the agent fired; 0 for a slot without an agent.
@@ -28,7 +29,8 @@ pub extern "C" fn asm_won(alloc: Global, agent: &mut Slot) -> u32
     ensures value { IfHolds (content_of agent.old) (λ a. result ≡ a.account.won) }
     ensures none { HoldsNoAgent (content_of agent.old) → result ≡ 0 }
 {
-    in_place!(agent, Agent, 0, inner => inner.won())
+    lend!(inner: Agent = agent, 0);
+    inner.won()
 }
 
 /// Return how many of the agent's polls found no further move.
@@ -39,7 +41,8 @@ pub extern "C" fn asm_misses(alloc: Global, agent: &mut Slot) -> u64
     ensures value { IfHolds (content_of agent.old) (λ a. result ≡ a.misses) }
     ensures none { HoldsNoAgent (content_of agent.old) → result ≡ 0 }
 {
-    in_place!(agent, Agent, 0, inner => inner.misses())
+    lend!(inner: Agent = agent, 0);
+    inner.misses()
 }
 
 /// Take in what the other agent of the same storage has seen, without polling.

@@ -1,16 +1,16 @@
 //! Counting a storage's moves, returning agents, closing them into a journal, and its text.
-ghost use Rattle.std.specs.Prelude.{◌≡◌, ◌≢◌, ◌⊎◌, ◌≤◌, ◌∷◌, [], length, None, Some};
-ghost use Rattle.asm_slots.specs.AgentCalls.{Closes, Gives, IsThere};
-ghost use Rattle.asm_slots.specs.ClosedStore.{IsTooLarge, LacksReceipt};
-ghost use Rattle.asm_slots.specs.Codes.{IsOneOf, ASM_DONE, ASM_MEMORY, ASM_EMPTY, ASM_SMALL, ASM_NO_JOURNAL};
-ghost use Rattle.asm_slots.specs.Codes.{ASM_NUMBER, ASM_MISSING, ASM_OTHER, ASM_MANY_CALLS};
-ghost use Rattle.asm_slots.specs.Slots.{HoldsNoAgent, HoldsNoStore, HoldsStore, IsOfStore, content_of};
+ghost use Rattle.std.specs.Prelude.{◌≡◌, ◌≢◌, ◌≤◌, ◌∷◌, [], length, None, Some};
+ghost use Rattle.asm_slots.specs.AgentCalls.{Closes, Gives};
+ghost use Rattle.asm_slots.specs.Answers.{Answers};
+ghost use Rattle.asm_slots.specs.ClosedStore.{IsNotClosed};
+ghost use Rattle.asm_slots.specs.Codes.{IsOneOf, ASM_DONE, ASM_EMPTY, ASM_SMALL, ASM_NO_JOURNAL};
+ghost use Rattle.asm_slots.specs.MadeAgents.{IsNotGiven};
+ghost use Rattle.asm_slots.specs.Slots.{HoldsNoStore, HoldsStore, IsOfStore, content_of};
 ghost use Rattle.asm_slots.specs.WrittenText.{WritesText};
 
-use asm_slots::codes::{DONE, EMPTY, NO_JOURNAL, OTHER, copied};
-use asm_slots::giving::{code_of_unclosed, give_at};
-use asm_slots::take_and_put::{put_agent, put_store, take_agent, take_store};
-use asm_slots::{Slot, are_one, in_place};
+use asm_slots::codes::{DONE, EMPTY, NO_JOURNAL, copied};
+use asm_slots::giving::{close, give};
+use asm_slots::{Slot, answer, lend};
 use std::alloc::Global;
 
 /// Return how many moves were fired on the storage: `moves` is that number.
@@ -30,7 +30,8 @@ pub extern "C" fn asm_moves(alloc: Global, store: &mut Slot, moves: &mut u32) ->
     ensures empty { result ≡ ASM_EMPTY → HoldsNoStore (content_of store.old) }
 {
     *moves = 0;
-    *moves = in_place!(store, Store, EMPTY, kept => kept.moves());
+    lend!(kept: Store = store, EMPTY);
+    *moves = kept.moves();
     DONE
 }
 
@@ -49,29 +50,13 @@ pub extern "C" fn asm_moves(alloc: Global, store: &mut Slot, moves: &mut u32) ->
 #[unsafe(no_mangle)]
 pub extern "C" fn asm_give(alloc: Global, store: &mut Slot, agent: &mut Slot) -> i32
     requires { IsOfStore (content_of agent.old) (content_of store.old) }
-    ensures codes { IsOneOf (ASM_DONE ∷ ASM_MEMORY ∷ ASM_EMPTY ∷ ASM_NUMBER ∷ ASM_OTHER ∷ []) result }
-    ensures given { result ≡ ASM_DONE →
-        Gives (content_of store.old) (content_of agent.old) (content_of store.new) }
-    ensures gone { result ≡ ASM_DONE → content_of agent.new ≡ None }
+    ensures answers { Answers result
+        (Gives (content_of store.old) (content_of agent.old) (content_of store.new) × (content_of agent.new ≡ None))
+        (IsNotGiven (content_of store.old) (content_of agent.old)) }
     ensures kept { result ≢ ASM_DONE → content_of store.new ≡ content_of store.old }
     ensures back { result ≢ ASM_DONE → content_of agent.new ≡ content_of agent.old }
-    ensures there { result ≡ ASM_NUMBER → IsThere (content_of store.old) (content_of agent.old) }
-    ensures empty { result ≡ ASM_EMPTY →
-        HoldsNoStore (content_of store.old) ⊎ HoldsNoAgent (content_of agent.old) }
 {
-    let Some((store_shell, kept)) = take_store(alloc, store) else {
-        return EMPTY;
-    };
-    let Some((shell, inner)) = take_agent(alloc, agent) else {
-        put_store(store, store_shell, kept);
-        return EMPTY;
-    };
-    if !are_one(kept.shared(), inner.shared()) {
-        put_store(store, store_shell, kept);
-        put_agent(agent, shell, inner);
-        return OTHER;
-    }
-    give_at(alloc, store, agent, (store_shell, kept), (shell, inner))
+    answer(give(alloc, store, agent))
 }
 
 /// Make the journal of the returned agents, which the storage retains.
@@ -89,30 +74,11 @@ pub extern "C" fn asm_give(alloc: Global, store: &mut Slot, agent: &mut Slot) ->
 /// - `ASM_MEMORY`: out of memory.
 #[unsafe(no_mangle)]
 pub extern "C" fn asm_close(alloc: Global, store: &mut Slot, number: &mut u32) -> i32
-    ensures codes { IsOneOf (ASM_DONE ∷ ASM_MEMORY ∷ ASM_EMPTY ∷ ASM_MISSING ∷ ASM_MANY_CALLS ∷ []) result }
-    ensures closed { result ≡ ASM_DONE → Closes (content_of store.old) (content_of store.new) }
+    ensures answers { Answers result ((number.new ≡ 0) × Closes (content_of store.old) (content_of store.new))
+        (IsNotClosed (content_of store.old) number.new) }
     ensures kept { result ≢ ASM_DONE → content_of store.new ≡ content_of store.old }
-    ensures missing { result ≡ ASM_MISSING →
-        HoldsStore (content_of store.old) (λ s. LacksReceipt s.storage s.agents number.new) }
-    ensures no_number { result ≢ ASM_MISSING → number.new ≡ 0 }
-    ensures large { result ≡ ASM_MANY_CALLS →
-        HoldsStore (content_of store.old) (λ s. IsTooLarge s.storage s.agents) }
-    ensures empty { result ≡ ASM_EMPTY → HoldsNoStore (content_of store.old) }
 {
-    *number = 0;
-    let Some((shell, kept)) = take_store(alloc, store) else {
-        return EMPTY;
-    };
-    let (kept, closed) = kept.close(alloc);
-    put_store(store, shell, kept);
-    match closed {
-        Ok(()) => DONE,
-        Err(error) => {
-            let (code, missing) = code_of_unclosed(error);
-            *number = missing;
-            code
-        }
-    }
+    answer(close(alloc, store, number))
 }
 
 /// Write the journal that `asm_close` made.
@@ -137,8 +103,9 @@ pub extern "C" fn asm_journal(
     ensures empty { result ≡ ASM_EMPTY → HoldsNoStore (content_of store.old) }
 {
     *written = 0;
-    in_place!(store, Store, EMPTY, kept => match kept.journal() {
+    lend!(kept: Store = store, EMPTY);
+    match kept.journal() {
         Some(text) => copied(text.as_bytes(), out, written),
         None => NO_JOURNAL,
-    })
+    }
 }

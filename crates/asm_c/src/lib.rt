@@ -4,12 +4,19 @@
 
 mod auditing;
 mod committing;
+#[tactic(auto, using(asm_slots::proofs::Answered::answers))]
 mod counts_and_learning;
+#[tactic(auto, using(asm_slots::proofs::Answered::answers))]
 mod give_and_close;
+#[tactic(auto, using(asm_slots::proofs::Answered::answers))]
 mod instructing;
 mod journals;
+#[tactic(auto, using(asm_slots::proofs::Answered::answers))]
 mod opening;
+#[tactic(auto, using(asm_slots::proofs::Answered::answers))]
 mod own_state;
 mod pushing;
+#[tactic(auto, using(asm_slots::proofs::Answered::answers))]
 mod read_and_fire;
+#[tactic(auto, using(asm_slots::proofs::Answered::answers))]
 mod steps;

@@ -1,19 +1,15 @@
 //! Opening storages, making agents and checking them out again, and freeing what slots hold.
-ghost use Rattle.std.specs.Prelude.{◌≡◌, ◌≢◌, ◌↔◌, ◌∷◌, [], None};
-ghost use Rattle.asm_slots.specs.AgentCalls.{IsNoCapacity, IsOpened};
-ghost use Rattle.asm_journal.specs.Value.{IsStateForm};
-ghost use Rattle.asm_explain.specs.Bytes.{IsNoJson, IsOtherJson};
-ghost use Rattle.asm_slots.specs.Codes.{IsOneOf, ASM_DONE, ASM_MEMORY, ASM_CAPACITY, ASM_TAKEN, ASM_NOT_JSON};
-ghost use Rattle.asm_slots.specs.Codes.{ASM_SHAPE, ASM_EMPTY, ASM_NO_JOURNAL};
-ghost use Rattle.asm_slots.specs.MadeAgents.{MakesAgent, MakesAgents, TakesAgent};
-ghost use Rattle.asm_slots.specs.Slots.{HoldsStore, content_of, HoldsNoStore};
-ghost use Rattle.asm_slots.specs.NextStore.{ContinuesInto, IsNextOf, LacksJournal};
+ghost use Rattle.std.specs.Prelude.{◌≡◌, ◌≢◌, None};
+ghost use Rattle.asm_slots.specs.Answers.{Answers};
+ghost use Rattle.asm_slots.specs.Codes.{ASM_DONE};
+ghost use Rattle.asm_slots.specs.MadeAgents.{MakesAgent, MakesAgents, MakesNoAgent, MakesNoAgents, TakesAgent, TakesNoAgent};
+ghost use Rattle.asm_slots.specs.NextStore.{DoesNotGoOn, GoesOn, IsNextOf, IsNotNext, IsNotOpened, Opens};
+ghost use Rattle.asm_slots.specs.Slots.{content_of};
 
-use asm_slots::codes::{AGENTS, DONE, EMPTY, MEMORY, TAKEN};
-use asm_slots::opening::{clear, is_any_full, next_of, opened};
-use asm_slots::take_and_put::{put_store, take_store};
-use asm_slots::{Content, Slot};
-use asm_storage::AGENTS_LIMIT;
+use asm_slots::giving::check_out;
+use asm_slots::opening::{go_on, open, open_next};
+use asm_slots::store_agents::{make_agent, make_agents};
+use asm_slots::{Slot, answer};
 use std::alloc::Global;
 
 /// Open a storage with the state `[PAIR, ..]` in an empty slot.
@@ -27,26 +23,11 @@ use std::alloc::Global;
 /// - `ASM_MEMORY`: out of memory.
 #[unsafe(no_mangle)]
 pub extern "C" fn asm_open(alloc: Global, init: &[u8], capacity: u32, store: &mut Slot) -> i32
-    ensures codes { IsOneOf (ASM_DONE ∷ ASM_MEMORY ∷ ASM_CAPACITY ∷ ASM_TAKEN
-        ∷ ASM_NOT_JSON ∷ ASM_SHAPE ∷ []) result }
-    ensures opened { result ≡ ASM_DONE → HoldsStore (content_of store.new) (IsOpened init.now capacity) }
-    ensures empty { result ≡ ASM_DONE → content_of store.old ≡ None }
-    ensures refused { result ≢ ASM_DONE → content_of store.new ≡ content_of store.old }
-    ensures range { result ≡ ASM_CAPACITY → IsNoCapacity capacity }
-    ensures not_json { result ≡ ASM_NOT_JSON → IsNoJson init.now }
-    ensures shape { result ≡ ASM_SHAPE → IsOtherJson IsStateForm init.now }
-    ensures taken { (result ≡ ASM_TAKEN) ↔ (content_of store.old ≢ None) }
+    ensures answers { Answers result (Opens init.now capacity (content_of store.old) (content_of store.new))
+        (IsNotOpened init.now capacity (content_of store.old)) }
+    ensures kept { result ≢ ASM_DONE → content_of store.new ≡ content_of store.old }
 {
-    if store.is_full() {
-        return TAKEN;
-    }
-    match opened(alloc, init, capacity) {
-        Ok(made) => {
-            *store = Slot::holding(made);
-            DONE
-        }
-        Err(code) => code,
-    }
+    answer(open(alloc, init, capacity, store))
 }
 
 /// Make an agent of the storage with the number `id`, below 256, in an empty slot.
@@ -62,26 +43,13 @@ pub extern "C" fn asm_open(alloc: Global, init: &[u8], capacity: u32, store: &mu
 /// - `ASM_MEMORY`: out of memory.
 #[unsafe(no_mangle)]
 pub extern "C" fn asm_agent(alloc: Global, store: &mut Slot, id: u32, agent: &mut Slot) -> i32
-    ensures { MakesAgent id (content_of store.old) (content_of store.new) (content_of agent.old) (content_of agent.new) result }
+    ensures answers { Answers result
+        (MakesAgent id (content_of store.old) (content_of store.new) (content_of agent.old) (content_of agent.new))
+        (MakesNoAgent id (content_of store.old) (content_of agent.old)) }
+    ensures kept { result ≢ ASM_DONE → content_of store.new ≡ content_of store.old }
+    ensures held { result ≢ ASM_DONE → content_of agent.new ≡ content_of agent.old }
 {
-    if id >= AGENTS_LIMIT {
-        return AGENTS;
-    }
-    if agent.is_full() {
-        return TAKEN;
-    }
-    let Some((shell, kept)) = take_store(alloc, store) else {
-        return EMPTY;
-    };
-    let (kept, made) = kept.make_agent(alloc, id);
-    put_store(store, shell, kept);
-    match made {
-        Ok(made) => {
-            *agent = Slot::holding(made);
-            DONE
-        }
-        Err(code) => code,
-    }
+    answer(make_agent(alloc, store, id, agent))
 }
 
 /// Make an agent of the storage in each of at most 256 empty slots.
@@ -97,23 +65,11 @@ pub extern "C" fn asm_agent(alloc: Global, store: &mut Slot, id: u32, agent: &mu
 /// - `ASM_MEMORY`: out of memory.
 #[unsafe(no_mangle)]
 pub extern "C" fn asm_agents(alloc: Global, store: &mut Slot, agents: &mut [Slot]) -> i32
-    ensures { MakesAgents (content_of store.old) (content_of store.new) agents.old agents.new result }
+    ensures answers { Answers result (MakesAgents (content_of store.old) (content_of store.new) agents.old agents.new)
+        (MakesNoAgents (content_of store.old) agents.old agents.new) }
+    ensures kept { result ≢ ASM_DONE → content_of store.new ≡ content_of store.old }
 {
-    if agents.len() > AGENTS_LIMIT as usize {
-        return AGENTS;
-    }
-    if is_any_full(agents) {
-        return TAKEN;
-    }
-    let Some((shell, kept)) = take_store(alloc, store) else {
-        return EMPTY;
-    };
-    let (kept, code) = kept.make_agents(alloc, agents);
-    put_store(store, shell, kept);
-    if code == MEMORY {
-        clear(alloc, agents);
-    }
-    code
+    answer(make_agents(alloc, store, agents))
 }
 
 /// Check a returned agent out of its storage again, into an empty slot.
@@ -128,23 +84,13 @@ pub extern "C" fn asm_agents(alloc: Global, store: &mut Slot, agents: &mut [Slot
 /// - `ASM_MEMORY`: out of memory.
 #[unsafe(no_mangle)]
 pub extern "C" fn asm_take(alloc: Global, store: &mut Slot, number: u32, agent: &mut Slot) -> i32
-    ensures { TakesAgent number (content_of store.old) (content_of store.new) (content_of agent.old) (content_of agent.new) result }
+    ensures answers { Answers result
+        (TakesAgent number (content_of store.old) (content_of store.new) (content_of agent.old) (content_of agent.new))
+        (TakesNoAgent number (content_of store.old) (content_of agent.old)) }
+    ensures kept { result ≢ ASM_DONE → content_of store.new ≡ content_of store.old }
+    ensures held { result ≢ ASM_DONE → content_of agent.new ≡ content_of agent.old }
 {
-    if agent.is_full() {
-        return TAKEN;
-    }
-    let Some((shell, kept)) = take_store(alloc, store) else {
-        return EMPTY;
-    };
-    let (kept, made) = kept.take_back(alloc, number);
-    put_store(store, shell, kept);
-    match made {
-        Ok(made) => {
-            *agent = Slot::holding(made);
-            DONE
-        }
-        Err(code) => code,
-    }
+    answer(check_out(alloc, store, number, agent))
 }
 
 /// Release what the slot holds, if anything, and leave the slot empty.
@@ -170,32 +116,12 @@ pub extern "C" fn asm_free(alloc: Global, slot: &mut Slot)
 /// - `ASM_MEMORY`: out of memory.
 #[unsafe(no_mangle)]
 pub extern "C" fn asm_next(alloc: Global, store: &mut Slot, capacity: u32, next: &mut Slot) -> i32
-    ensures codes { IsOneOf (ASM_DONE ∷ ASM_MEMORY ∷ ASM_EMPTY ∷ ASM_CAPACITY ∷ ASM_NO_JOURNAL ∷ ASM_TAKEN ∷ []) result }
-    ensures opened { result ≡ ASM_DONE → IsNextOf capacity (content_of store.old) (content_of next.new) }
-    ensures was_empty { result ≡ ASM_DONE → content_of next.old ≡ None }
+    ensures answers { Answers result (IsNextOf capacity (content_of store.old) (content_of next.old) (content_of next.new))
+        (IsNotNext capacity (content_of store.old) (content_of next.old)) }
     ensures kept { content_of store.new ≡ content_of store.old }
     ensures refused { result ≢ ASM_DONE → content_of next.new ≡ content_of next.old }
-    ensures range { result ≡ ASM_CAPACITY → IsNoCapacity capacity }
-    ensures none { result ≡ ASM_NO_JOURNAL → HoldsStore (content_of store.old) LacksJournal }
-    ensures empty { result ≡ ASM_EMPTY → HoldsNoStore (content_of store.old) }
-    ensures taken { result ≡ ASM_TAKEN → content_of next.old ≢ None }
 {
-    if next.is_full() {
-        return TAKEN;
-    }
-    let Some(held) = store.as_mut() else {
-        return EMPTY;
-    };
-    let Content::Store(kept) = held else {
-        return EMPTY;
-    };
-    match kept.next(alloc, capacity) {
-        Ok(made) => {
-            *next = Slot::holding(made);
-            DONE
-        }
-        Err(code) => code,
-    }
+    answer(open_next(alloc, store, capacity, next))
 }
 
 /// Open a storage in an empty slot that continues the agent's full one.
@@ -216,23 +142,10 @@ pub extern "C" fn asm_next(alloc: Global, store: &mut Slot, capacity: u32, next:
 /// - `ASM_MEMORY`: out of memory.
 #[unsafe(no_mangle)]
 pub extern "C" fn asm_go_on(alloc: Global, agent: &mut Slot, capacity: u32, next: &mut Slot) -> i32
-    ensures continues { ContinuesInto capacity (content_of agent.old) (content_of next.old) (content_of next.new) result }
+    ensures answers { Answers result (GoesOn capacity (content_of agent.old) (content_of next.old) (content_of next.new))
+        (DoesNotGoOn capacity (content_of agent.old) (content_of next.old)) }
     ensures kept { content_of agent.new ≡ content_of agent.old }
+    ensures refused { result ≢ ASM_DONE → content_of next.new ≡ content_of next.old }
 {
-    if next.is_full() {
-        return TAKEN;
-    }
-    let Some(held) = agent.as_mut() else {
-        return EMPTY;
-    };
-    let Content::Agent(inner) = held else {
-        return EMPTY;
-    };
-    match next_of(alloc, inner, capacity) {
-        Ok(made) => {
-            *next = Slot::holding(made);
-            DONE
-        }
-        Err(code) => code,
-    }
+    answer(go_on(alloc, agent, capacity, next))
 }

@@ -1,20 +1,19 @@
 //! Polling, an agent's own state, values at prepared locations, and validating declared reads.
 ghost use Rattle.std.specs.Prelude.{◌≡◌, ◌∷◌, [], IsUtf8, ◌≢◌};
 ghost use Rattle.asm_slots.specs.Codes.{IsOneOf, ASM_DONE, ASM_MEMORY, ASM_EMPTY, ASM_SMALL, ASM_SHAPE, ASM_NOT_JSON};
-ghost use Rattle.asm_slots.specs.OwnState.{IsOwnOfName, IsOwnState, HasFollowed, HasPolledOn, IsPeekOf};
-ghost use Rattle.asm_slots.specs.Slots.{Holds, HoldsNoAgent, content_of, Changes};
+ghost use Rattle.asm_slots.specs.Answers.{Answers};
+ghost use Rattle.asm_slots.specs.OwnState.{DoesNotFollow, Follows, IsOwnOfName, IsOwnState, IsPeekOf};
+ghost use Rattle.asm_slots.specs.Slots.{Holds, HoldsNoAgent, content_of};
 ghost use Rattle.asm_slots.specs.WrittenText.{WritesText};
-ghost use Rattle.asm_storage.specs.Storage.{IsSameAgent};
 ghost use Rattle.asm_explain.specs.Bytes.{AreLocations, IsNoJson, IsOtherJson};
-ghost use Rattle.asm_slots.specs.AgentCalls.{SeesOn};
 ghost use Rattle.asm_slots.specs.AgentAnswers.{Validates};
 ghost use Rattle.asm_slots.specs.StepAnswers.{GetsAt, PeeksAt};
 
-use asm_slots::codes::{DONE, EMPTY, MEMORY, copied};
-use asm_slots::own_state::{own_state, peek, peeked, scanned, validate_reads};
+use asm_slots::codes::{EMPTY, MEMORY, copied};
+use asm_slots::own_state::{follow, own_state, peek, peeked, scanned, validate_reads};
 use asm_slots::steps::get;
 use asm_slots::take_and_put::take_agent;
-use asm_slots::{Content, Slot, ValueHead, in_place};
+use asm_slots::{Slot, ValueHead, answer, lend};
 use std::alloc::{AllocError, Global};
 
 /// Write the agent's own state `[PAIR, ..]`, in ascending order of locations.
@@ -41,12 +40,7 @@ pub extern "C" fn asm_state(
 {
     *number = 0;
     *written = 0;
-    let Some(held) = agent.as_mut() else {
-        return EMPTY;
-    };
-    let Content::Agent(inner) = held else {
-        return EMPTY;
-    };
+    lend!(inner: Agent = agent, EMPTY);
     match own_state(alloc, inner) {
         Ok(stood) => {
             *number = stood.number;
@@ -86,12 +80,7 @@ pub extern "C" fn asm_scan(
 {
     *number = 0;
     *written = 0;
-    let Some(held) = agent.as_mut() else {
-        return EMPTY;
-    };
-    let Content::Agent(inner) = held else {
-        return EMPTY;
-    };
+    lend!(inner: Agent = agent, EMPTY);
     match scanned(alloc, inner, name) {
         Ok(stood) => {
             *number = stood.number;
@@ -110,24 +99,11 @@ pub extern "C" fn asm_scan(
 /// - `ASM_MEMORY`: out of memory; the agent may have seen more moves.
 #[unsafe(no_mangle)]
 pub extern "C" fn asm_follow(alloc: Global, agent: &mut Slot, number: &mut u32) -> i32
-    ensures codes { IsOneOf (ASM_DONE ∷ ASM_MEMORY ∷ ASM_EMPTY ∷ []) result }
-    ensures followed { result ≡ ASM_DONE →
-        Changes (content_of agent.old) (content_of agent.new) (HasFollowed number.new) }
-    ensures memory { result ≡ ASM_MEMORY → Changes (content_of agent.old) (content_of agent.new) HasPolledOn }
-    ensures same { result ≢ ASM_EMPTY → Changes (content_of agent.old) (content_of agent.new) IsSameAgent }
-    ensures seen { result ≢ ASM_EMPTY → Changes (content_of agent.old) (content_of agent.new) SeesOn }
+    ensures answers { Answers result (Follows number.new (content_of agent.old) (content_of agent.new))
+        (DoesNotFollow (content_of agent.old) (content_of agent.new)) }
     ensures none { result ≢ ASM_DONE → number.new ≡ 0 }
-    ensures empty { result ≡ ASM_EMPTY → HoldsNoAgent (content_of agent.old) }
-    ensures kept { result ≡ ASM_EMPTY → content_of agent.new ≡ content_of agent.old }
 {
-    *number = 0;
-    match in_place!(agent, Agent, EMPTY, inner => inner.follow(alloc)) {
-        Ok(seen) => {
-            *number = seen;
-            DONE
-        }
-        Err(AllocError) => MEMORY,
-    }
+    answer(follow(alloc, agent, number))
 }
 
 /// Write the values of the locations `[LOC, ..]` in the agent's own state.
@@ -157,12 +133,7 @@ pub extern "C" fn asm_peek(
     ensures empty { result ≡ ASM_EMPTY → HoldsNoAgent (content_of agent.old) }
 {
     *written = 0;
-    let Some(held) = agent.as_mut() else {
-        return EMPTY;
-    };
-    let Content::Agent(inner) = held else {
-        return EMPTY;
-    };
+    lend!(inner: Agent = agent, EMPTY);
     match peeked(alloc, inner, locations) {
         Ok(text) => copied(text.as_bytes(), out, written),
         Err(code) => code,

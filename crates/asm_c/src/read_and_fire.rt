@@ -1,15 +1,16 @@
 //! Reading, firing, and the answers to both.
 ghost use Rattle.std.specs.Prelude.{◌≡◌, ◌∷◌, []};
-ghost use Rattle.asm_slots.specs.AgentAnswers.{Fires, Reads, FiresOver};
+ghost use Rattle.asm_slots.specs.AgentAnswers.{Fires, FiresOver, IsNotRead, Reads};
 ghost use Rattle.asm_slots.specs.AgentCalls.{IsLastAnswer};
+ghost use Rattle.asm_slots.specs.Answers.{Answers};
 ghost use Rattle.asm_slots.specs.Codes.{IsOneOf, ASM_DONE, ASM_MEMORY, ASM_EMPTY, ASM_SMALL, ASM_NO_ANSWER};
 ghost use Rattle.asm_slots.specs.Slots.{Holds, HoldsNoAgent, content_of};
 ghost use Rattle.asm_slots.specs.WrittenText.{WritesText};
 
 use asm_slots::codes::{EMPTY, MEMORY, NO_ANSWER, copied};
-use asm_slots::read_and_fire::{fire_in, fire_over_in, read_at};
+use asm_slots::read_and_fire::{fire_in, fire_over_in, read};
 use asm_slots::take_and_put::{put_agent, take_agent};
-use asm_slots::{Numbers, Slot, in_place};
+use asm_slots::{Numbers, Slot, answer, lend};
 use std::alloc::Global;
 
 /// Read the locations `[LOC, ..]`, at most 256.
@@ -25,12 +26,10 @@ use std::alloc::Global;
 /// - `ASM_MEMORY`: out of memory.
 #[unsafe(no_mangle)]
 pub extern "C" fn asm_read(alloc: Global, agent: &mut Slot, locations: &[u8]) -> i32
-    ensures { Reads locations.now (content_of agent.old) (content_of agent.new) result }
+    ensures { Answers result (Reads locations.now (content_of agent.old) (content_of agent.new))
+        (IsNotRead locations.now (content_of agent.old) (content_of agent.new)) }
 {
-    match take_agent(alloc, agent) {
-        Some((shell, inner)) => read_at(alloc, agent, shell, inner, locations),
-        None => EMPTY,
-    }
+    answer(read(alloc, agent, locations))
 }
 
 /// Fire the move `{"fire":[INSTR, ..],"reads":[NAMED, ..]}`.
@@ -66,7 +65,8 @@ pub extern "C" fn asm_try_fire(
     ensures { Fires call.now (content_of agent.old) (content_of agent.new) numbers.new result }
 {
     *numbers = Numbers::none();
-    let (code, reported) = in_place!(agent, Agent, EMPTY, inner => fire_in(alloc, inner, call));
+    lend!(inner: Agent = agent, EMPTY);
+    let (code, reported) = fire_in(alloc, inner, call);
     *numbers = reported;
     code
 }
@@ -136,8 +136,8 @@ pub extern "C" fn asm_try_fire_over(
     ensures { FiresOver call.now scans.now (content_of agent.old) (content_of agent.new) numbers.new result }
 {
     *numbers = Numbers::none();
-    let (code, reported) =
-        in_place!(agent, Agent, EMPTY, inner => fire_over_in(alloc, inner, call, scans));
+    lend!(inner: Agent = agent, EMPTY);
+    let (code, reported) = fire_over_in(alloc, inner, call, scans);
     *numbers = reported;
     code
 }

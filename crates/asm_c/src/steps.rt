@@ -2,19 +2,19 @@
 ghost use Rattle.std.specs.Prelude.{◌≡◌, ◌≢◌, Ok, length};
 ghost use Rattle.asm_slots.specs.Codes.{ASM_DONE};
 ghost use Rattle.asm_slots.specs.StepAnswers.{Gets, Sees, GetsAll};
-ghost use Rattle.asm_slots.specs.AgentAnswers.{Begins};
 ghost use Rattle.asm_slots.specs.Answers.{Answers};
+ghost use Rattle.asm_slots.specs.OwnState.{Begins, DoesNotBegin};
 ghost use Rattle.asm_slots.specs.Popping.{IsComposedLast, IsNotPoppedIn, IsNotPoppedInto};
 ghost use Rattle.asm_slots.specs.Slots.{ChangesStep, HasRoomForMove, HoldsMove, HoldsNoStep, HoldsStep, IfHoldsStep, content_of};
 ghost use Rattle.asm_slots.specs.StepCalls.{HasPoppedOver};
 ghost use Rattle.asm_slots.specs.Tracked.{last_partial_places, dependencies_last};
 
-use asm_slots::codes::{DONE, EMPTY, MEMORY, TAKEN};
+use asm_slots::codes::EMPTY;
 use asm_slots::getting_all::get_all_in;
-use asm_slots::popping::{has_room_for_move, pop_in, pop_into};
-use asm_slots::steps::{get_in, has_room, open_step, see_in};
-use asm_slots::{Content, Slot, answer, in_place};
-use std::alloc::{AllocError, Global};
+use asm_slots::popping::{pop, pop_move};
+use asm_slots::steps::{begin, get_in, see_in};
+use asm_slots::{Slot, answer, lend};
+use std::alloc::Global;
 
 /// Begin a step of the agent in a slot that is empty or holds a step.
 /// A step that the slot held is dropped. The agent polls until no further move is found, and its own state follows.
@@ -32,23 +32,13 @@ pub extern "C" fn asm_begin(
     step: &mut Slot,
     number: &mut u32,
 ) -> i32
-    ensures { Begins (content_of agent.old) (content_of agent.new) (content_of step.old) (content_of step.new)
-        number.new result }
+    ensures answers { Answers result
+        (Begins number.new (content_of agent.old) (content_of agent.new) (content_of step.old) (content_of step.new))
+        (DoesNotBegin (content_of agent.old) (content_of agent.new) (content_of step.old)) }
+    ensures stays { result ≢ ASM_DONE → content_of step.new ≡ content_of step.old }
+    ensures none { result ≢ ASM_DONE → number.new ≡ 0 }
 {
-    *number = 0;
-    if !has_room(step) {
-        return TAKEN;
-    }
-    let Ok(seen) = in_place!(agent, Agent, EMPTY, inner => inner.follow(alloc)) else {
-        return MEMORY;
-    };
-    match open_step(alloc, step, seen) {
-        Ok(()) => {
-            *number = seen;
-            DONE
-        }
-        Err(AllocError) => MEMORY,
-    }
+    answer(begin(alloc, agent, step, number))
 }
 
 /// Return how many moves are pushed, at most 64; 0 for a slot without a step.
@@ -58,7 +48,8 @@ pub extern "C" fn asm_depth(alloc: Global, step: &mut Slot) -> u32
     ensures value { IfHoldsStep (content_of step.old) (λ s. result ≡ length s.layers) }
     ensures none { HoldsNoStep (content_of step.old) → result ≡ 0 }
 {
-    in_place!(step, Step, 0, taken => taken.depth())
+    lend!(taken: Step = step, 0);
+    taken.depth()
 }
 
 /// Write what is seen through the pushed moves at the locations `[LOC, ..]`.
@@ -91,18 +82,8 @@ pub extern "C" fn asm_get(
     ensures kept { content_of agent.new ≡ content_of agent.old }
 {
     *written = 0;
-    let Some(held) = agent.as_mut() else {
-        return EMPTY;
-    };
-    let Content::Agent(agent) = held else {
-        return EMPTY;
-    };
-    let Some(held) = step.as_mut() else {
-        return EMPTY;
-    };
-    let Content::Step(step) = held else {
-        return EMPTY;
-    };
+    lend!(agent: Agent = agent, EMPTY);
+    lend!(step: Step = step, EMPTY);
     get_in(alloc, agent, step, locations, out, written)
 }
 
@@ -126,7 +107,9 @@ pub extern "C" fn asm_see(
     ensures held { content_of step.new ≡ content_of step.old }
 {
     *written = 0;
-    in_place!(agent, Agent, EMPTY, agent => in_place!(step, Step, EMPTY, step => see_in(alloc, agent, step, locations, out, written)))
+    lend!(agent: Agent = agent, EMPTY);
+    lend!(step: Step = step, EMPTY);
+    see_in(alloc, agent, step, locations, out, written)
 }
 
 /// Take away the move that was pushed last, with those that extended it.
@@ -145,8 +128,7 @@ pub extern "C" fn asm_pop(alloc: Global, step: &mut Slot) -> i32
         (IsNotPoppedIn (content_of step.old)) }
     ensures kept { result ≢ ASM_DONE → content_of step.new ≡ content_of step.old }
 {
-    let popped = in_place!(step, Step, EMPTY, taken => pop_in(alloc, taken));
-    answer(popped)
+    answer(pop(alloc, step))
 }
 
 /// Take away the last pushed move as `asm_pop` does, and put it into a slot.
@@ -175,11 +157,7 @@ pub extern "C" fn asm_pop_move(alloc: Global, step: &mut Slot, instrs: &mut Slot
     ensures kept { result ≢ ASM_DONE → content_of step.new ≡ content_of step.old }
     ensures held { result ≢ ASM_DONE → content_of instrs.new ≡ content_of instrs.old }
 {
-    if !has_room_for_move(instrs) {
-        return TAKEN;
-    }
-    let popped = in_place!(step, Step, EMPTY, taken => pop_into(alloc, taken, instrs));
-    answer(popped)
+    answer(pop_move(alloc, step, instrs))
 }
 
 /// Write what is seen through the pushed moves at all locations of a function.
@@ -209,17 +187,7 @@ pub extern "C" fn asm_step_scan(
     ensures kept { content_of agent.new ≡ content_of agent.old }
 {
     *written = 0;
-    let Some(held) = agent.as_mut() else {
-        return EMPTY;
-    };
-    let Content::Agent(agent) = held else {
-        return EMPTY;
-    };
-    let Some(held) = step.as_mut() else {
-        return EMPTY;
-    };
-    let Content::Step(step) = held else {
-        return EMPTY;
-    };
+    lend!(agent: Agent = agent, EMPTY);
+    lend!(step: Step = step, EMPTY);
     get_all_in(alloc, agent, step, name, out, written)
 }

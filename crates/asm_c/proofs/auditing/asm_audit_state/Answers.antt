@@ -15,12 +15,12 @@ coded code (inr (inr h)) = absurd h
 
 pub returns-in-Ok-clause-text : goal.returns-in-Ok-clause-text
 returns-in-Ok-clause-text c =
-    let audit : content_of c.args.audit.now ≡ Some (content.Audit c.in-Audit.inner) = search rules in
-    audit_reported _ c.in-Audit.inner IsAuditState _ _ _ c.copied.new.out c.copied.new.written c.copied.result
+    let audit : content_of c.args.audit.now ≡ Some (content.Audit c.in-Audit-lend.inner) = search rules in
+    audit_reported _ c.in-Audit-lend.inner IsAuditState _ _ _ c.copied.new.out c.copied.new.written c.copied.result
     audit c.as_bytes.ensures.value c.in-Ok.ensures.ok c.copied.ensures.codes c.copied.ensures.text
 
 pub returns-in-Err-clause-none : goal.returns-in-Err-clause-none
 returns-in-Err-clause-none c none =
-    let audit : content_of c.args.audit.now ≡ Some (content.Audit c.in-Audit.inner) = search rules in
+    let audit : content_of c.args.audit.now ≡ Some (content.Audit c.in-Audit-lend.inner) = search rules in
     subst (λ (x : Option Content). HoldsAudit x HasNoState) (sym audit)
     (c.in-Err.ensures.none (sym (coded c.in-Err.code c.in-Err.ensures.codes) ∙ none))

@@ -7,6 +7,6 @@ use Rattle.asm_c.proofs.own_state.asm_peek.Goals as goal
 
 pub returns-in-Ok-clause-text : goal.returns-in-Ok-clause-text
 returns-in-Ok-clause-text c =
-    let agent : content_of c.args.agent.now ≡ Some (content.Agent c.in-Agent.inner) = search rules in
-    holds_reported _ c.in-Agent.inner (IsPeekOf c.args.locations.now) _ _ _ c.copied.new.out c.copied.new.written c.copied.result
+    let agent : content_of c.args.agent.now ≡ Some (content.Agent c.in-Agent-lend.inner) = search rules in
+    holds_reported _ c.in-Agent-lend.inner (IsPeekOf c.args.locations.now) _ _ _ c.copied.new.out c.copied.new.written c.copied.result
     agent c.as_bytes.ensures.value c.in-Ok.ensures.ok c.copied.ensures.codes c.copied.ensures.text

@@ -7,6 +7,6 @@ use Rattle.asm_c.proofs.own_state.asm_state.Goals as goal
 
 pub returns-in-Ok-clause-text : goal.returns-in-Ok-clause-text
 returns-in-Ok-clause-text c =
-    let agent : content_of c.args.agent.now ≡ Some (content.Agent c.in-Agent.inner) = search rules in
-    holds_reported _ c.in-Agent.inner (λ a. IsOwnState a c.in-Ok.stood.number) _ _ _ c.copied.new.out c.copied.new.written c.copied.result
+    let agent : content_of c.args.agent.now ≡ Some (content.Agent c.in-Agent-lend.inner) = search rules in
+    holds_reported _ c.in-Agent-lend.inner (λ a. IsOwnState a c.in-Ok.stood.number) _ _ _ c.copied.new.out c.copied.new.written c.copied.result
     agent c.as_bytes.ensures.value c.in-Ok.ensures c.copied.ensures.codes c.copied.ensures.text

@@ -9,15 +9,15 @@ use Rattle.asm_c.proofs.steps.asm_step_scan.Goals as goal
 
 pub returns-clause-gets : goal.returns-clause-gets
 returns-clause-gets c =
-    let agent : content_of c.args.agent.now ≡ Some (content.Agent c.in-Agent.agent) = search rules in
-    let step : content_of c.args.step.now ≡ Some (content.Step c.in-Step.step) = search rules in
+    let agent : content_of c.args.agent.now ≡ Some (content.Agent c.in-Agent-lend.agent) = search rules in
+    let step : content_of c.args.step.now ≡ Some (content.Step c.in-Step-lend.step) = search rules in
     record {
       codes = search rules;
       text =
           subst (WritesText (λ t. HoldBoth (content_of c.args.agent.now) (content_of c.args.step.now)
           (λ a s. IsFoundText c.args.name.now a s t)) c.args.out.now c.get_all_in.new.out c.get_all_in.new.written)
           (sym (to_z-of_z {w = w32} (record { sfits = c.get_all_in.type_inv })))
-          (both_text_reported _ _ c.in-Agent.agent c.in-Step.step _ c.get_all_in.new.out c.get_all_in.new.written
+          (both_text_reported _ _ c.in-Agent-lend.agent c.in-Step-lend.step _ c.get_all_in.new.out c.get_all_in.new.written
           c.get_all_in.result agent step (IsFoundText c.args.name.now) c.get_all_in.ensures.text);
       tracked = search rules;
       moved = search rules;
