@@ -1,7 +1,7 @@
 -- The faults of what is written in a script, and the first of them.
 use Rattle.std.proofs.Common.{◌≡◌, ◌+◌, ℕ, List, [], ◌∷◌, ◌++◌, length, Bool, true, false, sym, ap, ap₂, ◌∙◌, subst, inr}
 use Rattle.std.proofs.Common.{append_assoc, Result, Ok, Err, arith}
-use Rattle.std.specs.Prelude.{IsErrAnd, ◌<◌, ◌≤◌, ◌||◌, nat_lt, Option, Some, IfSome}
+use Rattle.std.specs.Prelude.{IsErrAnd, codes, ◌<◌, ◌≤◌, ◌||◌, nat_lt, Option, Some, IfSome}
 use Rattle.std.proofs.lemmas.Bool.{lt-ltb, le-ltb}
 use Rattle.std.proofs.lemmas.List.{append-nil}
 use Rattle.std.proofs.lemmas.Bool.Decides.{same_from_decides}
@@ -27,7 +27,7 @@ use Rattle.asm_script.specs.StepReads.{named, AreReads}
 use Rattle.asm_script.specs.declared.step.Step.{Step}
 use Rattle.asm_script.specs.Plan.{Plan}
 use Rattle.asm_script.specs.Script.{Fault, when, behind, each_from, each, block_faults, step_faults, reads_count, faults, IsFirst, IsChecked}
-use Rattle.asm_script.specs.Script.{HasForm, IsScriptForm, plan_of, IsReadScript, limit_of, IsRefusedScript}
+use Rattle.asm_script.specs.Script.{HasForm, IsKey, IsScriptForm, plan_of, IsReadScript, limit_of, IsRefusedScript}
 use Rattle.asm_script.specs.declared.parsing.UncheckedScript.{UncheckedScript}
 use Rattle.asm_script.specs.declared.script.ScriptCause.{ScriptCause}
 use Rattle.asm_script.specs.declared.script.ScriptError.TheVariants.{BadScript}
@@ -137,10 +137,11 @@ carried at P causes (Err e) (Err Memory) checked is place = tt
 
 -- what JSON of this form is read as, with the longer path
 pub read_as : (at : PathStep) (d : Data) (w : UncheckedScript) (r s : Result Plan FormError) → IsScriptForm w d →
-    IsChecked (λ p. p ≡ plan_of w) (faults w.agents) r → IsCarried r s → IsPlaced at r s → IsReadScript d s
-read_as at d w (Ok p) s form is same place = subst (IsReadScript d) (sym same) (w, form, is)
-read_as at d w (Err e) (Ok p) form is same place = absurd same
-read_as at d w (Err e) (Err f) form is same place = λ fault. inr (w, at, form, carried at (λ p. p ≡ plan_of w) (faults w.agents) (Err e) (Err f) is same place)
+    IsKey (codes "agents") at → IsChecked (λ p. p ≡ plan_of w) (faults w.agents) r → IsCarried r s → IsPlaced at r s →
+    IsReadScript d s
+read_as at d w (Ok p) s form key is same place = subst (IsReadScript d) (sym same) (w, form, is)
+read_as at d w (Err e) (Ok p) form key is same place = absurd same
+read_as at d w (Err e) (Err f) form key is same place = λ fault. inr (w, at, form, key, carried at (λ p. p ≡ plan_of w) (faults w.agents) (Err e) (Err f) is same place)
 
 -- the first fault of JSON of this form is the cause that is reported
 pub limit_first : (bytes : List ℕ) (w : UncheckedScript) (fault : FormFault) (cause : ScriptCause) → HasForm bytes w →

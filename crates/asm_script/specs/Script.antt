@@ -15,7 +15,7 @@ use Rattle.asm_journal.specs.declared.form.fault.FormError.{FormError}
 use Rattle.asm_journal.specs.declared.form.fault.FormError.TheVariants as form_error
 use Rattle.asm_journal.specs.declared.form.fault.FormError.TheVariants.{Form}
 use Rattle.asm_journal.specs.declared.form.fault.PathStep.{PathStep}
-use Rattle.asm_journal.specs.declared.form.fault.PathStep.TheVariants.{Index}
+use Rattle.asm_journal.specs.declared.form.fault.PathStep.TheVariants.{Index, Key}
 use Rattle.asm_storage.specs.Limits.{agents_limit, reads_limit}
 use Rattle.asm_update.specs.Limits.{instructions_limit}
 use Rattle.asm_script.specs.Limits.{blocks_limit}
@@ -118,13 +118,19 @@ IsPlanOf w p = (p ≡ plan_of w) × (faults w.agents ≡ [])
 abbrev pub IsScriptOf : List ℕ → Plan → Type 0
 IsScriptOf bytes p = (w : UncheckedScript) × HasForm bytes w × IsPlanOf w p
 
+-- the step to the member with this key
+abbrev pub IsKey : List ℕ → PathStep → Type 0
+IsKey name (Index n) = ⊥
+IsKey name (Key k) = k.now ≡ name
+
 -- What reading JSON as a script answers: the plan; or a fault: the JSON has another shape, or this is the first fault of
--- the agents, behind a step of the object. Want of memory says nothing.
+-- the agents, behind the step to them. An allocation failure says nothing.
 abbrev pub IsReadScript : Data → Result Plan FormError → Type 0
 IsReadScript d (Ok p) = (w : UncheckedScript) × IsScriptForm w d × IsPlanOf w p
 IsReadScript d (Err e) =
     IsFault e → ((w : UncheckedScript) → ¬ IsScriptForm w d)
-    ⊎ ((w : UncheckedScript) × (at : PathStep) × IsScriptForm w d × IsFirst (behind at (faults w.agents)) e)
+    ⊎ ((w : UncheckedScript) × (at : PathStep) × IsScriptForm w d × IsKey (codes "agents") at
+    × IsFirst (behind at (faults w.agents)) e)
 
 -- the cause that a fault of the agents is reported as
 abbrev pub limit_of : FormCause → ScriptCause
