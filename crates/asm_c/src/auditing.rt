@@ -1,14 +1,14 @@
 //! Audits of runs of any length, whose bytes come in pieces.
-ghost use Rattle.std.specs.Prelude.{◌≡◌, ◌∷◌, []};
+ghost use Rattle.std.specs.Prelude.{◌≡◌, ◌⊎◌};
+ghost use Rattle.asm_slots.specs.Answers.{EmptyOr, IsMemory};
 ghost use Rattle.asm_slots.specs.Audits.{Audits, EndsAudit, HasNoState, IsAuditState};
-ghost use Rattle.asm_slots.specs.Codes.{IsOneOf, ASM_DONE, ASM_MEMORY, ASM_EMPTY, ASM_SMALL, ASM_NO_PART};
+ghost use Rattle.asm_slots.specs.Codes.{Replies};
 ghost use Rattle.asm_slots.specs.Slots.{HoldsAudit, HoldsNoAudit, content_of};
 ghost use Rattle.asm_slots.specs.WrittenText.{WritesText};
+ghost use Rattle.asm_slots.specs.declared.codes.Code.TheVariants as variant;
 
-use asm_slots::auditing::{audit_state, ended, feed_first, feed_in};
-use asm_slots::codes::{EMPTY, copied};
-use asm_slots::take_and_put::take_shell;
-use asm_slots::{AuditNumbers, Slot, lend};
+use asm_slots::auditing::{self, audit_state, audited};
+use asm_slots::{AuditNumbers, Slot, answer};
 use std::alloc::Global;
 
 /// Take the next bytes of a run into a slot that holds an audit or is empty.
@@ -37,14 +37,9 @@ pub extern "C" fn asm_audit(
     taken: &mut usize,
     reported: &mut AuditNumbers,
 ) -> i32
-    ensures { Audits bytes.now (content_of audit.old) (content_of audit.new) taken.new reported.new result }
+    ensures { Replies result (Audits bytes.now (content_of audit.old) (content_of audit.new) taken.new reported.new) }
 {
-    *taken = 0;
-    *reported = AuditNumbers::none();
-    match take_shell(alloc, audit) {
-        Some(shell) => feed_in(alloc, audit, shell, bytes, taken, reported),
-        None => feed_first(alloc, audit, bytes, taken, reported),
-    }
+    answer(auditing::audit(alloc, audit, bytes, taken, reported))
 }
 
 /// Report what holds of the run if no further byte comes.
@@ -58,14 +53,10 @@ pub extern "C" fn asm_audit(
 /// - `ASM_MEMORY`: out of memory.
 #[unsafe(no_mangle)]
 pub extern "C" fn asm_audited(alloc: Global, audit: &mut Slot, reported: &mut AuditNumbers) -> i32
-    ensures ends { EndsAudit (content_of audit.old) reported.new result }
+    ensures ends { Replies result (EndsAudit (content_of audit.old) reported.new) }
     ensures kept { content_of audit.new ≡ content_of audit.old }
 {
-    *reported = AuditNumbers::none();
-    lend!(inner: Audit = audit, EMPTY);
-    let (code, numbers) = ended(alloc, inner);
-    *reported = numbers;
-    code
+    answer(audited(alloc, audit, reported))
 }
 
 /// Write the state `[PAIR, ..]` that the moves so far leave.
@@ -83,17 +74,11 @@ pub extern "C" fn asm_audit_state(
     out: &mut [u8],
     written: &mut usize,
 ) -> i32
-    ensures codes { IsOneOf (ASM_DONE ∷ ASM_MEMORY ∷ ASM_EMPTY ∷ ASM_SMALL ∷ ASM_NO_PART ∷ []) result }
-    ensures kept { content_of audit.new ≡ content_of audit.old }
     ensures text { WritesText (λ text. HoldsAudit (content_of audit.old) (λ a. IsAuditState a text))
+        (EmptyOr (HoldsNoAudit (content_of audit.old))
+        (λ c. IsMemory c ⊎ ((c ≡ variant.NoPart) × HoldsAudit (content_of audit.old) HasNoState)))
         out.old out.new written.new result }
-    ensures none { result ≡ ASM_NO_PART → HoldsAudit (content_of audit.old) HasNoState }
-    ensures empty { result ≡ ASM_EMPTY → HoldsNoAudit (content_of audit.old) }
+    ensures kept { content_of audit.new ≡ content_of audit.old }
 {
-    *written = 0;
-    lend!(inner: Audit = audit, EMPTY);
-    match audit_state(alloc, inner) {
-        Ok(text) => copied(text.as_bytes(), out, written),
-        Err(code) => code,
-    }
+    answer(audit_state(alloc, audit, out, written))
 }

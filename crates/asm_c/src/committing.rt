@@ -1,13 +1,13 @@
 //! Firing the one move of a step, with or without a receipt of what the step read.
-ghost use Rattle.std.specs.Prelude.{◌≡◌, ◌∷◌, []};
-ghost use Rattle.asm_slots.specs.Codes.{IsOneOf, ASM_DONE, ASM_EMPTY, ASM_MEMORY, ASM_SMALL};
-ghost use Rattle.asm_slots.specs.Commit.{Commits, CommitsRecorded, IsOfferText};
+ghost use Rattle.std.specs.Prelude.{◌≡◌, MatchResult, None};
+ghost use Rattle.asm_slots.specs.Answers.{EmptyOr, IsMemory};
+ghost use Rattle.asm_slots.specs.Codes.{Replies};
+ghost use Rattle.asm_slots.specs.Commit.{Commits, HasCommitted, HasCommittedRecorded, IsOfferText};
 ghost use Rattle.asm_slots.specs.Slots.{HoldsNoStep, HoldsStep, content_of};
 ghost use Rattle.asm_slots.specs.WrittenText.{WritesText};
 
-use asm_slots::codes::EMPTY;
-use asm_slots::committing::{commit, commit_recorded, offer_in};
-use asm_slots::{Numbers, Slot, lend};
+use asm_slots::committing::{commit, commit_recorded, offer};
+use asm_slots::{Numbers, Slot, answer};
 use std::alloc::Global;
 
 /// Fire the one move that does what the pushed moves do in turn.
@@ -34,12 +34,11 @@ pub extern "C" fn asm_commit(
     step: &mut Slot,
     numbers: &mut Numbers,
 ) -> i32
-    ensures { Commits (content_of agent.old) (content_of agent.new) (content_of step.old) (content_of step.new)
-        numbers.new result }
+    ensures { Replies result (λ r.
+        Commits HasCommitted (content_of agent.old) (content_of agent.new) (content_of step.old) numbers.new r
+        × MatchResult r (λ done. content_of step.new ≡ None) (λ c. content_of step.new ≡ content_of step.old)) }
 {
-    let (code, reported) = commit(alloc, agent, step);
-    *numbers = reported;
-    code
+    answer(commit(alloc, agent, step, numbers))
 }
 
 /// Record what the step read, and then commit it as `asm_commit` does.
@@ -64,12 +63,11 @@ pub extern "C" fn asm_commit_recorded(
     step: &mut Slot,
     numbers: &mut Numbers,
 ) -> i32
-    ensures { CommitsRecorded (content_of agent.old) (content_of agent.new) (content_of step.old) (content_of step.new)
-        numbers.new result }
+    ensures { Replies result (λ r.
+        Commits HasCommittedRecorded (content_of agent.old) (content_of agent.new) (content_of step.old) numbers.new r
+        × MatchResult r (λ done. content_of step.new ≡ None) (λ c. content_of step.new ≡ content_of step.old)) }
 {
-    let (code, reported) = commit_recorded(alloc, agent, step);
-    *numbers = reported;
-    code
+    answer(commit_recorded(alloc, agent, step, numbers))
 }
 
 /// Write `{"fire":[INSTR, ..],"reads":[NAMED, ..]}`, as a commit would fire it.
@@ -88,12 +86,9 @@ pub extern "C" fn asm_offer(
     out: &mut [u8],
     written: &mut usize,
 ) -> i32
-    ensures codes { IsOneOf (ASM_DONE ∷ ASM_MEMORY ∷ ASM_EMPTY ∷ ASM_SMALL ∷ []) result }
-    ensures text { WritesText (λ text. HoldsStep (content_of step.old) (λ s. IsOfferText s text)) out.old out.new written.new result }
-    ensures empty { result ≡ ASM_EMPTY → HoldsNoStep (content_of step.old) }
+    ensures text { WritesText (λ text. HoldsStep (content_of step.old) (λ s. IsOfferText s text))
+        (EmptyOr (HoldsNoStep (content_of step.old)) IsMemory) out.old out.new written.new result }
     ensures kept { content_of step.new ≡ content_of step.old }
 {
-    *written = 0;
-    lend!(taken: Step = step, EMPTY);
-    offer_in(alloc, taken, out, written)
+    answer(offer(alloc, step, out, written))
 }

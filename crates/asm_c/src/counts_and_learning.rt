@@ -1,14 +1,13 @@
 //! What an agent has seen and counted, and what it learns and takes from another.
 ghost use Rattle.std.specs.Prelude.{◌≡◌, ◌≢◌, length};
 ghost use Rattle.asm_slots.specs.AgentCalls.{Learns};
-ghost use Rattle.asm_slots.specs.Answers.{Answers, AreNotTwo};
-ghost use Rattle.asm_slots.specs.Codes.{ASM_DONE};
+ghost use Rattle.asm_slots.specs.Answers.{AreNotTwo};
+ghost use Rattle.asm_slots.specs.Codes.{ASM_DONE, Answers};
 ghost use Rattle.asm_slots.specs.OwnState.{TakesState};
 ghost use Rattle.asm_slots.specs.Slots.{AreOfOneStorage, HoldsNoAgent, IfHolds, content_of};
 
-use asm_slots::codes::DONE;
-use asm_slots::take_and_put::{TwoAgents, put_agent, take_agents};
-use asm_slots::{Slot, lend};
+use asm_slots::learning::{learn, take_state};
+use asm_slots::{Slot, answer, lend};
 use std::alloc::Global;
 
 /// Return how many moves the agent has seen; 0 for a slot without an agent.
@@ -63,14 +62,7 @@ pub extern "C" fn asm_learn(alloc: Global, agent: &mut Slot, other: &mut Slot) -
     ensures theirs { content_of other.new ≡ content_of other.old }
     ensures kept { result ≢ ASM_DONE → content_of agent.new ≡ content_of agent.old }
 {
-    let both = match take_agents(alloc, agent, other) {
-        Ok(both) => both,
-        Err(code) => return code.number(),
-    };
-    let (theirs, mark) = both.other.mark(alloc);
-    put_agent(other, both.other_shell, theirs);
-    put_agent(agent, both.shell, both.agent.learn(alloc, &mark));
-    DONE
+    answer(learn(alloc, agent, other))
 }
 
 /// Take in what the other agent has seen, and take its state if that is newer.
@@ -94,18 +86,5 @@ pub extern "C" fn asm_take_state(alloc: Global, agent: &mut Slot, other: &mut Sl
     ensures kept { result ≢ ASM_DONE → content_of agent.new ≡ content_of agent.old }
     ensures theirs { result ≢ ASM_DONE → content_of other.new ≡ content_of other.old }
 {
-    let mut both = match take_agents(alloc, agent, other) {
-        Ok(both) => both,
-        Err(code) => return code.number(),
-    };
-    both.agent.take_state(&mut both.other);
-    let TwoAgents {
-        shell,
-        agent: inner,
-        other_shell,
-        other: theirs,
-    } = both;
-    put_agent(other, other_shell, theirs);
-    put_agent(agent, shell, inner);
-    DONE
+    answer(take_state(alloc, agent, other))
 }

@@ -1,16 +1,16 @@
 //! Counting a storage's moves, returning agents, closing them into a journal, and its text.
-ghost use Rattle.std.specs.Prelude.{◌≡◌, ◌≢◌, ◌≤◌, ◌∷◌, [], length, None, Some};
+ghost use Rattle.std.specs.Prelude.{◌≡◌, ◌≢◌, ◌≤◌, length, None, Some};
 ghost use Rattle.asm_slots.specs.AgentCalls.{Closes, Gives};
-ghost use Rattle.asm_slots.specs.Answers.{Answers};
+ghost use Rattle.asm_slots.specs.Answers.{EmptyOr};
 ghost use Rattle.asm_slots.specs.ClosedStore.{IsNotClosed};
-ghost use Rattle.asm_slots.specs.Codes.{IsOneOf, ASM_DONE, ASM_EMPTY, ASM_SMALL, ASM_NO_JOURNAL};
+ghost use Rattle.asm_slots.specs.Codes.{ASM_DONE, Answers};
 ghost use Rattle.asm_slots.specs.MadeAgents.{IsNotGiven};
 ghost use Rattle.asm_slots.specs.Slots.{HoldsNoStore, HoldsStore, IsOfStore, content_of};
 ghost use Rattle.asm_slots.specs.WrittenText.{WritesText};
+ghost use Rattle.asm_slots.specs.declared.codes.Code.TheVariants as variant;
 
-use asm_slots::codes::{DONE, EMPTY, NO_JOURNAL, copied};
-use asm_slots::giving::{close, give};
-use asm_slots::{Slot, answer, lend};
+use asm_slots::giving::{close, give, journal, moves as moves_of};
+use asm_slots::{Slot, answer};
 use std::alloc::Global;
 
 /// Return how many moves were fired on the storage: `moves` is that number.
@@ -22,17 +22,11 @@ use std::alloc::Global;
 /// - `ASM_EMPTY`: the slot has no storage, and `moves` is 0.
 #[unsafe(no_mangle)]
 pub extern "C" fn asm_moves(alloc: Global, store: &mut Slot, moves: &mut u32) -> i32
-    ensures codes { IsOneOf (ASM_DONE ∷ ASM_EMPTY ∷ []) result }
+    ensures counted { Answers result (HoldsStore (content_of store.old) (λ s. moves.new ≤ length s.storage.row))
+        (λ c. (c ≡ variant.Empty) × HoldsNoStore (content_of store.old) × (moves.new ≡ 0)) }
     ensures kept { content_of store.new ≡ content_of store.old }
-    ensures within { result ≡ ASM_DONE →
-        HoldsStore (content_of store.old) (λ s. moves.new ≤ length s.storage.row) }
-    ensures none { result ≡ ASM_EMPTY → moves.new ≡ 0 }
-    ensures empty { result ≡ ASM_EMPTY → HoldsNoStore (content_of store.old) }
 {
-    *moves = 0;
-    lend!(kept: Store = store, EMPTY);
-    *moves = kept.moves();
-    DONE
+    answer(moves_of(store, moves))
 }
 
 /// Return an agent to its storage, in any order; its slot is then empty.
@@ -95,17 +89,11 @@ pub extern "C" fn asm_journal(
     out: &mut [u8],
     written: &mut usize,
 ) -> i32
-    ensures codes { IsOneOf (ASM_DONE ∷ ASM_EMPTY ∷ ASM_SMALL ∷ ASM_NO_JOURNAL ∷ []) result }
-    ensures kept { content_of store.new ≡ content_of store.old }
     ensures text { WritesText (λ text. HoldsStore (content_of store.old) (λ s. s.journal ≡ Some text))
+        (EmptyOr (HoldsNoStore (content_of store.old))
+        (λ c. (c ≡ variant.NoJournal) × HoldsStore (content_of store.old) (λ s. s.journal ≡ None)))
         out.old out.new written.new result }
-    ensures none { result ≡ ASM_NO_JOURNAL → HoldsStore (content_of store.old) (λ s. s.journal ≡ None) }
-    ensures empty { result ≡ ASM_EMPTY → HoldsNoStore (content_of store.old) }
+    ensures kept { content_of store.new ≡ content_of store.old }
 {
-    *written = 0;
-    lend!(kept: Store = store, EMPTY);
-    match kept.journal() {
-        Some(text) => copied(text.as_bytes(), out, written),
-        None => NO_JOURNAL,
-    }
+    answer(journal(store, out, written))
 }

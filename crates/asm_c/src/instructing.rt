@@ -1,7 +1,7 @@
 //! Preparing locations, and building moves in slots.
 ghost use Rattle.std.specs.Prelude.{◌≡◌, ◌≢◌, ◌++◌, None};
-ghost use Rattle.asm_slots.specs.Answers.{Answers, IsNotInstructed, IsNotPrepared, IsNotUnited};
-ghost use Rattle.asm_slots.specs.Codes.{ASM_DONE};
+ghost use Rattle.asm_slots.specs.Answers.{IsNotInstructed, IsNotPrepared, IsNotUnited};
+ghost use Rattle.asm_slots.specs.Codes.{ASM_DONE, Answers};
 ghost use Rattle.asm_slots.specs.Kinds.{IsInstructed};
 ghost use Rattle.asm_slots.specs.Slots.{HasRoomForMove, HoldsLocation, HoldsMove, content_of, move_of};
 ghost use Rattle.asm_slots.specs.Bytes.{ReadAsLocation};

@@ -1,15 +1,15 @@
 //! Calls on texts alone: journals, moves, what a text lacks, and what a code means.
-ghost use Rattle.asm_slots.specs.Journals.{Checks, IsReplayed, IsTraceOf, WritesOfJournal};
-ghost use Rattle.asm_slots.specs.Composing.{Aggregates, Composes};
-ghost use Rattle.std.specs.Prelude.{◌≡◌, ◌≢◌, ◌<◌, ◌≤◌, ◌↔◌, ◌∷◌, [], length};
-ghost use Rattle.asm_slots.specs.Codes.{IsOneOf, ASM_DONE, ASM_MEMORY, ASM_NO_FORM, ASM_SMALL, text_of_code};
-ghost use Rattle.asm_slots.specs.Forms.{HasForm, IsNoForm, LacksForm};
+ghost use Rattle.std.specs.Prelude.{◌≡◌, length};
+ghost use Rattle.asm_slots.specs.Codes.{Answers, text_of_code};
+ghost use Rattle.asm_slots.specs.Composing.{Aggregates, Composes, DoesNotAggregate, DoesNotCompose};
+ghost use Rattle.asm_slots.specs.Forms.{DoesNotExplain, Explains};
+ghost use Rattle.asm_slots.specs.Journals.{Checks, DoesNotCheck, IsNoJournal, IsReplayed, IsTraceOf};
 ghost use Rattle.asm_slots.specs.WrittenText.{WritesText};
 
-use asm_journal::Legality;
-use asm_slots::codes::{DONE, ILLEGAL, copied, text_of_code, written_as};
-use asm_slots::composing::{aggregated, composed};
-use asm_slots::journals::{checked, code_of_error, replayed, traced};
+use asm_slots::answer;
+use asm_slots::codes::{text_of_code, write};
+use asm_slots::composing::{aggregate, compose};
+use asm_slots::journals::{check, replay, trace};
 use std::alloc::Global;
 
 /// Check a journal, of version 1 or 2.
@@ -27,31 +27,9 @@ use std::alloc::Global;
 /// - `ASM_MEMORY`: out of memory.
 #[unsafe(no_mangle)]
 pub extern "C" fn asm_check(alloc: Global, journal: &[u8], calls: &mut u64, moves: &mut u32) -> i32
-    ensures { Checks journal.now calls.new moves.new result }
+    ensures { Answers result (Checks journal.now calls.new moves.new) (DoesNotCheck journal.now calls.new moves.new) }
 {
-    *calls = 0;
-    *moves = 0;
-    match checked(alloc, journal) {
-        Ok(
-            Legality::Legal {
-                calls: events,
-                moves: fired,
-            },
-        ) => {
-            *calls = events;
-            *moves = fired;
-            DONE
-        }
-        Ok(Legality::Illegal { call }) => {
-            *calls = call;
-            ILLEGAL
-        }
-        Err(error) => {
-            let (code, line) = code_of_error(error);
-            *calls = line;
-            code
-        }
-    }
+    answer(check(alloc, journal, calls, moves))
 }
 
 /// Write the state `[PAIR, ..]` that the moves of a journal leave.
@@ -73,18 +51,10 @@ pub extern "C" fn asm_replay(
     written: &mut usize,
     line: &mut u64,
 ) -> i32
-    ensures { WritesOfJournal (IsReplayed journal.now) journal.now out.old out.new written.new line.new result }
+    ensures { WritesText (λ text. (line.new ≡ 0) × IsReplayed journal.now text) (IsNoJournal journal.now line.new)
+        out.old out.new written.new result }
 {
-    *written = 0;
-    *line = 0;
-    match replayed(alloc, journal) {
-        Ok(text) => copied(text.as_bytes(), out, written),
-        Err(error) => {
-            let (code, number) = code_of_error(error);
-            *line = number;
-            code
-        }
-    }
+    answer(replay(alloc, journal, out, written, line))
 }
 
 /// Write the trace of a journal, legal or not: what each of its calls did.
@@ -100,18 +70,10 @@ pub extern "C" fn asm_trace(
     written: &mut usize,
     line: &mut u64,
 ) -> i32
-    ensures { WritesOfJournal (IsTraceOf journal.now) journal.now out.old out.new written.new line.new result }
+    ensures { WritesText (λ text. (line.new ≡ 0) × IsTraceOf journal.now text) (IsNoJournal journal.now line.new)
+        out.old out.new written.new result }
 {
-    *written = 0;
-    *line = 0;
-    match traced(alloc, journal) {
-        Ok(text) => copied(text.as_bytes(), out, written),
-        Err(error) => {
-            let (code, number) = code_of_error(error);
-            *line = number;
-            code
-        }
-    }
+    answer(trace(alloc, journal, out, written, line))
 }
 
 /// Write the updates `[PAIR, ..]` of the move `[INSTR, ..]` on a state.
@@ -132,13 +94,10 @@ pub extern "C" fn asm_aggregate(
     out: &mut [u8],
     written: &mut usize,
 ) -> i32
-    ensures { Aggregates state.now instrs.now out.old out.new written.new result }
+    ensures { Answers result (Aggregates state.now instrs.now out.new written.new)
+        (DoesNotAggregate state.now instrs.now out.old out.new written.new) }
 {
-    *written = 0;
-    match aggregated(alloc, state, instrs) {
-        Ok(reported) => written_as(&reported, out, written),
-        Err(code) => code,
-    }
+    answer(aggregate(alloc, state, instrs, out, written))
 }
 
 /// Write one move `[INSTR, ..]` that does what two moves do in turn.
@@ -160,13 +119,10 @@ pub extern "C" fn asm_compose(
     out: &mut [u8],
     written: &mut usize,
 ) -> i32
-    ensures { Composes first.now second.now out.old out.new written.new result }
+    ensures { Answers result (Composes first.now second.now out.new written.new)
+        (DoesNotCompose first.now second.now out.old out.new written.new) }
 {
-    *written = 0;
-    match composed(alloc, first, second) {
-        Ok(reported) => written_as(&reported, out, written),
-        Err(code) => code,
-    }
+    answer(compose(alloc, first, second, out, written))
 }
 
 /// Write a sentence that says where and why a text isn't of a form.
@@ -186,16 +142,10 @@ pub extern "C" fn asm_explain(
     out: &mut [u8],
     written: &mut usize,
 ) -> i32
-    ensures codes { IsOneOf (ASM_DONE ∷ ASM_MEMORY ∷ ASM_NO_FORM ∷ ASM_SMALL ∷ []) result }
-    ensures accepted { result ≡ ASM_DONE → written.new ≡ 0 → HasForm form text.now }
-    ensures refused { written.new ≢ 0 → LacksForm form text.now }
-    ensures fits { result ≡ ASM_DONE → written.new ≤ length out.new }
-    ensures small { result ≡ ASM_SMALL → length out.old < written.new }
-    ensures no_text { IsOneOf (ASM_MEMORY ∷ ASM_NO_FORM ∷ []) result → written.new ≡ 0 }
-    ensures range { (result ≡ ASM_NO_FORM) ↔ IsNoForm form }
-    ensures unwritten { result ≢ ASM_DONE → out.new ≡ out.old }
+    ensures { Answers result (Explains form text.now out.old out.new written.new)
+        (DoesNotExplain form text.now out.old out.new written.new) }
 {
-    asm_slots::explain(alloc, form, text, out, written)
+    answer(asm_slots::explain(alloc, form, text, out, written))
 }
 
 /// Write what a code means, in a line of English.
@@ -204,11 +154,10 @@ pub extern "C" fn asm_explain(
 /// - `ASM_SMALL`: `out` is too small, and `written` is the room that is needed.
 #[unsafe(no_mangle)]
 pub extern "C" fn asm_error_text(code: i32, out: &mut [u8], written: &mut usize) -> i32
-    ensures codes { IsOneOf (ASM_DONE ∷ ASM_SMALL ∷ []) result }
     ensures written { written.new ≡ length (text_of_code code) }
-    ensures text { WritesText (λ text. text ≡ text_of_code code) out.old out.new written.new result }
+    ensures text { WritesText (λ text. text ≡ text_of_code code) (λ c. ⊥) out.old out.new written.new result }
 {
-    copied(text_of_code(code).as_bytes(), out, written)
+    answer(write(text_of_code(code).as_bytes(), out, written))
 }
 
 /// Return the version of the library.

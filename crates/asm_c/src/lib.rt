@@ -2,7 +2,9 @@
 //! A slot of zeros holds nothing.
 #![tactic(auto)]
 
+#[tactic(auto, using(asm_slots::proofs::Answered::answers))]
 mod auditing;
+#[tactic(auto, using(asm_slots::proofs::Answered::answers))]
 mod committing;
 #[tactic(auto, using(asm_slots::proofs::Answered::answers))]
 mod counts_and_learning;
@@ -10,11 +12,13 @@ mod counts_and_learning;
 mod give_and_close;
 #[tactic(auto, using(asm_slots::proofs::Answered::answers))]
 mod instructing;
+#[tactic(auto, using(asm_slots::proofs::Answered::answers))]
 mod journals;
 #[tactic(auto, using(asm_slots::proofs::Answered::answers))]
 mod opening;
 #[tactic(auto, using(asm_slots::proofs::Answered::answers))]
 mod own_state;
+#[tactic(auto, using(asm_slots::proofs::Answered::answers))]
 mod pushing;
 #[tactic(auto, using(asm_slots::proofs::Answered::answers))]
 mod read_and_fire;

@@ -1,7 +1,6 @@
 //! Opening storages, making agents and checking them out again, and freeing what slots hold.
 ghost use Rattle.std.specs.Prelude.{◌≡◌, ◌≢◌, None};
-ghost use Rattle.asm_slots.specs.Answers.{Answers};
-ghost use Rattle.asm_slots.specs.Codes.{ASM_DONE};
+ghost use Rattle.asm_slots.specs.Codes.{ASM_DONE, Answers};
 ghost use Rattle.asm_slots.specs.MadeAgents.{MakesAgent, MakesAgents, MakesNoAgent, MakesNoAgents, TakesAgent, TakesNoAgent};
 ghost use Rattle.asm_slots.specs.NextStore.{DoesNotGoOn, GoesOn, IsNextOf, IsNotNext, IsNotOpened, Opens};
 ghost use Rattle.asm_slots.specs.Slots.{content_of};

@@ -1,20 +1,18 @@
 //! Polling, an agent's own state, values at prepared locations, and validating declared reads.
-ghost use Rattle.std.specs.Prelude.{◌≡◌, ◌∷◌, [], IsUtf8, ◌≢◌};
-ghost use Rattle.asm_slots.specs.Codes.{IsOneOf, ASM_DONE, ASM_MEMORY, ASM_EMPTY, ASM_SMALL, ASM_SHAPE, ASM_NOT_JSON};
-ghost use Rattle.asm_slots.specs.Answers.{Answers};
+ghost use Rattle.std.specs.Prelude.{◌≡◌, ◌≢◌};
+ghost use Rattle.asm_slots.specs.AgentAnswers.{DoesNotValidate, Validates};
+ghost use Rattle.asm_slots.specs.Answers.{EmptyOr, IsMemory, IsNoName, IsUnreadAs};
+ghost use Rattle.asm_slots.specs.Bytes.{AreLocations};
+ghost use Rattle.asm_slots.specs.Codes.{ASM_DONE, Answers};
 ghost use Rattle.asm_slots.specs.OwnState.{DoesNotFollow, Follows, IsOwnOfName, IsOwnState, IsPeekOf};
 ghost use Rattle.asm_slots.specs.Slots.{Holds, HoldsNoAgent, content_of};
+ghost use Rattle.asm_slots.specs.StepAnswers.{DoesNotGetAt, DoesNotPeekAt, GetsAt, IsNoValue, PeeksAt};
 ghost use Rattle.asm_slots.specs.WrittenText.{WritesText};
-ghost use Rattle.asm_explain.specs.Bytes.{AreLocations, IsNoJson, IsOtherJson};
-ghost use Rattle.asm_slots.specs.AgentAnswers.{Validates};
-ghost use Rattle.asm_slots.specs.StepAnswers.{GetsAt, PeeksAt};
 
-use asm_slots::codes::{EMPTY, MEMORY, copied};
-use asm_slots::own_state::{follow, own_state, peek, peeked, scanned, validate_reads};
-use asm_slots::steps::get;
-use asm_slots::take_and_put::take_agent;
-use asm_slots::{Slot, ValueHead, answer, lend};
-use std::alloc::{AllocError, Global};
+use asm_slots::own_state::{follow, own_state, peek, peek_at, scan, validate};
+use asm_slots::steps::get_at;
+use asm_slots::{Slot, ValueHead, answer};
+use std::alloc::Global;
 
 /// Write the agent's own state `[PAIR, ..]`, in ascending order of locations.
 /// It is the state after `number` moves. The call doesn't poll and adds no receipt, and the slot is unchanged.
@@ -31,23 +29,12 @@ pub extern "C" fn asm_state(
     out: &mut [u8],
     written: &mut usize,
 ) -> i32
-    ensures codes { IsOneOf (ASM_DONE ∷ ASM_MEMORY ∷ ASM_EMPTY ∷ ASM_SMALL ∷ []) result }
-    ensures kept { content_of agent.new ≡ content_of agent.old }
     ensures text { WritesText (λ text. Holds (content_of agent.old) (λ a. IsOwnState a number.new text))
+        (λ c. (number.new ≡ 0) × EmptyOr (HoldsNoAgent (content_of agent.old)) IsMemory c)
         out.old out.new written.new result }
-    ensures empty { result ≡ ASM_EMPTY → HoldsNoAgent (content_of agent.old) }
-    ensures no_number { IsOneOf (ASM_MEMORY ∷ ASM_EMPTY ∷ []) result → number.new ≡ 0 }
+    ensures kept { content_of agent.new ≡ content_of agent.old }
 {
-    *number = 0;
-    *written = 0;
-    lend!(inner: Agent = agent, EMPTY);
-    match own_state(alloc, inner) {
-        Ok(stood) => {
-            *number = stood.number;
-            copied(stood.text.as_bytes(), out, written)
-        }
-        Err(AllocError) => MEMORY,
-    }
+    answer(own_state(alloc, agent, number, out, written))
 }
 
 /// Write what the agent's own state has at all locations of one function name.
@@ -70,24 +57,12 @@ pub extern "C" fn asm_scan(
     out: &mut [u8],
     written: &mut usize,
 ) -> i32
-    ensures codes { IsOneOf (ASM_DONE ∷ ASM_MEMORY ∷ ASM_EMPTY ∷ ASM_SMALL ∷ ASM_SHAPE ∷ []) result }
-    ensures kept { content_of agent.new ≡ content_of agent.old }
     ensures text { WritesText (λ text. Holds (content_of agent.old) (λ a. IsOwnOfName name.now a number.new text))
+        (λ c. (number.new ≡ 0) × EmptyOr (HoldsNoAgent (content_of agent.old)) (IsNoName name.now) c)
         out.old out.new written.new result }
-    ensures shape { result ≡ ASM_SHAPE → ¬ IsUtf8 name.now }
-    ensures empty { result ≡ ASM_EMPTY → HoldsNoAgent (content_of agent.old) }
-    ensures no_number { IsOneOf (ASM_MEMORY ∷ ASM_EMPTY ∷ ASM_SHAPE ∷ []) result → number.new ≡ 0 }
+    ensures kept { content_of agent.new ≡ content_of agent.old }
 {
-    *number = 0;
-    *written = 0;
-    lend!(inner: Agent = agent, EMPTY);
-    match scanned(alloc, inner, name) {
-        Ok(stood) => {
-            *number = stood.number;
-            copied(stood.text.as_bytes(), out, written)
-        }
-        Err(code) => code,
-    }
+    answer(scan(alloc, agent, name, number, out, written))
 }
 
 /// Poll until no further move is found; the agent's own state follows.
@@ -124,20 +99,12 @@ pub extern "C" fn asm_peek(
     out: &mut [u8],
     written: &mut usize,
 ) -> i32
-    ensures codes { IsOneOf (ASM_DONE ∷ ASM_MEMORY ∷ ASM_EMPTY ∷ ASM_SMALL ∷ ASM_NOT_JSON ∷ ASM_SHAPE ∷ []) result }
-    ensures kept { content_of agent.new ≡ content_of agent.old }
     ensures text { WritesText (λ text. Holds (content_of agent.old) (λ a. IsPeekOf locations.now a text))
+        (EmptyOr (HoldsNoAgent (content_of agent.old)) (IsUnreadAs AreLocations locations.now))
         out.old out.new written.new result }
-    ensures not_json { result ≡ ASM_NOT_JSON → IsNoJson locations.now }
-    ensures shape { result ≡ ASM_SHAPE → IsOtherJson AreLocations locations.now }
-    ensures empty { result ≡ ASM_EMPTY → HoldsNoAgent (content_of agent.old) }
+    ensures kept { content_of agent.new ≡ content_of agent.old }
 {
-    *written = 0;
-    lend!(inner: Agent = agent, EMPTY);
-    match peeked(alloc, inner, locations) {
-        Ok(text) => copied(text.as_bytes(), out, written),
-        Err(code) => code,
-    }
+    answer(peek(alloc, agent, locations, out, written))
 }
 
 /// Validate the declared reads `[NAMED, ..]`, at most 256, after polling.
@@ -166,13 +133,11 @@ pub extern "C" fn asm_stands(
     out: &mut [u8],
     written: &mut usize,
 ) -> i32
-    ensures { Validates reads.now (content_of agent.old) (content_of agent.new) out.old out.new written.new result }
+    ensures { Answers result
+        (Validates reads.now (content_of agent.old) (content_of agent.new) × (out.new ≡ out.old) × (written.new ≡ 0))
+        (DoesNotValidate reads.now (content_of agent.old) (content_of agent.new) out.old out.new written.new) }
 {
-    *written = 0;
-    match take_agent(alloc, agent) {
-        Some((shell, inner)) => validate_reads(alloc, agent, shell, inner, reads, out, written),
-        None => EMPTY,
-    }
+    answer(validate(alloc, agent, reads, out, written))
 }
 
 /// Return the value at a prepared location in the agent's own state.
@@ -194,11 +159,14 @@ pub extern "C" fn asm_peek_at(
     out: &mut [u8],
     written: &mut usize,
 ) -> i32
-    ensures peeks { PeeksAt (content_of at.old) (content_of agent.old) number.new value.new out.old out.new written.new result }
+    ensures answers { Answers result
+        (PeeksAt (content_of at.old) (content_of agent.old) number.new value.new out.new written.new)
+        (DoesNotPeekAt (content_of at.old) (content_of agent.old) out.old out.new written.new) }
+    ensures none { result ≢ ASM_DONE → (number.new ≡ 0) × IsNoValue value.new }
     ensures kept { content_of agent.new ≡ content_of agent.old }
     ensures stays { content_of at.new ≡ content_of at.old }
 {
-    peek(alloc, agent, at, number, value, out, written)
+    answer(peek_at(alloc, agent, at, number, value, out, written))
 }
 
 /// Return what is seen through the pushed moves at a prepared location.
@@ -223,10 +191,13 @@ pub extern "C" fn asm_get_at(
     out: &mut [u8],
     written: &mut usize,
 ) -> i32
-    ensures gets { GetsAt (content_of at.old) (content_of agent.old) (content_of step.old) (content_of step.new)
-        value.new out.old out.new written.new result }
+    ensures answers { Answers result
+        (GetsAt (content_of at.old) (content_of agent.old) (content_of step.old) (content_of step.new) value.new out.new written.new)
+        (DoesNotGetAt (content_of at.old) (content_of agent.old) (content_of step.old) out.old out.new written.new) }
+    ensures none { result ≢ ASM_DONE → IsNoValue value.new }
+    ensures stays { result ≢ ASM_DONE → content_of step.new ≡ content_of step.old }
     ensures kept { content_of agent.new ≡ content_of agent.old }
     ensures held { content_of at.new ≡ content_of at.old }
 {
-    get(alloc, agent, step, at, value, out, written)
+    answer(get_at(alloc, agent, step, at, value, out, written))
 }

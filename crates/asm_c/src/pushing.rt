@@ -1,10 +1,12 @@
 //! Pushing moves onto a step, and extending the one that was pushed last.
 ghost use Rattle.std.specs.Prelude.{◌≡◌};
-ghost use Rattle.asm_slots.specs.StepAnswers.{Extends, Pushes, ExtendsByMove, PushesMove};
+ghost use Rattle.asm_slots.specs.Codes.{Answers};
 ghost use Rattle.asm_slots.specs.Slots.{content_of};
+ghost use Rattle.asm_slots.specs.StepAnswers.{DoesNotGrow, DoesNotGrowBy, Grows, GrowsBy};
+ghost use Rattle.asm_slots.specs.declared.owned_step.PushMode.TheVariants as ways;
 
 use asm_slots::pushing::{grow_from, grow_of};
-use asm_slots::{PushMode, Slot};
+use asm_slots::{PushMode, Slot, answer};
 use std::alloc::Global;
 
 /// Push the move `[INSTR, ..]` onto the step.
@@ -41,11 +43,13 @@ pub extern "C" fn asm_push(
     out: &mut [u8],
     written: &mut usize,
 ) -> i32
-    ensures grows { Pushes instrs.now (content_of agent.old) (content_of step.old) (content_of step.new)
-        out.old out.new written.new result }
+    ensures answers { Answers result
+        (Grows ways.Push instrs.now (content_of agent.old) (content_of step.old) (content_of step.new) out.old out.new written.new)
+        (DoesNotGrow ways.Push instrs.now (content_of agent.old) (content_of step.old) (content_of step.new)
+        out.old out.new written.new) }
     ensures kept { content_of agent.new ≡ content_of agent.old }
 {
-    grow_of(alloc, agent, step, PushMode::Push, instrs, out, written)
+    answer(grow_of(alloc, agent, step, PushMode::Push, instrs, out, written))
 }
 
 /// Extend the move that was pushed last by the move `[INSTR, ..]`.
@@ -67,11 +71,13 @@ pub extern "C" fn asm_extend(
     out: &mut [u8],
     written: &mut usize,
 ) -> i32
-    ensures grows { Extends instrs.now (content_of agent.old) (content_of step.old) (content_of step.new)
-        out.old out.new written.new result }
+    ensures answers { Answers result
+        (Grows ways.Extend instrs.now (content_of agent.old) (content_of step.old) (content_of step.new) out.old out.new written.new)
+        (DoesNotGrow ways.Extend instrs.now (content_of agent.old) (content_of step.old) (content_of step.new)
+        out.old out.new written.new) }
     ensures kept { content_of agent.new ≡ content_of agent.old }
 {
-    grow_of(alloc, agent, step, PushMode::Extend, instrs, out, written)
+    answer(grow_of(alloc, agent, step, PushMode::Extend, instrs, out, written))
 }
 
 /// Push the move in a slot, as `asm_push` does.
@@ -90,12 +96,15 @@ pub extern "C" fn asm_push_move(
     out: &mut [u8],
     written: &mut usize,
 ) -> i32
-    ensures grows { PushesMove (content_of instrs.old) (content_of agent.old) (content_of step.old) (content_of step.new)
-        out.old out.new written.new result }
+    ensures answers { Answers result
+        (GrowsBy ways.Push (content_of instrs.old) (content_of agent.old) (content_of step.old) (content_of step.new)
+        out.old out.new written.new)
+        (DoesNotGrowBy ways.Push (content_of instrs.old) (content_of agent.old) (content_of step.old) (content_of step.new)
+        out.old out.new written.new) }
     ensures kept { content_of agent.new ≡ content_of agent.old }
     ensures held { content_of instrs.new ≡ content_of instrs.old }
 {
-    grow_from(alloc, agent, step, PushMode::Push, instrs, out, written)
+    answer(grow_from(alloc, agent, step, PushMode::Push, instrs, out, written))
 }
 
 /// Extend the move that was pushed last by the one in a slot, as `asm_extend` does.
@@ -113,10 +122,13 @@ pub extern "C" fn asm_extend_move(
     out: &mut [u8],
     written: &mut usize,
 ) -> i32
-    ensures grows { ExtendsByMove (content_of instrs.old) (content_of agent.old) (content_of step.old) (content_of step.new)
-        out.old out.new written.new result }
+    ensures answers { Answers result
+        (GrowsBy ways.Extend (content_of instrs.old) (content_of agent.old) (content_of step.old) (content_of step.new)
+        out.old out.new written.new)
+        (DoesNotGrowBy ways.Extend (content_of instrs.old) (content_of agent.old) (content_of step.old) (content_of step.new)
+        out.old out.new written.new) }
     ensures kept { content_of agent.new ≡ content_of agent.old }
     ensures held { content_of instrs.new ≡ content_of instrs.old }
 {
-    grow_from(alloc, agent, step, PushMode::Extend, instrs, out, written)
+    answer(grow_from(alloc, agent, step, PushMode::Extend, instrs, out, written))
 }

@@ -1,16 +1,15 @@
 //! Reading, firing, and the answers to both.
-ghost use Rattle.std.specs.Prelude.{◌≡◌, ◌∷◌, []};
-ghost use Rattle.asm_slots.specs.AgentAnswers.{Fires, FiresOver, IsNotRead, Reads};
+ghost use Rattle.std.specs.Prelude.{◌≡◌, ◌⊎◌, []};
+ghost use Rattle.asm_slots.specs.AgentAnswers.{Fires, FiresOver, IsNotRead, Reads, TriesIn};
 ghost use Rattle.asm_slots.specs.AgentCalls.{IsLastAnswer};
-ghost use Rattle.asm_slots.specs.Answers.{Answers};
-ghost use Rattle.asm_slots.specs.Codes.{IsOneOf, ASM_DONE, ASM_MEMORY, ASM_EMPTY, ASM_SMALL, ASM_NO_ANSWER};
+ghost use Rattle.asm_slots.specs.Answers.{EmptyOr, IsMemory};
+ghost use Rattle.asm_slots.specs.Codes.{Answers, Replies};
 ghost use Rattle.asm_slots.specs.Slots.{Holds, HoldsNoAgent, content_of};
 ghost use Rattle.asm_slots.specs.WrittenText.{WritesText};
+ghost use Rattle.asm_slots.specs.declared.codes.Code.TheVariants as variant;
 
-use asm_slots::codes::{EMPTY, MEMORY, NO_ANSWER, copied};
-use asm_slots::read_and_fire::{fire_in, fire_over_in, read};
-use asm_slots::take_and_put::{put_agent, take_agent};
-use asm_slots::{Numbers, Slot, answer, lend};
+use asm_slots::read_and_fire::{fire, fire_over, last_answer, read};
+use asm_slots::{Numbers, Slot, answer};
 use std::alloc::Global;
 
 /// Read the locations `[LOC, ..]`, at most 256.
@@ -62,13 +61,9 @@ pub extern "C" fn asm_try_fire(
     call: &[u8],
     numbers: &mut Numbers,
 ) -> i32
-    ensures { Fires call.now (content_of agent.old) (content_of agent.new) numbers.new result }
+    ensures { Replies result (TriesIn (Fires call.now) (content_of agent.old) (content_of agent.new) numbers.new) }
 {
-    *numbers = Numbers::none();
-    lend!(inner: Agent = agent, EMPTY);
-    let (code, reported) = fire_in(alloc, inner, call);
-    *numbers = reported;
-    code
+    answer(fire(alloc, agent, call, numbers))
 }
 
 /// Write the text of the answer to the agent's last answered call.
@@ -86,24 +81,13 @@ pub extern "C" fn asm_answer(
     out: &mut [u8],
     written: &mut usize,
 ) -> i32
-    ensures codes { IsOneOf (ASM_DONE ∷ ASM_MEMORY ∷ ASM_EMPTY ∷ ASM_SMALL ∷ ASM_NO_ANSWER ∷ []) result }
-    ensures kept { content_of agent.new ≡ content_of agent.old }
     ensures text { WritesText (λ text. Holds (content_of agent.old) (λ a. IsLastAnswer a.account.receipts text))
+        (EmptyOr (HoldsNoAgent (content_of agent.old))
+        (λ c. IsMemory c ⊎ ((c ≡ variant.NoAnswer) × Holds (content_of agent.old) (λ a. a.account.receipts ≡ []))))
         out.old out.new written.new result }
-    ensures none { result ≡ ASM_NO_ANSWER → Holds (content_of agent.old) (λ a. a.account.receipts ≡ []) }
-    ensures empty { result ≡ ASM_EMPTY → HoldsNoAgent (content_of agent.old) }
+    ensures kept { content_of agent.new ≡ content_of agent.old }
 {
-    *written = 0;
-    let Some((shell, inner)) = take_agent(alloc, agent) else {
-        return EMPTY;
-    };
-    let (inner, answer) = inner.answer(alloc);
-    put_agent(agent, shell, inner);
-    match answer {
-        Ok(Some(text)) => copied(text.as_bytes(), out, written),
-        Ok(None) => NO_ANSWER,
-        Err(_) => MEMORY,
-    }
+    answer(last_answer(alloc, agent, out, written))
 }
 
 /// Fire a move that depends on whole functions too.
@@ -133,11 +117,8 @@ pub extern "C" fn asm_try_fire_over(
     scans: &[u8],
     numbers: &mut Numbers,
 ) -> i32
-    ensures { FiresOver call.now scans.now (content_of agent.old) (content_of agent.new) numbers.new result }
+    ensures { Replies result
+        (TriesIn (FiresOver call.now scans.now) (content_of agent.old) (content_of agent.new) numbers.new) }
 {
-    *numbers = Numbers::none();
-    lend!(inner: Agent = agent, EMPTY);
-    let (code, reported) = fire_over_in(alloc, inner, call, scans);
-    *numbers = reported;
-    code
+    answer(fire_over(alloc, agent, call, scans, numbers))
 }

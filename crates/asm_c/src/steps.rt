@@ -1,18 +1,17 @@
 //! Beginning a step, what is seen through its pushed moves, and popping the last of them.
-ghost use Rattle.std.specs.Prelude.{◌≡◌, ◌≢◌, Ok, length};
-ghost use Rattle.asm_slots.specs.Codes.{ASM_DONE};
-ghost use Rattle.asm_slots.specs.StepAnswers.{Gets, Sees, GetsAll};
-ghost use Rattle.asm_slots.specs.Answers.{Answers};
+ghost use Rattle.std.specs.Prelude.{◌≡◌, ◌≢◌, ◌⊎◌, Ok, length};
+ghost use Rattle.asm_slots.specs.Answers.{IsNoName};
+ghost use Rattle.asm_slots.specs.Codes.{ASM_DONE, Answers};
 ghost use Rattle.asm_slots.specs.OwnState.{Begins, DoesNotBegin};
 ghost use Rattle.asm_slots.specs.Popping.{IsComposedLast, IsNotPoppedIn, IsNotPoppedInto};
 ghost use Rattle.asm_slots.specs.Slots.{ChangesStep, HasRoomForMove, HoldsMove, HoldsNoStep, HoldsStep, IfHoldsStep, content_of};
-ghost use Rattle.asm_slots.specs.StepCalls.{HasPoppedOver};
+ghost use Rattle.asm_slots.specs.StepAnswers.{ShowsBoth, ShowsNeither};
+ghost use Rattle.asm_slots.specs.StepCalls.{HasPoppedOver, HasScanned, HasTracked, IsFoundBy, IsNotGot, IsNotScanned, IsNotSeen, IsSeenBy};
 ghost use Rattle.asm_slots.specs.Tracked.{last_partial_places, dependencies_last};
 
-use asm_slots::codes::EMPTY;
-use asm_slots::getting_all::get_all_in;
+use asm_slots::getting_all::step_scan;
 use asm_slots::popping::{pop, pop_move};
-use asm_slots::steps::{begin, get_in, see_in};
+use asm_slots::steps::{begin, get, see};
 use asm_slots::{Slot, answer, lend};
 use std::alloc::Global;
 
@@ -77,14 +76,15 @@ pub extern "C" fn asm_get(
     out: &mut [u8],
     written: &mut usize,
 ) -> i32
-    ensures gets { Gets locations.now (content_of agent.old) (content_of step.old) (content_of step.new)
-        out.old out.new written.new result }
+    ensures answers { Answers result
+        (ShowsBoth (IsSeenBy locations.now) (content_of agent.old) (content_of step.old) out.new written.new
+        × ChangesStep (content_of step.old) (content_of step.new) (HasTracked locations.now))
+        (ShowsNeither (IsSeenBy locations.now) (IsNotGot locations.now) (content_of agent.old) (content_of step.old)
+        out.old out.new written.new) }
+    ensures stays { result ≢ ASM_DONE → content_of step.new ≡ content_of step.old }
     ensures kept { content_of agent.new ≡ content_of agent.old }
 {
-    *written = 0;
-    lend!(agent: Agent = agent, EMPTY);
-    lend!(step: Step = step, EMPTY);
-    get_in(alloc, agent, step, locations, out, written)
+    answer(get(alloc, agent, step, locations, out, written))
 }
 
 /// Write what `asm_get` writes, and track nothing.
@@ -102,14 +102,14 @@ pub extern "C" fn asm_see(
     out: &mut [u8],
     written: &mut usize,
 ) -> i32
-    ensures sees { Sees locations.now (content_of agent.old) (content_of step.old) out.old out.new written.new result }
+    ensures answers { Answers result
+        (ShowsBoth (IsSeenBy locations.now) (content_of agent.old) (content_of step.old) out.new written.new)
+        (ShowsNeither (IsSeenBy locations.now) (IsNotSeen locations.now) (content_of agent.old) (content_of step.old)
+        out.old out.new written.new) }
     ensures kept { content_of agent.new ≡ content_of agent.old }
     ensures held { content_of step.new ≡ content_of step.old }
 {
-    *written = 0;
-    lend!(agent: Agent = agent, EMPTY);
-    lend!(step: Step = step, EMPTY);
-    see_in(alloc, agent, step, locations, out, written)
+    answer(see(alloc, agent, step, locations, out, written))
 }
 
 /// Take away the move that was pushed last, with those that extended it.
@@ -182,12 +182,13 @@ pub extern "C" fn asm_step_scan(
     out: &mut [u8],
     written: &mut usize,
 ) -> i32
-    ensures gets { GetsAll name.now (content_of agent.old) (content_of step.old) (content_of step.new)
-        out.old out.new written.new result }
+    ensures answers { Answers result
+        (ShowsBoth (IsFoundBy name.now) (content_of agent.old) (content_of step.old) out.new written.new
+        × ChangesStep (content_of step.old) (content_of step.new) (HasScanned name.now))
+        (ShowsNeither (IsFoundBy name.now) (λ a s c. IsNoName name.now c ⊎ IsNotScanned name.now a s c)
+        (content_of agent.old) (content_of step.old) out.old out.new written.new) }
+    ensures stays { result ≢ ASM_DONE → content_of step.new ≡ content_of step.old }
     ensures kept { content_of agent.new ≡ content_of agent.old }
 {
-    *written = 0;
-    lend!(agent: Agent = agent, EMPTY);
-    lend!(step: Step = step, EMPTY);
-    get_all_in(alloc, agent, step, name, out, written)
+    answer(step_scan(alloc, agent, step, name, out, written))
 }

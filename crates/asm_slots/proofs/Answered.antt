@@ -2,8 +2,7 @@
 use Rattle.std.proofs.Common.{◌≡◌, ◌≢◌, ◌∙◌, ℤ, Result, Ok, Err, OnErr, inl, inr, of_z, refl, to_z, w32}
 use Rattle.std.proofs.Math.Facts.{to_z-of_z}
 use Rattle.std.specs.Prelude.{FitsSigned, MatchResult}
-use Rattle.asm_slots.specs.Answers.{Answers, answer_of, number_of}
-use Rattle.asm_slots.specs.Codes.{ASM_DONE}
+use Rattle.asm_slots.specs.Codes.{ASM_DONE, Answers, Replies, answer_of, number_of}
 use Rattle.asm_slots.specs.declared.codes.Code.{Code}
 
 pub answered : (D : Type 0) (R : Code → Type 0) (r : Result (Unit {0}) Code) (n : ℤ) → n ≡ answer_of r → FitsSigned w32 n →
@@ -23,4 +22,8 @@ refused D R c n is fits none = inr (c, to_z-of_z {w = w32} fits ∙ is, none)
 pub done : (D : Type 0) (R : Code → Type 0) → D → Answers ASM_DONE D R
 done D R is = inl (refl, is)
 
-pub ruleset answers = (answered, unanswered, refused, done)
+pub replied : (P : Result (Unit {0}) Code → Type 0) (r : Result (Unit {0}) Code) (n : ℤ) → n ≡ answer_of r → FitsSigned w32 n → P r →
+    Replies (to_z w32 (of_z w32 n)) P
+replied P r n is fits holds = (r, to_z-of_z {w = w32} fits ∙ is, holds)
+
+pub ruleset answers = (answered, unanswered, refused, done, replied)

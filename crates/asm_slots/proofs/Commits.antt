@@ -1,6 +1,6 @@
 -- If the one move of a step fires, the pushed moves fire in turn there.
-use Rattle.std.proofs.Common.{IsTrue, string_bytes, Option, Some, None, Result, IfOk, OnErr, IfErr, IsErrOf, unwrap_or, ℤ, ◌≡◌, ◌≤◌, ◌<◌, ◌↔◌, ◌+◌, ◌-◌, ◌⊎◌, ⊎_elim, inl, inr, ℕ, zero, suc, List, [], ◌∷◌, All, Ok, Err, Contains, length, map, take, get_or, arith, ap, refl, subst, sym, ◌∙◌}
-use Rattle.std.proofs.lemmas.List.{length-map, length-take}
+use Rattle.std.proofs.Common.{IsTrue, string_bytes, Option, Some, None, Result, IfOk, IsErrOf, unwrap_or, ◌≡◌, ◌≤◌, ◌<◌, ◌↔◌, ◌+◌, ◌-◌, ◌⊎◌, ⊎_elim, ℕ, zero, suc, List, [], ◌∷◌, All, Ok, Err, Contains, length, map, take, get_or, arith, ap, refl, subst, sym, ◌∙◌}
+use Rattle.std.proofs.lemmas.List.{length-take}
 use Rattle.std.proofs.lemmas.List.Elements.{All-contains, All-map, Contains-append_left, Contains-append_right}
 use Rattle.asm_update.specs.Fire.{Old, fire, state_of}
 use Rattle.asm_update.specs.Move.{Move}
@@ -25,23 +25,22 @@ use Rattle.asm_aggregate.specs.laws.SetLaws.{set_laws}
 use Rattle.asm_storage.proofs.AgentInvariant.{take-moves_seen}
 use Rattle.asm_storage.proofs.Lists.{length-prefix}
 use Rattle.asm_storage.specs.Agents.{moves_seen}
-use Rattle.asm_storage.specs.Calls.{IsReplied, IsBusy, IsCoherentReply, MadeOffers}
+use Rattle.asm_storage.specs.Calls.{IsReplied, IsCoherentReply}
 use Rattle.asm_storage.specs.Machine.{fire_reply, firing_reply, machine_state, reply_to, Machine}
 use Rattle.asm_state.specs.Verdict.{least_stale}
 use Rattle.asm_storage.specs.Storage.{AgentAt, StorageView, machine_of}
 use Rattle.asm_storage.specs.declared.call.Answer.TheVariants as answer
 use Rattle.asm_storage.specs.declared.call.Call.TheVariants as call
 use Rattle.asm_storage.specs.declared.call.Reply.{Reply}
-use Rattle.asm_storage.specs.declared.call.Reply.TheVariants.{Clash, Fired, Full, Stale}
+use Rattle.asm_storage.specs.declared.call.Reply.TheVariants.{Fired}
 use Rattle.asm_storage.specs.declared.error.FireError.{FireError}
-use Rattle.asm_storage.specs.declared.error.FireError.TheVariants.{Busy, ManyReads, Memory}
+use Rattle.asm_storage.specs.declared.error.FireError.TheVariants.{ManyReads}
 use Rattle.asm_storage.specs.Limits.{reads_limit}
 use Rattle.asm_storage.specs.declared.entry.Entry.{Entry}
 use Rattle.asm_storage.specs.Scans.{with_found, IsKept}
-use Rattle.asm_slots.specs.AgentCalls.{HasPolled, IsRepliedOver, code_of}
-use Rattle.asm_slots.specs.Codes.{IsOneOf, ASM_DONE, ASM_STALE, ASM_CLASH, ASM_MEMORY, ASM_FULL, ASM_BUSY, ASM_MANY}
+use Rattle.asm_slots.specs.AgentCalls.{HasAnswered, IsRepliedOver}
 use Rattle.asm_slots.specs.Commit.{AreWhole, FiresAll, SeenIsLeft, HasFiredStep, HasMoved, HasRecorded, HasRecordedStep}
-use Rattle.asm_slots.specs.Commit.{NamesAll, NamesMany, OneDoesAll, ScansAll, IsMoveOf, ReportsFire}
+use Rattle.asm_slots.specs.Commit.{NamesAll, NamesMany, OneDoesAll, ScansAll, IsMoveOf}
 use Rattle.asm_slots.specs.OwnState.{state_at}
 use Rattle.asm_slots.specs.Standard.{Standard, meaning, part, standard}
 use Rattle.asm_slots.specs.StepView.{StepView, names_of}
@@ -206,71 +205,28 @@ module _ (a new : AgentAt Standard) (s : StepView) (reads : List Named) (scans :
   over_whole = whole a new s reads scans M k names scanned replied coherent over.depends.1
 
 -- the answer to the fire of a step's one move
-pub step_fired : (s : StepView) (code : ℤ) (fired from to : ℕ) (a new : AgentAt Standard) (reads : List Named)
-    (scans : List Scanned) (M : Move) (answer : Result Reply FireError) → NamesAll s reads → ScansAll s scans →
-    M ≡ unwrap_or (one_move s.layers) [] → IsMoveOf s.layers M → ReportsFire answer code fired from to →
-    (IsErrOf answer ManyReads ↔ (reads_limit < length reads + length scans)) →
-    IfOk answer (IsRepliedOver a new reads scans M) → OnErr answer (HasPolled a new) → IfErr answer (IsBusy a new) →
-    ((n : ℕ) × MadeOffers a new answer n) → HasFiredStep s code fired from to a new
-step_fired s code fired from to a new reads scans M answer names scanned one fires reported many answered refused busy offers = record {
-  reads = reads;
+pub step_fired : (s : StepView) (a new : AgentAt Standard) (reads : List Named) (scans : List Scanned) (M : Move)
+    (answer : Result Reply FireError) → NamesAll s reads → ScansAll s scans → M ≡ unwrap_or (one_move s.layers) [] →
+    IsMoveOf s.layers M → (IsErrOf answer ManyReads ↔ (reads_limit < length reads + length scans)) →
+    IfOk answer (IsRepliedOver a new reads scans M) → HasAnswered answer a new → HasFiredStep s reads answer a new
+step_fired s a new reads scans M answer names scanned one fires many replied answered = record {
   scans = scans;
-  answer = answer;
   names = names;
   scanned = scanned;
-  reported = reported;
   many = many;
-  answered = subst (λ (x : Move). IfOk answer (IsRepliedOver a new reads scans x)) one answered;
-  refused = refused;
-  busy = busy;
-  offers = offers;
+  replied = subst (λ (x : Move). IfOk answer (IsRepliedOver a new reads scans x)) one replied;
+  answered = answered;
   fires = λ k is. subst (λ (x : Move). FiresAll a s x k new) one
       (over_fires_all a new s reads scans M k names scanned (over k is) fires);
   tracked = λ k le is. over_seen_is_left a new s reads scans M k names scanned (over k is) le;
   whole = λ k le is. over_whole a new s reads scans M k names scanned (over k is) le;
 } where
   over : (k : ℕ) → answer ≡ Ok (Fired k) → IsRepliedOver a new reads scans M (Fired k)
-  over k is = subst (λ (r : Result Reply FireError). IfOk r (IsRepliedOver a new reads scans M)) is answered
-
--- no reply has the code of a fire that declares too many reads
-reply_not_many : (r : Reply) → code_of r ≡ ASM_MANY → ⊥
-reply_not_many (Fired k) e = cc
-reply_not_many (Stale l) e = cc
-reply_not_many (Clash c) e = cc
-reply_not_many Full e = cc
-
-many_reported : (answer : Result Reply FireError) (code : ℤ) (fired from to : ℕ) → ReportsFire answer code fired from to →
-    code ≡ ASM_MANY → IsErrOf answer ManyReads
-many_reported (Ok r) code fired from to reported is = absurd (reply_not_many r (sym reported.0 ∙ is))
-many_reported (Err ManyReads) code fired from to reported is = refl
-many_reported (Err (Busy f t)) code fired from to reported is = absurd (let e = sym reported.0 ∙ is in cc)
-many_reported (Err Memory) code fired from to reported is = absurd (let e = sym reported.0 ∙ is in cc)
-
--- only a fire that declares too many reads is answered so
-pub many_named : (s : StepView) (answer : Result Reply FireError) (code : ℤ) (fired from to : ℕ) (reads : List Named) (scans : List Scanned) →
-    ScansAll s scans → ReportsFire answer code fired from to →
-    (IsErrOf answer ManyReads ↔ (reads_limit < length reads + length scans)) → code ≡ ASM_MANY → NamesMany s reads
-many_named s answer code fired from to reads scans scanned reported many is =
-    let more = many.0 (many_reported answer code fired from to reported is) in
-    let count = sym (ap length scanned.names) ∙ length-map scans (λ (x : Scanned). string_bytes x.name) in
-    omega (arith, more, count)
+  over k is = subst (λ (r : Result Reply FireError). IfOk r (IsRepliedOver a new reads scans M)) is replied
 
 -- the step's one move does what its moves do in turn
 pub does_all : (a : AgentAt Standard) (s : StepView) → OneDoesAll a s
 does_all a s groups is = one_does part (below a s) s.layers groups (unwrap_or (one_move s.layers) []) is.1 refl
-
--- a fire that doesn't declare too many reads has another code
-without_many : (code : ℤ) → (code ≡ ASM_MANY → ⊥) →
-    IsOneOf (ASM_DONE ∷ ASM_STALE ∷ ASM_CLASH ∷ ASM_MEMORY ∷ ASM_FULL ∷ ASM_BUSY ∷ ASM_MANY ∷ []) code →
-    IsOneOf (ASM_DONE ∷ ASM_STALE ∷ ASM_CLASH ∷ ASM_MEMORY ∷ ASM_FULL ∷ ASM_BUSY ∷ []) code
-without_many code other (inl is) = inl is
-without_many code other (inr (inl is)) = inr (inl is)
-without_many code other (inr (inr (inl is))) = inr (inr (inl is))
-without_many code other (inr (inr (inr (inl is)))) = inr (inr (inr (inl is)))
-without_many code other (inr (inr (inr (inr (inl is))))) = inr (inr (inr (inr (inl is))))
-without_many code other (inr (inr (inr (inr (inr (inl is)))))) = inr (inr (inr (inr (inr (inl is)))))
-without_many code other (inr (inr (inr (inr (inr (inr (inl is))))))) = absurd (other is)
-without_many code other (inr (inr (inr (inr (inr (inr (inr none))))))) = absurd none
 
 -- the agent with the receipt of the read has the step on the same groups of moves
 step_between : (s : StepView) (reads : List Named) (old between : AgentAt Standard) → HasRecorded s reads old between →
@@ -279,22 +235,22 @@ step_between s reads old between recorded groups on =
     subst (λ (a : AgentAt Standard). IsStepOn a s groups) (sym recorded.1.agent) on
 
 -- a fire of the agent with the receipt of the read, of the same reads
-pub recorded_step : (s : StepView) (code : ℤ) (fired from to : ℕ) (old between new : AgentAt Standard) (lent reads : List Named) →
-    lent ≡ reads → NamesAll s reads → ¬ NamesMany s lent → ¬ HasMoved old s → HasRecorded s lent old between →
-    (code ≡ ASM_MANY → NamesMany s reads) →
-    IsOneOf (ASM_DONE ∷ ASM_STALE ∷ ASM_CLASH ∷ ASM_MEMORY ∷ ASM_FULL ∷ ASM_BUSY ∷ ASM_MANY ∷ []) code →
-    HasFiredStep s code fired from to between new → HasRecordedStep s code fired from to old new
-recorded_step s code fired from to old between new lent reads same names few there recorded many codes committed =
-    let few : ¬ NamesMany s reads = subst (λ (r : List Named). ¬ NamesMany s r) same few in
+pub recorded_step : (s : StepView) (answer : Result Reply FireError) (old between new : AgentAt Standard) (lent reads : List Named) →
+    lent ≡ reads → ¬ NamesMany s lent → ¬ HasMoved old s → HasRecorded s lent old between →
+    HasFiredStep s reads answer between new → HasRecordedStep s answer old new
+recorded_step s answer old between new lent reads same few there recorded fired =
     let recorded : HasRecorded s reads old between = subst (λ (r : List Named). HasRecorded s r old between) same recorded in
+    let answered = subst (λ (a : AgentAt Standard). HasAnswered answer a new) recorded.1.agent fired.answered in
     record {
       reads = reads;
-      names = names;
-      few = few;
+      few = subst (λ (r : List Named). ¬ NamesMany s r) same few;
       there = there;
       between = between;
       recorded = recorded;
       step = step_between s reads old between recorded;
-      codes = without_many code (λ is. few (many is)) codes;
-      committed = committed;
+      fired = fired;
+      same = record { storage = answered.same.storage; id = answered.same.id };
+      seen = answered.seen;
+      missed_few = answered.few;
+      missed_one = answered.missed;
     }

@@ -1,6 +1,6 @@
 -- A step that grows or shrinks over the state at its number.
-use Rattle.std.proofs.Common.{ℕ, ℤ, ◌≡◌, ◌≤◌, ◌+◌, inl, inr, length, List, [], ◌∷◌, ◌++◌, Result, Ok, Err, Option, None, Some, unwrap_or, refl, ap, subst, sym}
-use Rattle.std.specs.Prelude.{IfSome}
+use Rattle.std.proofs.Common.{ℕ, ◌≡◌, ◌≤◌, ◌+◌, inr, length, List, [], ◌∷◌, ◌++◌, Result, Ok, Err, Option, None, Some, unwrap_or, refl, ap, subst, sym}
+use Rattle.std.specs.Prelude.{IfErr, IfSome, MatchResult, OnErr, OnOk}
 use Rattle.asm_update.specs.Fire.{Part, Old}
 use Rattle.asm_update.specs.Move.{Move}
 use Rattle.asm_update.specs.State.{State, IsProper}
@@ -12,20 +12,22 @@ use Rattle.asm_step.specs.Layers.{Layer, all_moves, top_of, IsStepOf}
 use Rattle.asm_step.specs.declared.error.StepError.{StepError}
 use Rattle.asm_step.specs.declared.error.StepError.TheVariants.{Deep}
 use Rattle.asm_storage.specs.Storage.{AgentAt}
-use Rattle.asm_slots.specs.Bytes.{ReadAsMove}
 use Rattle.asm_element.specs.Place.{Place}
 use Rattle.asm_step.specs.Places.{AreEach}
 use Rattle.asm_storage.specs.Limits.{reads_limit}
-use Rattle.asm_slots.specs.Codes.{IsOneOf, ASM_SMALL}
-use Rattle.asm_slots.specs.WrittenText.{WritesOneOf}
-use Rattle.asm_slots.specs.StepAnswers.{refusals}
 use Rattle.asm_slots.specs.OwnState.{state_at}
+use Rattle.asm_slots.specs.Bytes.{ReadAsMove}
+use Rattle.asm_slots.specs.Slots.{HoldBoth, HoldsStep}
 use Rattle.asm_slots.specs.Standard.{Standard, standard, part}
+use Rattle.asm_slots.specs.StepAnswers.{DoesNotGrow, Grows}
 use Rattle.asm_slots.specs.StepView.{StepView}
-use Rattle.asm_slots.specs.StepCalls.{AreLastOf, HasTrackedEach, HasPopped, HasReached, IsPushAnswerBelow, IsGrown, IsLayered, IsNotGrown, IsPushError, IsRefused, ReportsTracked, below, from_below, grown}
+use Rattle.asm_slots.specs.StepCalls.{AreLastOf, HasGrown, HasTrackedEach, HasPopped, HasReached, IsPushAnswerBelow, IsGrown, IsLayered, IsNotGrown, IsPushError, below, from_below, grown}
+use Rattle.asm_slots.specs.WrittenText.{IsUnwritten}
+use Rattle.asm_slots.specs.declared.codes.Code.{Code}
+use Rattle.asm_slots.specs.declared.content.Content.{Content}
+use Rattle.asm_slots.specs.declared.content.Content.TheVariants as content
 use Rattle.asm_slots.specs.declared.owned_step.PushMode.{PushMode}
 use Rattle.asm_slots.specs.declared.owned_step.PushMode.TheVariants as ways
-use Rattle.asm_slots.proofs.CopiedTexts.{reports_one_too}
 use Rattle.asm_slots.proofs.OwnStates.{IsOwn, below_is}
 
 -- the answer of a push or an extension on well-formed states that have what is below the step where partial updates
@@ -43,6 +45,14 @@ below_answers a s t new M r own same on groups is proper =
     let at = below_is a s t own same in
     on groups (state_at a t.number) (subst (λ (o : Old). IsStepOf part o t.layers groups) (sym at) is.1) proper
     (λ l there. sym (ap (λ (o : Old). o l) at))
+
+-- what holds of an agent and a step, before and after, holds of the slots
+hold_three : (agent step after : Option Content) (a : AgentAt Standard) (s t : StepView)
+    (P : AgentAt Standard → StepView → StepView → Type 0) → agent ≡ Some (content.Agent a) → step ≡ Some (content.Step s) →
+    after ≡ Some (content.Step t) → P a s t → HoldBoth agent step (λ b r. HoldsStep after (P b r))
+hold_three agent step after a s t P e f g p =
+    subst (λ (x : Option Content). HoldBoth x step (λ b r. HoldsStep after (P b r))) (sym e)
+    (subst (λ (x : Option Content). HoldsStep x (λ r. HoldsStep after (P a r))) (sym f) (subst (λ (x : Option Content). HoldsStep x (P a s)) (sym g) p))
 
 -- what a push or an extension reports over a look-up holds over what is below the step
 pub is_grown : (way : PushMode) (a : AgentAt Standard) (s : StateView) (old : StepView) (ls : List Layer) (M : Move) →
@@ -98,47 +108,35 @@ is_grown_of way a s t inside ls M view own same layers answer on step =
     subst (λ (x : StepView). IsGrown way M a x (record inside { layers = ls })) view
     (is_grown way a s inside ls M own same layers answer on step)
 
--- a move that wasn't accepted changes no layer, and its refusal is reported
-module _ (way : PushMode) (a : AgentAt Standard) (s : StateView) (t inside : StepView) (ls : List Layer) (M : Move) (e : StepError) where
-  reported_of : (after : StepView) (code : ℤ) (text : List ℕ) → inside ≡ t → IsOwn a s → s.number ≡ inside.number →
-      (way ≡ ways.Extend → ¬ (e ≡ Deep)) → ls ≡ inside.layers →
-      IsPushAnswer standard (value_at s) inside.layers ls M (Err e) → AnswersOn (value_at s) inside.layers ls M (Err e) →
-      ReportsTracked M (record inside { layers = ls }) after e code text → IsRefused way M a t after code text
-  reported_of after code text view own same deep kept answer on reported =
-      let error = is_push_error way a s inside M e own same deep
+-- the same of the answer of a push or an extension
+pub grown_on : (way : PushMode) (a : AgentAt Standard) (s : StateView) (t inside : StepView) (ls : List Layer) (M : Move)
+    (r : Result (Unit {0}) StepError) → inside ≡ t → IsOwn a s → s.number ≡ inside.number → OnOk r (IsLayered way inside.layers ls) →
+    IsPushAnswer standard (value_at s) inside.layers ls M r → AnswersOn (value_at s) inside.layers ls M r →
+    OnOk r ((groups : List (List Move)) → IsStepOf part (value_at s) inside.layers groups →
+    IsStepOf part (value_at s) ls (grown way groups M)) →
+    OnErr r (ls ≡ inside.layers) → IfErr r (λ e. way ≡ ways.Extend → ¬ (e ≡ Deep)) →
+    OnOk r (IsGrown way M a t (record inside { layers = ls })) × IfErr r (IsPushError way M a t)
+grown_on way a s t inside ls M (Ok u) view own same layers answer on step kept deep =
+    (is_grown_of way a s t inside ls M view own same layers answer on step, tt)
+grown_on way a s t inside ls M (Err e) view own same layers answer on step kept deep = (
+  tt,
+  subst (λ (x : StepView). IsPushError way M a x e) view
+      (is_push_error way a s inside M e own same deep
       (subst (λ (x : List Layer). IsPushAnswer standard (value_at s) inside.layers x M (Err e)) kept answer)
-      (subst (λ (x : List Layer). AnswersOn (value_at s) inside.layers x M (Err e)) kept on) in
-      let track = subst (λ (x : List Layer). ReportsTracked M (record inside { layers = x }) after e code text) kept reported in (
-        e,
-        subst (λ (x : StepView). IsPushError way M a x e) view error,
-        subst (λ (x : StepView). ReportsTracked M x after e code text) view track,
-      )
+      (subst (λ (x : List Layer). AnswersOn (value_at s) inside.layers x M (Err e)) kept on)),
+)
 
-  pub is_refused : (new : StepView) (out after : List ℕ) (written : ℕ) (code : ℤ) → inside ≡ t → IsOwn a s →
-      s.number ≡ inside.number → (way ≡ ways.Extend → ¬ (e ≡ Deep)) → ls ≡ inside.layers →
-      IsPushAnswer standard (value_at s) inside.layers ls M (Err e) → AnswersOn (value_at s) inside.layers ls M (Err e) →
-      WritesOneOf refusals (ReportsTracked M (record inside { layers = ls }) new e) out after written code →
-      WritesOneOf refusals (IsRefused way M a t new) out after written code
-  is_refused new out after written code view own same deep kept answer on =
-      reports_one_too refusals (ReportsTracked M (record inside { layers = ls }) new e) (IsRefused way M a t new)
-      out after written code (λ c text reported. reported_of new c text view own same deep kept answer on reported)
-
--- the same of a move whose JSON the bytes are
-pub not_grown : (way : PushMode) (bytes : List ℕ) (M : Move) (a : AgentAt Standard) (t new : StepView) → ReadAsMove bytes M →
-    (out after : List ℕ) (written : ℕ) (code : ℤ) → WritesOneOf refusals (IsRefused way M a t new) out after written code →
-    WritesOneOf refusals (IsNotGrown way bytes a t new) out after written code
-not_grown way bytes M a t new reads out after written code =
-    reports_one_too refusals (IsRefused way M a t new) (IsNotGrown way bytes a t new) out after written code
-    (λ c text refused. (M, reads, refused))
-
--- ASM_SMALL is no refusal
-pub not_small : ¬ IsOneOf refusals ASM_SMALL
-not_small (inl e) = cc
-not_small (inr (inl e)) = cc
-not_small (inr (inr (inl e))) = cc
-not_small (inr (inr (inr (inl e)))) = cc
-not_small (inr (inr (inr (inr (inl e))))) = cc
-not_small (inr (inr (inr (inr (inr h))))) = h
+-- the same of the slots, and of a move whose JSON the bytes are
+pub grown_of : (way : PushMode) (bytes : List ℕ) (M : Move) (agent step after : Option Content) (a : AgentAt Standard) (s t : StepView)
+    (out out_after : List ℕ) (n : ℕ) (r : Result (Unit {0}) Code) → agent ≡ Some (content.Agent a) → step ≡ Some (content.Step s) →
+    after ≡ Some (content.Step t) → ReadAsMove bytes M → OnOk r (IsGrown way M a s t) → OnOk r (IsUnwritten out out_after n) →
+    IfErr r (IsNotGrown way M a s t out out_after n) →
+    MatchResult r (λ done. Grows way bytes agent step after out out_after n) (DoesNotGrow way bytes agent step after out out_after n)
+grown_of way bytes M agent step after a s t out out_after n (Ok u) e f g reads grown unwritten none =
+    (hold_three agent step after a s t (HasGrown way bytes) e f g (M, reads, grown), unwritten)
+grown_of way bytes M agent step after a s t out out_after n (Err c) e f g reads grown unwritten none =
+    inr (hold_three agent step after a s t (λ b x y. (N : Move) × ReadAsMove bytes N × IsNotGrown way N b x y out out_after n c) e f g
+    (M, reads, none))
 
 -- the locations are tracked, in a step whose contents were these
 pub tracked_with : (locations : List Place) (inside old : StepView) (tracked : List Place) → inside ≡ old →
@@ -146,11 +144,6 @@ pub tracked_with : (locations : List Place) (inside old : StepView) (tracked : L
     HasTrackedEach locations old (record inside { tracked = tracked })
 tracked_with locations inside old tracked view each few =
     subst (λ (x : StepView). HasTrackedEach locations old (record x { tracked = tracked })) (sym view) (refl, each, few)
-
--- what isn't an extension is a push
-pub pushes : (way : PushMode) → ¬ (way ≡ ways.Extend) → way ≡ ways.Push
-pushes ways.Push other = refl
-pushes ways.Extend other = absurd (other refl)
 
 -- the topmost layer is removed, and the step has the groups before the last one
 pub is_popped : (popped : Option (List Move)) (old : StepView) (ls : List Layer) →

@@ -3,9 +3,7 @@ pub mod HandleValues
 pub mod PartsAndAgents
 pub mod Ascending
 pub mod GivenAgents
-pub mod CopiedTexts
 pub mod Crossing
-pub mod Held
 pub mod FedAudits
 pub mod OwnAgents
 pub mod OwnStates
@@ -18,3 +16,4 @@ pub mod Meanings
 pub mod Scans
 pub mod Refused
 pub mod Answered
+pub mod WrittenTexts

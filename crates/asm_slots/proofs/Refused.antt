@@ -3,7 +3,8 @@ use Rattle.std.proofs.Common.{◌≡◌, Some, inl, refl, subst, sym, ℤ, ℕ, 
 use Rattle.asm_journal.specs.Element.{IsLocationForm}
 use Rattle.asm_slots.specs.Kinds.{IsByJson}
 use Rattle.asm_slots.specs.Answers.{IsNoActionFor, IsNoElementFor, IsNoOperandFor, IsNoRoomFor, IsNotGathered, IsNotInstructed, IsNotPrepared, IsUnreadAs}
-use Rattle.asm_slots.specs.Answers.{IsNotAppended, IsNotTracked, IsNotUnited, code_of_compose}
+use Rattle.asm_slots.specs.Answers.{IsNotAppended, IsNotUnited, code_of_compose}
+use Rattle.asm_slots.specs.StepCalls.{IsNotTracked}
 use Rattle.asm_slots.specs.Slots.{HasRoomForMove, HoldsStore, move_of}
 use Rattle.asm_slots.specs.Store.{StoreView}
 use Rattle.asm_storage.specs.Storage.{AgentAt}

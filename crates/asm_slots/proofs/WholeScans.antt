@@ -1,11 +1,12 @@
 -- Scanned functions are unchanged before a move that fired over their scans.
-use Rattle.std.proofs.Common.{IsTrue, string_bytes, Ok, ◌≡◌, ◌≤◌, ◌<◌, ◌+◌, ◌-◌, ◌∙◌, ◌||◌, ℕ, ℤ, zero, suc, Bool, true, false, List, [], ◌∷◌, All, get_or, length, take, arith, ap, refl, subst, sym}
+use Rattle.std.proofs.Common.{IsTrue, string_bytes, Result, IfOk, IsErrOf, ◌≡◌, ◌≤◌, ◌<◌, ◌↔◌, ◌+◌, ◌-◌, ◌∙◌, ◌||◌, ℕ, zero, suc, Bool, true, false, List, [], ◌∷◌, All, get_or, length, take, arith, ap, refl, subst, sym}
 use Rattle.std.specs.Prelude.{nat_lt}
 use Rattle.std.specs.List.{list_any}
 use mathlib.Core.List.{IsPrefix}
 use Rattle.std.proofs.lemmas.Bool.{false≢true}
 use Rattle.std.proofs.lemmas.List.{length-map}
 use Rattle.std.proofs.lemmas.List.Folds.{list_any_at}
+use Rattle.std.proofs.lemmas.Result.{IfOk-weaker}
 use Rattle.asm_element.specs.Place.{Place}
 use Rattle.asm_update.specs.Fire.{state_of}
 use Rattle.asm_update.specs.Move.{Move}
@@ -16,14 +17,15 @@ use Rattle.asm_state.specs.declared.scanned.Scanned.{Scanned}
 use Rattle.asm_storage.proofs.AgentInvariant.{take-moves_seen}
 use Rattle.asm_storage.proofs.Lists.{length-prefix}
 use Rattle.asm_storage.specs.Agents.{moves_seen}
-use Rattle.asm_storage.specs.Calls.{MadeOffers}
 use Rattle.asm_storage.specs.Limits.{reads_limit}
 use Rattle.asm_storage.specs.Scans.{IsKept}
 use Rattle.asm_storage.specs.Storage.{AgentAt, StorageView, machine_of}
 use Rattle.asm_storage.specs.declared.call.Reply.{Reply}
 use Rattle.asm_storage.specs.declared.call.Reply.TheVariants.{Fired}
+use Rattle.asm_storage.specs.declared.error.FireError.{FireError}
+use Rattle.asm_storage.specs.declared.error.FireError.TheVariants.{ManyReads}
 use Rattle.asm_storage.specs.declared.entry.Entry.{Entry}
-use Rattle.asm_slots.specs.AgentCalls.{IsRepliedOver, code_of, number_of}
+use Rattle.asm_slots.specs.AgentCalls.{HasAnswered, IsRepliedOver}
 use Rattle.asm_slots.specs.AgentAnswers.{AreWholeOver, HasTriedFireOver, ReadAsFireOver, is_any_over}
 use Rattle.asm_slots.specs.AgentAnswers.{is_any_above}
 use Rattle.asm_slots.specs.OwnState.{state_at}
@@ -75,10 +77,20 @@ whole_over a new reads over M r reported within k is = fired (subst (IsRepliedOv
       kept_whole a new k (get_or over j d) (ap (λ (x : AgentAt Standard). x.storage) reported.replied.agent) reported.replied.begins
       (few j d lt) (reported.depends.1 j d lt)
 
--- what holds of an answered fire over scans
-pub tried_over : (call scans : List ℕ) (code : ℤ) (number : ℕ) (a new : AgentAt Standard) (reads : List Named)
-    (over : List Scanned) (M : Move) (r : Reply) → ReadAsFireOver call scans reads over M → code_of r ≡ code →
-    number_of r ≡ number → is_any_over reads over (length a.account.seen) ≡ false → IsRepliedOver a new reads over M r →
-    ¬ (reads_limit < length reads + length over) → ((n : ℕ) × MadeOffers a new (Ok r) n) → HasTriedFireOver call scans code number a new
-tried_over call scans code number a new reads over M r read code_is number_is within reported few offers =
-    (reads, over, M, r, read, code_is, number_is, omega (arith, few), reported, whole_over a new reads over M r reported within, offers)
+-- the answer to a fire over scans
+pub tried_over : (call scans : List ℕ) (a new : AgentAt Standard) (reads : List Named) (over : List Scanned) (M : Move)
+    (answer : Result Reply FireError) → ReadAsFireOver call scans reads over M →
+    is_any_over reads over (length a.account.seen) ≡ false →
+    (IsErrOf answer ManyReads ↔ (reads_limit < length reads + length over)) → IfOk answer (IsRepliedOver a new reads over M) →
+    HasAnswered answer a new → HasTriedFireOver call scans answer a new
+tried_over call scans a new reads over M answer read within many replied answered = record {
+  reads = reads;
+  over = over;
+  move = M;
+  read = read;
+  within = within;
+  many = many;
+  replied = replied;
+  whole = IfOk-weaker answer _ _ (λ r is. whole_over a new reads over M r is within) replied;
+  answered = answered;
+}

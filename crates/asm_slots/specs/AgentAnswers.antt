@@ -1,35 +1,34 @@
 -- The effects of reading, firing and polling.
-use Rattle.std.specs.Prelude.{◌≡◌, nat_lt, ℕ, List, Bool, true, false, length, ◌≢◌, ◌≤◌, ◌+◌, ℤ, [], ◌∷◌, Option, ◌<◌}
-use Rattle.std.specs.Prelude.{◌-◌, ◌||◌, All, Ok, IsTrue, string_bytes}
+use Rattle.std.specs.Prelude.{◌≡◌, ◌⊎◌, ◌↔◌, ◌<◌, ◌+◌, ◌-◌, ◌||◌, nat_lt, ℕ, List, Bool, true, false, length, Option, All, IsTrue, string_bytes}
+use Rattle.std.specs.Prelude.{Result, Err, IfOk, IsErrOf}
 use Rattle.std.specs.List.{list_any}
+use Rattle.serde_json.specs.Data.{Data, string}
+use Rattle.asm_element.specs.Place.{Place}
 use Rattle.asm_update.specs.Move.{Move}
+use Rattle.asm_update.specs.State.{val}
+use Rattle.asm_state.specs.Scans.{has_name}
 use Rattle.asm_state.specs.declared.named.Named.{Named}
+use Rattle.asm_state.specs.declared.scanned.Scanned.{Scanned}
+use Rattle.asm_storage.specs.Calls.{IsCoherentReply, IsReplied}
+use Rattle.asm_storage.specs.Limits.{reads_limit}
 use Rattle.asm_storage.specs.Storage.{AgentAt, IsSameAgent}
-use Rattle.asm_explain.specs.Bytes.{ReadAsFire, AreLocations, IsFireForm, IsNoJson, IsOtherJson, ReadAs}
-use Rattle.asm_slots.specs.Bytes.{ReadAsReads, ReadAsManyLocations, ReadAsManyReads, AreMisread, AreReads, ReadAsMoreReads}
-use Rattle.asm_slots.specs.Standard.{Standard}
-use Rattle.asm_storage.specs.Limits.{offers_limit, reads_limit}
-use Rattle.asm_slots.specs.AgentCalls.{HasTriedFire, HasPolled, HasRead, IsReplyCode, MayHavePolled, MayHaveOffered}
-use Rattle.asm_slots.specs.AgentCalls.{MissedFew, MissedOne, SeesOn, WasBusy, IsRepliedOver, code_of, number_of}
-use Rattle.asm_slots.specs.Codes.{IsOneOf, ASM_DONE, ASM_STALE, ASM_CLASH, ASM_MEMORY, ASM_FULL, ASM_EMPTY, ASM_AHEAD}
-use Rattle.asm_slots.specs.Codes.{ASM_BUSY, ASM_MANY, ASM_NOT_JSON, ASM_SHAPE, ASM_SMALL}
-use Rattle.asm_slots.specs.Slots.{Changes, Holds, HoldsNoAgent}
-use Rattle.asm_slots.specs.Answers.{IsUnreadAs}
+use Rattle.asm_storage.specs.declared.call.Reply.{Reply}
+use Rattle.asm_storage.specs.declared.call.Reply.TheVariants.{Fired}
+use Rattle.asm_storage.specs.declared.error.FireError.{FireError}
+use Rattle.asm_storage.specs.declared.error.FireError.TheVariants.{ManyReads}
+use Rattle.asm_journal.specs.Shape.{pair_of, IsListForm, IsNumberForm}
+use Rattle.asm_explain.specs.Bytes.{ReadAsFire, AreLocations, IsFireForm, ReadAs}
+use Rattle.asm_slots.specs.Answers.{EmptyOr, IsUnreadAs}
+use Rattle.asm_slots.specs.AgentCalls.{HasAnswered, HasPolled, HasRead, IsRepliedOver, MayHavePolled, ReportsFire, SeesOn, no_numbers}
+use Rattle.asm_slots.specs.Bytes.{AreMisread, AreReads, ReadAsManyLocations, ReadAsMoreReads, ReadAsReads}
+use Rattle.asm_slots.specs.OwnState.{state_at, NoneIsStale, HasPolledOn, IsStaleOf}
+use Rattle.asm_slots.specs.Slots.{Changes, HoldsNoAgent}
+use Rattle.asm_slots.specs.Standard.{Standard, meaning}
+use Rattle.asm_slots.specs.WrittenText.{HasNoText, HasText}
 use Rattle.asm_slots.specs.declared.codes.Code.{Code}
 use Rattle.asm_slots.specs.declared.codes.Code.TheVariants as refusal
 use Rattle.asm_slots.specs.declared.content.Content.{Content}
 use Rattle.asm_slots.specs.declared.read_and_fire.Numbers.{Numbers}
-use Rattle.serde_json.specs.Data.{Data, string}
-use Rattle.asm_element.specs.Place.{Place}
-use Rattle.asm_update.specs.State.{val}
-use Rattle.asm_state.specs.Scans.{has_name}
-use Rattle.asm_state.specs.declared.scanned.Scanned.{Scanned}
-use Rattle.asm_storage.specs.Calls.{MadeOffers}
-use Rattle.asm_storage.specs.declared.call.Reply.{Reply}
-use Rattle.asm_storage.specs.declared.call.Reply.TheVariants.{Fired}
-use Rattle.asm_journal.specs.Shape.{pair_of, IsListForm, IsNumberForm}
-use Rattle.asm_slots.specs.OwnState.{state_at, NoneIsStale, HasPolledOn, IsStaleOf}
-use Rattle.asm_slots.specs.WrittenText.{Writes}
 
 -- whether one of the reads has a number above this one
 abbrev pub is_any_above : List Named → ℕ → Bool
@@ -40,12 +39,6 @@ abbrev pub FiresAhead : List ℕ → AgentAt Standard → Type 0
 FiresAhead bytes a =
     (reads : List Named) × (M : Move) × ReadAsFire bytes reads M
     × (is_any_above reads (length a.account.seen) ≡ true)
-
--- the bytes are JSON of a move, and none of its declared reads has such a number
-abbrev pub FiresWithin : List ℕ → AgentAt Standard → Type 0
-FiresWithin bytes a =
-    (reads : List Named) × (M : Move) × ReadAsFire bytes reads M
-    × (is_any_above reads (length a.account.seen) ≡ false)
 
 -- the bytes are JSON of declared reads, and one of them has a number above what the agent has seen
 abbrev pub ReadsAhead : List ℕ → AgentAt Standard → Type 0
@@ -69,30 +62,39 @@ IsNotRead locations agent after refusal.Memory =
 IsNotRead locations agent after refusal.Many = Changes agent after (λ a b. b ≡ a) × ReadAsManyLocations locations
 IsNotRead locations agent after c = Changes agent after (λ a b. b ≡ a) × IsUnreadAs AreLocations locations c
 
--- the fire of these bytes is answered, as code and numbers report; or the code says why not. A number above what the
--- agent has seen is reported before the agent polls, and before more than 256 declared reads are
-pub record Fires (call : List ℕ) (agent after : Option Content) (numbers : Numbers) (code : ℤ) : Type 0 where
-  pub codes : IsOneOf (ASM_DONE ∷ ASM_STALE ∷ ASM_CLASH ∷ ASM_MEMORY ∷ ASM_FULL ∷ ASM_EMPTY
-      ∷ ASM_AHEAD ∷ ASM_BUSY ∷ ASM_MANY ∷ ASM_NOT_JSON ∷ ASM_SHAPE ∷ []) code
-  pub answered : IsReplyCode code → Changes agent after (HasTriedFire call code numbers.fired)
-  pub unfired : code ≢ ASM_DONE → numbers.fired ≡ 0
-  pub not_busy : code ≢ ASM_BUSY → (numbers.from ≡ 0) × (numbers.to ≡ 0)
-  pub few : code ≢ ASM_EMPTY → Changes agent after MissedFew
-  pub missed : code ≡ ASM_DONE → Changes agent after MissedOne
-  pub lost : code ≡ ASM_BUSY → numbers.from + offers_limit ≤ numbers.to
-  pub memory : code ≡ ASM_MEMORY → Changes agent after MayHaveOffered
-  pub range : code ≡ ASM_AHEAD → Holds agent (FiresAhead call)
-  pub within : IsOneOf (ASM_DONE ∷ ASM_STALE ∷ ASM_CLASH ∷ ASM_FULL ∷ ASM_BUSY ∷ ASM_MANY ∷ []) code →
-      Holds agent (FiresWithin call)
-  pub many : code ≡ ASM_MANY → ReadAsManyReads call
-  pub not_json : code ≡ ASM_NOT_JSON → IsNoJson call
-  pub shape : code ≡ ASM_SHAPE → IsOtherJson IsFireForm call
-  pub refused : IsOneOf (ASM_MEMORY ∷ ASM_BUSY ∷ ASM_MANY ∷ ASM_NOT_JSON ∷ ASM_SHAPE ∷ []) code → Changes agent after HasPolled
-  pub busy : code ≡ ASM_BUSY → Changes agent after (WasBusy numbers.from numbers.to)
-  pub same : code ≢ ASM_EMPTY → Changes agent after IsSameAgent
-  pub seen : code ≢ ASM_EMPTY → Changes agent after SeesOn
-  pub empty : code ≡ ASM_EMPTY → HoldsNoAgent agent
-  pub kept : IsOneOf (ASM_EMPTY ∷ ASM_AHEAD ∷ ASM_MANY ∷ ASM_NOT_JSON ∷ ASM_SHAPE ∷ []) code → after ≡ agent
+-- the bytes are JSON of a move without such a read, and the fire of it has this answer: that the declared reads are too
+-- many exactly if they are more than 256
+pub record HasTriedFire (call : List ℕ) (answer : Result Reply FireError) (old new : AgentAt Standard) : Type 0 where
+  pub reads : List Named
+  pub move : Move
+  pub read : ReadAsFire call reads move
+  pub within : is_any_above reads (length old.account.seen) ≡ false
+  pub many : IsErrOf answer ManyReads ↔ (reads_limit < length reads)
+  pub replied : IfOk answer (IsReplied meaning old new reads move)
+  pub coherent : IfOk answer (IsCoherentReply meaning new reads move)
+  pub answered : HasAnswered answer old new
+
+-- the bytes are no move, or one of its declared reads has such a number
+abbrev pub IsNotTried : List ℕ → AgentAt Standard → Code → Type 0
+IsNotTried call a c = IsUnreadAs IsFireForm call c ⊎ ((c ≡ refusal.Ahead) × FiresAhead call a)
+
+-- a fire is tried, and the call reports its answer; or it isn't, and nothing changes
+abbrev pub Tries : (Result Reply FireError → AgentAt Standard → AgentAt Standard → Type 0) → (AgentAt Standard → Code → Type 0) →
+    AgentAt Standard → AgentAt Standard → Numbers → Result (Unit {0}) Code → Type 0
+Tries HasTried IsRefused old new n r =
+    ((answer : Result Reply FireError) × HasTried answer old new × ReportsFire answer n r)
+    ⊎ ((new ≡ old) × (n ≡ no_numbers) × ((c : Code) × (r ≡ Err c) × IsRefused old c))
+
+-- the slot's agent tries a fire, or the slot holds none, and nothing changes
+abbrev pub TriesIn : (AgentAt Standard → AgentAt Standard → Numbers → Result (Unit {0}) Code → Type 0) →
+    Option Content → Option Content → Numbers → Result (Unit {0}) Code → Type 0
+TriesIn Try agent after n r =
+    Changes agent after (λ a b. Try a b n r)
+    ⊎ (HoldsNoAgent agent × (after ≡ agent) × (n ≡ no_numbers) × (r ≡ Err refusal.Empty))
+
+-- the fire of these bytes
+abbrev pub Fires : List ℕ → AgentAt Standard → AgentAt Standard → Numbers → Result (Unit {0}) Code → Type 0
+Fires call = Tries (HasTriedFire call) (IsNotTried call)
 
 -- a function's name and a number, [NAME,NUMBER]
 abbrev pub IsScanForm : Scanned → Data → Type 0
@@ -121,79 +123,58 @@ FiresOverAhead call scans a =
     (reads : List Named) × (over : List Scanned) × (M : Move) × ReadAsFireOver call scans reads over M
     × (is_any_over reads over (length a.account.seen) ≡ true)
 
--- they are JSON of a move and of scans, and no declared read and no scan has such a number
-abbrev pub FiresOverWithin : List ℕ → List ℕ → AgentAt Standard → Type 0
-FiresOverWithin call scans a =
-    (reads : List Named) × (over : List Scanned) × (M : Move) × ReadAsFireOver call scans reads over M
-    × (is_any_over reads over (length a.account.seen) ≡ false)
-
--- they are JSON of a move and of scans, with more than 256 declared reads and scans together
-abbrev pub ReadAsManyOver : List ℕ → List ℕ → Type 0
-ReadAsManyOver call scans =
-    (reads : List Named) × (over : List Scanned) × (M : Move) × ReadAsFireOver call scans reads over M
-    × (reads_limit < length reads + length over)
-
 -- if the move fired with this number, each scanned function is unchanged before it: each of its locations, whether it
 -- has a value or none, has what it had at the number of the scan
 abbrev pub AreWholeOver : AgentAt Standard → List Scanned → Reply → AgentAt Standard → Type 0
 AreWholeOver a over r new = (k : ℕ) → r ≡ Fired k →
     All (λ s. (l : Place) → IsTrue (has_name (string_bytes s.name) l) → val (state_at new (k - 1)) l ≡ val (state_at a s.number) l) over
 
--- they are JSON of a move and of scans, at most 256 declared reads and scans together, and the fire was answered over
--- the scans with a reply of this code and this number; the counts of attempts and polls are as of this reply
-abbrev pub HasTriedFireOver : List ℕ → List ℕ → ℤ → ℕ → AgentAt Standard → AgentAt Standard → Type 0
-HasTriedFireOver call scans code number old new =
-    (reads : List Named) × (over : List Scanned) × (M : Move) × (r : Reply) × ReadAsFireOver call scans reads over M
-    × (code_of r ≡ code) × (number_of r ≡ number) × (length reads + length over ≤ reads_limit)
-    × IsRepliedOver old new reads over M r × AreWholeOver old over r new × ((n : ℕ) × MadeOffers old new (Ok r) n)
+-- they are JSON of a move and of scans without such a number, and the fire over the scans has this answer: that reads
+-- and scans are too many exactly if they are more than 256 together
+pub record HasTriedFireOver (call scans : List ℕ) (answer : Result Reply FireError) (old new : AgentAt Standard) : Type 0 where
+  pub reads : List Named
+  pub over : List Scanned
+  pub move : Move
+  pub read : ReadAsFireOver call scans reads over move
+  pub within : is_any_over reads over (length old.account.seen) ≡ false
+  pub many : IsErrOf answer ManyReads ↔ (reads_limit < length reads + length over)
+  pub replied : IfOk answer (IsRepliedOver old new reads over move)
+  pub whole : IfOk answer (λ r. AreWholeOver old over r new)
+  pub answered : HasAnswered answer old new
 
--- the fire of these bytes is answered over the scans of those, as code and numbers report; or the code says why not.
--- A number above what the agent has seen is reported before the agent polls, and before more than 256 declared reads
--- and scans are
-pub record FiresOver (call scans : List ℕ) (agent after : Option Content) (numbers : Numbers) (code : ℤ) : Type 0 where
-  pub codes : IsOneOf (ASM_DONE ∷ ASM_STALE ∷ ASM_CLASH ∷ ASM_MEMORY ∷ ASM_FULL ∷ ASM_EMPTY
-      ∷ ASM_AHEAD ∷ ASM_BUSY ∷ ASM_MANY ∷ ASM_NOT_JSON ∷ ASM_SHAPE ∷ []) code
-  pub answered : IsReplyCode code → Changes agent after (HasTriedFireOver call scans code numbers.fired)
-  pub unfired : code ≢ ASM_DONE → numbers.fired ≡ 0
-  pub not_busy : code ≢ ASM_BUSY → (numbers.from ≡ 0) × (numbers.to ≡ 0)
-  pub few : code ≢ ASM_EMPTY → Changes agent after MissedFew
-  pub missed : code ≡ ASM_DONE → Changes agent after MissedOne
-  pub lost : code ≡ ASM_BUSY → numbers.from + offers_limit ≤ numbers.to
-  pub memory : code ≡ ASM_MEMORY → Changes agent after MayHaveOffered
-  pub range : code ≡ ASM_AHEAD → Holds agent (FiresOverAhead call scans)
-  pub within : IsOneOf (ASM_DONE ∷ ASM_STALE ∷ ASM_CLASH ∷ ASM_FULL ∷ ASM_BUSY ∷ ASM_MANY ∷ []) code →
-      Holds agent (FiresOverWithin call scans)
-  pub many : code ≡ ASM_MANY → ReadAsManyOver call scans
-  pub misread : IsOneOf (ASM_NOT_JSON ∷ ASM_SHAPE ∷ []) code → AreMisread IsFireForm AreScans call scans code
-  pub refused : IsOneOf (ASM_MEMORY ∷ ASM_BUSY ∷ ASM_MANY ∷ ASM_NOT_JSON ∷ ASM_SHAPE ∷ []) code → Changes agent after HasPolled
-  pub busy : code ≡ ASM_BUSY → Changes agent after (WasBusy numbers.from numbers.to)
-  pub same : code ≢ ASM_EMPTY → Changes agent after IsSameAgent
-  pub seen : code ≢ ASM_EMPTY → Changes agent after SeesOn
-  pub empty : code ≡ ASM_EMPTY → HoldsNoAgent agent
-  pub kept : IsOneOf (ASM_EMPTY ∷ ASM_AHEAD ∷ ASM_MANY ∷ ASM_NOT_JSON ∷ ASM_SHAPE ∷ []) code → after ≡ agent
+-- the first bytes are no move, or else the second ones no scans; or a declared read or a scan has such a number
+abbrev pub IsNotTriedOver : List ℕ → List ℕ → AgentAt Standard → Code → Type 0
+IsNotTriedOver call scans a c = AreMisread IsFireForm AreScans call scans c ⊎ ((c ≡ refusal.Ahead) × FiresOverAhead call scans a)
 
--- the text has the smallest location of the declared reads of these bytes that is stale after what the slot's agent
--- has seen
-abbrev pub IsStaleReported : List ℕ → Option Content → List ℕ → Type 0
-IsStaleReported reads agent text = Holds agent (λ a. IsStaleOf reads a text)
+-- the fire of these bytes over the scans of those
+abbrev pub FiresOver : List ℕ → List ℕ → AgentAt Standard → AgentAt Standard → Numbers → Result (Unit {0}) Code → Type 0
+FiresOver call scans = Tries (HasTriedFireOver call scans) (IsNotTriedOver call scans)
 
--- the declared reads of these bytes are valid after what the agent has then seen, or a stale one is reported; or the
--- code says why not. A number above what the agent has seen is reported before the agent polls, and before more than
--- 256 reads are
-pub record Validates (reads : List ℕ) (agent after : Option Content) (out out_after : List ℕ) (written : ℕ) (code : ℤ) : Type 0 where
-  pub codes : IsOneOf (ASM_DONE ∷ ASM_STALE ∷ ASM_MEMORY ∷ ASM_EMPTY ∷ ASM_AHEAD ∷ ASM_SMALL ∷ ASM_MANY
-      ∷ ASM_NOT_JSON ∷ ASM_SHAPE ∷ []) code
-  pub stand : code ≡ ASM_DONE → Holds after (NoneIsStale reads)
-  pub text : Writes (ASM_STALE ∷ []) (λ c. IsStaleReported reads after) (IsStaleReported reads after) out out_after written code
-  pub polled : IsOneOf (ASM_DONE ∷ ASM_STALE ∷ ASM_SMALL ∷ []) code → Changes agent after HasPolledOn
-  pub memory : code ≡ ASM_MEMORY → Changes agent after MayHavePolled
-  pub refused : code ≢ ASM_EMPTY → Changes agent after HasPolled
-  pub same : code ≢ ASM_EMPTY → Changes agent after IsSameAgent
-  pub seen : code ≢ ASM_EMPTY → Changes agent after SeesOn
-  pub range : code ≡ ASM_AHEAD → Holds agent (ReadsAhead reads)
-  pub within : IsOneOf (ASM_DONE ∷ ASM_STALE ∷ ASM_SMALL ∷ ASM_MANY ∷ []) code → Holds agent (ReadsWithin reads)
-  pub many : code ≡ ASM_MANY → ReadAsMoreReads reads
-  pub not_json : code ≡ ASM_NOT_JSON → IsNoJson reads
-  pub shape : code ≡ ASM_SHAPE → IsOtherJson AreReads reads
-  pub empty : code ≡ ASM_EMPTY → HoldsNoAgent agent
-  pub kept : IsOneOf (ASM_EMPTY ∷ ASM_AHEAD ∷ ASM_MANY ∷ ASM_NOT_JSON ∷ ASM_SHAPE ∷ []) code → after ≡ agent
+-- the agent has polled to the end; the declared reads of these bytes, none of which has a number above what it had
+-- seen, have this property after what it has then seen
+abbrev pub Judges : List ℕ → Option Content → Option Content → (AgentAt Standard → Type 0) → Type 0
+Judges reads agent after P =
+    Changes agent after (λ a b. ReadsWithin reads a × HasPolledOn a b × IsSameAgent a b × SeesOn a b × P b)
+
+-- they are valid
+abbrev pub Validates : List ℕ → Option Content → Option Content → Type 0
+Validates reads agent after = Judges reads agent after (NoneIsStale reads)
+
+-- the text has the smallest location of those that are stale
+abbrev pub FindsStale : List ℕ → Option Content → Option Content → List ℕ → Type 0
+FindsStale reads agent after text = Judges reads agent after (λ b. IsStaleOf reads b text)
+
+-- why they aren't judged; a number above what the agent has seen is reported before the agent polls, and before more
+-- than 256 reads are
+abbrev pub IsNotJudged : List ℕ → AgentAt Standard → AgentAt Standard → Code → Type 0
+IsNotJudged reads a b refusal.Memory = HasPolled a b × MayHavePolled a b × IsSameAgent a b × SeesOn a b
+IsNotJudged reads a b refusal.Ahead = (b ≡ a) × ReadsAhead reads a
+IsNotJudged reads a b refusal.Many = (b ≡ a) × ReadsWithin reads a × ReadAsMoreReads reads
+IsNotJudged reads a b c = (b ≡ a) × IsUnreadAs AreReads reads c
+
+-- a stale one is reported, or they aren't judged
+abbrev pub DoesNotValidate : List ℕ → Option Content → Option Content → List ℕ → List ℕ → ℕ → Code → Type 0
+DoesNotValidate reads agent after out out_after written c =
+    ((c ≡ refusal.Stale) × HasText (FindsStale reads agent after) out_after written)
+    ⊎ HasNoText (FindsStale reads agent after) (EmptyOr (HoldsNoAgent agent × (after ≡ agent))
+    (λ k. Changes agent after (λ a b. IsNotJudged reads a b k))) out out_after written c

@@ -1,6 +1,6 @@
 -- What the calls do with the agents and the storages in slots.
-use Rattle.std.specs.Prelude.{◌≡◌, ◌⊎◌, ◌≤◌, ◌+◌, ◌-◌, ◌^◌, min, max, ℕ, ℤ, List, [], ◌∷◌, ◌++◌, length, Option, None, Some}
-use Rattle.std.specs.Prelude.{Ok, Err}
+use Rattle.std.specs.Prelude.{◌≡◌, ◌⊎◌, ◌≤◌, ◌+◌, ◌-◌, ◌^◌, min, max, ℕ, List, [], ◌∷◌, ◌++◌, length, Option, None, Some}
+use Rattle.std.specs.Prelude.{Result, Ok, Err, IfErr, OnErr}
 use Rattle.serde_json.specs.Written.{compact_text}
 use mathlib.Core.List.{IsPrefix}
 use Rattle.asm_element.specs.Place as element
@@ -11,23 +11,25 @@ use Rattle.asm_storage.specs.Agents.{moves_seen}
 use Rattle.asm_storage.specs.Limits.{offers_limit}
 use Rattle.asm_storage.specs.declared.call.Reply.{Reply}
 use Rattle.asm_storage.specs.declared.call.Reply.TheVariants as reply
-use Rattle.asm_storage.specs.declared.error.FireError.TheVariants.{Busy, Memory}
+use Rattle.asm_storage.specs.declared.error.FireError.{FireError}
+use Rattle.asm_storage.specs.declared.error.FireError.TheVariants.{Busy, ManyReads, Memory}
 use Rattle.asm_storage.specs.declared.receipt.Receipt.{Receipt}
 use Rattle.asm_storage.specs.declared.entry.Entry.{Entry}
-use Rattle.asm_storage.specs.Storage.{AgentAt, has_polled, has_seen, last_poll, machine_of, Missed}
+use Rattle.asm_storage.specs.Storage.{AgentAt, IsSameAgent, has_polled, has_seen, last_poll, machine_of, Missed}
 use Rattle.asm_storage.specs.Calls.{ReadingView, IsRead, IsReplied, IsBusy, IsCoherentReply, MadeOffers, judged_on}
 use Rattle.asm_storage.specs.Scans.{with_found, DependsOn}
 use Rattle.asm_journal.specs.Event.{answer_json_of}
 pub use Rattle.asm_row.specs.Limits.{IsNoCapacity}
 use Rattle.asm_slots.specs.Standard.{Standard, meaning}
-use Rattle.asm_explain.specs.Bytes.{ReadAsFire}
 use Rattle.asm_slots.specs.Bytes.{ReadAsLocations, ReadAsState}
 use Rattle.asm_slots.specs.ClosedStore.{IsJournalOf}
-use Rattle.asm_slots.specs.Codes.{ASM_DONE, ASM_STALE, ASM_CLASH, ASM_FULL}
 use Rattle.asm_slots.specs.Slots.{HoldsStore, Changes}
 use Rattle.asm_slots.specs.Store.{StoreView, IsPutIn, IsUnused}
+use Rattle.asm_slots.specs.declared.codes.Code.{Code}
+use Rattle.asm_slots.specs.declared.codes.Code.TheVariants as code
 use Rattle.asm_slots.specs.declared.content.Content.{Content}
 use Rattle.asm_slots.specs.declared.content.Content.TheVariants as content
+use Rattle.asm_slots.specs.declared.read_and_fire.Numbers.{Numbers}
 
 -- a storage with this opening state and this capacity, of which no agent was made
 abbrev pub IsOpened : List ℕ → ℕ → StoreView → Type 0
@@ -48,29 +50,29 @@ HasRead bytes old new =
     (locations : List element.Place) × (r : ReadingView) × ReadAsLocations bytes locations
     × IsRead meaning old new locations r × Missed old (last_poll new) new
 
--- the code of a reply
-abbrev pub code_of : Reply → ℤ
-code_of (reply.Fired k) = ASM_DONE
-code_of (reply.Stale l) = ASM_STALE
-code_of (reply.Clash c) = ASM_CLASH
-code_of reply.Full = ASM_FULL
+-- what a call answers for a fire's answer: it is done if the move fired
+abbrev pub answer_to : Result Reply FireError → Result (Unit {0}) Code
+answer_to (Ok (reply.Fired k)) = Ok tt
+answer_to (Ok (reply.Stale l)) = Err code.Stale
+answer_to (Ok (reply.Clash c)) = Err code.Clash
+answer_to (Ok reply.Full) = Err code.Full
+answer_to (Err ManyReads) = Err code.Many
+answer_to (Err (Busy from to)) = Err code.Busy
+answer_to (Err Memory) = Err code.Memory
 
--- the number of the move that was fired, or 0
-abbrev pub number_of : Reply → ℕ
-number_of (reply.Fired k) = k
-number_of _ = 0
+-- the numbers of a call that sets none
+abbrev pub no_numbers : Numbers
+no_numbers = record { fired = 0; from = 0; to = 0 }
 
--- one of the codes of replies
-abbrev pub IsReplyCode : ℤ → Type 0
-IsReplyCode code = (code ≡ ASM_DONE) ⊎ (code ≡ ASM_STALE) ⊎ (code ≡ ASM_CLASH) ⊎ (code ≡ ASM_FULL)
+-- the number of the fired move, or how many moves had been seen at the start and at the end of a busy call
+abbrev pub numbers_to : Result Reply FireError → Numbers
+numbers_to (Ok (reply.Fired k)) = record { fired = k; from = 0; to = 0 }
+numbers_to (Err (Busy f t)) = record { fired = 0; from = f; to = t }
+numbers_to _ = no_numbers
 
--- the bytes are JSON of a fire, and it was answered with a reply of this code and this number; the counts of attempts
--- and polls are as of this reply
-abbrev pub HasTriedFire : List ℕ → ℤ → ℕ → AgentAt Standard → AgentAt Standard → Type 0
-HasTriedFire bytes code number old new =
-    (reads : List Named) × (M : Move) × (r : Reply) × ReadAsFire bytes reads M × (code_of r ≡ code)
-    × (number_of r ≡ number) × IsReplied meaning old new reads M r × IsCoherentReply meaning new reads M r
-    × ((n : ℕ) × MadeOffers old new (Ok r) n)
+-- the call reports the fire's answer
+abbrev pub ReportsFire : Result Reply FireError → Numbers → Result (Unit {0}) Code → Type 0
+ReportsFire answer n r = (r ≡ answer_to answer) × (n ≡ numbers_to answer)
 
 -- a fire that depends on scans too was answered by this reply: the one to the fire that also declares, behind the
 -- reads, what was found of the scans
@@ -79,10 +81,6 @@ pub record IsRepliedOver (old new : AgentAt Standard) (reads : List Named) (scan
   pub replied : IsReplied meaning old new (with_found reads found) M r
   pub coherent : IsCoherentReply meaning new (with_found reads found) M r
   pub depends : DependsOn (machine_of meaning new.storage) (moves_seen (judged_on r new.account.seen)) scans found r
-
--- how many moves had been seen at the start and at the end of a call that lost 64 attempts
-abbrev pub WasBusy : ℕ → ℕ → AgentAt Standard → AgentAt Standard → Type 0
-WasBusy from to old new = IsBusy old new (Busy from to) × ((n : ℕ) × MadeOffers old new (Err (Busy from to)) n)
 
 -- it has polled, and nothing else has changed
 abbrev pub HasPolled : AgentAt Standard → AgentAt Standard → Type 0
@@ -96,10 +94,6 @@ SeesOn old new = IsPrefix old.account.seen new.account.seen
 abbrev pub MayHavePolled : AgentAt Standard → AgentAt Standard → Type 0
 MayHavePolled old new = (new ≡ old) ⊎ Missed old (last_poll new) new
 
--- it is unchanged, or has made attempts and polls for a fire that was refused memory
-abbrev pub MayHaveOffered : AgentAt Standard → AgentAt Standard → Type 0
-MayHaveOffered old new = (new ≡ old) ⊎ ((n : ℕ) × MadeOffers old new (Err Memory) n)
-
 -- at most 64 more polls found nothing
 abbrev pub MissedFew : AgentAt Standard → AgentAt Standard → Type 0
 MissedFew old new = new.misses ≤ old.misses + offers_limit
@@ -107,6 +101,17 @@ MissedFew old new = new.misses ≤ old.misses + offers_limit
 -- at least one more poll found nothing (saturating counter)
 abbrev pub MissedOne : AgentAt Standard → AgentAt Standard → Type 0
 MissedOne old new = min (old.misses + 1) (2 ^ 64 - 1) ≤ new.misses
+
+-- what becomes of an agent by a fire with this answer, however the fire depends
+pub record HasAnswered (answer : Result Reply FireError) (old new : AgentAt Standard) : Type 0 where
+  pub same : IsSameAgent old new
+  pub seen : SeesOn old new
+  pub refused : OnErr answer (HasPolled old new)
+  pub busy : IfErr answer (IsBusy old new)
+  pub offers : (n : ℕ) × MadeOffers old new answer n
+  pub few : MissedFew old new
+  pub missed : (k : ℕ) → answer ≡ Ok (reply.Fired k) → MissedOne old new
+  pub lost : (from to : ℕ) → answer ≡ Err (Busy from to) → from + offers_limit ≤ to
 
 -- the text of the answer to the last of these calls
 abbrev pub IsLastAnswer : List Receipt → List ℕ → Type 0

@@ -1,19 +1,13 @@
--- What calls answer, and the numbers of their codes.
-use Rattle.std.specs.Prelude.{◌≡◌, ◌⊎◌, ◌<◌, ◌≤◌, ◌+◌, ℤ, Result, Ok, Err, ◌≢◌, ℕ, List, length, IsUtf8, Option, None}
+-- Why calls are refused, by their codes.
+use Rattle.std.specs.Prelude.{◌≡◌, ◌⊎◌, ◌<◌, ◌≤◌, ◌+◌, ℤ, ◌≢◌, ℕ, List, length, IsUtf8, Option, None}
 use Rattle.asm_explain.specs.declared.reading.TextError.{TextError}
 use Rattle.asm_explain.specs.declared.reading.TextError.TheVariants as text_error
 use Rattle.asm_update.specs.declared.instructions.InstructionsError.{InstructionsError}
 use Rattle.asm_update.specs.declared.instructions.InstructionsError.TheVariants as instructions_error
-use Rattle.asm_slots.specs.Codes.{ASM_CLASH, ASM_DONE, ASM_EMPTY, ASM_LARGE, ASM_LONG_MOVE, ASM_MANY, ASM_MEMORY, ASM_MOVED}
-use Rattle.asm_slots.specs.Codes.{ASM_NOT_JSON, ASM_NO_PUSH, ASM_OPERAND, ASM_OTHER, ASM_SHAPE, ASM_TAKEN}
-use Rattle.asm_slots.specs.Codes.{ASM_AGENTS, ASM_CAPACITY, ASM_MANY_CALLS, ASM_MISSING, ASM_NOT_FULL, ASM_NO_AGENT, ASM_NO_JOURNAL, ASM_NUMBER}
 use Rattle.asm_aggregate.specs.declared.composition.ComposeError.{ComposeError}
 use Rattle.asm_aggregate.specs.declared.composition.ComposeError.TheVariants as compose_error
 use Rattle.asm_storage.specs.declared.error.StorageError.{StorageError}
 use Rattle.asm_storage.specs.declared.error.StorageError.TheVariants as storage_error
-use Rattle.asm_element.specs.Place.{Place}
-use Rattle.asm_slots.specs.StepCalls.{WouldTakeMany}
-use Rattle.asm_slots.specs.StepView.{StepView}
 use Rattle.asm_slots.specs.declared.codes.Code.{Code}
 use Rattle.asm_slots.specs.declared.codes.Code.TheVariants as code
 use Rattle.serde_json.specs.Data.{Data}
@@ -26,39 +20,6 @@ use Rattle.asm_journal.specs.Element.{IsLocationForm}
 use Rattle.asm_slots.specs.Kinds.{ASM_KIND_TEXT, IsByJson, IsMisshapen, IsNoAction, IsOperand, IsTextOrPlain}
 use Rattle.asm_slots.specs.Slots.{HasRoomForMove, HoldsNoAgent, HoldsNoLocation, move_of}
 use Rattle.asm_slots.specs.declared.content.Content.{Content}
-
--- the number of a code
-abbrev pub number_of : Code → ℤ
-number_of code.Memory = ASM_MEMORY
-number_of code.Empty = ASM_EMPTY
-number_of code.Taken = ASM_TAKEN
-number_of code.NotJson = ASM_NOT_JSON
-number_of code.Shape = ASM_SHAPE
-number_of code.Operand = ASM_OPERAND
-number_of code.LongMove = ASM_LONG_MOVE
-number_of code.Moved = ASM_MOVED
-number_of code.Many = ASM_MANY
-number_of code.NoPush = ASM_NO_PUSH
-number_of code.Clash = ASM_CLASH
-number_of code.Large = ASM_LARGE
-number_of code.Other = ASM_OTHER
-number_of code.Capacity = ASM_CAPACITY
-number_of code.NoJournal = ASM_NO_JOURNAL
-number_of code.NotFull = ASM_NOT_FULL
-number_of code.Agents = ASM_AGENTS
-number_of code.Number = ASM_NUMBER
-number_of code.NoAgent = ASM_NO_AGENT
-number_of code.Missing = ASM_MISSING
-number_of code.ManyCalls = ASM_MANY_CALLS
-
--- the number that C gets
-abbrev pub answer_of : Result (Unit {0}) Code → ℤ
-answer_of (Ok _) = ASM_DONE
-answer_of (Err c) = number_of c
-
--- the call is done, and this holds; or it is refused with a code, and that holds of the code
-abbrev pub Answers : ℤ → Type 0 → (Code → Type 0) → Type 0
-Answers answer Done Refused = ((answer ≡ ASM_DONE) × Done) ⊎ ((c : Code) × (answer ≡ number_of c) × Refused c)
 
 -- the code of bytes that aren't read
 abbrev pub code_of_text : TextError → Code
@@ -82,6 +43,20 @@ code_of_compose (compose_error.Clash c) = code.Clash
 code_of_compose (compose_error.Large l) = code.Large
 code_of_compose compose_error.ManyInstructions = code.LongMove
 code_of_compose compose_error.Memory = code.Memory
+
+-- memory was refused
+abbrev pub IsMemory : Code → Type 0
+IsMemory c = c ≡ code.Memory
+
+-- a slot lacks what the call needs; or the call is refused for another reason
+abbrev pub EmptyOr : Type 0 → (Code → Type 0) → Code → Type 0
+EmptyOr Lacks Refused c = ((c ≡ code.Empty) × Lacks) ⊎ Refused c
+
+-- the name isn't UTF-8
+abbrev pub IsNoName : List ℕ → Code → Type 0
+IsNoName name code.Memory = Unit {0}
+IsNoName name code.Shape = ¬ IsUtf8 name
+IsNoName name _ = ⊥
 
 -- no value of this form has the bytes as its JSON
 abbrev pub IsUnreadAs : {X : Type 0} → (X → Data → Type 0) → List ℕ → Code → Type 0
@@ -153,9 +128,3 @@ abbrev pub AreNotTwo : Option Content → Option Content → Code → Type 0
 AreNotTwo agent other code.Empty = HoldsNoAgent agent ⊎ HoldsNoAgent other
 AreNotTwo agent other code.Other = Unit {0}
 AreNotTwo agent other _ = ⊥
-
--- the locations would take too many places
-abbrev pub IsNotTracked : List Place → StepView → Code → Type 0
-IsNotTracked locations s code.Memory = Unit {0}
-IsNotTracked locations s code.Many = WouldTakeMany locations s
-IsNotTracked locations s _ = ⊥

@@ -1,6 +1,6 @@
 -- What the commit of a step does.
-use Rattle.std.specs.Prelude.{◌≡◌, ◌≢◌, ◌↔◌, ◌⊎◌, ◌-◌, ◌+◌, ◌≤◌, ◌<◌, ℕ, ℤ, List, [], ◌∷◌, ◌++◌, All, map, Option, None}
-use Rattle.std.specs.Prelude.{Result, Ok, Err, IfOk, OnErr, IfErr, IsErrOf, unwrap_or, Contains, true, length}
+use Rattle.std.specs.Prelude.{◌≡◌, ◌↔◌, ◌⊎◌, ◌-◌, ◌+◌, ◌≤◌, ◌<◌, ℕ, List, [], ◌++◌, All, map, Option}
+use Rattle.std.specs.Prelude.{Result, Ok, Err, IfOk, IsErrOf, unwrap_or, Contains, true, length}
 use Rattle.asm_update.specs.Aggregator.{AggregatorLaws, Meaning}
 use Rattle.asm_update.specs.Fire.{Old, fire}
 use Rattle.asm_update.specs.Move.{Move}
@@ -8,39 +8,32 @@ use Rattle.asm_update.specs.State.{State, IsProper, val}
 use Rattle.asm_element.specs.Place.{Place}
 use Rattle.asm_state.specs.declared.named.Named.{Named}
 use Rattle.asm_state.specs.declared.scanned.Scanned.{Scanned}
-use Rattle.asm_storage.specs.Calls.{IsBehind, IsBusy, IsRecall, MadeOffers, ReadingView}
-use Rattle.asm_storage.specs.Limits.{offers_limit, reads_limit}
+use Rattle.asm_storage.specs.Calls.{IsBehind, IsRecall, ReadingView}
+use Rattle.asm_storage.specs.Limits.{reads_limit}
 use Rattle.asm_storage.specs.Storage.{AgentAt, IsSameAgent}
 use Rattle.asm_storage.specs.declared.call.Reply.{Reply}
 use Rattle.asm_storage.specs.declared.call.Reply.TheVariants.{Fired}
 use Rattle.asm_storage.specs.declared.error.FireError.{FireError}
-use Rattle.asm_storage.specs.declared.error.FireError.TheVariants.{Busy, ManyReads, Memory}
+use Rattle.asm_storage.specs.declared.error.FireError.TheVariants.{ManyReads}
 use Rattle.asm_step.specs.InTurn.{DoesAll, fire_all}
 use Rattle.asm_step.specs.Layers.{IsStepOf, Layer, all_moves, one_move, dependencies_of, shows_below}
 use Rattle.asm_step.specs.Places.{AreEach}
 use Rattle.asm_step.specs.Dependencies.{AgreesAtDependencies, left_by}
-use Rattle.asm_slots.specs.AgentCalls.{HasPolled, IsRepliedOver, MissedFew, MissedOne, SeesOn, code_of, number_of}
-use Rattle.asm_slots.specs.Codes.{IsOneOf, ASM_DONE, ASM_STALE, ASM_CLASH, ASM_MEMORY, ASM_FULL, ASM_EMPTY, ASM_BUSY}
-use Rattle.asm_slots.specs.Codes.{ASM_MANY, ASM_MOVED}
+use Rattle.asm_slots.specs.AgentCalls.{HasAnswered, IsRepliedOver, MissedFew, MissedOne, ReportsFire, SeesOn, no_numbers}
+use Rattle.asm_slots.specs.Answers.{IsMemory}
 use Rattle.asm_slots.specs.OwnState.{state_at}
-use Rattle.asm_slots.specs.Slots.{Changes, HoldBoth, Holds, LacksOne}
+use Rattle.asm_slots.specs.Slots.{HoldBoth, Holds, LacksOne}
 use Rattle.asm_slots.specs.Standard.{Standard, meaning, part}
 use Rattle.asm_slots.specs.StepView.{StepView, names_of}
 use Rattle.asm_slots.specs.StepCalls.{IsElsewhere, IsOfScanned, IsStepOn, below, seen}
+use Rattle.asm_slots.specs.declared.codes.Code.{Code}
+use Rattle.asm_slots.specs.declared.codes.Code.TheVariants as code
 use Rattle.asm_slots.specs.declared.content.Content.{Content}
 use Rattle.asm_slots.specs.declared.read_and_fire.Numbers.{Numbers}
 use Rattle.serde_json.specs.Written.{compact_text}
 use Rattle.asm_storage.specs.declared.call.Call.{Call}
 use Rattle.asm_storage.specs.declared.call.Call.TheVariants as call
 use Rattle.asm_journal.specs.Event.{call_json_of}
-
--- the code and the numbers of a fire's answer: the number of the fired move, and how many moves had been seen at the
--- start and at the end of a busy call; what a code doesn't set is 0
-abbrev pub ReportsFire : Result Reply FireError → ℤ → ℕ → ℕ → ℕ → Type 0
-ReportsFire (Ok r) code fired from to = (code ≡ code_of r) × (fired ≡ number_of r) × (from ≡ 0) × (to ≡ 0)
-ReportsFire (Err (Busy f t)) code fired from to = (code ≡ ASM_BUSY) × (fired ≡ 0) × (from ≡ f) × (to ≡ t)
-ReportsFire (Err ManyReads) code fired from to = (code ≡ ASM_MANY) × (fired ≡ 0) × (from ≡ 0) × (to ≡ 0)
-ReportsFire (Err Memory) code fired from to = (code ≡ ASM_MEMORY) × (fired ≡ 0) × (from ≡ 0) × (to ≡ 0)
 
 -- a read at the step's version is declared for each location on which the step depends: each tracked one, where what
 -- was seen was made from the state below, and each on which the pushed moves depend
@@ -80,55 +73,36 @@ SeenIsLeft a s k new = (then : StepView) (groups : List (List Move)) (l : Place)
 abbrev pub AreWhole : AgentAt Standard → StepView → ℕ → AgentAt Standard → Type 0
 AreWhole a s k new = (l : Place) → IsOfScanned l s → val (state_at new (k - 1)) l ≡ below a s l
 
--- the step's one move was fired with all reads that its commit declares and all its scans, and has this answer: that
+-- the step's one move was fired with these declared reads, which are all, and all its scans, and has this answer: that
 -- these are too many exactly if they are more than 256, each location and each function counted once
-pub record HasFiredStep (s : StepView) (code : ℤ) (fired from to : ℕ) (old new : AgentAt Standard) : Type 0 where
-  pub reads : List Named
+pub record HasFiredStep (s : StepView) (reads : List Named) (answer : Result Reply FireError) (old new : AgentAt Standard) : Type 0 where
   pub scans : List Scanned
-  pub answer : Result Reply FireError
   pub names : NamesAll s reads
   pub scanned : ScansAll s scans
-  pub reported : ReportsFire answer code fired from to
   pub many : IsErrOf answer ManyReads ↔ (reads_limit < length reads + length scans)
-  pub answered : IfOk answer (IsRepliedOver old new reads scans (unwrap_or (one_move s.layers) []))
-  pub refused : OnErr answer (HasPolled old new)
-  pub busy : IfErr answer (IsBusy old new)
-  pub offers : (n : ℕ) × MadeOffers old new answer n
+  pub replied : IfOk answer (IsRepliedOver old new reads scans (unwrap_or (one_move s.layers) []))
+  pub answered : HasAnswered answer old new
   pub fires : (k : ℕ) → answer ≡ Ok (Fired k) → FiresAll old s (unwrap_or (one_move s.layers) []) k new
   pub tracked : (k : ℕ) → s.number ≤ length old.account.seen → answer ≡ Ok (Fired k) → SeenIsLeft old s k new
   pub whole : (k : ℕ) → s.number ≤ length old.account.seen → answer ≡ Ok (Fired k) → AreWhole old s k new
 
--- the step's move was fired; or nothing was done, since memory was refused
-abbrev pub HasCommitted : StepView → ℤ → ℕ → ℕ → ℕ → AgentAt Standard → AgentAt Standard → Type 0
-HasCommitted s code fired from to old new =
-    HasFiredStep s code fired from to old new
-    ⊎ ((code ≡ ASM_MEMORY) × (fired ≡ 0) × (from ≡ 0) × (to ≡ 0) × (new ≡ old))
+-- the step's move was fired, and the call reports the answer; or nothing was done, since memory was refused
+abbrev pub HasCommitted : StepView → AgentAt Standard → AgentAt Standard → Numbers → Result (Unit {0}) Code → Type 0
+HasCommitted s old new n r =
+    ((reads : List Named) × (answer : Result Reply FireError) × HasFiredStep s reads answer old new × ReportsFire answer n r)
+    ⊎ ((new ≡ old) × (n ≡ no_numbers) × (r ≡ Err code.Memory))
 
 -- the step's one move does what its moves do in turn
 abbrev pub OneDoesAll : AgentAt Standard → StepView → Type 0
 OneDoesAll a s =
     (groups : List (List Move)) → IsStepOn a s groups → DoesAll part (all_moves groups) (unwrap_or (one_move s.layers) [])
 
--- the step's one move is fired, or the code says why not
-pub record FiresStep (agent after step : Option Content) (numbers : Numbers) (code : ℤ) : Type 0 where
-  pub codes : IsOneOf (ASM_DONE ∷ ASM_STALE ∷ ASM_CLASH ∷ ASM_MEMORY ∷ ASM_FULL ∷ ASM_EMPTY ∷ ASM_BUSY ∷ ASM_MANY ∷ []) code
-  pub committed : code ≢ ASM_EMPTY → HoldBoth agent step
-      (λ a s. Holds after (HasCommitted s code numbers.fired numbers.from numbers.to a))
-  pub does : code ≢ ASM_EMPTY → HoldBoth agent step OneDoesAll
-  pub same : code ≢ ASM_EMPTY → Changes agent after IsSameAgent
-  pub seen : code ≢ ASM_EMPTY → Changes agent after SeesOn
-  pub few : code ≢ ASM_EMPTY → Changes agent after MissedFew
-  pub missed : code ≡ ASM_DONE → Changes agent after MissedOne
-  pub lost : code ≡ ASM_BUSY → numbers.from + offers_limit ≤ numbers.to
-  pub empty : code ≡ ASM_EMPTY → LacksOne agent step
-  pub kept : code ≡ ASM_EMPTY → after ≡ agent
-  pub no_numbers : code ≡ ASM_EMPTY → (numbers.fired ≡ 0) × (numbers.from ≡ 0) × (numbers.to ≡ 0)
-
--- the same; the step's slot is empty if it fired, and unchanged else
-pub record Commits (agent after step step_after : Option Content) (numbers : Numbers) (code : ℤ) : Type 0 where
-  pub fires : FiresStep agent after step numbers code
-  pub over : code ≡ ASM_DONE → step_after ≡ None
-  pub stays : code ≢ ASM_DONE → step_after ≡ step
+-- the agent commits the step; or a slot lacks its agent or its step, and nothing changes
+abbrev pub Commits : (StepView → AgentAt Standard → AgentAt Standard → Numbers → Result (Unit {0}) Code → Type 0) →
+    Option Content → Option Content → Option Content → Numbers → Result (Unit {0}) Code → Type 0
+Commits HasDone agent after step n r =
+    HoldBoth agent step (λ a s. OneDoesAll a s × Holds after (λ b. HasDone s a b n r))
+    ⊎ (LacksOne agent step × (after ≡ agent) × (n ≡ no_numbers) × (r ≡ Err code.Empty))
 
 -- ---- a commit that records what the step read
 
@@ -146,55 +120,34 @@ abbrev pub HasMoved : AgentAt Standard → StepView → Type 0
 HasMoved a s = IsElsewhere a s ⊎ IsBehind a
 
 -- why no read is recorded: there are too many locations and functions, or else the agent has moved
-abbrev pub ReportsUnrecorded : AgentAt Standard → StepView → List Named → ℤ → Type 0
-ReportsUnrecorded a s reads code =
-    ((code ≡ ASM_MANY) × NamesMany s reads) ⊎ ((code ≡ ASM_MOVED) × ¬ NamesMany s reads × HasMoved a s)
+abbrev pub ReportsUnrecorded : AgentAt Standard → StepView → List Named → Code → Type 0
+ReportsUnrecorded a s reads c =
+    ((c ≡ code.Many) × NamesMany s reads) ⊎ ((c ≡ code.Moved) × ¬ NamesMany s reads × HasMoved a s)
 
 -- nothing was done, since memory was refused or no read is recorded
-abbrev pub HasRecordedNothing : StepView → ℤ → AgentAt Standard → Type 0
-HasRecordedNothing s code a =
-    (code ≡ ASM_MEMORY) ⊎ ((reads : List Named) × NamesAll s reads × ReportsUnrecorded a s reads code)
+abbrev pub HasRecordedNothing : StepView → AgentAt Standard → Code → Type 0
+HasRecordedNothing s a c = IsMemory c ⊎ ((reads : List Named) × NamesAll s reads × ReportsUnrecorded a s reads c)
 
 -- the read was recorded, which was possible; then the agent with its receipt fired the step's move, and for that
 -- agent the step has the same groups of moves
-pub record HasRecordedStep (s : StepView) (code : ℤ) (fired from to : ℕ) (old new : AgentAt Standard) : Type 0 where
+pub record HasRecordedStep (s : StepView) (answer : Result Reply FireError) (old new : AgentAt Standard) : Type 0 where
   pub reads : List Named
-  pub names : NamesAll s reads
   pub few : ¬ NamesMany s reads
   pub there : ¬ HasMoved old s
   pub between : AgentAt Standard
   pub recorded : HasRecorded s reads old between
   pub step : (groups : List (List Move)) → IsStepOn old s groups → IsStepOn between s groups
-  pub codes : IsOneOf (ASM_DONE ∷ ASM_STALE ∷ ASM_CLASH ∷ ASM_MEMORY ∷ ASM_FULL ∷ ASM_BUSY ∷ []) code
-  pub committed : HasFiredStep s code fired from to between new
+  pub fired : HasFiredStep s reads answer between new
+  pub same : IsSameAgent old new
+  pub seen : SeesOn old new
+  pub missed_few : MissedFew old new
+  pub missed_one : (k : ℕ) → answer ≡ Ok (Fired k) → MissedOne old new
 
--- the read was recorded and the step's move was fired; or nothing was done
-abbrev pub HasCommittedRecorded : StepView → ℤ → ℕ → ℕ → ℕ → AgentAt Standard → AgentAt Standard → Type 0
-HasCommittedRecorded s code fired from to old new =
-    HasRecordedStep s code fired from to old new
-    ⊎ (HasRecordedNothing s code old × (fired ≡ 0) × (from ≡ 0) × (to ≡ 0) × (new ≡ old))
-
--- what the step read is recorded and its one move is fired, or the code says why not
-pub record FiresRecorded (agent after step : Option Content) (numbers : Numbers) (code : ℤ) : Type 0 where
-  pub codes : IsOneOf (ASM_DONE ∷ ASM_STALE ∷ ASM_CLASH ∷ ASM_MEMORY ∷ ASM_FULL ∷ ASM_EMPTY ∷ ASM_BUSY ∷ ASM_MANY ∷ ASM_MOVED ∷ []) code
-  pub committed : code ≢ ASM_EMPTY → HoldBoth agent step
-      (λ a s. Holds after (HasCommittedRecorded s code numbers.fired numbers.from numbers.to a))
-  pub does : code ≢ ASM_EMPTY → HoldBoth agent step OneDoesAll
-  pub same : code ≢ ASM_EMPTY → Changes agent after IsSameAgent
-  pub seen : code ≢ ASM_EMPTY → Changes agent after SeesOn
-  pub few : code ≢ ASM_EMPTY → Changes agent after MissedFew
-  pub missed : code ≡ ASM_DONE → Changes agent after MissedOne
-  pub lost : code ≡ ASM_BUSY → numbers.from + offers_limit ≤ numbers.to
-  pub empty : code ≡ ASM_EMPTY → LacksOne agent step
-  pub kept : IsOneOf (ASM_EMPTY ∷ ASM_MANY ∷ ASM_MOVED ∷ []) code → after ≡ agent
-  pub no_numbers : IsOneOf (ASM_EMPTY ∷ ASM_MANY ∷ ASM_MOVED ∷ []) code →
-      (numbers.fired ≡ 0) × (numbers.from ≡ 0) × (numbers.to ≡ 0)
-
--- the same; the step's slot is empty if it fired, and unchanged else
-pub record CommitsRecorded (agent after step step_after : Option Content) (numbers : Numbers) (code : ℤ) : Type 0 where
-  pub fires : FiresRecorded agent after step numbers code
-  pub over : code ≡ ASM_DONE → step_after ≡ None
-  pub stays : code ≢ ASM_DONE → step_after ≡ step
+-- the read was recorded and the step's move was fired, and the call reports the answer; or nothing was done
+abbrev pub HasCommittedRecorded : StepView → AgentAt Standard → AgentAt Standard → Numbers → Result (Unit {0}) Code → Type 0
+HasCommittedRecorded s old new n r =
+    ((answer : Result Reply FireError) × HasRecordedStep s answer old new × ReportsFire answer n r)
+    ⊎ ((new ≡ old) × (n ≡ no_numbers) × ((c : Code) × (r ≡ Err c) × HasRecordedNothing s old c))
 
 -- the step's one move with all reads that its commit declares
 abbrev pub IsOffer : StepView → Call → Type 0

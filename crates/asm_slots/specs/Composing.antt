@@ -1,5 +1,5 @@
 -- What is reported of a move on a state, and of two moves, all of them given as texts.
-use Rattle.std.specs.Prelude.{◌≡◌, ℕ, ℤ, List, [], ◌∷◌, codes, Result, Ok, Err}
+use Rattle.std.specs.Prelude.{◌≡◌, ◌⊎◌, ℕ, List, codes, Result, Ok, Err}
 use Rattle.serde_json.specs.Written.{compact_text}
 use Rattle.asm_element.specs.Place.{Place}
 use Rattle.asm_update.specs.Move.{Move}
@@ -18,10 +18,10 @@ use Rattle.asm_journal.specs.Shape.{one_of}
 use Rattle.asm_journal.specs.Text.{state_json_of}
 use Rattle.asm_journal.specs.Value.{IsStateForm}
 use Rattle.asm_slots.specs.Bytes.{AreMisread, ReadAsMove, ReadAsState}
-use Rattle.asm_slots.specs.Codes.{IsOneOf, ASM_DONE, ASM_CLASH, ASM_MEMORY, ASM_SMALL, ASM_LONG_MOVE}
-use Rattle.asm_slots.specs.Codes.{ASM_NOT_JSON, ASM_SHAPE, ASM_LARGE}
 use Rattle.asm_slots.specs.Standard.{standard, part}
-use Rattle.asm_slots.specs.WrittenText.{WritesOneOf}
+use Rattle.asm_slots.specs.WrittenText.{HasNoText, HasText, LacksRoom}
+use Rattle.asm_slots.specs.declared.codes.Code.{Code}
+use Rattle.asm_slots.specs.declared.codes.Code.TheVariants as code
 
 -- {"clash":[LOC,CAUSE]}
 abbrev pub clash_text : Clash → List ℕ
@@ -31,52 +31,70 @@ clash_text c = compact_text (reply_json_of (reply.Clash c))
 abbrev pub large_text : Place → List ℕ
 large_text l = compact_text (one_of (codes "large") (location_json_of l))
 
--- the code and the text of an aggregation's answer: the updates [PAIR, ..], or the clash
-abbrev pub ReportsAggregate : Result Updates AggError → ℤ → List ℕ → Type 0
-ReportsAggregate (Ok U) code text = (code ≡ ASM_DONE) × (text ≡ compact_text (state_json_of U))
-ReportsAggregate (Err (agg_error.Clash c)) code text = (code ≡ ASM_CLASH) × (text ≡ clash_text c)
-ReportsAggregate (Err agg_error.Memory) code text = ⊥
-
--- the bytes are JSON of a state and of a move, and code and text report the aggregation of the move on the state
-pub record IsAggregated (state instrs : List ℕ) (code : ℤ) (text : List ℕ) : Type 0 where
+-- the bytes are JSON of a state and of a move, whose aggregation on the state has this answer
+pub record HasAggregate (state instrs : List ℕ) (answer : Result Updates AggError) : Type 0 where
   pub old : State
   pub move : Move
-  pub answer : Result Updates AggError
   pub state_reads : ReadAsState state old
   pub move_reads : ReadAsMove instrs move
   pub aggregate : IsAggregate part (val old) move answer
-  pub reported : ReportsAggregate answer code text
 
--- what the move of these bytes does on the state of those is reported; or the code says why not
-pub record Aggregates (state instrs out out_after : List ℕ) (written : ℕ) (code : ℤ) : Type 0 where
-  pub codes : IsOneOf (ASM_DONE ∷ ASM_CLASH ∷ ASM_MEMORY ∷ ASM_SMALL ∷ ASM_NOT_JSON ∷ ASM_SHAPE ∷ []) code
-  pub text : WritesOneOf (ASM_DONE ∷ ASM_CLASH ∷ []) (IsAggregated state instrs) out out_after written code
-  pub refused : IsOneOf (ASM_NOT_JSON ∷ ASM_SHAPE ∷ []) code → AreMisread IsStateForm IsMoveForm state instrs code
+-- the text has the updates, [PAIR, ..]
+abbrev pub IsUpdatesOf : List ℕ → List ℕ → List ℕ → Type 0
+IsUpdatesOf state instrs text =
+    (U : Updates) × HasAggregate state instrs (Ok U) × (text ≡ compact_text (state_json_of U))
 
--- the code and the text of a composition's answer: the move [INSTR, ..], the clash, the location where an amount or a
--- sum is too large, or nothing if the move is too long
-abbrev pub ReportsComposition : Result Move ComposeError → ℤ → List ℕ → Type 0
-ReportsComposition (Ok C) code text = (code ≡ ASM_DONE) × (text ≡ compact_text (move_json_of C))
-ReportsComposition (Err (compose_error.Clash c)) code text = (code ≡ ASM_CLASH) × (text ≡ clash_text c)
-ReportsComposition (Err (compose_error.Large l)) code text = (code ≡ ASM_LARGE) × (text ≡ large_text l)
-ReportsComposition (Err compose_error.ManyInstructions) code text = (code ≡ ASM_LONG_MOVE) × (text ≡ [])
-ReportsComposition (Err compose_error.Memory) code text = ⊥
+-- the text has the clash
+abbrev pub IsClashOf : List ℕ → List ℕ → List ℕ → Type 0
+IsClashOf state instrs text = (k : Clash) × HasAggregate state instrs (Err (agg_error.Clash k)) × (text ≡ clash_text k)
 
--- the bytes are JSON of two moves, and code and text report their composition, which fires as the two do in turn
-pub record IsComposed (first second : List ℕ) (code : ℤ) (text : List ℕ) : Type 0 where
+-- the updates are written
+abbrev pub Aggregates : List ℕ → List ℕ → List ℕ → ℕ → Type 0
+Aggregates state instrs = HasText (IsUpdatesOf state instrs)
+
+-- the clash is written, or is too long; or the updates are too long, or one of the bytes is none of what it should be
+abbrev pub DoesNotAggregate : List ℕ → List ℕ → List ℕ → List ℕ → ℕ → Code → Type 0
+DoesNotAggregate state instrs out after written c =
+    ((c ≡ code.Clash) × HasText (IsClashOf state instrs) after written)
+    ⊎ ((after ≡ out) × LacksRoom (IsClashOf state instrs) out written c)
+    ⊎ HasNoText (IsUpdatesOf state instrs) (AreMisread IsStateForm IsMoveForm state instrs) out after written c
+
+-- the bytes are JSON of two moves, whose composition, which fires as the two do in turn, has this answer
+pub record HasComposition (first second : List ℕ) (answer : Result Move ComposeError) : Type 0 where
   pub one : Move
   pub two : Move
-  pub answer : Result Move ComposeError
   pub first_reads : ReadAsMove first one
   pub second_reads : ReadAsMove second two
   pub composition : IsComposition standard one two answer
   pub sequence : KeepsSequence part one two answer
-  pub reported : ReportsComposition answer code text
 
--- one move that does what the two moves of these bytes do in turn is written, or why there is none; or the code says
--- why not
-pub record Composes (first second out out_after : List ℕ) (written : ℕ) (code : ℤ) : Type 0 where
-  pub codes : IsOneOf (ASM_DONE ∷ ASM_CLASH ∷ ASM_MEMORY ∷ ASM_SMALL ∷ ASM_LONG_MOVE
-      ∷ ASM_NOT_JSON ∷ ASM_SHAPE ∷ ASM_LARGE ∷ []) code
-  pub text : WritesOneOf (ASM_DONE ∷ ASM_CLASH ∷ ASM_LONG_MOVE ∷ ASM_LARGE ∷ []) (IsComposed first second) out out_after written code
-  pub refused : IsOneOf (ASM_NOT_JSON ∷ ASM_SHAPE ∷ []) code → AreMisread IsMoveForm IsMoveForm first second code
+-- the text has the one move, [INSTR, ..]
+abbrev pub IsOneMoveOf : List ℕ → List ℕ → List ℕ → Type 0
+IsOneMoveOf first second text = (C : Move) × HasComposition first second (Ok C) × (text ≡ compact_text (move_json_of C))
+
+-- the code and the text of moves that don't compose: the clash, or the location where an amount or a sum is too large
+abbrev pub ReportsUncomposed : ComposeError → Code → List ℕ → Type 0
+ReportsUncomposed (compose_error.Clash k) c text = (c ≡ code.Clash) × (text ≡ clash_text k)
+ReportsUncomposed (compose_error.Large l) c text = (c ≡ code.Large) × (text ≡ large_text l)
+ReportsUncomposed _ c text = ⊥
+
+-- code and text report why there is no such move
+abbrev pub IsWhyNot : List ℕ → List ℕ → Code → List ℕ → Type 0
+IsWhyNot first second c text = (e : ComposeError) × HasComposition first second (Err e) × ReportsUncomposed e c text
+
+-- the move would be too long, or one of the bytes is no move
+abbrev pub IsUncomposed : List ℕ → List ℕ → Code → Type 0
+IsUncomposed first second c =
+    ((c ≡ code.LongMove) × HasComposition first second (Err compose_error.ManyInstructions))
+    ⊎ AreMisread IsMoveForm IsMoveForm first second c
+
+-- one move that does what the two moves do in turn is written
+abbrev pub Composes : List ℕ → List ℕ → List ℕ → ℕ → Type 0
+Composes first second = HasText (IsOneMoveOf first second)
+
+-- why there is none is written, or is too long; or the move's text is too long, or there is none
+abbrev pub DoesNotCompose : List ℕ → List ℕ → List ℕ → List ℕ → ℕ → Code → Type 0
+DoesNotCompose first second out after written c =
+    HasText (IsWhyNot first second c) after written
+    ⊎ ((after ≡ out) × ((k : Code) × LacksRoom (IsWhyNot first second k) out written c))
+    ⊎ HasNoText (IsOneMoveOf first second) (IsUncomposed first second) out after written c

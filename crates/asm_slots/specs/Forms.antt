@@ -1,8 +1,12 @@
 -- The forms of texts that are explained.
-use Rattle.std.specs.Prelude.{◌≡◌, ◌≢◌, ℕ, ℤ, pos, List}
+use Rattle.std.specs.Prelude.{◌≡◌, ◌≢◌, ◌⊎◌, ℕ, ℤ, pos, List, []}
 use Rattle.asm_explain.specs.Forms.{IsOfForm, IsOfNoForm}
 use Rattle.asm_explain.specs.declared.explaining.Form.{Form}
 use Rattle.asm_explain.specs.declared.explaining.Form.TheVariants as form
+use Rattle.asm_slots.specs.Answers.{IsMemory}
+use Rattle.asm_slots.specs.WrittenText.{HasNoText, HasText, IsUnwritten}
+use Rattle.asm_slots.specs.declared.codes.Code.{Code}
+use Rattle.asm_slots.specs.declared.codes.Code.TheVariants as code
 
 -- the locations [LOC, ..]
 abbrev pub ASM_FORM_LOCATIONS : ℤ
@@ -34,12 +38,26 @@ form_code form.Script = ASM_FORM_SCRIPT
 
 -- no form has this number
 abbrev pub IsNoForm : ℤ → Type 0
-IsNoForm code = (f : Form) → form_code f ≢ code
+IsNoForm number = (f : Form) → form_code f ≢ number
 
 -- the bytes are JSON of a value of the form with this number
 abbrev pub HasForm : ℤ → List ℕ → Type 0
-HasForm code bytes = (f : Form) × (form_code f ≡ code) × IsOfForm f bytes
+HasForm number bytes = (f : Form) × (form_code f ≡ number) × IsOfForm f bytes
 
 -- the bytes aren't JSON, or are JSON of no value of the form with this number
 abbrev pub LacksForm : ℤ → List ℕ → Type 0
-LacksForm code bytes = (f : Form) × (form_code f ≡ code) × IsOfNoForm f bytes
+LacksForm number bytes = (f : Form) × (form_code f ≡ number) × IsOfNoForm f bytes
+
+-- the bytes aren't of the form, and this is a sentence about it
+abbrev pub IsSentence : ℤ → List ℕ → List ℕ → Type 0
+IsSentence form bytes text = LacksForm form bytes × (text ≢ [])
+
+-- the bytes are of the form, and nothing is written; or a sentence is
+abbrev pub Explains : ℤ → List ℕ → List ℕ → List ℕ → ℕ → Type 0
+Explains form bytes out after written =
+    (HasForm form bytes × IsUnwritten out after written) ⊎ HasText (IsSentence form bytes) after written
+
+-- there is no such form, or the sentence is too long
+abbrev pub DoesNotExplain : ℤ → List ℕ → List ℕ → List ℕ → ℕ → Code → Type 0
+DoesNotExplain form bytes =
+    HasNoText (IsSentence form bytes) (λ c. IsMemory c ⊎ ((c ≡ code.NoForm) × IsNoForm form))

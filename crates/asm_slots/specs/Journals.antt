@@ -1,5 +1,5 @@
 -- What is reported of the bytes of a journal.
-use Rattle.std.specs.Prelude.{◌≡◌, ◌≢◌, ℕ, ℤ, List, [], ◌∷◌}
+use Rattle.std.specs.Prelude.{◌≡◌, ◌⊎◌, ℕ, List}
 use Rattle.serde_json.specs.Written.{compact_text}
 use Rattle.asm_update.specs.Fire.{state_of}
 use Rattle.asm_storage.specs.declared.history.History.{History}
@@ -13,10 +13,9 @@ use Rattle.asm_journal.specs.Fault.{IsRefused}
 use Rattle.asm_journal.specs.Reading.{ReadsAs}
 use Rattle.asm_journal.specs.Text.{state_json_of}
 use Rattle.asm_trace.specs.Text.{IsTrace}
-use Rattle.asm_slots.specs.Codes.{IsOneOf, ASM_DONE, ASM_MEMORY, ASM_SMALL, ASM_ILLEGAL}
-use Rattle.asm_slots.specs.Codes.{ASM_NOT_JSON, ASM_SHAPE, ASM_VERSION, ASM_CUT}
 use Rattle.asm_slots.specs.Standard.{part}
-use Rattle.asm_slots.specs.WrittenText.{WritesText}
+use Rattle.asm_slots.specs.declared.codes.Code.{Code}
+use Rattle.asm_slots.specs.declared.codes.Code.TheVariants as code
 
 -- the bytes are a journal, and this is the answer of its check
 pub record IsChecked (bytes : List ℕ) (l : Legality) : Type 0 where
@@ -36,33 +35,30 @@ pub record IsTraceOf (bytes text : List ℕ) : Type 0 where
   pub reads : ReadsAs bytes history
   pub trace : IsTrace part history text
 
--- the code of the error, with the number of its line, or 0
-abbrev pub ReportsError : JournalError → ℤ → ℕ → Type 0
-ReportsError (NotJson n) code line = (code ≡ ASM_NOT_JSON) × (line ≡ n)
-ReportsError (Shape n) code line = (code ≡ ASM_SHAPE) × (line ≡ n)
-ReportsError Version code line = (code ≡ ASM_VERSION) × (line ≡ 0)
-ReportsError Cut code line = (code ≡ ASM_CUT) × (line ≡ 0)
-ReportsError Memory code line = (code ≡ ASM_MEMORY) × (line ≡ 0)
+-- the code of the error
+abbrev pub code_of_journal : JournalError → Code
+code_of_journal (NotJson n) = code.NotJson
+code_of_journal (Shape n) = code.Shape
+code_of_journal Version = code.Version
+code_of_journal Cut = code.Cut
+code_of_journal Memory = code.Memory
 
--- the bytes are no journal, and this is the code of their first fault, with this number of its line
-pub record IsRefusal (bytes : List ℕ) (code : ℤ) (line : ℕ) : Type 0 where
-  pub error : JournalError
-  pub refused : IsRefused bytes error
-  pub reported : ReportsError error code line
+-- the number of its line, or 0
+abbrev pub line_of : JournalError → ℕ
+line_of (NotJson n) = n
+line_of (Shape n) = n
+line_of _ = 0
 
--- the bytes are a legal journal of so many calls and moves; or the code says why not, with the number of the call or
--- the line
-pub record Checks (bytes : List ℕ) (calls moves : ℕ) (code : ℤ) : Type 0 where
-  pub codes : IsOneOf (ASM_DONE ∷ ASM_MEMORY ∷ ASM_ILLEGAL ∷ ASM_NOT_JSON ∷ ASM_SHAPE ∷ ASM_VERSION ∷ ASM_CUT ∷ []) code
-  pub legal : code ≡ ASM_DONE → IsChecked bytes (Legal calls moves)
-  pub illegal : code ≡ ASM_ILLEGAL → IsChecked bytes (Illegal calls)
-  pub refused : IsOneOf (ASM_NOT_JSON ∷ ASM_SHAPE ∷ ASM_VERSION ∷ ASM_CUT ∷ []) code → IsRefusal bytes code calls
-  pub no_calls : IsOneOf (ASM_MEMORY ∷ ASM_VERSION ∷ ASM_CUT ∷ []) code → calls ≡ 0
-  pub no_moves : code ≢ ASM_DONE → moves ≡ 0
+-- the bytes are no journal, and this is the code of their first fault, with this number of its line; an allocation
+-- failure says nothing of them
+abbrev pub IsNoJournal : List ℕ → ℕ → Code → Type 0
+IsNoJournal bytes line c = (e : JournalError) × IsRefused bytes e × (c ≡ code_of_journal e) × (line ≡ line_of e)
 
--- a text of this kind is written of a journal's bytes; or the code says why not, with the number of the line at fault
-pub record WritesOfJournal (IsText : List ℕ → Type 0) (bytes out out_after : List ℕ) (written line : ℕ) (code : ℤ) : Type 0 where
-  pub codes : IsOneOf (ASM_DONE ∷ ASM_MEMORY ∷ ASM_SMALL ∷ ASM_NOT_JSON ∷ ASM_SHAPE ∷ ASM_VERSION ∷ ASM_CUT ∷ []) code
-  pub text : WritesText IsText out out_after written code
-  pub refused : IsOneOf (ASM_NOT_JSON ∷ ASM_SHAPE ∷ ASM_VERSION ∷ ASM_CUT ∷ []) code → IsRefusal bytes code line
-  pub no_line : IsOneOf (ASM_DONE ∷ ASM_MEMORY ∷ ASM_SMALL ∷ ASM_VERSION ∷ ASM_CUT ∷ []) code → line ≡ 0
+-- the bytes are a legal journal of so many calls and moves
+abbrev pub Checks : List ℕ → ℕ → ℕ → Type 0
+Checks bytes calls moves = IsChecked bytes (Legal calls moves)
+
+-- they are a journal whose call with this number has a wrong answer, or none
+abbrev pub DoesNotCheck : List ℕ → ℕ → ℕ → Code → Type 0
+DoesNotCheck bytes calls moves c =
+    (moves ≡ 0) × (((c ≡ code.Illegal) × IsChecked bytes (Illegal calls)) ⊎ IsNoJournal bytes calls c)

@@ -38,11 +38,13 @@ IsAtVersion a n = (n ≡ a.number) × (n ≤ length a.account.seen)
 abbrev pub values_text : ℕ → Old → List Place → List ℕ
 values_text n seen locations = compact_text (answer_json_of (answer.Read n (map seen locations)))
 
--- the bytes are JSON of locations, and the text has their values in the agent's own state, with its version
+-- the text has the values of the locations in the agent's own state, with its version
+abbrev pub IsPeek : List Place → AgentAt Standard → List ℕ → Type 0
+IsPeek locations a text = (n : ℕ) × IsAtVersion a n × (text ≡ values_text n (val (state_at a n)) locations)
+
+-- the same, of the locations of these bytes
 abbrev pub IsPeekOf : List ℕ → AgentAt Standard → List ℕ → Type 0
-IsPeekOf bytes a text =
-    (locations : List Place) × (n : ℕ) × ReadAsLocations bytes locations × IsAtVersion a n
-    × (text ≡ values_text n (val (state_at a n)) locations)
+IsPeekOf bytes a text = (locations : List Place) × ReadAsLocations bytes locations × IsPeek locations a text
 
 -- kind, number and bytes are those of the value at the location in the agent's own state, which is at this version
 abbrev pub IsValueAt : Place → AgentAt Standard → ℕ → ℤ → ℤ → List ℕ → Type 0

@@ -4,10 +4,10 @@ use Rattle.asm_update.specs.Move.{Move}
 use Rattle.asm_aggregate.specs.declared.composition.ComposeError.{ComposeError}
 use Rattle.asm_storage.specs.Storage.{AgentAt}
 use Rattle.asm_step.specs.Popped.{IsOneOf, KeepsTurns}
-use Rattle.asm_slots.specs.Answers.{IsNotTracked, code_of_compose}
+use Rattle.asm_slots.specs.Answers.{code_of_compose}
 use Rattle.asm_slots.specs.Slots.{HasRoomForMove, HoldsNoStep, HoldsStep}
 use Rattle.asm_slots.specs.Standard.{Standard, standard, part}
-use Rattle.asm_slots.specs.StepCalls.{IsStepOn, WouldTakeMany}
+use Rattle.asm_slots.specs.StepCalls.{IsNotTracked, IsStepOn, WouldTakeMany}
 use Rattle.asm_slots.specs.StepView.{StepView}
 use Rattle.asm_slots.specs.Tracked.{dependencies_last, last_partial_places}
 use Rattle.asm_slots.specs.declared.codes.Code.{Code}

@@ -1,5 +1,5 @@
 -- What the calls do with the step in a slot.
-use Rattle.std.specs.Prelude.{◌≡◌, ◌≢◌, ◌≤◌, ◌<◌, ◌+◌, ◌⊎◌, ℕ, ℤ, List, [], ◌∷◌, ◌++◌, length, Contains, Option, None, Some, Result, Ok, Err, filter, nat_eq, string_bytes, Bool, true, IsTrue}
+use Rattle.std.specs.Prelude.{◌≡◌, ◌≢◌, ◌≤◌, ◌<◌, ◌+◌, ◌⊎◌, ℕ, List, [], ◌∷◌, ◌++◌, length, Contains, Option, None, Some, Result, Ok, Err, filter, nat_eq, string_bytes, Bool, true, IsTrue}
 use Rattle.std.specs.Cmp.Lexicographic.{pointwise}
 use Rattle.std.specs.List.{list_any}
 use Rattle.asm_element.specs.Place.{Place}
@@ -18,13 +18,16 @@ use Rattle.asm_step.specs.Layers.{Layer, extended, frames_of, shows_below, IsSte
 use Rattle.asm_step.specs.Places.{AreEach}
 use Rattle.asm_step.specs.declared.error.StepError.{StepError}
 use Rattle.asm_step.specs.declared.error.StepError.TheVariants.{Clash, Large, Many, Deep, Memory}
-use Rattle.asm_slots.specs.Bytes.{ReadAsLocations, ReadAsMove}
-use Rattle.asm_slots.specs.Codes.{ASM_CLASH, ASM_LONG_MOVE, ASM_MANY, ASM_LARGE, ASM_DEEP}
+use Rattle.asm_slots.specs.Answers.{IsMemory, IsUnreadAs}
+use Rattle.asm_slots.specs.Bytes.{AreLocations, ReadAsLocations, ReadAsMove}
 use Rattle.asm_slots.specs.Composing.{clash_text, large_text}
 use Rattle.asm_slots.specs.OwnState.{IsTextOfState, of_name, state_at, values_text}
 use Rattle.asm_slots.specs.Standard.{Standard, standard, part}
 use Rattle.asm_slots.specs.StepView.{StepView, names_of}
 use Rattle.asm_slots.specs.Tracked.{refusal_places}
+use Rattle.asm_slots.specs.WrittenText.{HasText, IsUnwritten, LacksRoom}
+use Rattle.asm_slots.specs.declared.codes.Code.{Code}
+use Rattle.asm_slots.specs.declared.codes.Code.TheVariants as code
 use Rattle.asm_slots.specs.declared.owned_step.PushMode.{PushMode}
 use Rattle.asm_slots.specs.declared.owned_step.PushMode.TheVariants as ways
 
@@ -49,12 +52,26 @@ IsElsewhere a s = a.number ≢ s.number
 abbrev pub HasReached : AgentAt Standard → StepView → Type 0
 HasReached a s = s.number ≤ length a.account.seen
 
+-- the agent's own state is at another version than the step
+abbrev pub IsOff : AgentAt Standard → StepView → Code → Type 0
+IsOff a s code.Memory = Unit {0}
+IsOff a s code.Moved = IsElsewhere a s
+IsOff a s _ = ⊥
+
 -- ---- reading
 
 -- the bytes are JSON of locations, and the text has what is seen there
 abbrev pub IsSeenText : List ℕ → AgentAt Standard → StepView → List ℕ → Type 0
 IsSeenText bytes a s text =
     (locations : List Place) × ReadAsLocations bytes locations × (text ≡ values_text s.number (seen a s) locations)
+
+-- the same, and the agent has seen the moves up to the step's version
+abbrev pub IsSeenBy : List ℕ → AgentAt Standard → StepView → List ℕ → Type 0
+IsSeenBy bytes a s text = HasReached a s × IsSeenText bytes a s text
+
+-- the bytes are no locations, or the agent's own state is at another version
+abbrev pub IsNotSeen : List ℕ → AgentAt Standard → StepView → Code → Type 0
+IsNotSeen bytes a s c = IsUnreadAs AreLocations bytes c ⊎ IsOff a s c
 
 -- those of the locations at which what is seen through the pushed moves is made from the state below them
 abbrev pub from_below : StepView → List Place → List Place
@@ -86,14 +103,30 @@ abbrev pub IsCopyFor : ℕ → List Place → Place → Option Place → Type 0
 IsCopyFor limit tracked l None = Contains tracked l
 IsCopyFor limit tracked l (Some copy) = (copy ≡ l) × (length tracked < limit)
 
+-- the location is none of the others, and the limit leaves no room for it
+abbrev pub IsNoCopyFor : ℕ → List Place → Place → Code → Type 0
+IsNoCopyFor limit tracked l c = IsMemory c ⊎ ((c ≡ code.Many) × (limit ≤ length tracked) × ¬ Contains tracked l)
+
+-- the agent's own state is at another version; or it has reached the step, and the location would take one place more
+abbrev pub IsNotGotAt : Place → AgentAt Standard → StepView → Code → Type 0
+IsNotGotAt l a s c = IsOff a s c ⊎ ((c ≡ code.Many) × HasReached a s × WouldTrackOneMore l s)
+
 -- with the locations, more than 256 places would be taken
 abbrev pub WouldTakeMany : List Place → StepView → Type 0
 WouldTakeMany locations s =
     (ls : List Place) × AreEach (s.tracked ++ from_below s locations) ls × (reads_limit < length ls + length s.scanned)
 
--- the same, with the locations of these bytes
-abbrev pub WouldTrackMany : List ℕ → StepView → Type 0
-WouldTrackMany bytes s = (locations : List Place) × ReadAsLocations bytes locations × WouldTakeMany locations s
+-- the locations would take too many places
+abbrev pub IsNotTracked : List Place → StepView → Code → Type 0
+IsNotTracked locations s code.Memory = Unit {0}
+IsNotTracked locations s code.Many = WouldTakeMany locations s
+IsNotTracked locations s _ = ⊥
+
+-- nothing is seen there, or the locations of these bytes, which the agent has reached, would take too many places
+abbrev pub IsNotGot : List ℕ → AgentAt Standard → StepView → Code → Type 0
+IsNotGot bytes a s c =
+    IsNotSeen bytes a s c
+    ⊎ (HasReached a s × ((locations : List Place) × ReadAsLocations bytes locations × IsNotTracked locations s c))
 
 -- the text has what is seen at the locations with this function name
 abbrev pub IsFoundText : List ℕ → AgentAt Standard → StepView → List ℕ → Type 0
@@ -117,9 +150,17 @@ HasScanned name old new =
     (IsScanned name old × (new ≡ old))
     ⊎ (¬ IsScanned name old × (new ≡ record old { scanned = old.scanned ++ name ∷ [] }) × (places_of new ≤ reads_limit))
 
+-- the text has what is seen there, and the agent has seen the moves up to the step's version
+abbrev pub IsFoundBy : List ℕ → AgentAt Standard → StepView → List ℕ → Type 0
+IsFoundBy name a s text = HasReached a s × IsFoundText name a s text
+
 -- 256 places are taken, and the function with this name isn't scanned
 abbrev pub WouldScanMany : List ℕ → StepView → Type 0
 WouldScanMany name s = (reads_limit ≤ places_of s) × ¬ IsScanned name s
+
+-- the agent's own state is at another version; or it has reached the step, and the scan would take one place more
+abbrev pub IsNotScanned : List ℕ → AgentAt Standard → StepView → Code → Type 0
+IsNotScanned name a s c = IsOff a s c ⊎ ((c ≡ code.Many) × HasReached a s × WouldScanMany name s)
 
 -- whether one of the scans is of the function with this name
 abbrev pub has_scan : List ℕ → List Scanned → Bool
@@ -131,6 +172,11 @@ abbrev pub IsScanFor : ℕ → List Scanned → List ℕ → ℕ → Option Scan
 IsScanFor limit scans name number None = Contains (names_of scans) name
 IsScanFor limit scans name number (Some scan) =
     (string_bytes scan.name ≡ name) × (scan.number ≡ number) × ¬ Contains (names_of scans) name × (length scans < limit)
+
+-- the name isn't that of one of the scans, and the limit leaves no room for it
+abbrev pub IsNoScanFor : ℕ → List Scanned → List ℕ → Code → Type 0
+IsNoScanFor limit scans name c =
+    IsMemory c ⊎ ((c ≡ code.Many) × (limit ≤ length scans) × ¬ Contains (names_of scans) name)
 
 -- ---- pushing
 
@@ -173,28 +219,30 @@ HasGrown way bytes a old new = (M : Move) × ReadAsMove bytes M × IsGrown way M
 
 -- the code and the text of why a move isn't pushed: the clash, the location where an amount or a sum is too large, or
 -- nothing if there are too many instructions or moves
-abbrev pub ReportsRefusal : StepError → ℤ → List ℕ → Type 0
-ReportsRefusal (Clash c) code text = (code ≡ ASM_CLASH) × (text ≡ clash_text c)
-ReportsRefusal (Large l) code text = (code ≡ ASM_LARGE) × (text ≡ large_text l)
-ReportsRefusal Many code text = (code ≡ ASM_LONG_MOVE) × (text ≡ [])
-ReportsRefusal Deep code text = (code ≡ ASM_DEEP) × (text ≡ [])
-ReportsRefusal Memory code text = ⊥
-
--- code and text report the refusal of a move, and the locations on which it depends are tracked; or these take more
--- than 256 places, and only that is reported
-abbrev pub ReportsTracked : Move → StepView → StepView → StepError → ℤ → List ℕ → Type 0
-ReportsTracked M old new e code text =
-    (ReportsRefusal e code text × HasTrackedEach (refusal_places M e) old new)
-    ⊎ ((code ≡ ASM_MANY) × (text ≡ []) × (new ≡ old) × WouldTakeMany (refusal_places M e) old)
+abbrev pub ReportsRefusal : StepError → Code → List ℕ → Type 0
+ReportsRefusal (Clash k) c text = (c ≡ code.Clash) × (text ≡ clash_text k)
+ReportsRefusal (Large l) c text = (c ≡ code.Large) × (text ≡ large_text l)
+ReportsRefusal Many c text = (c ≡ code.LongMove) × (text ≡ [])
+ReportsRefusal Deep c text = (c ≡ code.Deep) × (text ≡ [])
+ReportsRefusal Memory c text = ⊥
 
 -- code and text report why the move is neither pushed nor extends the last one, and the locations below on which that
 -- depends are tracked
-abbrev pub IsRefused : PushMode → Move → AgentAt Standard → StepView → StepView → ℤ → List ℕ → Type 0
-IsRefused way M a old new code text = (e : StepError) × IsPushError way M a old e × ReportsTracked M old new e code text
+abbrev pub IsRefused : PushMode → Move → AgentAt Standard → StepView → StepView → Code → List ℕ → Type 0
+IsRefused way M a old new c text =
+    (e : StepError) × IsPushError way M a old e × ReportsRefusal e c text × HasTrackedEach (refusal_places M e) old new
 
--- the bytes are JSON of a move that is refused with this code and this text
-abbrev pub IsNotGrown : PushMode → List ℕ → AgentAt Standard → StepView → StepView → ℤ → List ℕ → Type 0
-IsNotGrown way bytes a old new code text = (M : Move) × ReadAsMove bytes M × IsRefused way M a old new code text
+-- the agent's own state is at another version; or the move is refused, and these locations would take too many places
+abbrev pub IsNotAccepted : PushMode → Move → AgentAt Standard → StepView → Code → Type 0
+IsNotAccepted way M a s c =
+    IsOff a s c ⊎ ((e : StepError) × IsPushError way M a s e × IsNotTracked (refusal_places M e) s c)
+
+-- the refusal is reported, or its text is too long; or the step and the buffer are unchanged
+abbrev pub IsNotGrown : PushMode → Move → AgentAt Standard → StepView → StepView → List ℕ → List ℕ → ℕ → Code → Type 0
+IsNotGrown way M a old new out after written c =
+    HasText (IsRefused way M a old new c) after written
+    ⊎ ((after ≡ out) × ((k : Code) × LacksRoom (IsRefused way M a old new k) out written c))
+    ⊎ (IsUnwritten out after written × (new ≡ old) × IsNotAccepted way M a old c)
 
 -- ---- popping
 

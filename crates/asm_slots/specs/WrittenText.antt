@@ -1,27 +1,40 @@
 -- Texts that are written into a buffer.
-use Rattle.std.specs.Prelude.{◌≡◌, ◌<◌, ◌≤◌, ℕ, ℤ, List, [], ◌∷◌, length, slice_range}
-use Rattle.asm_slots.specs.Codes.{IsOneOf, ASM_DONE, ASM_SMALL}
+use Rattle.std.specs.Prelude.{◌≡◌, ◌⊎◌, ◌<◌, ◌≤◌, ℕ, ℤ, List, length, slice_range, MatchResult, Result}
+use Rattle.asm_slots.specs.Codes.{Answers}
+use Rattle.asm_slots.specs.declared.codes.Code.{Code}
+use Rattle.asm_slots.specs.declared.codes.Code.TheVariants as variant
 
--- the first `written` bytes of the buffer are a text of this kind, and the buffer has as many
-abbrev pub IsTextWritten : (List ℕ → Type 0) → List ℕ → ℕ → Type 0
-IsTextWritten IsText out written = IsText (slice_range out 0 written) × (written ≤ length out)
+-- the first `written` bytes of the buffer are this text
+abbrev pub IsCopied : List ℕ → List ℕ → ℕ → Type 0
+IsCopied text after written = (slice_range after 0 written ≡ text) × (written ≤ length after)
 
--- a text of this kind has `written` bytes, which are more than the room
-abbrev pub IsTextTooLong : (List ℕ → Type 0) → ℕ → ℕ → Type 0
-IsTextTooLong IsText room written = (text : List ℕ) × IsText text × (written ≡ length text) × (room < length text)
+-- the text has `written` bytes, which are more than the room
+abbrev pub IsTooLong : List ℕ → ℕ → ℕ → Type 0
+IsTooLong text room written = (written ≡ length text) × (room < length text)
 
--- with one of the first codes, a text is written of the kind for that code; with ASM_SMALL, one of the other kind is
--- longer than the buffer, and `written` is its length; with any other code it is 0. Only a text changes the buffer
-pub record Writes (first : List ℤ) (IsText : ℤ → List ℕ → Type 0) (IsLong : List ℕ → Type 0) (out after : List ℕ) (written : ℕ) (code : ℤ) : Type 0 where
-  pub reported : IsOneOf first code → IsTextWritten (IsText code) after written
-  pub small : code ≡ ASM_SMALL → IsTextTooLong IsLong (length out) written
-  pub no_text : ¬ IsOneOf (ASM_SMALL ∷ first) code → written ≡ 0
-  pub unwritten : ¬ IsOneOf first code → after ≡ out
+-- a text of this kind is written
+abbrev pub HasText : (List ℕ → Type 0) → List ℕ → ℕ → Type 0
+HasText IsText after written = (text : List ℕ) × IsText text × IsCopied text after written
 
--- with ASM_DONE, a text of this kind is written
-abbrev pub WritesText : (List ℕ → Type 0) → List ℕ → List ℕ → ℕ → ℤ → Type 0
-WritesText IsText = Writes (ASM_DONE ∷ []) (λ code. IsText) IsText
+-- the buffer is unchanged, and no length is reported
+abbrev pub IsUnwritten : List ℕ → List ℕ → ℕ → Type 0
+IsUnwritten out after written = (after ≡ out) × (written ≡ 0)
 
--- with each of these codes, a text of the kind for that code is written
-abbrev pub WritesOneOf : List ℤ → (ℤ → List ℕ → Type 0) → List ℕ → List ℕ → ℕ → ℤ → Type 0
-WritesOneOf first IsText = Writes first IsText (λ text. (code : ℤ) × IsText code text)
+-- a text of this kind is too long for the buffer
+abbrev pub LacksRoom : (List ℕ → Type 0) → List ℕ → ℕ → Code → Type 0
+LacksRoom IsText out written c = (c ≡ variant.Small) × ((text : List ℕ) × IsText text × IsTooLong text (length out) written)
+
+-- the buffer is unchanged: it lacks room for a text of this kind, or there is none, for a reason that holds of the code
+abbrev pub HasNoText : (List ℕ → Type 0) → (Code → Type 0) → List ℕ → List ℕ → ℕ → Code → Type 0
+HasNoText IsText IsNone out after written c =
+    (after ≡ out) × (LacksRoom IsText out written c ⊎ ((written ≡ 0) × IsNone c))
+
+-- a text of this kind is written, or none is
+abbrev pub IsWritten : (List ℕ → Type 0) → (Code → Type 0) → List ℕ → List ℕ → ℕ → Result (Unit {0}) Code → Type 0
+IsWritten IsText IsNone out after written r =
+    MatchResult r (λ done. HasText IsText after written) (HasNoText IsText IsNone out after written)
+
+-- the same, by the number that C gets
+abbrev pub WritesText : (List ℕ → Type 0) → (Code → Type 0) → List ℕ → List ℕ → ℕ → ℤ → Type 0
+WritesText IsText IsNone out after written answer =
+    Answers answer (HasText IsText after written) (HasNoText IsText IsNone out after written)

@@ -1,18 +1,18 @@
 //! Feeding bytes to audits, and their answers as codes and numbers.
-ghost use Rattle.std.specs.Prelude.{◌≡◌, ◌∷◌, [], IfErr, IfOk, Some, None, string_bytes};
-ghost use Rattle.asm_audit.specs.Audited.{IsFormFault};
-ghost use Rattle.asm_slots.specs.Audits.{Audits, AreNoNumbers, HasAudited, HasEnd, HasNoState, IsAuditState};
-ghost use Rattle.asm_slots.specs.Audits.{ReportsAuditError, counts_of};
+ghost use Rattle.std.specs.Prelude.{◌≡◌, ◌⊎◌, [], IfErr, IfOk, Err, None, string_bytes};
+ghost use Rattle.asm_slots.specs.Answers.{EmptyOr, IsMemory};
+ghost use Rattle.asm_slots.specs.Audits.{Audits, EndsAudit, HasAudited, HasNoState, IsAuditState, code_of_audit, counts_of};
+ghost use Rattle.asm_slots.specs.Audits.{no_numbers, numbers_of};
 ghost use Rattle.asm_slots.specs.AuditView.{AuditView, WasFed};
-ghost use Rattle.asm_slots.specs.Codes.{IsOneOf, ASM_DONE, ASM_MEMORY, ASM_NO_PART, ASM_ILLEGAL};
-ghost use Rattle.asm_slots.specs.Codes.{ASM_NOT_JSON, ASM_SHAPE, ASM_VERSION, ASM_CUT, ASM_LONG_LINE, ASM_APART};
-ghost use Rattle.asm_slots.specs.Slots.{HoldsAudit, content_of};
+ghost use Rattle.asm_slots.specs.Slots.{HoldsAudit, HoldsNoAudit, content_of};
+ghost use Rattle.asm_slots.specs.WrittenText.{IsWritten};
 ghost use Rattle.asm_slots.specs.declared.content.Content.TheVariants as content;
 
 use crate::audit::{Audit, AuditNumbers};
-use crate::codes::{APART, DONE, ILLEGAL, LONG_LINE, MEMORY, NO_PART, TAKEN};
+use crate::codes::{Code, write};
 use crate::content::Content;
 use crate::journals::code_of_error;
+use crate::lend;
 use crate::slot::Slot;
 use crate::take_and_put::put_shell;
 use asm_audit::{AuditError, Counts};
@@ -21,7 +21,7 @@ use std::alloc::{AllocError, Global};
 
 impl AuditNumbers {
     pub fn none() -> AuditNumbers
-        ensures { AreNoNumbers result }
+        ensures { result ≡ no_numbers }
     {
         AuditNumbers {
             parts: 0,
@@ -42,9 +42,7 @@ impl AuditNumbers {
 
     // Return the numbers of a segment, and of a call or a line in it.
     fn at(part: u64, number: u64) -> AuditNumbers
-        ensures part { result.parts ≡ part }
-        ensures number { result.calls ≡ number }
-        ensures moves { result.moves ≡ 0 }
+        ensures { result ≡ record { parts = part; calls = number; moves = 0 } }
     {
         AuditNumbers {
             parts: part,
@@ -54,22 +52,29 @@ impl AuditNumbers {
     }
 }
 
-// Return the code of the error, with its numbers.
-fn code_of_audit_error(error: AuditError) -> (i32, AuditNumbers)
-    ensures codes { IsOneOf (ASM_MEMORY ∷ ASM_ILLEGAL ∷ ASM_NOT_JSON ∷ ASM_SHAPE ∷ ASM_VERSION ∷ ASM_CUT ∷ ASM_LONG_LINE ∷ ASM_APART ∷ []) result.0 }
-    ensures form { IsFormFault error → IsOneOf (ASM_MEMORY ∷ ASM_NOT_JSON ∷ ASM_SHAPE ∷ ASM_VERSION ∷ ASM_CUT
-        ∷ ASM_LONG_LINE ∷ ASM_APART ∷ []) result.0 }
-    ensures reported { ReportsAuditError error result.0 result.1 }
+// Return the code of the error, and set its numbers.
+fn code_of_audit_error(error: AuditError, reported: &mut AuditNumbers) -> Code
+    ensures code { result ≡ code_of_audit error }
+    ensures numbers { reported.new ≡ numbers_of error }
 {
+    *reported = AuditNumbers::none();
     match error {
         AuditError::Journal { part, fault } => {
-            let (code, line) = code_of_error(fault);
-            (code, AuditNumbers::at(part, line))
+            let mut line = 0;
+            let code = code_of_error(fault, &mut line);
+            *reported = AuditNumbers::at(part, line);
+            code
         }
-        AuditError::Illegal { part, call } => (ILLEGAL, AuditNumbers::at(part, call)),
-        AuditError::Apart { part } => (APART, AuditNumbers::at(part, 0)),
-        AuditError::LongLine => (LONG_LINE, AuditNumbers::none()),
-        AuditError::Memory => (MEMORY, AuditNumbers::none()),
+        AuditError::Illegal { part, call } => {
+            *reported = AuditNumbers::at(part, call);
+            Code::Illegal
+        }
+        AuditError::Apart { part } => {
+            *reported = AuditNumbers::at(part, 0);
+            Code::Apart
+        }
+        AuditError::LongLine => Code::LongLine,
+        AuditError::Memory => Code::Memory,
     }
 }
 
@@ -80,47 +85,35 @@ fn feed(
     bytes: &[u8],
     taken: &mut usize,
     reported: &mut AuditNumbers,
-) -> i32
-    ensures codes { IsOneOf (ASM_DONE ∷ ASM_MEMORY ∷ ASM_ILLEGAL ∷ ASM_NOT_JSON ∷ ASM_SHAPE ∷ ASM_VERSION ∷ ASM_CUT
-        ∷ ASM_LONG_LINE ∷ ASM_APART ∷ []) result }
-    ensures audited { HasAudited bytes.now taken.new reported.new result audit.old audit.new }
+) -> Result<(), Code>
+    ensures { HasAudited bytes.now taken.new reported.new result audit.old audit.new }
 {
     let (count, fed) = audit.feed(alloc, bytes);
     *taken = count;
     match fed {
         Ok(()) => {
             *reported = AuditNumbers::of(audit.counts());
-            DONE
+            Ok(())
         }
-        Err(error) => {
-            let (code, numbers) = code_of_audit_error(error);
-            *reported = numbers;
-            code
-        }
+        Err(error) => Err(code_of_audit_error(error, reported)),
     }
 }
 
-/// Do what `asm_audit` does with the content of the box, and put the box into the slot.
-pub fn feed_in(
+// Feed the bytes to the audit in the slot.
+fn feed_in(
     alloc: Global,
     slot: &mut Slot,
-    mut shell: Box<Content>,
     bytes: &[u8],
     taken: &mut usize,
     reported: &mut AuditNumbers,
-) -> i32
-    requires none { taken.old ≡ 0 }
-    requires no_numbers { AreNoNumbers reported.old }
-    ensures audits { Audits bytes.now (Some shell.value) (content_of slot.new) taken.new reported.new result }
-    ensures audited { (a : AuditView) → shell.value ≡ content.Audit a →
-        HoldsAudit (content_of slot.new) (HasAudited bytes.now taken.new reported.new result a) }
+) -> Result<(), Code>
+    ensures audited { HoldsAudit (content_of slot.old)
+        (λ a. HoldsAudit (content_of slot.new) (HasAudited bytes.now taken.new reported.new result a))
+        ⊎ (HoldsNoAudit (content_of slot.old) × (content_of slot.new ≡ content_of slot.old) × (result ≡ Err Code.Taken)
+        × (taken.new ≡ taken.old) × (reported.new ≡ reported.old)) }
 {
-    let code = match &mut *shell {
-        Content::Audit(audit) => feed(alloc, audit, bytes, taken, reported),
-        _ => TAKEN,
-    };
-    put_shell(slot, shell);
-    code
+    lend!(audit: Audit = slot, Err(Code::Taken));
+    feed(alloc, audit, bytes, taken, reported)
 }
 
 // Return an audit that has read nothing, in a slot's box.
@@ -130,51 +123,66 @@ fn new_audit(alloc: Global) -> Result<Box<Content>, AllocError>
     Ok(Box::new(alloc, Content::Audit(Audit::new(alloc)))?)
 }
 
-/// Do what `asm_audit` does with an empty slot.
-pub fn feed_first(
+/// Do what `asm_audit` does.
+pub fn audit(
     alloc: Global,
     slot: &mut Slot,
     bytes: &[u8],
     taken: &mut usize,
     reported: &mut AuditNumbers,
-) -> i32
-    requires empty { content_of slot.old ≡ None }
-    requires none { taken.old ≡ 0 }
-    requires no_numbers { AreNoNumbers reported.old }
-    ensures { Audits bytes.now None (content_of slot.new) taken.new reported.new result }
+) -> Result<(), Code>
+    ensures { Audits bytes.now (content_of slot.old) (content_of slot.new) taken.new reported.new result }
 {
-    match new_audit(alloc) {
-        Ok(shell) => feed_in(alloc, slot, shell, bytes, taken, reported),
-        Err(AllocError) => MEMORY,
+    *taken = 0;
+    *reported = AuditNumbers::none();
+    if slot.is_full() {
+        return feed_in(alloc, slot, bytes, taken, reported);
     }
+    put_shell(slot, new_audit(alloc)?);
+    feed_in(alloc, slot, bytes, taken, reported)
 }
 
-/// Return the code and the numbers that `asm_audited` returns of the audit.
-pub fn ended(alloc: Global, audit: &mut Audit) -> (i32, AuditNumbers)
-    ensures codes { IsOneOf (ASM_DONE ∷ ASM_MEMORY ∷ ASM_NOT_JSON ∷ ASM_SHAPE ∷ ASM_VERSION ∷ ASM_CUT
-        ∷ ASM_LONG_LINE ∷ ASM_APART ∷ []) result.0 }
-    ensures ends { HasEnd result.1 result.0 audit.old }
-    ensures same { audit.new ≡ audit.old }
+/// Do what `asm_audited` does.
+pub fn audited(alloc: Global, slot: &mut Slot, reported: &mut AuditNumbers) -> Result<(), Code>
+    ensures ends { EndsAudit (content_of slot.old) reported.new result }
+    ensures kept { content_of slot.new ≡ content_of slot.old }
 {
+    *reported = AuditNumbers::none();
+    lend!(audit: Audit = slot, Err(Code::Empty));
     match audit.finish(alloc) {
-        Ok(counts) => (DONE, AuditNumbers::of(counts)),
-        Err(error) => code_of_audit_error(error),
+        Ok(counts) => {
+            *reported = AuditNumbers::of(counts);
+            Ok(())
+        }
+        Err(error) => Err(code_of_audit_error(error, reported)),
     }
 }
 
-/// Return what `asm_audit_state` writes.
-pub fn audit_state(alloc: Global, audit: &Audit) -> Result<String, i32>
+// Return the text of the state that the moves so far leave.
+fn state_so_far(alloc: Global, audit: &Audit) -> Result<String, Code>
     ensures ok { IfOk result (λ text. IsAuditState audit.now (string_bytes text)) }
-    ensures codes { IfErr result (IsOneOf (ASM_MEMORY ∷ ASM_NO_PART ∷ [])) }
-    ensures none { IfErr result (λ code. code ≡ ASM_NO_PART → HasNoState audit.now) }
+    ensures err { IfErr result (λ c. IsMemory c ⊎ ((c ≡ Code.NoPart) × HasNoState audit.now)) }
 {
-    let left = match audit.state(alloc) {
-        Ok(Some(left)) => left,
-        Ok(None) => return Err(NO_PART),
-        Err(AllocError) => return Err(MEMORY),
-    };
-    match state_text(alloc, &left) {
-        Ok(text) => Ok(text),
-        Err(AllocError) => Err(MEMORY),
+    match audit.state(alloc)? {
+        Some(left) => Ok(state_text(alloc, &left)?),
+        None => Err(Code::NoPart),
     }
+}
+
+/// Do what `asm_audit_state` does.
+pub fn audit_state(
+    alloc: Global,
+    slot: &mut Slot,
+    out: &mut [u8],
+    written: &mut usize,
+) -> Result<(), Code>
+    ensures text { IsWritten (λ text. HoldsAudit (content_of slot.old) (λ a. IsAuditState a text))
+        (EmptyOr (HoldsNoAudit (content_of slot.old)) (λ c. IsMemory c ⊎ ((c ≡ Code.NoPart) × HoldsAudit (content_of slot.old) HasNoState)))
+        out.old out.new written.new result }
+    ensures kept { content_of slot.new ≡ content_of slot.old }
+{
+    *written = 0;
+    lend!(audit: Audit = slot, Err(Code::Empty));
+    let text = state_so_far(alloc, audit)?;
+    write(text.as_bytes(), out, written)
 }

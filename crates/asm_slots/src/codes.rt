@@ -1,9 +1,8 @@
 //! The codes that calls return, and their texts.
-ghost use Rattle.std.specs.Prelude.{◌∷◌, [], ◌≡◌, ◌≢◌, ◌<◌, false, int_lt, length, string_bytes};
-ghost use Rattle.asm_slots.specs.Codes.{IsOneOf, first_texts, further, further_texts, text_among, text_of_code};
-ghost use Rattle.asm_slots.specs.Codes.{ASM_APART, ASM_DONE, ASM_SMALL};
-ghost use Rattle.asm_slots.specs.WrittenText.{Writes, WritesText};
-ghost use Rattle.asm_slots.specs.Answers.{answer_of, code_of_text, number_of};
+ghost use Rattle.std.specs.Prelude.{◌≡◌, ◌<◌, false, int_lt, length, IfErr, OnErr, OnOk};
+ghost use Rattle.asm_slots.specs.Codes.{answer_of, first_texts, further, further_texts, number_of, text_among, text_of_code};
+ghost use Rattle.asm_slots.specs.WrittenText.{IsCopied};
+ghost use Rattle.asm_slots.specs.Answers.{code_of_text};
 ghost use Rattle.asm_slots.specs.declared.codes.Code.TheVariants as variant;
 
 use asm_aggregate::ComposeError;
@@ -12,83 +11,44 @@ use asm_storage::StorageError;
 use asm_update::InstructionsError;
 use std::alloc::{AllocError, AllocFailed};
 
-pub const DONE: i32 = 0;
-
-pub const STALE: i32 = 1;
-
-pub const CLASH: i32 = 2;
-
-pub const MEMORY: i32 = 3;
-
-pub const FULL: i32 = 4;
-
-pub const EMPTY: i32 = 5;
-
-pub const CAPACITY: i32 = 6;
-
-pub const SMALL: i32 = 7;
-
-pub const BUSY: i32 = 8;
-
-pub const MANY: i32 = 9;
-
-pub const NO_ANSWER: i32 = 10;
-
-pub const TAKEN: i32 = 11;
-
-pub const NUMBER: i32 = 12;
-
-pub const MISSING: i32 = 13;
-
-pub const OTHER: i32 = 14;
-
-pub const ILLEGAL: i32 = 15;
-
-pub const NOT_JSON: i32 = 16;
-
-pub const SHAPE: i32 = 17;
-
-pub const VERSION: i32 = 18;
-
-pub const CUT: i32 = 19;
-
-pub const LARGE: i32 = 20;
-
-pub const MOVED: i32 = 21;
-
-pub const DEEP: i32 = 22;
-
-pub const APART: i32 = 23;
-
-pub const AGENTS: i32 = 24;
-
-pub const AHEAD: i32 = 25;
-
-pub const OPERAND: i32 = 26;
-
-pub const NO_FORM: i32 = 27;
-
-pub const NO_JOURNAL: i32 = 28;
-
-pub const NO_PUSH: i32 = 29;
-
-pub const NO_AGENT: i32 = 30;
-
-pub const NO_PART: i32 = 31;
-
-pub const NOT_FULL: i32 = 32;
-
-pub const MANY_CALLS: i32 = 33;
-
-pub const LONG_LINE: i32 = 34;
-
-pub const LONG_MOVE: i32 = 35;
-
-/// A text to write, with its code.
-#[derive(Drop)]
-pub struct CodedText {
-    pub code: i32,
-    pub text: String,
+/// Why a call isn't done, with the number that C gets; the header says what each means.
+#[derive(Clone, Copy, Drop)]
+pub enum Code {
+    Stale = 1,
+    Clash = 2,
+    Memory = 3,
+    Full = 4,
+    Empty = 5,
+    Capacity = 6,
+    Small = 7,
+    Busy = 8,
+    Many = 9,
+    NoAnswer = 10,
+    Taken = 11,
+    Number = 12,
+    Missing = 13,
+    Other = 14,
+    Illegal = 15,
+    NotJson = 16,
+    Shape = 17,
+    Version = 18,
+    Cut = 19,
+    Large = 20,
+    Moved = 21,
+    Deep = 22,
+    Apart = 23,
+    Agents = 24,
+    Ahead = 25,
+    Operand = 26,
+    NoForm = 27,
+    NoJournal = 28,
+    NoPush = 29,
+    NoAgent = 30,
+    NoPart = 31,
+    NotFull = 32,
+    ManyCalls = 33,
+    LongLine = 34,
+    LongMove = 35,
 }
 
 /// Copy the bytes to the start of the buffer, if they fit.
@@ -97,159 +57,86 @@ pub struct CodedText {
 ///
 /// # Errors
 ///
-/// - `ASM_SMALL`: there are more bytes than the buffer has, which is unchanged.
-pub fn copied(bytes: &[u8], out: &mut [u8], written: &mut usize) -> i32
+/// - `Small`: there are more bytes than the buffer has, which is unchanged.
+pub fn write(bytes: &[u8], out: &mut [u8], written: &mut usize) -> Result<(), Code>
     ensures written { written.new ≡ length bytes.now }
-    ensures codes { IsOneOf (ASM_DONE ∷ ASM_SMALL ∷ []) result }
-    ensures text { WritesText (λ text. text ≡ bytes.now) out.old out.new written.new result }
+    ensures copied { OnOk result (IsCopied bytes.now out.new written.new) }
+    ensures small { IfErr result (λ c. c ≡ variant.Small) }
+    ensures room { OnErr result (length out.old < written.new) }
+    ensures unwritten { OnErr result (out.new ≡ out.old) }
 {
     *written = bytes.len();
     if out.len() < bytes.len() {
-        return SMALL;
+        return Err(Code::Small);
     }
     out[..bytes.len()].copy_from_slice(bytes);
-    DONE
-}
-
-/// Copy the text to the start of the buffer and return its code, if it fits.
-///
-/// # Errors
-///
-/// - `ASM_SMALL`: the text is longer than the buffer, which is unchanged; `written` is the room that it needs.
-pub fn written_as(reported: &CodedText, out: &mut [u8], written: &mut usize) -> i32
-    requires { reported.now.code ≢ ASM_SMALL }
-    ensures codes { IsOneOf (reported.now.code ∷ ASM_SMALL ∷ []) result }
-    ensures text { Writes (reported.now.code ∷ []) (λ code text. text ≡ string_bytes reported.now.text)
-        (λ text. text ≡ string_bytes reported.now.text) out.old out.new written.new result }
-{
-    if copied(reported.text.as_bytes(), out, written) == DONE {
-        return reported.code;
-    }
-    SMALL
+    Ok(())
 }
 
 /// Return what the code means, as a line of English.
 pub fn text_of_code(code: i32) -> &'static str
     ensures { result.now ≡ text_of_code code }
 {
-    if code < APART {
+    if code < Code::Apart as i32 {
         first_text(code)
     } else {
         further_text(code)
     }
 }
 
-// Return the text of a code below `APART`.
+// Return the text of a code below that of `Apart`.
 // Proof: one match with all codes is too large for the prover.
 fn first_text(code: i32) -> &'static str
     ensures { result.now ≡ text_among first_texts code }
 {
     match code {
-        DONE => "done",
-        STALE => "a location that was named, or of a function that was scanned, was written since",
-        CLASH => "the updates of the move clash",
-        MEMORY => "out of memory",
-        FULL => "as many moves were fired as the capacity",
-        EMPTY => "a slot holds nothing of this kind, or is passed twice",
-        CAPACITY => "the capacity is not 1 to 1,048,576",
-        SMALL => "the buffer is too small",
-        BUSY => "64 offers were lost",
-        MANY => "more than 256 locations, or locations and scanned functions",
-        NO_ANSWER => "no call was answered yet",
-        TAKEN => "the slot that was to be filled holds something else",
-        NUMBER => "an agent with this number was made before",
-        MISSING => "a move has no receipt among the agents that were returned",
-        OTHER => "the two slots are of two storages",
-        ILLEGAL => "the journal is not legal",
-        NOT_JSON => "not JSON",
-        SHAPE => "JSON of another shape",
-        VERSION => "a journal of another version",
-        CUT => "the journal is cut off",
-        LARGE => "an amount or a sum is too large",
-        MOVED => "the state of the agent is at another number of moves than the step",
-        DEEP => "64 moves are pushed already",
+        0 => "done",
+        1 => "a location that was named, or of a function that was scanned, was written since",
+        2 => "the updates of the move clash",
+        3 => "out of memory",
+        4 => "as many moves were fired as the capacity",
+        5 => "a slot holds nothing of this kind, or is passed twice",
+        6 => "the capacity is not 1 to 1,048,576",
+        7 => "the buffer is too small",
+        8 => "64 offers were lost",
+        9 => "more than 256 locations, or locations and scanned functions",
+        10 => "no call was answered yet",
+        11 => "the slot that was to be filled holds something else",
+        12 => "an agent with this number was made before",
+        13 => "a move has no receipt among the agents that were returned",
+        14 => "the two slots are of two storages",
+        15 => "the journal is not legal",
+        16 => "not JSON",
+        17 => "JSON of another shape",
+        18 => "a journal of another version",
+        19 => "the journal is cut off",
+        20 => "an amount or a sum is too large",
+        21 => "the state of the agent is at another number of moves than the step",
+        22 => "64 moves are pushed already",
         _ => "no code of this library",
     }
 }
 
-// Return the text of a code from `APART` on.
+// Return the text of a code from that of `Apart` on.
 fn further_text(code: i32) -> &'static str
-    requires { int_lt code ASM_APART ≡ false }
+    requires { int_lt code (number_of variant.Apart) ≡ false }
     ensures { result.now ≡ text_among further_texts (further code) }
 {
     match code {
-        APART => "a part opens with another state than the one before it leaves",
-        AGENTS => "the number of an agent is not below 256, or more than 256 agents are asked for",
-        AHEAD =>
-            "a location or a function is named at a number of moves that the agent has not seen",
-        OPERAND => "the verb, the kind, the number, the bytes and the amount make no instruction",
-        NO_FORM => "there is no such form",
-        NO_JOURNAL => "no journal was made since an agent was returned or taken",
-        NO_PUSH => "no move is pushed",
-        NO_AGENT => "no agent with this number was returned",
-        NO_PART => "no part has begun",
-        NOT_FULL => "the state of the agent is at fewer moves than the storage has room for",
-        MANY_CALLS => "more than the 4,294,967,295 calls of a journal",
-        LONG_LINE => "a line of more than 1,073,741,824 bytes",
-        LONG_MOVE => "a move of more than 4,096 instructions",
+        23 => "a part opens with another state than the one before it leaves",
+        24 => "the number of an agent is not below 256, or more than 256 agents are asked for",
+        25 => "a location or a function is named at a number of moves that the agent has not seen",
+        26 => "the verb, the kind, the number, the bytes and the amount make no instruction",
+        27 => "there is no such form",
+        28 => "no journal was made since an agent was returned or taken",
+        29 => "no move is pushed",
+        30 => "no agent with this number was returned",
+        31 => "no part has begun",
+        32 => "the state of the agent is at fewer moves than the storage has room for",
+        33 => "more than the 4,294,967,295 calls of a journal",
+        34 => "a line of more than 1,073,741,824 bytes",
+        35 => "a move of more than 4,096 instructions",
         _ => "no code of this library",
-    }
-}
-
-/// Why a call is refused; the codes of the header say what each means.
-#[derive(Clone, Copy, Drop)]
-pub enum Code {
-    Memory,
-    Empty,
-    Taken,
-    NotJson,
-    Shape,
-    Operand,
-    LongMove,
-    Moved,
-    Many,
-    NoPush,
-    Clash,
-    Large,
-    Other,
-    Capacity,
-    NoJournal,
-    NotFull,
-    Agents,
-    Number,
-    NoAgent,
-    Missing,
-    ManyCalls,
-}
-
-impl Code {
-    /// Return its number.
-    pub fn number(self) -> i32
-        ensures { result ≡ number_of self }
-    {
-        match self {
-            Code::Memory => MEMORY,
-            Code::Empty => EMPTY,
-            Code::Taken => TAKEN,
-            Code::NotJson => NOT_JSON,
-            Code::Shape => SHAPE,
-            Code::Operand => OPERAND,
-            Code::LongMove => LONG_MOVE,
-            Code::Moved => MOVED,
-            Code::Many => MANY,
-            Code::NoPush => NO_PUSH,
-            Code::Clash => CLASH,
-            Code::Large => LARGE,
-            Code::Other => OTHER,
-            Code::Capacity => CAPACITY,
-            Code::NoJournal => NO_JOURNAL,
-            Code::NotFull => NOT_FULL,
-            Code::Agents => AGENTS,
-            Code::Number => NUMBER,
-            Code::NoAgent => NO_AGENT,
-            Code::Missing => MISSING,
-            Code::ManyCalls => MANY_CALLS,
-        }
     }
 }
 
@@ -258,8 +145,8 @@ pub fn answer(done: Result<(), Code>) -> i32
     ensures { result ≡ answer_of done }
 {
     match done {
-        Ok(()) => DONE,
-        Err(code) => code.number(),
+        Ok(()) => 0,
+        Err(code) => code as i32,
     }
 }
 

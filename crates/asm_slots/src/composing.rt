@@ -1,20 +1,21 @@
-//! Moves without an agent: the updates of a move on a state, and the composition of two moves. Both read texts and
-//! return a text.
-ghost use Rattle.std.specs.Prelude.{◌≡◌, ◌∷◌, [], codes, string_bytes, IfOk, IfErr};
+//! Moves without an agent: the updates of a move on a state, and the composition of two moves.
+ghost use Rattle.std.specs.Prelude.{◌≡◌, ◌⊎◌, codes, string_bytes, IfErr, IfOk, MatchResult};
 ghost use Rattle.serde_json.specs.View.{view};
 ghost use Rattle.asm_journal.specs.Element.{location_json_of};
 ghost use Rattle.asm_journal.specs.Event.{IsMoveForm};
 ghost use Rattle.asm_journal.specs.Shape.{one_of};
 ghost use Rattle.asm_journal.specs.Value.{IsStateForm};
-ghost use Rattle.asm_slots.specs.Bytes.{AreMisread};
-ghost use Rattle.asm_slots.specs.Codes.{IsOneOf, ASM_DONE, ASM_CLASH, ASM_MEMORY, ASM_LONG_MOVE};
-ghost use Rattle.asm_slots.specs.Codes.{ASM_LARGE, ASM_NOT_JSON, ASM_SHAPE};
-ghost use Rattle.asm_slots.specs.Composing.{IsAggregated, IsComposed, ReportsAggregate, ReportsComposition, clash_text, large_text};
+ghost use Rattle.asm_slots.specs.Bytes.{IsEitherMisread};
+ghost use Rattle.asm_slots.specs.Composing.{Aggregates, Composes, DoesNotAggregate, DoesNotCompose, HasAggregate, HasComposition};
+ghost use Rattle.asm_slots.specs.Composing.{ReportsUncomposed};
+ghost use Rattle.asm_slots.specs.Composing.{clash_text, large_text};
+ghost use Rattle.asm_slots.specs.Answers.{IsMemory};
 
-use crate::codes::{CLASH, CodedText, DONE, LARGE, LONG_MOVE, MEMORY};
-use crate::parsing::{code_of_text_error, read_both};
-use asm_aggregate::{ComposeError, aggregate, compose, standard};
+use crate::codes::{Code, write};
+use crate::parsing::read_both;
+use asm_aggregate::{ComposeError, standard};
 use asm_element::Location;
+use asm_explain::TextError;
 use asm_journal::{answer_text, location_json, move_text, updates_text};
 use asm_storage::{Answer, Reply};
 use asm_update::{AggError, Clash, Instructions, PlainState, UpdateSet};
@@ -43,86 +44,106 @@ pub(crate) fn large_text(alloc: Global, at: &Location) -> Result<String, AllocEr
     large_json(alloc, at)?.to_string(alloc)
 }
 
-fn aggregation_text(
+// Return the answer of the aggregation of the move of the one text on the state of the other.
+#[tactic(auto, unfolding(asm_aggregate::specs::Standard::standard_meaning))]
+fn aggregation(
     alloc: Global,
-    answer: Result<UpdateSet, AggError>,
-) -> Result<CodedText, AllocError>
-    ensures reported { IfOk result (λ t. ReportsAggregate answer t.code (string_bytes t.text)) }
-    ensures codes { IfOk result (λ t. IsOneOf (ASM_DONE ∷ ASM_CLASH ∷ []) t.code) }
+    state: &[u8],
+    instrs: &[u8],
+) -> Result<Result<UpdateSet, AggError>, TextError>
+    ensures ok { IfOk result (HasAggregate state.now instrs.now) }
+    ensures err { IfErr result (IsEitherMisread IsStateForm IsMoveForm state.now instrs.now) }
 {
-    match answer {
-        Ok(updates) => Ok(CodedText {
-            code: DONE,
-            text: updates_text(alloc, &updates)?,
-        }),
-        Err(AggError::Clash(clash)) => Ok(CodedText {
-            code: CLASH,
-            text: clash_text(alloc, clash)?,
-        }),
-        Err(AggError::Memory) => Err(AllocError),
+    let (old, step) = read_both::<PlainState, Instructions>(alloc, state, instrs)?;
+    Ok(asm_aggregate::aggregate(alloc, &standard(), &old, &step))
+}
+
+/// Do what `asm_aggregate` does.
+pub fn aggregate(
+    alloc: Global,
+    state: &[u8],
+    instrs: &[u8],
+    out: &mut [u8],
+    written: &mut usize,
+) -> Result<(), Code>
+    ensures { MatchResult result (λ done. Aggregates state.now instrs.now out.new written.new)
+        (DoesNotAggregate state.now instrs.now out.old out.new written.new) }
+{
+    *written = 0;
+    match aggregation(alloc, state, instrs)? {
+        Ok(updates) => {
+            let text = updates_text(alloc, &updates)?;
+            write(text.as_bytes(), out, written)
+        }
+        Err(AggError::Clash(clash)) => {
+            let text = clash_text(alloc, clash)?;
+            write(text.as_bytes(), out, written)?;
+            Err(Code::Clash)
+        }
+        Err(AggError::Memory) => Err(Code::Memory),
     }
 }
 
-fn composition_text(
-    alloc: Global,
-    answer: Result<Instructions, ComposeError>,
-) -> Result<CodedText, AllocError>
-    ensures reported { IfOk result (λ t. ReportsComposition answer t.code (string_bytes t.text)) }
-    ensures codes { IfOk result (λ t. IsOneOf (ASM_DONE ∷ ASM_CLASH ∷ ASM_LONG_MOVE ∷ ASM_LARGE ∷ []) t.code) }
+/// Why moves aren't put together: the code, and its text.
+#[derive(Drop)]
+pub(crate) struct Refusal {
+    pub(crate) code: Code,
+    pub(crate) text: String,
+}
+
+fn refusal_of(alloc: Global, error: ComposeError) -> Result<Refusal, Code>
+    ensures reported { IfOk result (λ r. ReportsUncomposed error r.code (string_bytes r.text)) }
+    ensures err { IfErr result (λ c. IsMemory c ⊎ ((c ≡ Code.LongMove) × (error ≡ ComposeError.ManyInstructions))) }
 {
-    match answer {
-        Ok(instrs) => Ok(CodedText {
-            code: DONE,
-            text: move_text(alloc, &instrs)?,
-        }),
-        Err(ComposeError::Clash(clash)) => Ok(CodedText {
-            code: CLASH,
+    match error {
+        ComposeError::Clash(clash) => Ok(Refusal {
+            code: Code::Clash,
             text: clash_text(alloc, clash)?,
         }),
-        Err(ComposeError::Large(at)) => Ok(CodedText {
-            code: LARGE,
+        ComposeError::Large(at) => Ok(Refusal {
+            code: Code::Large,
             text: large_text(alloc, &at)?,
         }),
-        Err(ComposeError::ManyInstructions) => Ok(CodedText {
-            code: LONG_MOVE,
-            text: String::new(alloc),
-        }),
-        Err(ComposeError::Memory) => Err(AllocError),
+        ComposeError::ManyInstructions => Err(Code::LongMove),
+        ComposeError::Memory => Err(Code::Memory),
     }
 }
 
-/// Return what `asm_aggregate` writes, with its code.
-pub fn aggregated(alloc: Global, state: &[u8], instrs: &[u8]) -> Result<CodedText, i32>
-    ensures ok { IfOk result (λ t. IsAggregated state.now instrs.now t.code (string_bytes t.text)) }
-    ensures few { IfOk result (λ t. IsOneOf (ASM_DONE ∷ ASM_CLASH ∷ []) t.code) }
-    ensures err { IfErr result (λ code. IsOneOf (ASM_NOT_JSON ∷ ASM_SHAPE ∷ []) code →
-        AreMisread IsStateForm IsMoveForm state.now instrs.now code) }
-    ensures codes { IfErr result (IsOneOf (ASM_MEMORY ∷ ASM_NOT_JSON ∷ ASM_SHAPE ∷ [])) }
+// Return the answer of the composition of the moves of two texts.
+#[tactic(auto, unfolding(asm_aggregate::specs::Standard::standard_meaning))]
+fn composition(
+    alloc: Global,
+    first: &[u8],
+    second: &[u8],
+) -> Result<Result<Instructions, ComposeError>, TextError>
+    ensures ok { IfOk result (HasComposition first.now second.now) }
+    ensures err { IfErr result (IsEitherMisread IsMoveForm IsMoveForm first.now second.now) }
 {
-    let (old, step) = match read_both::<PlainState, Instructions>(alloc, state, instrs) {
-        Ok(both) => both,
-        Err(error) => return Err(code_of_text_error(error)),
-    };
-    match aggregation_text(alloc, aggregate(alloc, &standard(), &old, &step)) {
-        Ok(reported) => Ok(reported),
-        Err(AllocError) => Err(MEMORY),
-    }
+    let (one, two) = read_both::<Instructions, Instructions>(alloc, first, second)?;
+    Ok(asm_aggregate::compose(alloc, &standard(), &one, &two))
 }
 
-/// Return what `asm_compose` writes, with its code.
-pub fn composed(alloc: Global, first: &[u8], second: &[u8]) -> Result<CodedText, i32>
-    ensures ok { IfOk result (λ t. IsComposed first.now second.now t.code (string_bytes t.text)) }
-    ensures few { IfOk result (λ t. IsOneOf (ASM_DONE ∷ ASM_CLASH ∷ ASM_LONG_MOVE ∷ ASM_LARGE ∷ []) t.code) }
-    ensures err { IfErr result (λ code. IsOneOf (ASM_NOT_JSON ∷ ASM_SHAPE ∷ []) code →
-        AreMisread IsMoveForm IsMoveForm first.now second.now code) }
-    ensures codes { IfErr result (IsOneOf (ASM_MEMORY ∷ ASM_NOT_JSON ∷ ASM_SHAPE ∷ [])) }
+/// Do what `asm_compose` does.
+pub fn compose(
+    alloc: Global,
+    first: &[u8],
+    second: &[u8],
+    out: &mut [u8],
+    written: &mut usize,
+) -> Result<(), Code>
+    ensures { MatchResult result (λ done. Composes first.now second.now out.new written.new)
+        (DoesNotCompose first.now second.now out.old out.new written.new) }
 {
-    let (one, two) = match read_both::<Instructions, Instructions>(alloc, first, second) {
-        Ok(both) => both,
-        Err(error) => return Err(code_of_text_error(error)),
-    };
-    match composition_text(alloc, compose(alloc, &standard(), &one, &two)) {
-        Ok(reported) => Ok(reported),
-        Err(AllocError) => Err(MEMORY),
+    *written = 0;
+    match composition(alloc, first, second)? {
+        Ok(instrs) => {
+            let text = move_text(alloc, &instrs)?;
+            write(text.as_bytes(), out, written)
+        }
+        Err(error) => {
+            let refusal = refusal_of(alloc, error)?;
+            write(refusal.text.as_bytes(), out, written)?;
+            Err(refusal.code)
+        }
     }
 }

@@ -1,9 +1,8 @@
 //! Judging whether a text reads as a form, with a sentence that says where and why it doesn't.
-ghost use Rattle.std.specs.Prelude.{◌≡◌, ◌≢◌, ◌<◌, ◌≤◌, ◌↔◌, ◌∷◌, [], length, IfSome, IfNone};
-ghost use Rattle.asm_slots.specs.Codes.{IsOneOf, ASM_DONE, ASM_MEMORY, ASM_NO_FORM, ASM_SMALL};
-ghost use Rattle.asm_slots.specs.Forms.{HasForm, IsNoForm, LacksForm, form_code};
+ghost use Rattle.std.specs.Prelude.{◌≡◌, IfNone, IfSome, MatchResult};
+ghost use Rattle.asm_slots.specs.Forms.{DoesNotExplain, Explains, IsNoForm, form_code};
 
-use crate::codes::{DONE, MEMORY, NO_FORM, copied};
+use crate::codes::{Code, write};
 use asm_explain::Form;
 use std::alloc::Global;
 
@@ -25,23 +24,22 @@ fn form_of(form: i32) -> Option<Form>
 ///
 /// The call judges what the readers of the forms accept, and nothing for which another call is refused. The choice of the
 /// sentence is tested.
-pub fn explain(alloc: Global, form: i32, text: &[u8], out: &mut [u8], written: &mut usize) -> i32
-    ensures codes { IsOneOf (ASM_DONE ∷ ASM_MEMORY ∷ ASM_NO_FORM ∷ ASM_SMALL ∷ []) result }
-    ensures accepted { result ≡ ASM_DONE → written.new ≡ 0 → HasForm form text.now }
-    ensures refused { written.new ≢ 0 → LacksForm form text.now }
-    ensures fits { result ≡ ASM_DONE → written.new ≤ length out.new }
-    ensures small { result ≡ ASM_SMALL → length out.old < written.new }
-    ensures no_text { IsOneOf (ASM_MEMORY ∷ ASM_NO_FORM ∷ []) result → written.new ≡ 0 }
-    ensures range { (result ≡ ASM_NO_FORM) ↔ IsNoForm form }
-    ensures unwritten { result ≢ ASM_DONE → out.new ≡ out.old }
+pub fn explain(
+    alloc: Global,
+    form: i32,
+    text: &[u8],
+    out: &mut [u8],
+    written: &mut usize,
+) -> Result<(), Code>
+    ensures { MatchResult result (λ done. Explains form text.now out.old out.new written.new)
+        (DoesNotExplain form text.now out.old out.new written.new) }
 {
     *written = 0;
     let Some(form) = form_of(form) else {
-        return NO_FORM;
+        return Err(Code::NoForm);
     };
-    match asm_explain::explain(alloc, form, text) {
-        Ok(None) => DONE,
-        Ok(Some(said)) => copied(said.as_bytes(), out, written),
-        Err(_) => MEMORY,
-    }
+    let Some(said) = asm_explain::explain(alloc, form, text)? else {
+        return Ok(());
+    };
+    write(said.as_bytes(), out, written)
 }

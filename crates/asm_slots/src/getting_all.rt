@@ -1,16 +1,19 @@
 //! Reading through a step all locations with one function name, and the scan of the function.
-ghost use Rattle.std.specs.Prelude.{◌≡◌, ◌≢◌, ◌≤◌, ◌<◌, ◌∷◌, ◌++◌, [], length, vec_len, string_bytes, Contains, IsUtf8};
-ghost use Rattle.std.specs.Prelude.{IfErr, IfOk, IfNone, IfSome, IsSome, OnOk};
+ghost use Rattle.std.specs.Prelude.{◌≡◌, ◌<◌, ◌⊎◌, ◌∷◌, ◌++◌, [], vec_len, string_bytes};
+ghost use Rattle.std.specs.Prelude.{IfErr, IfOk, IfNone, IfSome, IsSome, MatchResult, OnErr, OnOk};
 ghost use Rattle.std.specs.Vec.{vec_capacity};
-ghost use Rattle.asm_slots.specs.Codes.{IsOneOf, ASM_DONE, ASM_MEMORY, ASM_SMALL, ASM_MANY, ASM_SHAPE, ASM_MOVED};
-ghost use Rattle.asm_slots.specs.StepCalls.{HasScanned, HasReached, IsElsewhere, IsFound, IsFoundText, IsScanFor};
-ghost use Rattle.asm_slots.specs.StepCalls.{WouldScanMany, has_scan};
-ghost use Rattle.asm_slots.specs.StepView.{names_of};
-ghost use Rattle.asm_slots.specs.WrittenText.{WritesText};
+ghost use Rattle.asm_slots.specs.Answers.{IsNoName};
+ghost use Rattle.asm_slots.specs.Slots.{ChangesStep, content_of};
+ghost use Rattle.asm_slots.specs.StepAnswers.{ShowsBoth, ShowsNeither};
+ghost use Rattle.asm_slots.specs.StepCalls.{HasScanned, HasReached, IsFound, IsFoundBy, IsFoundText, IsNoScanFor, IsNotScanned};
+ghost use Rattle.asm_slots.specs.StepCalls.{IsOff, IsScanFor, has_scan};
+ghost use Rattle.asm_slots.specs.WrittenText.{IsWritten};
 
-use crate::codes::{Code, DONE, MANY, MEMORY, MOVED, SHAPE, copied};
+use crate::codes::{Code, write};
+use crate::lend;
 use crate::owned_agent::OwnedAgent;
 use crate::owned_step::OwnedStep;
+use crate::slot::Slot;
 use asm_journal::state_text;
 use asm_state::Scanned;
 use asm_storage::READS_LIMIT;
@@ -27,7 +30,7 @@ fn found_in(
 ) -> Result<PlainState, Code>
     ensures found { IfOk result (IsFound name.now agent.now step.now) }
     ensures reached { OnOk result (HasReached agent.now step.now) }
-    ensures moved { IfErr result (λ e. e ≡ Code.Moved → IsElsewhere agent.now step.now) }
+    ensures err { IfErr result (IsOff agent.now step.now) }
 {
     let state = agent.state();
     if state.number() != step.number {
@@ -49,7 +52,7 @@ fn found_text(
 ) -> Result<String, Code>
     ensures text { IfOk result (λ text. IsFoundText name.now agent.now step.now (string_bytes text)) }
     ensures reached { OnOk result (HasReached agent.now step.now) }
-    ensures moved { IfErr result (λ e. e ≡ Code.Moved → IsElsewhere agent.now step.now) }
+    ensures err { IfErr result (IsOff agent.now step.now) }
 {
     let found = found_in(alloc, agent, step, name)?;
     Ok(state_text(alloc, &found)?)
@@ -73,8 +76,7 @@ fn scan_for(
     ensures kept { scans.new.items ≡ scans.old.items }
     ensures scan { IfOk result (IsScanFor limit scans.old.items name.now number) }
     ensures room { IfOk result (λ scan. IsSome scan → vec_len scans.new < vec_capacity scans.new) }
-    ensures many { IfErr result (λ e. e ≡ Code.Many →
-        (limit ≤ length scans.old.items) × ¬ Contains (names_of scans.old.items) name.now) }
+    ensures err { IfErr result (IsNoScanFor limit scans.old.items name.now) }
 {
     if is_scanned(scans, name) {
         return Ok(None);
@@ -99,64 +101,68 @@ fn note_scan(scans: &mut Vec<Scanned>, scan: Option<Scanned>)
     scans.push(scan).unwrap();
 }
 
-// Do what `get_all_in` does, with the name as a string.
-fn get_all_of_name(
+fn scan_of_name(
     alloc: Global,
     agent: &OwnedAgent,
     step: &mut OwnedStep,
     name: &str,
     out: &mut [u8],
     written: &mut usize,
-) -> i32
+) -> Result<(), Code>
     requires { written.old ≡ 0 }
-    ensures codes { IsOneOf (ASM_DONE ∷ ASM_MEMORY ∷ ASM_SMALL ∷ ASM_MANY ∷ ASM_MOVED ∷ []) result }
-    ensures text { WritesText (IsFoundText name.now agent.now step.old) out.old out.new written.new result }
-    ensures tracked { result ≡ ASM_DONE → HasScanned name.now step.old step.new }
-    ensures moved { result ≡ ASM_MOVED → IsElsewhere agent.now step.old }
-    ensures reached { IsOneOf (ASM_DONE ∷ ASM_SMALL ∷ ASM_MANY ∷ []) result → HasReached agent.now step.old }
-    ensures many { result ≡ ASM_MANY → WouldScanMany name.now step.old }
-    ensures stays { result ≢ ASM_DONE → step.new ≡ step.old }
+    ensures text { IsWritten (IsFoundBy name.now agent.now step.old) (IsNotScanned name.now agent.now step.old)
+        out.old out.new written.new result }
+    ensures scanned { OnOk result (HasScanned name.now step.old step.new) }
+    ensures stays { OnErr result (step.new ≡ step.old) }
 {
-    let text = match found_text(alloc, agent, step, name) {
-        Ok(text) => text,
-        Err(Code::Moved) => return MOVED,
-        Err(_) => return MEMORY,
-    };
+    let text = found_text(alloc, agent, step, name)?;
     let limit = READS_LIMIT - step.tracked.len();
-    let scan = match scan_for(alloc, limit, &mut step.scanned, name, step.number) {
-        Ok(scan) => scan,
-        Err(Code::Many) => return MANY,
-        Err(_) => return MEMORY,
-    };
-    let code = copied(text.as_bytes(), out, written);
+    let scan = scan_for(alloc, limit, &mut step.scanned, name, step.number)?;
+    write(text.as_bytes(), out, written)?;
     drop(text);
-    if code == DONE {
-        note_scan(&mut step.scanned, scan);
-    }
-    code
+    note_scan(&mut step.scanned, scan);
+    Ok(())
 }
 
-/// Do what `asm_step_scan` does, with the agent and the step.
-pub fn get_all_in(
+fn scan_in(
     alloc: Global,
     agent: &OwnedAgent,
     step: &mut OwnedStep,
     name: &[u8],
     out: &mut [u8],
     written: &mut usize,
-) -> i32
+) -> Result<(), Code>
     requires { written.old ≡ 0 }
-    ensures codes { IsOneOf (ASM_DONE ∷ ASM_MEMORY ∷ ASM_SMALL ∷ ASM_MANY ∷ ASM_SHAPE ∷ ASM_MOVED ∷ []) result }
-    ensures text { WritesText (IsFoundText name.now agent.now step.old) out.old out.new written.new result }
-    ensures tracked { result ≡ ASM_DONE → HasScanned name.now step.old step.new }
-    ensures moved { result ≡ ASM_MOVED → IsElsewhere agent.now step.old }
-    ensures reached { IsOneOf (ASM_DONE ∷ ASM_SMALL ∷ ASM_MANY ∷ []) result → HasReached agent.now step.old }
-    ensures many { result ≡ ASM_MANY → WouldScanMany name.now step.old }
-    ensures shape { result ≡ ASM_SHAPE → ¬ IsUtf8 name.now }
-    ensures stays { result ≢ ASM_DONE → step.new ≡ step.old }
+    ensures text { IsWritten (IsFoundBy name.now agent.now step.old)
+        (λ c. IsNoName name.now c ⊎ IsNotScanned name.now agent.now step.old c) out.old out.new written.new result }
+    ensures scanned { OnOk result (HasScanned name.now step.old step.new) }
+    ensures stays { OnErr result (step.new ≡ step.old) }
 {
     let Ok(name) = str::from_utf8(name) else {
-        return SHAPE;
+        return Err(Code::Shape);
     };
-    get_all_of_name(alloc, agent, step, name, out, written)
+    scan_of_name(alloc, agent, step, name, out, written)
+}
+
+/// Do what `asm_step_scan` does.
+pub fn step_scan(
+    alloc: Global,
+    agent: &mut Slot,
+    step: &mut Slot,
+    name: &[u8],
+    out: &mut [u8],
+    written: &mut usize,
+) -> Result<(), Code>
+    ensures answers { MatchResult result
+        (λ done. ShowsBoth (IsFoundBy name.now) (content_of agent.old) (content_of step.old) out.new written.new
+        × ChangesStep (content_of step.old) (content_of step.new) (HasScanned name.now))
+        (ShowsNeither (IsFoundBy name.now) (λ a s c. IsNoName name.now c ⊎ IsNotScanned name.now a s c)
+        (content_of agent.old) (content_of step.old) out.old out.new written.new) }
+    ensures stays { OnErr result (content_of step.new ≡ content_of step.old) }
+    ensures kept { content_of agent.new ≡ content_of agent.old }
+{
+    *written = 0;
+    lend!(agent: Agent = agent, Err(Code::Empty));
+    lend!(step: Step = step, Err(Code::Empty));
+    scan_in(alloc, agent, step, name, out, written)
 }

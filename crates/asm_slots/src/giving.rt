@@ -4,14 +4,16 @@ ghost use Rattle.std.specs.Prelude.{map, slice_get, take, IfOk, MatchResult, OnE
 ghost use Rattle.std.specs.List.Sorted.{IsStrictlyIncreasing};
 ghost use Rattle.asm_storage.specs.Part.{agent_of, IsPartOf};
 ghost use Rattle.asm_storage.specs.declared.part.AgentPart.{AgentPart};
+ghost use Rattle.asm_slots.specs.Answers.{EmptyOr};
+ghost use Rattle.asm_slots.specs.WrittenText.{IsWritten};
 ghost use Rattle.asm_slots.specs.AgentCalls.{Closes, Gives, HasLost, HasTaken};
 ghost use Rattle.asm_slots.specs.ClosedStore.{IsNotClosed};
 ghost use Rattle.asm_slots.specs.InsertPoint.{IsInsertPoint, IsAmong};
 ghost use Rattle.asm_slots.specs.MadeAgents.{IsNotAdded, IsNotGiven, IsNotReturned, TakesAgent, TakesNoAgent};
-ghost use Rattle.asm_slots.specs.Slots.{content_of, Holds, IsOfStore};
+ghost use Rattle.asm_slots.specs.Slots.{Holds, HoldsNoStore, HoldsStore, IsOfStore, content_of};
 ghost use Rattle.asm_slots.specs.Standard.{meaning};
 
-use crate::codes::Code;
+use crate::codes::{Code, write};
 use crate::content::Content;
 use crate::lend;
 use crate::owned_agent::OwnedAgent;
@@ -188,4 +190,31 @@ pub fn close(alloc: Global, store: &mut Slot, number: &mut u32) -> Result<(), Co
         Unclosed::Large => Err(Code::ManyCalls),
         Unclosed::Memory => Err(Code::Memory),
     }
+}
+
+/// Do what `asm_moves` does.
+pub fn moves(store: &mut Slot, moves: &mut u32) -> Result<(), Code>
+    ensures counted { MatchResult result (λ done. HoldsStore (content_of store.old) (λ s. moves.new ≤ length s.storage.row))
+        (λ c. (c ≡ Code.Empty) × HoldsNoStore (content_of store.old) × (moves.new ≡ 0)) }
+    ensures kept { content_of store.new ≡ content_of store.old }
+{
+    *moves = 0;
+    lend!(kept: Store = store, Err(Code::Empty));
+    *moves = kept.moves();
+    Ok(())
+}
+
+/// Do what `asm_journal` does.
+pub fn journal(store: &mut Slot, out: &mut [u8], written: &mut usize) -> Result<(), Code>
+    ensures text { IsWritten (λ text. HoldsStore (content_of store.old) (λ s. s.journal ≡ Some text))
+        (EmptyOr (HoldsNoStore (content_of store.old)) (λ c. (c ≡ Code.NoJournal) × HoldsStore (content_of store.old) (λ s. s.journal ≡ None)))
+        out.old out.new written.new result }
+    ensures kept { content_of store.new ≡ content_of store.old }
+{
+    *written = 0;
+    lend!(kept: Store = store, Err(Code::Empty));
+    let Some(text) = kept.journal() else {
+        return Err(Code::NoJournal);
+    };
+    write(text.as_bytes(), out, written)
 }

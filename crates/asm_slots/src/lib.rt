@@ -18,6 +18,7 @@ pub mod giving;
 mod handle;
 pub mod instructing;
 pub mod journals;
+pub mod learning;
 pub mod opening;
 mod operands;
 pub mod own_state;
@@ -35,7 +36,7 @@ pub mod steps;
 mod store;
 pub mod store_agents;
 mod store_close;
-pub mod take_and_put;
+mod take_and_put;
 mod tracking;
 mod value_head;
 

@@ -1,26 +1,20 @@
 //! An agent's own state: its text, values at locations, and the validation of declared reads.
-ghost use Rattle.std.specs.Prelude.{◌≡◌, ◌∷◌, [], string_bytes, IsUtf8, IfOk, IfErr, MatchResult, OnErr, map, Some};
-ghost use Rattle.asm_slots.specs.Codes.{IsOneOf, ASM_MEMORY, ASM_SHAPE, ASM_DONE, ASM_STALE, ASM_SMALL, ASM_AHEAD};
-ghost use Rattle.asm_slots.specs.Codes.{ASM_MANY, ASM_NOT_JSON};
+ghost use Rattle.std.specs.Prelude.{◌≡◌, string_bytes, IfErr, IfOk, MatchResult, OnErr, map, Some};
+ghost use Rattle.asm_slots.specs.AgentAnswers.{DoesNotValidate, Validates};
+ghost use Rattle.asm_slots.specs.Answers.{EmptyOr, IsMemory, IsNoName, IsUnreadAs};
 ghost use Rattle.asm_slots.specs.OwnState.{DoesNotFollow, Follows};
-ghost use Rattle.asm_slots.specs.OwnState.{IsOwnOfName, IsOwnState, NoneIsStale, HasPolledOn, IsPeekOf, IsStaleText, values_text};
-ghost use Rattle.asm_slots.specs.Slots.{content_of, Holds};
-ghost use Rattle.asm_slots.specs.StepAnswers.{PeeksAt};
-ghost use Rattle.asm_storage.specs.Storage.{IsSameAgent};
-ghost use Rattle.asm_slots.specs.AgentAnswers.{ReadsAhead, ReadsWithin, IsStaleReported};
-ghost use Rattle.asm_explain.specs.Bytes.{AreLocations, IsNoJson, IsOtherJson};
-ghost use Rattle.asm_slots.specs.Bytes.{AreReads, ReadAsMoreReads};
-ghost use Rattle.asm_slots.specs.AgentCalls.{HasPolled, MayHavePolled, SeesOn};
-ghost use Rattle.asm_slots.specs.WrittenText.{Writes};
-ghost use Rattle.asm_slots.specs.declared.content.Content.TheVariants as content;
+ghost use Rattle.asm_slots.specs.OwnState.{IsOwnOfName, IsOwnState, IsPeek, IsPeekOf, IsStaleText, values_text};
+ghost use Rattle.asm_slots.specs.Slots.{Holds, HoldsNoAgent, content_of};
+ghost use Rattle.asm_slots.specs.StepAnswers.{DoesNotPeekAt, IsNoValue, PeeksAt};
+ghost use Rattle.asm_explain.specs.Bytes.{AreLocations};
+ghost use Rattle.asm_slots.specs.WrittenText.{IsWritten};
 
-use crate::codes::{AHEAD, Code, CodedText, DONE, EMPTY, MANY, MEMORY, SHAPE, STALE, written_as};
-use crate::content::Content;
+use crate::codes::{Code, write};
 use crate::lend;
 use crate::owned_agent::OwnedAgent;
-use crate::parsing::{code_of_text_error, locations_of, reads_of};
+use crate::parsing::{locations_of, reads_of};
 use crate::slot::Slot;
-use crate::take_and_put::put_agent;
+use crate::take_and_put::{put_agent, take_agent};
 use crate::value_head::{ValueHead, write_value_at};
 use asm_element::{Items, Location, Value};
 use asm_journal::{answer_text, state_text};
@@ -41,15 +35,14 @@ pub fn follow(alloc: Global, agent: &mut Slot, number: &mut u32) -> Result<(), C
     Ok(())
 }
 
-/// The text of a state, with its version.
+// The text of a state, with its version.
 #[derive(Drop)]
-pub struct StateText {
-    pub number: u32,
-    pub text: String,
+struct StateText {
+    number: u32,
+    text: String,
 }
 
-/// Return what `asm_state` writes.
-pub fn own_state(alloc: Global, agent: &OwnedAgent) -> Result<StateText, AllocError>
+fn own_text(alloc: Global, agent: &OwnedAgent) -> Result<StateText, AllocError>
     ensures { IfOk result (λ s. IsOwnState agent.now s.number (string_bytes s.text)) }
 {
     let state = agent.state();
@@ -61,6 +54,27 @@ pub fn own_state(alloc: Global, agent: &OwnedAgent) -> Result<StateText, AllocEr
         number: state.number(),
         text,
     })
+}
+
+/// Do what `asm_state` does.
+pub fn own_state(
+    alloc: Global,
+    agent: &mut Slot,
+    number: &mut u32,
+    out: &mut [u8],
+    written: &mut usize,
+) -> Result<(), Code>
+    ensures text { IsWritten (λ text. Holds (content_of agent.old) (λ a. IsOwnState a number.new text))
+        (λ c. (number.new ≡ 0) × EmptyOr (HoldsNoAgent (content_of agent.old)) IsMemory c)
+        out.old out.new written.new result }
+    ensures kept { content_of agent.new ≡ content_of agent.old }
+{
+    *number = 0;
+    *written = 0;
+    lend!(inner: Agent = agent, Err(Code::Empty));
+    let own = own_text(alloc, inner)?;
+    *number = own.number;
+    write(own.text.as_bytes(), out, written)
 }
 
 fn own_of_name(alloc: Global, agent: &OwnedAgent, name: &str) -> Result<StateText, AllocError>
@@ -77,23 +91,40 @@ fn own_of_name(alloc: Global, agent: &OwnedAgent, name: &str) -> Result<StateTex
     })
 }
 
-/// Return what `asm_scan` writes.
-pub fn scanned(alloc: Global, agent: &OwnedAgent, name: &[u8]) -> Result<StateText, i32>
+fn named(alloc: Global, agent: &OwnedAgent, name: &[u8]) -> Result<StateText, Code>
     ensures ok { IfOk result (λ s. IsOwnOfName name.now agent.now s.number (string_bytes s.text)) }
-    ensures codes { IfErr result (IsOneOf (ASM_MEMORY ∷ ASM_SHAPE ∷ [])) }
-    ensures shape { IfErr result (λ code. code ≡ ASM_SHAPE → ¬ IsUtf8 name.now) }
+    ensures err { IfErr result (IsNoName name.now) }
 {
     let Ok(name) = str::from_utf8(name) else {
-        return Err(SHAPE);
+        return Err(Code::Shape);
     };
-    match own_of_name(alloc, agent, name) {
-        Ok(stood) => Ok(stood),
-        Err(AllocError) => Err(MEMORY),
-    }
+    Ok(own_of_name(alloc, agent, name)?)
+}
+
+/// Do what `asm_scan` does.
+pub fn scan(
+    alloc: Global,
+    agent: &mut Slot,
+    name: &[u8],
+    number: &mut u32,
+    out: &mut [u8],
+    written: &mut usize,
+) -> Result<(), Code>
+    ensures text { IsWritten (λ text. Holds (content_of agent.old) (λ a. IsOwnOfName name.now a number.new text))
+        (λ c. (number.new ≡ 0) × EmptyOr (HoldsNoAgent (content_of agent.old)) (IsNoName name.now) c)
+        out.old out.new written.new result }
+    ensures kept { content_of agent.new ≡ content_of agent.old }
+{
+    *number = 0;
+    *written = 0;
+    lend!(inner: Agent = agent, Err(Code::Empty));
+    let own = named(alloc, inner, name)?;
+    *number = own.number;
+    write(own.text.as_bytes(), out, written)
 }
 
 /// Do what `asm_peek_at` does.
-pub fn peek(
+pub fn peek_at(
     alloc: Global,
     agent: &mut Slot,
     at: &mut Slot,
@@ -101,22 +132,23 @@ pub fn peek(
     value: &mut ValueHead,
     out: &mut [u8],
     written: &mut usize,
-) -> i32
-    ensures peeks { PeeksAt (content_of at.old) (content_of agent.old) number.new value.new out.old out.new written.new result }
+) -> Result<(), Code>
+    ensures answers { MatchResult result
+        (λ done. PeeksAt (content_of at.old) (content_of agent.old) number.new value.new out.new written.new)
+        (DoesNotPeekAt (content_of at.old) (content_of agent.old) out.old out.new written.new) }
+    ensures none { OnErr result ((number.new ≡ 0) × IsNoValue value.new) }
     ensures kept { content_of agent.new ≡ content_of agent.old }
     ensures stays { content_of at.new ≡ content_of at.old }
 {
     *written = 0;
     *number = 0;
     *value = ValueHead::none();
-    lend!(at: Location = at, EMPTY);
-    lend!(inner: Agent = agent, EMPTY);
+    lend!(at: Location = at, Err(Code::Empty));
+    lend!(inner: Agent = agent, Err(Code::Empty));
     let state = inner.state();
-    let code = write_value_at(alloc, state, at, value, out, written);
-    if code == DONE {
-        *number = state.number();
-    }
-    code
+    *value = write_value_at(alloc, state, at, out, written)?;
+    *number = state.number();
+    Ok(())
 }
 
 fn value_at<L: Lookup>(alloc: Global, seen: &L, at: &Location) -> Result<Value, AllocError>
@@ -154,83 +186,78 @@ pub(crate) fn text_of_values<L: Lookup>(
     answer_text(alloc, &Answer::Read { number, values })
 }
 
-/// Return what `asm_peek` writes.
-pub fn peeked(alloc: Global, agent: &OwnedAgent, locations: &[u8]) -> Result<String, i32>
-    ensures ok { IfOk result (λ text. IsPeekOf locations.now agent.now (string_bytes text)) }
-    ensures codes { IfErr result (IsOneOf (ASM_MEMORY ∷ ASM_NOT_JSON ∷ ASM_SHAPE ∷ [])) }
-    ensures not_json { IfErr result (λ code. code ≡ ASM_NOT_JSON → IsNoJson locations.now) }
-    ensures shape { IfErr result (λ code. code ≡ ASM_SHAPE → IsOtherJson AreLocations locations.now) }
+// Return the text of the values at the locations.
+fn peeked(alloc: Global, agent: &OwnedAgent, locations: &[Location]) -> Result<String, AllocError>
+    ensures { IfOk result (λ text. IsPeek locations.now agent.now (string_bytes text)) }
 {
-    let locations = match locations_of(alloc, locations) {
-        Ok(locations) => locations,
-        Err(error) => return Err(code_of_text_error(error)),
-    };
     let state = agent.state();
-    match text_of_values(alloc, state.number(), state, &locations) {
-        Ok(text) => Ok(text),
-        Err(AllocError) => Err(MEMORY),
-    }
+    let text = text_of_values(alloc, state.number(), state, locations)?;
+    Ok(text)
 }
 
-// Write {"stale":LOC}.
-fn write_stale(alloc: Global, at: Location, out: &mut [u8], written: &mut usize) -> i32
-    requires { written.old ≡ 0 }
-    ensures codes { IsOneOf (ASM_STALE ∷ ASM_MEMORY ∷ ASM_SMALL ∷ []) result }
-    ensures text { Writes (ASM_STALE ∷ []) (λ code. IsStaleText at) (IsStaleText at) out.old out.new written.new result }
-{
-    match answer_text(alloc, &Answer::Fire(Reply::Stale(at))) {
-        Ok(text) => written_as(&CodedText { code: STALE, text }, out, written),
-        Err(AllocError) => MEMORY,
-    }
-}
-
-/// Do what `asm_stands` does, and put the agent into the slot.
-pub fn validate_reads(
+/// Do what `asm_peek` does.
+pub fn peek(
     alloc: Global,
-    slot: &mut Slot,
-    shell: Box<Content>,
-    agent: OwnedAgent,
+    agent: &mut Slot,
+    locations: &[u8],
+    out: &mut [u8],
+    written: &mut usize,
+) -> Result<(), Code>
+    ensures text { IsWritten (λ text. Holds (content_of agent.old) (λ a. IsPeekOf locations.now a text))
+        (EmptyOr (HoldsNoAgent (content_of agent.old)) (IsUnreadAs AreLocations locations.now))
+        out.old out.new written.new result }
+    ensures kept { content_of agent.new ≡ content_of agent.old }
+{
+    *written = 0;
+    lend!(inner: Agent = agent, Err(Code::Empty));
+    let locations = locations_of(alloc, locations)?;
+    let text = peeked(alloc, inner, &locations)?;
+    write(text.as_bytes(), out, written)
+}
+
+// Return `{"stale":LOC}`.
+fn stale_text(alloc: Global, at: Location) -> Result<String, AllocError>
+    ensures { IfOk result (λ text. IsStaleText at (string_bytes text)) }
+{
+    answer_text(alloc, &Answer::Fire(Reply::Stale(at)))
+}
+
+/// Do what `asm_stands` does.
+pub fn validate(
+    alloc: Global,
+    agent: &mut Slot,
     reads: &[u8],
     out: &mut [u8],
     written: &mut usize,
-) -> i32
-    requires { written.old ≡ 0 }
-    ensures codes { IsOneOf (ASM_DONE ∷ ASM_STALE ∷ ASM_MEMORY ∷ ASM_AHEAD ∷ ASM_SMALL ∷ ASM_MANY
-        ∷ ASM_NOT_JSON ∷ ASM_SHAPE ∷ []) result }
-    ensures stand { result ≡ ASM_DONE → Holds (content_of slot.new) (NoneIsStale reads.now) }
-    ensures text { Writes (ASM_STALE ∷ []) (λ code. IsStaleReported reads.now (content_of slot.new))
-        (IsStaleReported reads.now (content_of slot.new)) out.old out.new written.new result }
-    ensures polled { IsOneOf (ASM_DONE ∷ ASM_STALE ∷ ASM_SMALL ∷ []) result →
-        Holds (content_of slot.new) (HasPolledOn agent) }
-    ensures memory { result ≡ ASM_MEMORY → Holds (content_of slot.new) (MayHavePolled agent) }
-    ensures refused { Holds (content_of slot.new) (HasPolled agent) }
-    ensures same { Holds (content_of slot.new) (IsSameAgent agent) }
-    ensures seen { Holds (content_of slot.new) (SeesOn agent) }
-    ensures range { result ≡ ASM_AHEAD → ReadsAhead reads.now agent }
-    ensures within { IsOneOf (ASM_DONE ∷ ASM_STALE ∷ ASM_SMALL ∷ ASM_MANY ∷ []) result → ReadsWithin reads.now agent }
-    ensures many { result ≡ ASM_MANY → ReadAsMoreReads reads.now }
-    ensures not_json { result ≡ ASM_NOT_JSON → IsNoJson reads.now }
-    ensures shape { result ≡ ASM_SHAPE → IsOtherJson AreReads reads.now }
-    ensures kept { IsOneOf (ASM_AHEAD ∷ ASM_MANY ∷ ASM_NOT_JSON ∷ ASM_SHAPE ∷ []) result →
-        content_of slot.new ≡ Some (content.Agent agent) }
+) -> Result<(), Code>
+    ensures answers { MatchResult result
+        (λ done. Validates reads.now (content_of agent.old) (content_of agent.new) × (out.new ≡ out.old) × (written.new ≡ 0))
+        (DoesNotValidate reads.now (content_of agent.old) (content_of agent.new) out.old out.new written.new) }
 {
+    *written = 0;
+    let Some((shell, inner)) = take_agent(alloc, agent) else {
+        return Err(Code::Empty);
+    };
     let reads = match reads_of(alloc, reads) {
         Ok(reads) => reads,
         Err(error) => {
-            put_agent(slot, shell, agent);
-            return code_of_text_error(error);
+            put_agent(agent, shell, inner);
+            return Err(Code::from(error));
         }
     };
-    if agent.is_behind(&reads) {
-        put_agent(slot, shell, agent);
-        return AHEAD;
+    if inner.is_behind(&reads) {
+        put_agent(agent, shell, inner);
+        return Err(Code::Ahead);
     }
-    let (agent, stale) = agent.stale_of(alloc, &reads);
-    put_agent(slot, shell, agent);
-    match stale {
-        Ok(None) => DONE,
-        Ok(Some(at)) => write_stale(alloc, at, out, written),
-        Err(ReadError::ManyLocations) => MANY,
-        Err(ReadError::Memory) => MEMORY,
-    }
+    let (inner, stale) = inner.stale_of(alloc, &reads);
+    put_agent(agent, shell, inner);
+    let at = match stale {
+        Ok(Some(at)) => at,
+        Ok(None) => return Ok(()),
+        Err(ReadError::ManyLocations) => return Err(Code::Many),
+        Err(ReadError::Memory) => return Err(Code::Memory),
+    };
+    let text = stale_text(alloc, at)?;
+    write(text.as_bytes(), out, written)?;
+    Err(Code::Stale)
 }

@@ -1,24 +1,23 @@
 //! An agent that owns a share of its storage and borrows nothing, and its calls.
 #![tactic(auto, unfolding(asm_aggregate::specs::Standard::standard_meaning))]
 
-ghost use Rattle.std.specs.Prelude.{◌≡◌, ◌↔◌, ◌<◌, ◌≤◌, ◌+◌, ℕ, length, option_map, string_bytes};
-ghost use Rattle.std.specs.Prelude.{Ok, Err, IfOk, OnOk, OnErr, IfErr, IsErrOf, nat_lt};
+ghost use Rattle.std.specs.Prelude.{◌≡◌, ◌↔◌, ◌<◌, ◌≤◌, ◌+◌, length, option_map, string_bytes};
+ghost use Rattle.std.specs.Prelude.{IfOk, OnOk, OnErr, IfErr, IsErrOf, nat_lt};
 ghost use Rattle.std.specs.List.{list_any};
 ghost use Rattle.std_alloc.specs.Arc.{arc_value};
-ghost use Rattle.asm_storage.specs.Limits.{agents_limit, offers_limit, reads_limit};
-ghost use Rattle.asm_storage.specs.declared.call.Reply.TheVariants.{Fired};
-ghost use Rattle.asm_storage.specs.declared.error.FireError.TheVariants.{Busy, ManyReads};
+ghost use Rattle.asm_storage.specs.Limits.{agents_limit, reads_limit};
+ghost use Rattle.asm_storage.specs.declared.error.FireError.TheVariants.{ManyReads};
 ghost use Rattle.asm_storage.specs.declared.error.ReadError.TheVariants.{ManyLocations};
 ghost use Rattle.asm_storage.specs.declared.error.RecallError.TheVariants as recall_error;
 ghost use Rattle.asm_storage.specs.Part.{IsFollowing};
 ghost use Rattle.asm_storage.specs.Storage.{at_start, last_poll, machine_of, IsSameAgent, Missed};
-ghost use Rattle.asm_storage.specs.Calls.{HasPolledFor, IsReplied, IsBusy, IsCoherentReply, IsRead};
-ghost use Rattle.asm_storage.specs.Calls.{IsBehind, IsRecall, IsStaleRead, MadeOffers};
+ghost use Rattle.asm_storage.specs.Calls.{HasPolledFor, IsReplied, IsCoherentReply, IsRead};
+ghost use Rattle.asm_storage.specs.Calls.{IsBehind, IsRecall, IsStaleRead};
 ghost use Rattle.asm_storage.specs.Taken.{HasTaken};
 ghost use Rattle.asm_slots.specs.Standard.{meaning};
 ghost use Rattle.asm_slots.specs.AgentAnswers.{is_any_over, is_any_above};
 ghost use Rattle.asm_slots.specs.OwnState.{HasPolledOn};
-ghost use Rattle.asm_slots.specs.AgentCalls.{HasLearnt, HasPolled, IsRepliedOver, MissedFew, MissedOne, SeesOn, IsLastText};
+ghost use Rattle.asm_slots.specs.AgentCalls.{HasAnswered, HasLearnt, HasPolled, IsLastText, IsRepliedOver, SeesOn};
 
 use crate::shared::Shared;
 use asm_aggregate::Standard;
@@ -121,16 +120,9 @@ impl OwnedAgent {
         reads: &Items<Named>,
         instrs: &Instructions,
     ) -> Result<Reply, FireError>
-        ensures same { IsSameAgent self.old self.new }
-        ensures answered { IfOk result (IsReplied meaning self.old self.new reads.now instrs.now) }
+        ensures answered { HasAnswered result self.old self.new }
+        ensures replied { IfOk result (IsReplied meaning self.old self.new reads.now instrs.now) }
         ensures coherent { IfOk result (IsCoherentReply meaning self.new reads.now instrs.now) }
-        ensures seen { SeesOn self.old self.new }
-        ensures refused { OnErr result (HasPolled self.old self.new) }
-        ensures busy { IfErr result (IsBusy self.old self.new) }
-        ensures missed { (k : ℕ) → result ≡ Ok (Fired k) → MissedOne self.old self.new }
-        ensures few { MissedFew self.old self.new }
-        ensures lost { (from to : ℕ) → result ≡ Err (Busy from to) → from + offers_limit ≤ to }
-        ensures offers { (n : ℕ) × MadeOffers self.old self.new result n }
         ensures many { IsErrOf result ManyReads ↔ (reads_limit < length reads.now) }
     {
         self.part.try_fire_over(alloc, &self.shared.storage, reads, &[], instrs, &mut || {})
@@ -144,15 +136,8 @@ impl OwnedAgent {
         scans: &[Scanned],
         instrs: &Instructions,
     ) -> Result<Reply, FireError>
-        ensures same { IsSameAgent self.old self.new }
-        ensures answered { IfOk result (IsRepliedOver self.old self.new reads.now scans.now instrs.now) }
-        ensures seen { SeesOn self.old self.new }
-        ensures refused { OnErr result (HasPolled self.old self.new) }
-        ensures busy { IfErr result (IsBusy self.old self.new) }
-        ensures missed { (k : ℕ) → result ≡ Ok (Fired k) → MissedOne self.old self.new }
-        ensures few { MissedFew self.old self.new }
-        ensures lost { (from to : ℕ) → result ≡ Err (Busy from to) → from + offers_limit ≤ to }
-        ensures offers { (n : ℕ) × MadeOffers self.old self.new result n }
+        ensures answered { HasAnswered result self.old self.new }
+        ensures replied { IfOk result (IsRepliedOver self.old self.new reads.now scans.now instrs.now) }
         ensures many { IsErrOf result ManyReads ↔ (reads_limit < length reads.now + length scans.now) }
     {
         self.part.try_fire_over(

@@ -1,35 +1,19 @@
 //! Reading the bytes that C passes.
-ghost use Rattle.std.specs.Prelude.{◌≡◌, ◌∷◌, [], IfOk, IfErr};
+ghost use Rattle.std.specs.Prelude.{IfOk, IfErr};
 ghost use Rattle.asm_journal.specs.Value.{IsStateForm};
 ghost use Rattle.asm_explain.specs.Bytes.{AreLocations, IsMisread, ReadAs};
-ghost use Rattle.asm_explain.specs.declared.reading.TextError.TheVariants as text_errors;
 ghost use Rattle.asm_slots.specs.Bytes.{AreReads, IsEitherMisread, ReadAsMove, ReadAsReads};
 ghost use Rattle.asm_journal.specs.Event.{IsMoveForm};
 ghost use Rattle.asm_slots.specs.Answers.{IsUnreadAs};
-ghost use Rattle.asm_slots.specs.Bytes.{ReadAsLocations, ReadAsState, text_error_code};
-ghost use Rattle.asm_slots.specs.Codes.{IsOneOf, ASM_MEMORY, ASM_NOT_JSON, ASM_SHAPE};
+ghost use Rattle.asm_slots.specs.Bytes.{ReadAsLocations, ReadAsState};
 
-use crate::codes::{Code, MEMORY, NOT_JSON, SHAPE};
+use crate::codes::Code;
 use asm_element::Location;
 use asm_explain::{TextError, read_as, read_quickly};
 use asm_journal::{FromJson, Listed};
 use asm_state::Named;
 use asm_update::{Instructions, PlainState};
 use std::alloc::Global;
-
-/// Return the code of the error.
-pub(crate) fn code_of_text_error(error: TextError) -> i32
-    ensures codes { IsOneOf (ASM_MEMORY ∷ ASM_NOT_JSON ∷ ASM_SHAPE ∷ []) result }
-    ensures code { result ≡ text_error_code error }
-    ensures not_json { result ≡ ASM_NOT_JSON → error ≡ text_errors.NotJson }
-    ensures shape { result ≡ ASM_SHAPE → error ≡ text_errors.Shape }
-{
-    match error {
-        TextError::Memory => MEMORY,
-        TextError::NotJson => NOT_JSON,
-        TextError::Shape => SHAPE,
-    }
-}
 
 /// Read the locations of `[LOC, ..]`.
 pub(crate) fn locations_of(alloc: Global, bytes: &[u8]) -> Result<Vec<Location>, TextError>

@@ -1,21 +1,16 @@
 //! Reading and firing, with their codes and numbers.
-ghost use Rattle.std.specs.Prelude.{◌≡◌, ◌≢◌, ◌≤◌, ◌+◌, ◌∷◌, [], ℕ, IfOk, IfErr, MatchResult};
-ghost use Rattle.asm_storage.specs.Limits.{offers_limit};
-ghost use Rattle.asm_storage.specs.declared.call.Reply.TheVariants.{Fired};
-ghost use Rattle.asm_storage.specs.Storage.{IsSameAgent};
-ghost use Rattle.asm_slots.specs.AgentAnswers.{FiresAhead, FiresWithin, AreScans, FiresOverAhead, FiresOverWithin};
-ghost use Rattle.asm_slots.specs.AgentAnswers.{HasTriedFireOver, IsNotRead, ReadAsFireOver, ReadAsManyOver, Reads};
-ghost use Rattle.asm_explain.specs.Bytes.{IsFireForm, IsNoJson, IsOtherJson};
-ghost use Rattle.asm_slots.specs.Bytes.{ReadAsManyReads, AreMisread, IsEitherMisread};
-ghost use Rattle.asm_slots.specs.AgentCalls.{HasTriedFire, HasPolled, IsReplyCode, WasBusy};
-ghost use Rattle.asm_slots.specs.AgentCalls.{MayHaveOffered, MissedFew, MissedOne, SeesOn, code_of, number_of};
-ghost use Rattle.asm_slots.specs.Codes.{IsOneOf, ASM_DONE, ASM_STALE, ASM_CLASH, ASM_MEMORY, ASM_FULL, ASM_AHEAD};
-ghost use Rattle.asm_slots.specs.Codes.{ASM_BUSY, ASM_MANY, ASM_NOT_JSON, ASM_SHAPE};
-ghost use Rattle.asm_slots.specs.Slots.{content_of};
+ghost use Rattle.std.specs.Prelude.{◌≡◌, ◌⊎◌, [], IfOk, IfErr, MatchResult};
+ghost use Rattle.asm_slots.specs.AgentAnswers.{AreScans, Fires, FiresOver, IsNotRead, ReadAsFireOver, Reads, TriesIn};
+ghost use Rattle.asm_slots.specs.AgentCalls.{IsLastAnswer, ReportsFire, no_numbers};
+ghost use Rattle.asm_slots.specs.Answers.{EmptyOr, IsMemory};
+ghost use Rattle.asm_slots.specs.Bytes.{IsEitherMisread, IsFireForm};
+ghost use Rattle.asm_slots.specs.Slots.{Holds, HoldsNoAgent, content_of};
+ghost use Rattle.asm_slots.specs.WrittenText.{IsWritten};
 
-use crate::codes::{AHEAD, BUSY, CLASH, Code, DONE, FULL, MANY, MEMORY, STALE};
+use crate::codes::{Code, write};
+use crate::lend;
 use crate::owned_agent::OwnedAgent;
-use crate::parsing::{code_of_text_error, locations_of};
+use crate::parsing::locations_of;
 use crate::reading_scans::scans_of;
 use crate::slot::Slot;
 use crate::take_and_put::{put_agent, take_agent};
@@ -48,6 +43,31 @@ pub fn read(alloc: Global, agent: &mut Slot, locations: &[u8]) -> Result<(), Cod
     }
 }
 
+/// Do what `asm_answer` does.
+pub fn last_answer(
+    alloc: Global,
+    agent: &mut Slot,
+    out: &mut [u8],
+    written: &mut usize,
+) -> Result<(), Code>
+    ensures text { IsWritten (λ text. Holds (content_of agent.old) (λ a. IsLastAnswer a.account.receipts text))
+        (EmptyOr (HoldsNoAgent (content_of agent.old))
+        (λ c. IsMemory c ⊎ ((c ≡ Code.NoAnswer) × Holds (content_of agent.old) (λ a. a.account.receipts ≡ []))))
+        out.old out.new written.new result }
+    ensures kept { content_of agent.new ≡ content_of agent.old }
+{
+    *written = 0;
+    let Some((shell, inner)) = take_agent(alloc, agent) else {
+        return Err(Code::Empty);
+    };
+    let (inner, answer) = inner.answer(alloc);
+    put_agent(agent, shell, inner);
+    let Some(text) = answer? else {
+        return Err(Code::NoAnswer);
+    };
+    write(text.as_bytes(), out, written)
+}
+
 /// The numbers of a fire; each is 0 if the code doesn't set it.
 #[repr(C)]
 #[derive(Drop)]
@@ -61,10 +81,8 @@ pub struct Numbers {
 }
 
 impl Numbers {
-    pub fn none() -> Numbers
-        ensures fired { result.fired ≡ 0 }
-        ensures from { result.from ≡ 0 }
-        ensures to { result.to ≡ 0 }
+    pub(crate) fn none() -> Numbers
+        ensures { result ≡ no_numbers }
     {
         Numbers {
             fired: 0,
@@ -74,73 +92,53 @@ impl Numbers {
     }
 }
 
-/// Return the code of the reply, with the number of the fired move, or 0.
-pub(crate) fn code_of_reply(reply: Reply) -> (i32, u32)
-    ensures code { result.0 ≡ code_of reply }
-    ensures number { result.1 ≡ number_of reply }
-    ensures fired { (k : ℕ) → reply ≡ Fired k → result.0 ≡ ASM_DONE }
-    ensures done { result.0 ≡ ASM_DONE → reply ≡ Fired result.1 }
-    ensures none { result.0 ≢ ASM_DONE → result.1 ≡ 0 }
+/// Return what a call answers for the fire's answer, and set the numbers.
+pub(crate) fn report(answer: Result<Reply, FireError>, numbers: &mut Numbers) -> Result<(), Code>
+    ensures { ReportsFire answer numbers.new result }
 {
-    match reply {
-        Reply::Fired(number) => (DONE, number),
-        Reply::Stale(_) => (STALE, 0),
-        Reply::Clash(_) => (CLASH, 0),
-        Reply::Full => (FULL, 0),
+    *numbers = Numbers::none();
+    match answer {
+        Ok(Reply::Fired(number)) => {
+            numbers.fired = number;
+            Ok(())
+        }
+        Ok(Reply::Stale(_)) => Err(Code::Stale),
+        Ok(Reply::Clash(_)) => Err(Code::Clash),
+        Ok(Reply::Full) => Err(Code::Full),
+        Err(FireError::ManyReads) => Err(Code::Many),
+        Err(FireError::Busy { from, to }) => {
+            *numbers = Numbers { fired: 0, from, to };
+            Err(Code::Busy)
+        }
+        Err(FireError::Memory) => Err(Code::Memory),
     }
 }
 
-/// Do what `asm_try_fire` does, with the agent.
-pub fn fire_in(alloc: Global, agent: &mut OwnedAgent, call: &[u8]) -> (i32, Numbers)
-    ensures codes { IsOneOf (ASM_DONE ∷ ASM_STALE ∷ ASM_CLASH ∷ ASM_MEMORY ∷ ASM_FULL ∷ ASM_AHEAD ∷ ASM_BUSY ∷ ASM_MANY
-        ∷ ASM_NOT_JSON ∷ ASM_SHAPE ∷ []) result.0 }
-    ensures answered { IsReplyCode result.0 → HasTriedFire call.now result.0 result.1.fired agent.old agent.new }
-    ensures unfired { result.0 ≢ ASM_DONE → result.1.fired ≡ 0 }
-    ensures not_busy { result.0 ≢ ASM_BUSY → (result.1.from ≡ 0) × (result.1.to ≡ 0) }
-    ensures refused { IsOneOf (ASM_MEMORY ∷ ASM_BUSY ∷ ASM_MANY ∷ ASM_NOT_JSON ∷ ASM_SHAPE ∷ []) result.0 →
-        HasPolled agent.old agent.new }
-    ensures busy { result.0 ≡ ASM_BUSY → WasBusy result.1.from result.1.to agent.old agent.new }
-    ensures lost { result.0 ≡ ASM_BUSY → result.1.from + offers_limit ≤ result.1.to }
-    ensures same { IsSameAgent agent.old agent.new }
-    ensures seen { SeesOn agent.old agent.new }
-    ensures few { MissedFew agent.old agent.new }
-    ensures missed { result.0 ≡ ASM_DONE → MissedOne agent.old agent.new }
-    ensures memory { result.0 ≡ ASM_MEMORY → MayHaveOffered agent.old agent.new }
-    ensures range { result.0 ≡ ASM_AHEAD → FiresAhead call.now agent.old }
-    ensures within { IsOneOf (ASM_DONE ∷ ASM_STALE ∷ ASM_CLASH ∷ ASM_FULL ∷ ASM_BUSY ∷ ASM_MANY ∷ []) result.0 →
-        FiresWithin call.now agent.old }
-    ensures many { result.0 ≡ ASM_MANY → ReadAsManyReads call.now }
-    ensures not_json { result.0 ≡ ASM_NOT_JSON → IsNoJson call.now }
-    ensures shape { result.0 ≡ ASM_SHAPE → IsOtherJson IsFireForm call.now }
-    ensures kept { IsOneOf (ASM_AHEAD ∷ ASM_MANY ∷ ASM_NOT_JSON ∷ ASM_SHAPE ∷ []) result.0 → agent.new ≡ agent.old }
+fn fire_in(
+    alloc: Global,
+    agent: &mut OwnedAgent,
+    call: &[u8],
+    numbers: &mut Numbers,
+) -> Result<(), Code>
+    requires { numbers.old ≡ no_numbers }
+    ensures { Fires call.now agent.old agent.new numbers.new result }
 {
-    let fire = match fire_of(alloc, call) {
-        Ok(fire) => fire,
-        Err(error) => return (code_of_text_error(error), Numbers::none()),
-    };
+    let fire = fire_of(alloc, call)?;
     if agent.is_behind(fire.reads.as_slice()) {
-        return (AHEAD, Numbers::none());
+        return Err(Code::Ahead);
     }
     // The receipt then shares the reads instead of copying them.
-    let Ok(reads) = fire.reads.share(alloc) else {
-        return (MEMORY, Numbers::none());
-    };
-    match agent.fire(alloc, &reads, &fire.instrs) {
-        Ok(reply) => {
-            let (code, fired) = code_of_reply(reply);
-            (
-                code,
-                Numbers {
-                    fired,
-                    from: 0,
-                    to: 0,
-                },
-            )
-        }
-        Err(FireError::ManyReads) => (MANY, Numbers::none()),
-        Err(FireError::Busy { from, to }) => (BUSY, Numbers { fired: 0, from, to }),
-        Err(FireError::Memory) => (MEMORY, Numbers::none()),
-    }
+    let reads = fire.reads.share(alloc)?;
+    report(agent.fire(alloc, &reads, &fire.instrs), numbers)
+}
+
+/// Do what `asm_try_fire` does.
+pub fn fire(alloc: Global, agent: &mut Slot, call: &[u8], numbers: &mut Numbers) -> Result<(), Code>
+    ensures { TriesIn (Fires call.now) (content_of agent.old) (content_of agent.new) numbers.new result }
+{
+    *numbers = Numbers::none();
+    lend!(inner: Agent = agent, Err(Code::Empty));
+    fire_in(alloc, inner, call, numbers)
 }
 
 // Read the move of the one text, and the scans of the other.
@@ -158,61 +156,39 @@ fn fire_over_of(alloc: Global, call: &[u8], scans: &[u8]) -> Result<(Fire, Vec<S
     }
 }
 
-/// Do what `asm_try_fire_over` does, with the agent.
-pub fn fire_over_in(
+fn fire_over_in(
     alloc: Global,
     agent: &mut OwnedAgent,
     call: &[u8],
     scans: &[u8],
-) -> (i32, Numbers)
-    ensures codes { IsOneOf (ASM_DONE ∷ ASM_STALE ∷ ASM_CLASH ∷ ASM_MEMORY ∷ ASM_FULL ∷ ASM_AHEAD ∷ ASM_BUSY ∷ ASM_MANY
-        ∷ ASM_NOT_JSON ∷ ASM_SHAPE ∷ []) result.0 }
-    ensures answered { IsReplyCode result.0 →
-        HasTriedFireOver call.now scans.now result.0 result.1.fired agent.old agent.new }
-    ensures unfired { result.0 ≢ ASM_DONE → result.1.fired ≡ 0 }
-    ensures not_busy { result.0 ≢ ASM_BUSY → (result.1.from ≡ 0) × (result.1.to ≡ 0) }
-    ensures refused { IsOneOf (ASM_MEMORY ∷ ASM_BUSY ∷ ASM_MANY ∷ ASM_NOT_JSON ∷ ASM_SHAPE ∷ []) result.0 →
-        HasPolled agent.old agent.new }
-    ensures busy { result.0 ≡ ASM_BUSY → WasBusy result.1.from result.1.to agent.old agent.new }
-    ensures lost { result.0 ≡ ASM_BUSY → result.1.from + offers_limit ≤ result.1.to }
-    ensures same { IsSameAgent agent.old agent.new }
-    ensures seen { SeesOn agent.old agent.new }
-    ensures few { MissedFew agent.old agent.new }
-    ensures missed { result.0 ≡ ASM_DONE → MissedOne agent.old agent.new }
-    ensures memory { result.0 ≡ ASM_MEMORY → MayHaveOffered agent.old agent.new }
-    ensures range { result.0 ≡ ASM_AHEAD → FiresOverAhead call.now scans.now agent.old }
-    ensures within { IsOneOf (ASM_DONE ∷ ASM_STALE ∷ ASM_CLASH ∷ ASM_FULL ∷ ASM_BUSY ∷ ASM_MANY ∷ []) result.0 →
-        FiresOverWithin call.now scans.now agent.old }
-    ensures many { result.0 ≡ ASM_MANY → ReadAsManyOver call.now scans.now }
-    ensures misread { IsOneOf (ASM_NOT_JSON ∷ ASM_SHAPE ∷ []) result.0 →
-        AreMisread IsFireForm AreScans call.now scans.now result.0 }
-    ensures kept { IsOneOf (ASM_AHEAD ∷ ASM_MANY ∷ ASM_NOT_JSON ∷ ASM_SHAPE ∷ []) result.0 → agent.new ≡ agent.old }
+    numbers: &mut Numbers,
+) -> Result<(), Code>
+    requires { numbers.old ≡ no_numbers }
+    ensures { FiresOver call.now scans.now agent.old agent.new numbers.new result }
 {
-    let (fire, scans) = match fire_over_of(alloc, call, scans) {
-        Ok(both) => both,
-        Err(error) => return (code_of_text_error(error), Numbers::none()),
-    };
+    let (fire, scans) = fire_over_of(alloc, call, scans)?;
     if agent.is_behind_over(fire.reads.as_slice(), &scans) {
-        return (AHEAD, Numbers::none());
+        return Err(Code::Ahead);
     }
     // The receipt then shares the reads instead of copying them.
-    let Ok(reads) = fire.reads.share(alloc) else {
-        return (MEMORY, Numbers::none());
-    };
-    match agent.fire_over(alloc, &reads, &scans, &fire.instrs) {
-        Ok(reply) => {
-            let (code, fired) = code_of_reply(reply);
-            (
-                code,
-                Numbers {
-                    fired,
-                    from: 0,
-                    to: 0,
-                },
-            )
-        }
-        Err(FireError::ManyReads) => (MANY, Numbers::none()),
-        Err(FireError::Busy { from, to }) => (BUSY, Numbers { fired: 0, from, to }),
-        Err(FireError::Memory) => (MEMORY, Numbers::none()),
-    }
+    let reads = fire.reads.share(alloc)?;
+    report(
+        agent.fire_over(alloc, &reads, &scans, &fire.instrs),
+        numbers,
+    )
+}
+
+/// Do what `asm_try_fire_over` does.
+pub fn fire_over(
+    alloc: Global,
+    agent: &mut Slot,
+    call: &[u8],
+    scans: &[u8],
+    numbers: &mut Numbers,
+) -> Result<(), Code>
+    ensures { TriesIn (FiresOver call.now scans.now) (content_of agent.old) (content_of agent.new) numbers.new result }
+{
+    *numbers = Numbers::none();
+    lend!(inner: Agent = agent, Err(Code::Empty));
+    fire_over_in(alloc, inner, call, scans, numbers)
 }

@@ -1,28 +1,26 @@
 //! Beginning a step, and reading through its pushed moves.
-ghost use Rattle.std.specs.Prelude.{◌≡◌, ◌≢◌, ◌≤◌, ◌<◌, ◌+◌, ◌∷◌, ◌++◌, [], length, string_bytes, MatchResult, OnOk, OnErr};
-ghost use Rattle.std.specs.Prelude.{IfOk, IfErr, Some, ℕ, Contains, IsSome, vec_len};
+ghost use Rattle.std.specs.Prelude.{◌≡◌, ◌≤◌, ◌<◌, ◌++◌, ◌∷◌, [], length, string_bytes, MatchResult, OnOk, OnErr};
+ghost use Rattle.std.specs.Prelude.{IfOk, IfErr, ℕ, IsSome, vec_len};
 ghost use Rattle.std.specs.Bool.{OnTrue, OnFalse};
 ghost use Rattle.asm_element.specs.Place.{Place, location_cmp};
-ghost use Rattle.asm_storage.specs.Limits.{reads_limit};
 ghost use Rattle.asm_step.specs.Places.{AreEach};
-ghost use Rattle.asm_explain.specs.Bytes.{AreLocations, IsNoJson, IsOtherJson};
-ghost use Rattle.asm_slots.specs.Codes.{IsOneOf, ASM_DONE, ASM_MEMORY, ASM_SMALL, ASM_MANY, ASM_NOT_JSON, ASM_SHAPE, ASM_MOVED};
+ghost use Rattle.asm_slots.specs.Kinds.{IsValueBy, bytes_of};
 ghost use Rattle.asm_slots.specs.OwnState.{Begins, DoesNotBegin, values_text};
-ghost use Rattle.asm_slots.specs.Slots.{HasRoomForStep, content_of};
-ghost use Rattle.asm_slots.specs.StepCalls.{HasTracked, HasReached, IsElsewhere, IsSeenText, WouldTrackMany, WouldTakeMany};
-ghost use Rattle.asm_slots.specs.StepCalls.{from_below, seen, HasTrackedOne, IsCopyFor, WouldTrackOneMore};
-ghost use Rattle.asm_slots.specs.WrittenText.{WritesText};
+ghost use Rattle.asm_slots.specs.Slots.{ChangesStep, HasRoomForStep, content_of};
+ghost use Rattle.asm_slots.specs.StepCalls.{HasReached, HasTracked, HasTrackedOne, IsCopyFor, IsNoCopyFor, IsNotGot, IsNotGotAt, IsNotSeen, IsOff};
+ghost use Rattle.asm_slots.specs.StepCalls.{IsSeenBy, seen};
+ghost use Rattle.asm_slots.specs.WrittenText.{HasNoText, HasText, IsWritten};
 ghost use Rattle.std.specs.Vec.{vec_capacity};
 ghost use Rattle.std.specs.List.Sorted.{IsStrictlySortedBy};
-ghost use Rattle.asm_slots.specs.StepAnswers.{GetsAt, WritesValue};
+ghost use Rattle.asm_slots.specs.StepAnswers.{DoesNotGetAt, GetsAt, IsNoValue, ShowsBoth, ShowsNeither};
 
-use crate::codes::{Code, DONE, EMPTY, MANY, MEMORY, MOVED, copied};
+use crate::codes::{Code, write};
 use crate::content::Content;
 use crate::lend;
 use crate::own_state::text_of_values;
 use crate::owned_agent::OwnedAgent;
 use crate::owned_step::OwnedStep;
-use crate::parsing::{code_of_text_error, locations_of};
+use crate::parsing::locations_of;
 use crate::slot::Slot;
 use crate::tracking::track;
 use crate::value_head::{ValueHead, write_value_at};
@@ -62,13 +60,6 @@ pub fn begin(alloc: Global, agent: &mut Slot, step: &mut Slot, number: &mut u32)
     Ok(())
 }
 
-/// A read through a step: its text, and all locations that are tracked by then.
-#[derive(Drop)]
-pub(crate) struct StepRead {
-    pub(crate) text: String,
-    pub(crate) all: Vec<Location>,
-}
-
 // Return the text of what is seen at the locations through the pushed moves, if the agent's own state is at the step's
 // version.
 fn seen_text(
@@ -80,8 +71,7 @@ fn seen_text(
     ensures text { IfOk result (λ text. string_bytes text
         ≡ values_text step.now.number (seen agent.now step.now) locations.now) }
     ensures reached { OnOk result (HasReached agent.now step.now) }
-    ensures err { IfErr result (λ e. ¬ (e ≡ Code.Many)) }
-    ensures moved { IfErr result (λ e. e ≡ Code.Moved → IsElsewhere agent.now step.now) }
+    ensures err { IfErr result (IsOff agent.now step.now) }
 {
     let state = agent.state();
     if state.number() != step.number {
@@ -90,92 +80,73 @@ fn seen_text(
     Ok(text_of_values(alloc, step.number, &step.step.over(state), locations)?)
 }
 
-// Return the same, with all locations that are then tracked.
-fn read_and_track(
+/// Do what `asm_see` does.
+pub fn see(
     alloc: Global,
-    agent: &OwnedAgent,
-    step: &OwnedStep,
-    locations: Vec<Location>,
-) -> Result<StepRead, Code>
-    ensures text { IfOk result (λ g. string_bytes g.text
-        ≡ values_text step.now.number (seen agent.now step.now) locations.items) }
-    ensures reached { OnOk result (HasReached agent.now step.now) }
-    ensures all { IfOk result (λ g. AreEach (step.now.tracked ++ from_below step.now locations.items) g.all.items) }
-    ensures few { IfOk result (λ g. length g.all.items + length step.now.scanned ≤ reads_limit) }
-    ensures many { IfErr result (λ e. e ≡ Code.Many → WouldTakeMany locations.items step.now) }
-    ensures moved { IfErr result (λ e. e ≡ Code.Moved → IsElsewhere agent.now step.now) }
-    ensures many_reached { IfErr result (λ e. e ≡ Code.Many → HasReached agent.now step.now) }
-{
-    let text = seen_text(alloc, agent, step, &locations)?;
-    let all = track(alloc, step, locations)?;
-    Ok(StepRead { text, all })
-}
-
-/// Do what `asm_see` does, with the agent and the step.
-pub fn see_in(
-    alloc: Global,
-    agent: &OwnedAgent,
-    step: &OwnedStep,
+    agent: &mut Slot,
+    step: &mut Slot,
     locations: &[u8],
     out: &mut [u8],
     written: &mut usize,
-) -> i32
-    requires { written.old ≡ 0 }
-    ensures codes { IsOneOf (ASM_DONE ∷ ASM_MEMORY ∷ ASM_SMALL ∷ ASM_NOT_JSON ∷ ASM_SHAPE ∷ ASM_MOVED ∷ []) result }
-    ensures text { WritesText (IsSeenText locations.now agent.now step.now) out.old out.new written.new result }
-    ensures moved { result ≡ ASM_MOVED → IsElsewhere agent.now step.now }
-    ensures reached { IsOneOf (ASM_DONE ∷ ASM_SMALL ∷ []) result → HasReached agent.now step.now }
-    ensures not_json { result ≡ ASM_NOT_JSON → IsNoJson locations.now }
-    ensures shape { result ≡ ASM_SHAPE → IsOtherJson AreLocations locations.now }
+) -> Result<(), Code>
+    ensures answers { MatchResult result
+        (λ done. ShowsBoth (IsSeenBy locations.now) (content_of agent.old) (content_of step.old) out.new written.new)
+        (ShowsNeither (IsSeenBy locations.now) (IsNotSeen locations.now) (content_of agent.old) (content_of step.old)
+        out.old out.new written.new) }
+    ensures kept { content_of agent.new ≡ content_of agent.old }
+    ensures held { content_of step.new ≡ content_of step.old }
 {
-    let locations = match locations_of(alloc, locations) {
-        Ok(locations) => locations,
-        Err(error) => return code_of_text_error(error),
-    };
-    match seen_text(alloc, agent, step, &locations) {
-        Ok(text) => copied(text.as_bytes(), out, written),
-        Err(Code::Moved) => MOVED,
-        Err(_) => MEMORY,
-    }
+    *written = 0;
+    lend!(agent: Agent = agent, Err(Code::Empty));
+    lend!(step: Step = step, Err(Code::Empty));
+    let locations = locations_of(alloc, locations)?;
+    let text = seen_text(alloc, agent, step, &locations)?;
+    write(text.as_bytes(), out, written)
 }
 
-/// Do what `asm_get` does, with the agent and the step.
-pub fn get_in(
+fn get_in(
     alloc: Global,
     agent: &OwnedAgent,
     step: &mut OwnedStep,
     locations: &[u8],
     out: &mut [u8],
     written: &mut usize,
-) -> i32
+) -> Result<(), Code>
     requires { written.old ≡ 0 }
-    ensures codes { IsOneOf (ASM_DONE ∷ ASM_MEMORY ∷ ASM_SMALL ∷ ASM_MANY
-        ∷ ASM_NOT_JSON ∷ ASM_SHAPE ∷ ASM_MOVED ∷ []) result }
-    ensures text { WritesText (IsSeenText locations.now agent.now step.old) out.old out.new written.new result }
-    ensures tracked { result ≡ ASM_DONE → HasTracked locations.now step.old step.new }
-    ensures moved { result ≡ ASM_MOVED → IsElsewhere agent.now step.old }
-    ensures reached { IsOneOf (ASM_DONE ∷ ASM_SMALL ∷ ASM_MANY ∷ []) result → HasReached agent.now step.old }
-    ensures many { result ≡ ASM_MANY → WouldTrackMany locations.now step.old }
-    ensures not_json { result ≡ ASM_NOT_JSON → IsNoJson locations.now }
-    ensures shape { result ≡ ASM_SHAPE → IsOtherJson AreLocations locations.now }
-    ensures stays { result ≢ ASM_DONE → step.new ≡ step.old }
+    ensures text { IsWritten (IsSeenBy locations.now agent.now step.old) (IsNotGot locations.now agent.now step.old)
+        out.old out.new written.new result }
+    ensures tracked { OnOk result (HasTracked locations.now step.old step.new) }
+    ensures stays { OnErr result (step.new ≡ step.old) }
 {
-    let locations = match locations_of(alloc, locations) {
-        Ok(locations) => locations,
-        Err(error) => return code_of_text_error(error),
-    };
-    match read_and_track(alloc, agent, step, locations) {
-        Ok(tracked) => {
-            let code = copied(tracked.text.as_bytes(), out, written);
-            if code == DONE {
-                step.tracked = tracked.all;
-            }
-            code
-        }
-        Err(Code::Moved) => MOVED,
-        Err(Code::Many) => MANY,
-        Err(_) => MEMORY,
-    }
+    let locations = locations_of(alloc, locations)?;
+    let text = seen_text(alloc, agent, step, &locations)?;
+    let tracked = track(alloc, step, locations)?;
+    write(text.as_bytes(), out, written)?;
+    step.tracked = tracked;
+    Ok(())
+}
+
+/// Do what `asm_get` does.
+pub fn get(
+    alloc: Global,
+    agent: &mut Slot,
+    step: &mut Slot,
+    locations: &[u8],
+    out: &mut [u8],
+    written: &mut usize,
+) -> Result<(), Code>
+    ensures answers { MatchResult result
+        (λ done. ShowsBoth (IsSeenBy locations.now) (content_of agent.old) (content_of step.old) out.new written.new
+        × ChangesStep (content_of step.old) (content_of step.new) (HasTracked locations.now))
+        (ShowsNeither (IsSeenBy locations.now) (IsNotGot locations.now) (content_of agent.old) (content_of step.old)
+        out.old out.new written.new) }
+    ensures stays { OnErr result (content_of step.new ≡ content_of step.old) }
+    ensures kept { content_of agent.new ≡ content_of agent.old }
+{
+    *written = 0;
+    lend!(agent: Agent = agent, Err(Code::Empty));
+    lend!(step: Step = step, Err(Code::Empty));
+    get_in(alloc, agent, step, locations, out, written)
 }
 
 // Return a copy of the location and make room for it among the others, unless it is one of them.
@@ -188,8 +159,7 @@ fn copy_for(
     ensures kept { tracked.new.items ≡ tracked.old.items }
     ensures copy { IfOk result (IsCopyFor limit tracked.old.items at.now) }
     ensures room { IfOk result (λ copy. IsSome copy → vec_len tracked.new < vec_capacity tracked.new) }
-    ensures many { IfErr result (λ e. e ≡ Code.Many →
-        (limit ≤ length tracked.old.items) × ¬ Contains tracked.old.items at.now) }
+    ensures err { IfErr result (IsNoCopyFor limit tracked.old.items at.now) }
 {
     if tracked.contains(at) {
         return Ok(None);
@@ -225,42 +195,33 @@ fn get_one(
     agent: &OwnedAgent,
     step: &mut OwnedStep,
     at: &Location,
-    value: &mut ValueHead,
     out: &mut [u8],
     written: &mut usize,
-) -> i32
+) -> Result<ValueHead, Code>
     requires { written.old ≡ 0 }
-    ensures codes { IsOneOf (ASM_DONE ∷ ASM_MEMORY ∷ ASM_SMALL ∷ ASM_MANY ∷ ASM_MOVED ∷ []) result }
-    ensures text { WritesValue (seen agent.now step.old at.now) value.new out.old out.new written.new result }
-    ensures tracked { result ≡ ASM_DONE → HasTrackedOne at.now step.old step.new }
-    ensures moved { result ≡ ASM_MOVED → IsElsewhere agent.now step.old }
-    ensures reached { IsOneOf (ASM_DONE ∷ ASM_SMALL ∷ ASM_MANY ∷ []) result → HasReached agent.now step.old }
-    ensures many { result ≡ ASM_MANY → WouldTrackOneMore at.now step.old }
-    ensures stays { result ≢ ASM_DONE → step.new ≡ step.old }
-    ensures no_value { result ≢ ASM_DONE → value.new ≡ value.old }
+    ensures ok { IfOk result (λ value. HasText (IsValueBy (seen agent.now step.old at.now) value.kind value.number) out.new written.new) }
+    ensures err { IfErr result (HasNoText (λ bytes. HasReached agent.now step.old × (bytes ≡ bytes_of (seen agent.now step.old at.now)))
+        (IsNotGotAt at.now agent.now step.old) out.old out.new written.new) }
+    ensures tracked { OnOk result (HasTrackedOne at.now step.old step.new) }
+    ensures reached { OnOk result (HasReached agent.now step.old) }
+    ensures stays { OnErr result (step.new ≡ step.old) }
 {
     let own = agent.state();
     if own.number() != step.number {
-        return MOVED;
+        return Err(Code::Moved);
     }
     if !step.step.sees_below(at) {
-        return write_value_at(alloc, &step.step.over(own), at, value, out, written);
+        return write_value_at(alloc, &step.step.over(own), at, out, written);
     }
     let limit = READS_LIMIT - step.scanned.len();
-    let copy = match copy_for(alloc, limit, &mut step.tracked, at) {
-        Ok(copy) => copy,
-        Err(Code::Many) => return MANY,
-        Err(_) => return MEMORY,
-    };
-    let code = write_value_at(alloc, &step.step.over(own), at, value, out, written);
-    if code == DONE {
-        note(&mut step.tracked, copy);
-    }
-    code
+    let copy = copy_for(alloc, limit, &mut step.tracked, at)?;
+    let value = write_value_at(alloc, &step.step.over(own), at, out, written)?;
+    note(&mut step.tracked, copy);
+    Ok(value)
 }
 
 /// Do what `asm_get_at` does.
-pub fn get(
+pub fn get_at(
     alloc: Global,
     agent: &mut Slot,
     step: &mut Slot,
@@ -268,16 +229,20 @@ pub fn get(
     value: &mut ValueHead,
     out: &mut [u8],
     written: &mut usize,
-) -> i32
-    ensures gets { GetsAt (content_of at.old) (content_of agent.old) (content_of step.old) (content_of step.new)
-        value.new out.old out.new written.new result }
+) -> Result<(), Code>
+    ensures answers { MatchResult result
+        (λ done. GetsAt (content_of at.old) (content_of agent.old) (content_of step.old) (content_of step.new) value.new out.new written.new)
+        (DoesNotGetAt (content_of at.old) (content_of agent.old) (content_of step.old) out.old out.new written.new) }
+    ensures none { OnErr result (IsNoValue value.new) }
+    ensures stays { OnErr result (content_of step.new ≡ content_of step.old) }
     ensures kept { content_of agent.new ≡ content_of agent.old }
     ensures held { content_of at.new ≡ content_of at.old }
 {
     *written = 0;
     *value = ValueHead::none();
-    lend!(at: Location = at, EMPTY);
-    lend!(agent: Agent = agent, EMPTY);
-    lend!(step: Step = step, EMPTY);
-    get_one(alloc, agent, step, at, value, out, written)
+    lend!(at: Location = at, Err(Code::Empty));
+    lend!(agent: Agent = agent, Err(Code::Empty));
+    lend!(step: Step = step, Err(Code::Empty));
+    *value = get_one(alloc, agent, step, at, out, written)?;
+    Ok(())
 }

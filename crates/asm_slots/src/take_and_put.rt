@@ -15,7 +15,7 @@ use crate::store::Store;
 use std::alloc::Global;
 
 /// Take the box out of the slot, if the slot holds something.
-pub fn take_shell(alloc: Global, slot: &mut Slot) -> Option<Box<Content>>
+pub(crate) fn take_shell(alloc: Global, slot: &mut Slot) -> Option<Box<Content>>
     ensures some { IfSome result (λ shell. content_of slot.old ≡ Some shell.value) }
     ensures none { IfNone result (content_of slot.new ≡ content_of slot.old) }
     ensures empty { IfNone result (content_of slot.old ≡ None) }
@@ -24,7 +24,7 @@ pub fn take_shell(alloc: Global, slot: &mut Slot) -> Option<Box<Content>>
 }
 
 /// Put the box into the slot.
-pub fn put_shell(slot: &mut Slot, shell: Box<Content>)
+pub(crate) fn put_shell(slot: &mut Slot, shell: Box<Content>)
     ensures { content_of slot.new ≡ Some shell.value }
 {
     *slot = Slot::holding(shell);
@@ -33,7 +33,7 @@ pub fn put_shell(slot: &mut Slot, shell: Box<Content>)
 /// Take the agent and its box out of the slot, if it holds an agent.
 ///
 /// Else the slot is unchanged.
-pub fn take_agent(alloc: Global, slot: &mut Slot) -> Option<(Box<Content>, OwnedAgent)>
+pub(crate) fn take_agent(alloc: Global, slot: &mut Slot) -> Option<(Box<Content>, OwnedAgent)>
     ensures some { IfSome result (λ p. content_of slot.old ≡ Some (content.Agent p.1)) }
     ensures none { IfNone result (content_of slot.new ≡ content_of slot.old) }
     ensures other { IfNone result (HoldsNoAgent (content_of slot.old)) }
@@ -50,7 +50,7 @@ pub fn take_agent(alloc: Global, slot: &mut Slot) -> Option<(Box<Content>, Owned
 }
 
 /// Put the agent into the slot, in its box.
-pub fn put_agent(slot: &mut Slot, mut shell: Box<Content>, agent: OwnedAgent)
+pub(crate) fn put_agent(slot: &mut Slot, mut shell: Box<Content>, agent: OwnedAgent)
     ensures { content_of slot.new ≡ Some (content.Agent agent) }
 {
     *shell = Content::Agent(agent);
@@ -59,11 +59,11 @@ pub fn put_agent(slot: &mut Slot, mut shell: Box<Content>, agent: OwnedAgent)
 
 /// Two agents of one storage and their boxes, taken out of their slots.
 #[derive(Drop)]
-pub struct TwoAgents {
-    pub shell: Box<Content>,
-    pub agent: OwnedAgent,
-    pub other_shell: Box<Content>,
-    pub other: OwnedAgent,
+pub(crate) struct TwoAgents {
+    pub(crate) shell: Box<Content>,
+    pub(crate) agent: OwnedAgent,
+    pub(crate) other_shell: Box<Content>,
+    pub(crate) other: OwnedAgent,
 }
 
 /// Take the agents of two slots and their boxes out of them.
@@ -74,7 +74,11 @@ pub struct TwoAgents {
 ///
 /// - `ASM_EMPTY`: one of the slots has no agent.
 /// - `ASM_OTHER`: `are_one` reports that the agents are of two storages.
-pub fn take_agents(alloc: Global, agent: &mut Slot, other: &mut Slot) -> Result<TwoAgents, Code>
+pub(crate) fn take_agents(
+    alloc: Global,
+    agent: &mut Slot,
+    other: &mut Slot,
+) -> Result<TwoAgents, Code>
     requires { AreOfOneStorage (content_of agent.old) (content_of other.old) }
     ensures agent { IfOk result (λ both. content_of agent.old ≡ Some (content.Agent both.agent)) }
     ensures other { IfOk result (λ both. content_of other.old ≡ Some (content.Agent both.other)) }
@@ -106,7 +110,7 @@ pub fn take_agents(alloc: Global, agent: &mut Slot, other: &mut Slot) -> Result<
 /// Take the storage and its box out of the slot, if it holds a storage.
 ///
 /// Else the slot is unchanged.
-pub fn take_store(alloc: Global, slot: &mut Slot) -> Option<(Box<Content>, Store)>
+pub(crate) fn take_store(alloc: Global, slot: &mut Slot) -> Option<(Box<Content>, Store)>
     ensures some { IfSome result (λ p. content_of slot.old ≡ Some (content.Store p.1)) }
     ensures none { IfNone result (content_of slot.new ≡ content_of slot.old) }
     ensures other { IfNone result (HoldsNoStore (content_of slot.old)) }
@@ -123,7 +127,7 @@ pub fn take_store(alloc: Global, slot: &mut Slot) -> Option<(Box<Content>, Store
 }
 
 /// Put the storage into the slot, in its box.
-pub fn put_store(slot: &mut Slot, mut shell: Box<Content>, store: Store)
+pub(crate) fn put_store(slot: &mut Slot, mut shell: Box<Content>, store: Store)
     ensures { content_of slot.new ≡ Some (content.Store store) }
 {
     *shell = Content::Store(store);

@@ -6,8 +6,7 @@ ghost use Rattle.asm_step.specs.Places.{AreEach, all_partial_places, partial_pla
 ghost use Rattle.asm_step.specs.Dependencies.{one_writes, puts, depends};
 ghost use Rattle.asm_storage.specs.Limits.{reads_limit};
 ghost use Rattle.asm_update.specs.Move.{writes};
-ghost use Rattle.asm_slots.specs.Answers.{IsNotTracked};
-ghost use Rattle.asm_slots.specs.StepCalls.{from_below};
+ghost use Rattle.asm_slots.specs.StepCalls.{IsNotTracked, from_below};
 ghost use Rattle.asm_slots.specs.Tracked.{refusal_places, last_partial_places, refusal_places_to, dependencies_last};
 
 use crate::codes::Code;

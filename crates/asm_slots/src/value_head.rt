@@ -1,13 +1,13 @@
 //! Values as kind, number and bytes.
-ghost use Rattle.std.specs.Prelude.{◌≡◌, ◌≢◌, ◌∷◌, [], pos, IfNone, IfOk, IfSome, string_bytes};
+ghost use Rattle.std.specs.Prelude.{◌≡◌, pos, IfErr, IfNone, IfOk, IfSome, string_bytes};
 ghost use Rattle.serde_json.specs.Written.{compact_text};
 ghost use Rattle.asm_element.specs.declared.value.Value.TheVariants as values;
 ghost use Rattle.asm_journal.specs.Value.{value_json_of};
-ghost use Rattle.asm_slots.specs.Codes.{IsOneOf, ASM_DONE, ASM_MEMORY, ASM_SMALL};
-ghost use Rattle.asm_slots.specs.Kinds.{bytes_of, kind_of, number_of};
-ghost use Rattle.asm_slots.specs.StepAnswers.{WritesValue};
+ghost use Rattle.asm_slots.specs.Answers.{IsMemory};
+ghost use Rattle.asm_slots.specs.Kinds.{IsValueBy, bytes_of, kind_of, number_of};
+ghost use Rattle.asm_slots.specs.WrittenText.{HasNoText, HasText, IsWritten};
 
-use crate::codes::{DONE, MEMORY, copied};
+use crate::codes::{Code, write};
 use asm_element::{Element, Location, Value};
 use asm_journal::value_json;
 use asm_update::Lookup;
@@ -107,51 +107,38 @@ fn json_text(alloc: Global, value: &Value) -> Result<String, AllocError>
     value_json(alloc, value)?.to_string(alloc)
 }
 
-// Write the bytes of the value, and its kind and number.
-fn write_value(
+// Write the bytes of the value.
+fn write_bytes(
     alloc: Global,
     value: &Value,
-    head: &mut ValueHead,
     out: &mut [u8],
     written: &mut usize,
-) -> i32
+) -> Result<(), Code>
     requires { written.old ≡ 0 }
-    ensures codes { IsOneOf (ASM_DONE ∷ ASM_MEMORY ∷ ASM_SMALL ∷ []) result }
-    ensures text { WritesValue value.now head.new out.old out.new written.new result }
-    ensures no_value { result ≢ ASM_DONE → head.new ≡ head.old }
+    ensures { IsWritten (λ bytes. bytes ≡ bytes_of value.now) IsMemory out.old out.new written.new result }
 {
-    let code = match bytes_in(value) {
-        Some(bytes) => copied(bytes, out, written),
-        None => match json_text(alloc, value) {
-            Ok(text) => copied(text.as_bytes(), out, written),
-            Err(AllocError) => MEMORY,
-        },
-    };
-    if code == DONE {
-        *head = ValueHead::of(value);
+    if let Some(bytes) = bytes_in(value) {
+        return write(bytes, out, written);
     }
-    code
+    let text = json_text(alloc, value)?;
+    write(text.as_bytes(), out, written)
 }
 
-/// Write the value that is seen at the location, or undef if there is none.
+/// Write the value that is seen at the location, or undef if there is none; return it without its bytes.
 pub(crate) fn write_value_at<L: Lookup>(
     alloc: Global,
     seen: &L,
     at: &Location,
-    head: &mut ValueHead,
     out: &mut [u8],
     written: &mut usize,
-) -> i32
+) -> Result<ValueHead, Code>
     requires { written.old ≡ 0 }
-    ensures codes { IsOneOf (ASM_DONE ∷ ASM_MEMORY ∷ ASM_SMALL ∷ []) result }
-    ensures text { WritesValue (L.value_at seen.now at.now) head.new out.old out.new written.new result }
-    ensures no_value { result ≢ ASM_DONE → head.new ≡ head.old }
+    ensures ok { IfOk result (λ head. HasText (IsValueBy (L.value_at seen.now at.now) head.kind head.number) out.new written.new) }
+    ensures err { IfErr result (HasNoText (λ bytes. bytes ≡ bytes_of (L.value_at seen.now at.now)) IsMemory out.old out.new written.new) }
 {
-    match seen.get(at) {
-        Some(value) => write_value(alloc, value, head, out, written),
-        None => {
-            *head = ValueHead::none();
-            DONE
-        }
-    }
+    let Some(value) = seen.get(at) else {
+        return Ok(ValueHead::none());
+    };
+    write_bytes(alloc, value, out, written)?;
+    Ok(ValueHead::of(value))
 }

@@ -1,14 +1,12 @@
 use Rattle.std.proofs.Common.{refl, subst}
 use Rattle.asm_slots.specs.Commit.{ScansAll}
 use Rattle.asm_slots.specs.StepView.{StepView, names_of}
-use Rattle.asm_slots.proofs.Commits.{many_named, scans_all, step_fired}
+use Rattle.asm_slots.proofs.Commits.{scans_all, step_fired}
 use Rattle.asm_slots.proofs.committing.fire_prepared.Goals as goal
 
-pub returns-clause-fired : goal.returns-clause-fired
-returns-clause-fired c =
-    let reported = c.code_of_fire in
+pub returns : goal.returns
+returns c =
     let fired = c.fire_over in
-    let numbers = reported.result.1 in
     let s = c.args.step.now in
     let scans = c.deref.result.now in
     let inside : StepView = record {
@@ -20,25 +18,5 @@ returns-clause-fired c =
     let scanned : ScansAll s scans =
     subst (λ (x : StepView). ScansAll x scans) c.step.view_is
     (scans_all inside scans c.step.inside.scanned.items c.deref.ensures.value refl c.step.invariant.2) in
-    step_fired s reported.result.0 numbers.fired numbers.from numbers.to c.args.agent.now fired.new.self c.args.reads.now scans
-    c.args.instrs.now fired.result c.requires.names scanned c.requires.one c.requires.stands reported.ensures.reported
-    fired.ensures.many fired.ensures.answered fired.ensures.refused fired.ensures.busy fired.ensures.offers
-
-pub returns-clause-many : goal.returns-clause-many
-returns-clause-many c =
-    let reported = c.code_of_fire in
-    let fired = c.fire_over in
-    let numbers = reported.result.1 in
-    let s = c.args.step.now in
-    let scans = c.deref.result.now in
-    let inside : StepView = record {
-      number = c.step.inside.number;
-      layers = c.step.inside.step;
-      tracked = c.step.inside.tracked.items;
-      scanned = names_of c.step.inside.scanned.items;
-    } in
-    let scanned : ScansAll s scans =
-    subst (λ (x : StepView). ScansAll x scans) c.step.view_is
-    (scans_all inside scans c.step.inside.scanned.items c.deref.ensures.value refl c.step.invariant.2) in
-    many_named s fired.result reported.result.0 numbers.fired numbers.from numbers.to c.args.reads.now scans scanned
-    reported.ensures.reported fired.ensures.many
+    step_fired s c.args.agent.now fired.new.self c.args.reads.now scans c.args.instrs.now fired.result c.requires.names scanned
+    c.requires.one c.requires.stands fired.ensures.many fired.ensures.replied fired.ensures.answered

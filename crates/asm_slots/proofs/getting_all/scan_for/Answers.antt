@@ -1,4 +1,4 @@
-use Rattle.std.proofs.Common.{◌∙◌, List, Contains, rules, subst, sym}
+use Rattle.std.proofs.Common.{◌∙◌, List, Contains, inr, refl, rules, subst, sym}
 use Rattle.asm_state.specs.declared.scanned.Scanned.{Scanned}
 use Rattle.asm_slots.specs.StepView.{names_of}
 use Rattle.asm_slots.proofs.Scans.{named, unnamed}
@@ -9,8 +9,9 @@ returns-then-is_scanned-clause-scan c =
     subst (λ (xs : List Scanned). Contains (names_of xs) c.args.name.now) c.deref.ensures.value
     (named c.deref.result.now c.args.name.now (sym c.is_scanned.ensures ∙ c.if-is_scanned.true))
 
-pub returns-then-len-limit-clause-many : goal.returns-then-len-limit-clause-many
-returns-then-len-limit-clause-many c _ = (
+pub returns-then-len-limit-clause-err : goal.returns-then-len-limit-clause-err
+returns-then-len-limit-clause-err c = inr (
+  refl,
   search rules,
   subst (λ (xs : List Scanned). ¬ Contains (names_of xs) c.args.name.now) c.deref.ensures.value
       (unnamed c.deref.result.now c.args.name.now (sym c.is_scanned.ensures ∙ c.if-is_scanned.false)),

@@ -6,18 +6,18 @@ use Rattle.asm_slots.proofs.Noting.{kept_one, noted_in}
 use Rattle.asm_slots.proofs.Scans.{few_places}
 use Rattle.asm_slots.proofs.steps.get_one.Goals as goal
 
-pub invariant_of-step-then-code-eq-DONE : goal.invariant_of-step-then-code-eq-DONE
-invariant_of-step-then-code-eq-DONE c =
+pub invariant_of-step-2 : goal.invariant_of-step-2
+invariant_of-step-2 c =
     let room : length c.step.inside.tracked.items ≤ 256 - c.len-limit.result = omega (arith, c.step.invariant.1, c.len-limit.ensures) in
-    let noted = noted_in _ c.step.inside.tracked.items c.copy_for.new.tracked.items c.note.new.tracked.items c.args.at.now c.in-Ok.copy
-    room c.in-Ok.ensures.kept c.in-Ok.ensures.copy c.note.ensures.noted c.note.ensures.few in
+    let noted = noted_in _ c.step.inside.tracked.items c.copy_for.new.tracked.items c.note.new.tracked.items c.args.at.now c.in_ok-copy.copy
+    room c.in_ok-copy.ensures.kept c.in_ok-copy.ensures.copy c.note.ensures.noted c.note.ensures.few in
     (noted.0.ascending, omega (arith, noted.1, c.step.invariant.1, c.len-limit.ensures), c.step.invariant.2)
 
-pub returns-then-code-eq-DONE-clause-tracked : goal.returns-then-code-eq-DONE-clause-tracked
-returns-then-code-eq-DONE-clause-tracked c _ =
+pub returns-clause-tracked : goal.returns-clause-tracked
+returns-clause-tracked c =
     let room : length c.step.inside.tracked.items ≤ 256 - c.len-limit.result = omega (arith, c.step.invariant.1, c.len-limit.ensures) in
-    let noted = noted_in _ c.step.inside.tracked.items c.copy_for.new.tracked.items c.note.new.tracked.items c.args.at.now c.in-Ok.copy
-    room c.in-Ok.ensures.kept c.in-Ok.ensures.copy c.note.ensures.noted c.note.ensures.few in
+    let noted = noted_in _ c.step.inside.tracked.items c.copy_for.new.tracked.items c.note.new.tracked.items c.args.at.now c.in_ok-copy.copy
+    room c.in_ok-copy.ensures.kept c.in_ok-copy.ensures.copy c.note.ensures.noted c.note.ensures.few in
     let new : StepView = record {
       number = c.step.inside.number;
       layers = c.step.inside.step;

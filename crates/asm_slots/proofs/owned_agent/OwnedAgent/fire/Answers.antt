@@ -18,16 +18,18 @@ returns c =
     part_fires storage c.deref.result.now.storage c.self.inside.part fired.new.self c.args.self.now c.args.reads.now
     c.args.instrs.now fired.result lent c.self.view_is fired.ensures.fire in
     record {
-      same = is.same;
-      answered = is.answered;
+      answered = record {
+        same = is.same;
+        seen = is.seen;
+        refused = is.refused;
+        busy = is.busy;
+        offers = is.offers;
+        few = is.few;
+        missed = is.missed;
+        lost = is.lost;
+      };
+      replied = is.answered;
       coherent = is.coherent;
-      seen = is.seen;
-      refused = is.refused;
-      busy = is.busy;
-      missed = is.missed;
-      few = is.few;
-      lost = is.lost;
-      offers = is.offers;
       many = is.many;
     }
 

@@ -19,15 +19,17 @@ returns c =
     part_fires_over storage c.deref.result.now.storage c.self.inside.part fired.new.self c.args.self.now c.args.reads.now
     c.args.scans.now c.args.instrs.now fired.result lent c.self.view_is fired.ensures.fire in
     record {
-      same = is.same;
-      answered = replied_over c.args.self.now new c.args.reads.now c.args.scans.now c.args.instrs.now fired.result is;
-      seen = is.seen;
-      refused = is.refused;
-      busy = is.busy;
-      missed = is.missed;
-      few = is.few;
-      lost = is.lost;
-      offers = is.offers;
+      answered = record {
+        same = is.same;
+        seen = is.seen;
+        refused = is.refused;
+        busy = is.busy;
+        offers = is.offers;
+        few = is.few;
+        missed = is.missed;
+        lost = is.lost;
+      };
+      replied = replied_over c.args.self.now new c.args.reads.now c.args.scans.now c.args.instrs.now fired.result is;
       many = is.many;
     }
 
