@@ -1,5 +1,7 @@
 """Run the commands on runs and journals: python -m folugben COMMAND .. (--help)."""
 import argparse
+import contextlib
+import io
 import json
 import os
 import sys
@@ -7,11 +9,12 @@ import time
 from collections.abc import Callable
 from functools import partial
 from pathlib import Path
-from typing import BinaryIO, TextIO
+from typing import BinaryIO, NoReturn, TextIO
 
 from . import __version__, audit, import_run, part, replay, trace
 from ._errors import BadJournalError, DamagedError, Error
 from ._exports import verdict, write_csv, write_itf, write_page, write_perfetto
+from ._files import expect_other_output, open_regular, plain, replacing, shown
 from ._reading import follow, is_stored_run, save, verify
 from ._texts import encode
 
@@ -27,7 +30,7 @@ class _Progress:
 
     def __init__(self, file: str) -> None:
         self._size = os.path.getsize(file) if os.path.isfile(file) else 0
-        self._file, self._next, self._is_shown = file, time.monotonic() + 1, False
+        self._file, self._next, self._is_shown = plain(shown(file)), time.monotonic() + 1, False
 
     def __call__(self, done: int) -> None:
         if time.monotonic() >= self._next:
@@ -113,11 +116,14 @@ def _on_journal(work: Callable[[bytes, TextIO], bool]) -> _Work:
 
     def on_file(file: str, number: int | None, out: TextIO) -> bool:
         if number is None and is_stored_run(file):
-            raise IsADirectoryError(f"{file} is a run, of which this command takes one part: --part 0 and so on")
+            raise IsADirectoryError(f"{shown(file)} is a run, of which this command takes one part: --part 0 and so on")
         source: str | BinaryIO = sys.stdin.buffer if file == "-" else file
         if number is not None:
             return work(part(source, number), out)
-        return work(source.read() if not isinstance(source, str) else Path(source).read_bytes(), out)
+        if not isinstance(source, str):
+            return work(source.read(), out)
+        with open_regular(source) as opened:
+            return work(opened.read(), out)
 
     return on_file
 
@@ -140,8 +146,17 @@ COMMANDS: dict[str, tuple[_Work, str]] = {
 ON_RUNS = ("verify", "save", "follow")
 
 
+class _Parser(argparse.ArgumentParser):
+    def error(self, message: str) -> NoReturn:
+        super().error(plain(message))
+
+
+class _Incomplete(Exception):
+    """Something was refused, so that an output lacks it."""
+
+
 def _words() -> argparse.ArgumentParser:
-    parser = argparse.ArgumentParser(prog="folugben", description="Audit, read and convert runs and their journals.")
+    parser = _Parser(prog="folugben", description="Audit, read and convert runs and their journals.")
     parser.add_argument("--version", action="version", version=f"folugben {__version__}")
     commands = parser.add_subparsers(dest="command", required=True, metavar="COMMAND")
     for name, (_, text) in COMMANDS.items():
@@ -154,7 +169,7 @@ def _words() -> argparse.ArgumentParser:
         if name == "itf":
             command.add_argument("--from", type=int, metavar="N", dest="first", default=0, help="the first state, counted from 0")
             command.add_argument("--to", type=int, metavar="N", dest="last", help="the last state")
-        command.add_argument("-o", "--output", type=Path, metavar="FILE", help="write to this file in place of standard output")
+        command.add_argument("-o", "--output", type=Path, metavar="FILE", help="write this file, once all is done, in place of standard output")
     text = "import a run of version 0.2, which is one file, into a new folder"
     command = commands.add_parser("import", help=text, description=text[0].upper() + text[1:] + ".")
     command.add_argument("file", metavar="FILE")
@@ -166,37 +181,47 @@ def _import(file: str, folder: str) -> int:
     try:
         counts, left = import_run(file, folder)
     except BadJournalError as bad:
-        print(f"folugben: {file}: {bad}", file=sys.stderr)
+        _warn(f"{file}: {bad}")
         return 1
     print(f"{counts.moves} moves in {counts.parts} parts")
     if left:
-        print(f"folugben: {file}: {left:,} bytes of an incomplete last part were left out", file=sys.stderr)
+        _warn(f"{file}: {left:,} bytes of an incomplete last part were left out")
     return 0
 
 
+def _warn(text: str) -> None:
+    print(f"folugben: {plain(text)}", file=sys.stderr)
+
+
 def _work_on(arguments: argparse.Namespace, out: TextIO) -> int:
-    work, status = COMMANDS[arguments.command][0], 0
+    work, status, is_complete = COMMANDS[arguments.command][0], 0, True
     if arguments.command == "itf":
         work = _on_journal(_writer(partial(write_itf, first=arguments.first, last=arguments.last)))
     for file in arguments.files:
         if len(arguments.files) > 1 and arguments.command in ("audit", "check", "verify"):
-            out.write(f"{file}: ")
+            out.write(f"{plain(shown(file))}: ")
         try:
             status = status if work(file, getattr(arguments, "part", None), out) else 1
         except (BadJournalError, DamagedError, Error, IndexError, ValueError) as refused:
-            print(f"folugben: {file}: {refused}", file=sys.stderr)
-            status = 1
+            _warn(f"{shown(file)}: {refused}")
+            status, is_complete = 1, False
     out.flush()
+    if arguments.output is not None and not is_complete:
+        raise _Incomplete
     return status
 
 
-def _expect_other_output(output: Path, files: list[str]) -> None:
-    """Check that an output is none of the inputs, and in none of the runs read."""
-    for file in files:
-        if output.exists() and os.path.exists(file) and output.samefile(file):
-            raise OSError(f"{file} is read, so it can't be written: name another output")
-        if os.path.isdir(file) and output.resolve().parent == Path(file).resolve():
-            raise OSError(f"{output} is in the folder of the run that is read: name another output")
+def _write(arguments: argparse.Namespace) -> int:
+    """Write the output, which replaces an earlier file only if nothing was refused."""
+    expect_other_output(arguments.output, arguments.files)
+    status = 1
+    with contextlib.suppress(_Incomplete), replacing(arguments.output) as file:
+        out = io.TextIOWrapper(file, encoding="utf-8", newline="", write_through=True)
+        try:
+            status = _work_on(arguments, out)
+        finally:
+            out.detach()
+    return status
 
 
 def main(words: list[str] | None = None) -> int:
@@ -210,11 +235,9 @@ def main(words: list[str] | None = None) -> int:
             return _import(arguments.file, arguments.folder)
         if arguments.output is None:
             return _work_on(arguments, sys.stdout)
-        _expect_other_output(arguments.output, arguments.files)
-        with arguments.output.open("w", encoding="utf-8", newline="") as out:
-            return _work_on(arguments, out)
+        return _write(arguments)
     except OSError as fault:
-        print(f"folugben: {fault}", file=sys.stderr)
+        _warn(str(fault))
         return 2
 
 

@@ -20,7 +20,8 @@ from ._texts import encode
 ITF_LIMIT = 1 << 30
 # The page that shows a run, in an installed package, and what makes it in a checkout.
 PAGE = pathlib.Path(__file__).with_name("run.html")
-JOIN = pathlib.Path(__file__).parents[3] / "viewer" / "join"
+_HERE = pathlib.Path(__file__).resolve()
+JOIN = _HERE.parents[3] / "viewer" / "join" if _HERE.parts[-4:-2] == ("bindings", "python") else None
 
 
 def _text(value: Any) -> str:
@@ -205,9 +206,12 @@ def _page() -> str:
     """Return the page without a run."""
     if PAGE.is_file():
         return PAGE.read_text(encoding="utf-8")
-    if not JOIN.is_file():
+    if JOIN is None or not JOIN.is_file():
         raise FileNotFoundError("this package has no page that shows runs")
-    return subprocess.run([sys.executable, str(JOIN), "-"], stdout=subprocess.PIPE, check=True).stdout.decode()
+    made = subprocess.run([sys.executable, str(JOIN), "-"], capture_output=True, check=False)
+    if made.returncode:
+        raise ValueError(f"the page can't be made: {made.stderr.decode(errors='replace').strip().rpartition(chr(10))[2]}")
+    return made.stdout.decode()
 
 
 def write_page(journal: bytes, out: TextIO, name: str = "run") -> None:

@@ -11,6 +11,7 @@ from collections.abc import Iterator
 from typing import NamedTuple
 
 from ._errors import DamagedError
+from ._files import open_regular
 
 # How many bytes of a file are read at once.
 CHUNK = 1 << 20
@@ -100,11 +101,15 @@ class RunFolder:
             DamagedError: the text isn't the one that was saved; raised at the end of the text at the latest.
         """
         try:
-            fd = os.open(segment.name, os.O_RDONLY | os.O_CLOEXEC | os.O_NOFOLLOW, dir_fd=self._fd)
+            file = open_regular(segment.name, self._fd)
         except FileNotFoundError:
             raise DamagedError(segment.number, "its file is missing") from None
-        with open(fd, "rb", buffering=0) as file:
-            length = os.fstat(fd).st_size
+        except OSError as error:
+            if error.errno not in (errno.EINVAL, errno.EISDIR, errno.ELOOP, errno.ENXIO):
+                raise
+            raise DamagedError(segment.number, "its file is no regular file") from None
+        with file:
+            length = os.fstat(file.fileno()).st_size
             digest = start_digest(segment, previous, length)
             while chunk := file.read(CHUNK):
                 digest.update(chunk)

@@ -1,5 +1,6 @@
 """Runs of version 0.2, which are one file, and their import into a folder."""
 import errno
+import io
 import os
 import pathlib
 import secrets
@@ -10,6 +11,7 @@ from typing import BinaryIO
 from ._auditor import Auditor, Counts
 from ._core import Storage
 from ._errors import BadJournalError
+from ._files import open_regular
 from ._folder import CHUNK, RunWriter, sync_folder
 from ._library import Code
 from ._reading import HEADER
@@ -31,7 +33,7 @@ def import_run(file: str | os.PathLike[str], folder: str | os.PathLike[str]) -> 
         raise FileExistsError(errno.EEXIST, "there is something already", str(path))
     temporary = path.with_name(f".{path.name}.{secrets.token_hex(4)}")
     try:
-        with open(file, "rb") as source:
+        with io.BufferedReader(open_regular(file), CHUNK) as source:
             result = _import_parts(source, temporary)
         os.rename(temporary, path)
         sync_folder(path.parent)

@@ -1,16 +1,19 @@
 """Read stored runs: audits, one part, and their content as one file."""
 import contextlib
+import io
 import os
 import time
-from collections.abc import Callable, Iterator
+from collections.abc import Callable, Iterable, Iterator
 from typing import BinaryIO, Protocol
 
 from ._auditor import Auditor, Counts
-from ._database import is_database, is_server
+from ._database import is_server
 from ._errors import BadJournalError, DamagedError
+from ._files import open_regular
 from ._folder import CHUNK, START, RunFolder, Segment
-from ._log import Behind, Log
+from ._log import Behind, LogReader
 from ._replica import unsaved_journals
+from ._sqlite import is_database
 
 # How the header of a part begins; no line of an event begins so.
 HEADER = b'{"agents":'
@@ -69,8 +72,12 @@ class LogStore:
     """A shared run, for reading."""
 
     def __init__(self, target: str | os.PathLike[str]) -> None:
-        self._log = Log.reading(target)
-        self.segments, self.text, self.close = self._log.segments, self._log.text, self._log.close
+        self._log = LogReader(target)
+        self.text, self.close = self._log.text, self._log.close
+
+    def segments(self) -> list[Segment]:
+        self._log.refresh()
+        return self._log.segments()
 
     def unsaved_journals(self, last: Segment) -> list[bytes]:
         return unsaved_journals(self._log, last)
@@ -155,7 +162,7 @@ def audit(run: str | os.PathLike[str] | Readable, progress: Callable[[int], None
         if is_stored_run(run):
             with contextlib.closing(open_store(run)) as store, Reading(store, progress) as reading:
                 return reading.audit_all()
-        with open(run, "rb", buffering=0) as file:
+        with open_regular(run) as file:
             return _audit_file(file, progress)
     if not hasattr(run, "read"):
         raise TypeError(f"audit takes a path or a file, and not {type(run).__name__!r}: feed bytes to an Auditor")
@@ -193,8 +200,8 @@ def verify(target: str | os.PathLike[str]) -> Segment:
 
 def save(target: str | os.PathLike[str], output: BinaryIO) -> None:
     """Write a stored run as one file, which `audit` reads."""
-    for journal in texts(target):
-        output.write(journal)
+    for piece in _pieces(target):
+        output.write(piece)
 
 
 def follow(target: str | os.PathLike[str]) -> Iterator[Counts]:
@@ -212,14 +219,26 @@ def follow(target: str | os.PathLike[str]) -> Iterator[Counts]:
 
 def texts(target: str | os.PathLike[str]) -> Iterator[bytes]:
     """Yield the journal of each segment of a stored run, and of what comes after."""
+    for pieces in _journals(target):
+        yield b"".join(pieces)
+
+
+def _pieces(target: str | os.PathLike[str]) -> Iterator[bytes]:
+    """Yield the same in pieces, so that no journal is in memory."""
+    for pieces in _journals(target):
+        yield from pieces
+
+
+def _journals(target: str | os.PathLike[str]) -> Iterator[Iterable[bytes]]:
     last = START
     with contextlib.closing(open_store(target)) as store:
         while True:
             for segment in store.segments()[last.number + 1 :]:
-                yield b"".join(store.text(segment, last.digest))
+                yield store.text(segment, last.digest)
                 last = segment
             with contextlib.suppress(Behind):
-                yield from store.unsaved_journals(last)
+                for journal in store.unsaved_journals(last):
+                    yield [journal]
                 return
 
 
@@ -235,8 +254,8 @@ def part(run: str | os.PathLike[str] | BinaryIO, number: int) -> bytes:
         if is_stored_run(run):
             with contextlib.closing(open_store(run)) as store:
                 return _part_of(store, number)
-        with open(run, "rb") as file:
-            return part(file, number)
+        with open_regular(run) as file:
+            return part(io.BufferedReader(file, CHUNK), number)
     lines: list[bytes] = []
     at = -1
     for line in run:

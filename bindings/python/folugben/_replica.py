@@ -11,7 +11,7 @@ from ._errors import Error, ManyError, TooLongError
 from ._folder import Segment
 from ._library import Code
 from ._lines import expect_state
-from ._log import Call, Log
+from ._log import Call, LogReader
 
 _OWN, _HEADER = re.compile(rb'^\{"agent":0,', re.MULTILINE), re.compile(rb'\{"agents":\d+,')
 # A segment ends after this many calls for each of its moves, as stale ones are retained too.
@@ -84,7 +84,7 @@ class Replica:
     Equal calls in equal order have equal answers, so all replicas of a run agree on each answer, and on where a segment ends.
     """
 
-    def __init__(self, log: Log, last: Segment | None = None) -> None:
+    def __init__(self, log: LogReader, last: Segment | None = None) -> None:
         self._moves = log.moves
         self.segment, previous, self.applied = log.segment_end(last)
         with Auditor() as auditor:
@@ -141,7 +141,7 @@ class Replica:
         return era.base + number, text
 
 
-def unsaved_journals(log: Log, last: Segment) -> list[bytes]:
+def unsaved_journals(log: LogReader, last: Segment) -> list[bytes]:
     """Return the journals of what the log has after a saved segment.
 
     Raises:
@@ -149,7 +149,7 @@ def unsaved_journals(log: Log, last: Segment) -> list[bytes]:
     """
     replica, journals = Replica(log, last), list[bytes]()
     try:
-        while placed_calls := log.exchange([], replica.applied):
+        while placed_calls := log.calls_after(replica.applied):
             for place, call in placed_calls:
                 _, segment_end = replica.apply(place, call)
                 if segment_end is not None:

@@ -7,6 +7,7 @@ from typing import Any, NoReturn, Self, TypeVar, overload
 
 from ._core import Agent, Location, Played, Step, Storage
 from ._errors import BrokenError, Error, PastError, as_conflict
+from ._files import shown
 from ._guards import ForkedError, is_in_call
 from ._library import Code
 from ._lines import expect_call, expect_state
@@ -129,7 +130,7 @@ class SharedRun:
 
         if state is not None:
             opening(capacity)  # a refused argument creates no file
-        self._worker = Worker(Log.open(self._target, None if state is None else opening, capacity))
+        self._worker = Worker(Log(self._target, None if state is None else opening, capacity))
         self._agents: weakref.WeakValueDictionary[int, SharedAgent] = weakref.WeakValueDictionary()
 
     @property
@@ -181,7 +182,7 @@ class SharedRun:
                 raise
 
     def __repr__(self) -> str:
-        return f"<SharedRun {self._target!r}>"
+        return f"<SharedRun {shown(self._target)!r}>"
 
     def __reduce__(self) -> NoReturn:
         raise TypeError("cannot copy or pickle 'SharedRun' object")

@@ -18,8 +18,9 @@ from collections.abc import Callable, Iterable, Iterator
 from typing import TypeVar
 
 from ._core import Agent
-from ._database import ConnectionLost, database_errors
 from ._errors import BrokenError, Error, UnknownError
+from ._faults import ConnectionLost, database_errors
+from ._files import shown
 from ._guards import LockHolder, NestedError
 from ._library import Code
 from ._log import BATCH, READ, Behind, Call, Log, PlacedCall
@@ -73,7 +74,7 @@ class Worker(LockHolder):
         self._agent_numbers: set[int] = set()
         self._fault: BaseException | None = None
         self._is_closing = self._is_over = False
-        self._thread = threading.Thread(target=self._work, name=f"worker of {log.target}", daemon=True)
+        self._thread = threading.Thread(target=self._work, name=f"worker of {shown(log.target)}", daemon=True)
         self._thread.start()
         _workers.add(self)
 
@@ -325,7 +326,7 @@ class Worker(LockHolder):
         while True:
             try:
                 self._log.reconnect()
-                if not all(map(self._log.database.hold, self._agent_numbers)):
+                if self._agent_numbers and not self._log.database.hold(*self._agent_numbers):
                     raise Error(Code.EMPTY, detail="another process has taken an agent's number while the server was away")
                 return
             except (ConnectionError, ConnectionLost):
