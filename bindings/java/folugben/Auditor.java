@@ -158,7 +158,7 @@ public final class Auditor implements AutoCloseable {
     }
 
     private Counts feedFile(Path file) throws IOException {
-        try (InputStream stream = Files.newInputStream(file)) {
+        try (InputStream stream = Strangers.stream(file)) {
             return feed(stream);
         }
     }

@@ -19,25 +19,30 @@ import java.util.Properties;
  * is lost.
  */
 interface Database {
-    /** The calls after a place. */
-    String SINCE = "select place, token, segment, agent, call, scans from call where place > ?"
-            + " order by place limit ?";
-
     /** The work of a transaction. */
     interface Work {
         void done() throws IOException;
     }
 
     /** Connects to postgresql://.. or to a file of SQLite, which is made on request. */
-    static Database connect(String target, boolean writes, boolean makes) throws IOException {
-        return isServer(target) ? new Postgres(target)
-                                : new Sqlite(RunFolder.reached(Path.of(target)), writes, makes);
+    static Database connect(String target, boolean makes) throws IOException {
+        return isServer(target) ? new Postgres(target, true)
+                                : new Sqlite(RunFolder.reached(Path.of(target)), makes);
+    }
+
+    /** Connects without any right to write. */
+    static Database connectToRead(String target) throws IOException {
+        return isServer(target) ? new Postgres(target, false)
+                                : new SqliteReader(RunFolder.reached(Path.of(target)));
     }
 
     /** Returns whether a target is the name of a PostgreSQL server. */
     static boolean isServer(String target) {
         return target.startsWith("postgresql:") || target.startsWith("postgres:");
     }
+
+    /** Returns the schema of the tables, with a point. */
+    String inside();
 
     /** Returns the type of bytes. */
     String blob();

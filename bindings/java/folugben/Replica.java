@@ -20,6 +20,9 @@ import java.util.List;
 final class Replica {
     /** A segment ends after so many calls for each of its moves, as stale ones are kept too. */
     private static final int CALLS = 2;
+    /** How often a call of the log is tried that was refused memory, and how long after, in ms. */
+    private static final int TRIES = 100;
+    private static final int PAUSE = 10;
 
     /** The answer to a call of this process: a reply, or the error that it was answered with. */
     record Answer(Actor.Reply reply, FolugbenException error) {}
@@ -83,8 +86,12 @@ final class Replica {
         Agent applier = era.applier;
         synchronized (applier.slot) {
             Code code;
-            do code = applier.slot.fireOver(both, move.length);
-            while (code == Code.MEMORY);
+            int tries = 0;
+            while ((code = applier.slot.fireOver(both, move.length)) == Code.MEMORY) {
+                if (++tries == TRIES)
+                    throw new OutOfMemoryError("a call of the log was refused memory");
+                Patience.rest(PAUSE);
+            }
             boolean isEvent = code == Code.DONE || code == Code.STALE
                     || code == Code.CLASH;
             if (isEvent)

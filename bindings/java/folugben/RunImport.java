@@ -43,7 +43,7 @@ final class RunImport implements AutoCloseable {
         }
     }
 
-    private static void drop(Path path) throws IOException {
+    static void drop(Path path) throws IOException {
         if (!Files.exists(path))
             return;
         try (Stream<Path> all = Files.walk(path)) {
@@ -53,7 +53,7 @@ final class RunImport implements AutoCloseable {
     }
 
     private Run.Imported read(Path file) throws IOException {
-        try (InputStream in = new BufferedInputStream(Files.newInputStream(file), 1 << 16)) {
+        try (InputStream in = new BufferedInputStream(Strangers.stream(file), 1 << 16)) {
             readParts(in);
         } catch (AuditException fault) {
             boolean isCut = switch (fault.code()) {
@@ -115,7 +115,7 @@ final class RunImport implements AutoCloseable {
     /** Returns whether a line after the first incomplete one begins as a part's header. */
     private boolean hasHeaderAfter(Path file) throws IOException {
         byte[] header = "{\"agents\":".getBytes(StandardCharsets.US_ASCII);
-        try (InputStream in = new BufferedInputStream(Files.newInputStream(file), 1 << 16)) {
+        try (InputStream in = new BufferedInputStream(Strangers.stream(file), 1 << 16)) {
             in.skipNBytes(complete);
             line(in);
             for (byte[] line; (line = line(in)).length > 0;)

@@ -2,20 +2,20 @@ package folugben;
 
 import java.io.IOException;
 import java.nio.ByteBuffer;
-import java.nio.channels.SeekableByteChannel;
+import java.nio.channels.FileChannel;
 import java.nio.charset.StandardCharsets;
+import java.nio.file.AccessDeniedException;
+import java.nio.file.FileSystemException;
 import java.nio.file.Files;
 import java.nio.file.LinkOption;
 import java.nio.file.NoSuchFileException;
 import java.nio.file.Path;
-import java.nio.file.StandardOpenOption;
 import java.security.MessageDigest;
 import java.security.NoSuchAlgorithmException;
 import java.util.ArrayList;
 import java.util.HexFormat;
 import java.util.List;
 import java.util.Locale;
-import java.util.Set;
 import java.util.regex.Matcher;
 import java.util.regex.Pattern;
 import java.util.stream.Stream;
@@ -144,8 +144,7 @@ record Segment(long number, long first, long moves, long events, String digest) 
 
     private void read(Path folder, String previous, Sink sink) throws IOException {
         byte[] piece = new byte[PIECE];
-        try (SeekableByteChannel file = Files.newByteChannel(folder.resolve(name()),
-                     Set.of(StandardOpenOption.READ, LinkOption.NOFOLLOW_LINKS))) {
+        try (FileChannel file = opened(folder.resolve(name()))) {
             MessageDigest all = digestStart(previous, file.size());
             for (int length; (length = file.read(ByteBuffer.wrap(piece))) >= 0;) {
                 all.update(piece, 0, length);
@@ -155,6 +154,17 @@ record Segment(long number, long first, long moves, long events, String digest) 
                 throw new DamagedException(number, "its text isn't the one that was saved");
         } catch (NoSuchFileException missing) {
             throw new DamagedException(number, "its file is missing");
+        }
+    }
+
+    /** Opens its file, which is no link. */
+    private FileChannel opened(Path file) throws IOException {
+        try {
+            return Strangers.channel(file, LinkOption.NOFOLLOW_LINKS);
+        } catch (NoSuchFileException | AccessDeniedException fault) {
+            throw fault;
+        } catch (FileSystemException other) {
+            throw new DamagedException(number, "its file is no regular file");
         }
     }
 }

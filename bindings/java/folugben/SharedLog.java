@@ -3,6 +3,7 @@ package folugben;
 import java.io.ByteArrayOutputStream;
 import java.io.IOException;
 import java.nio.ByteBuffer;
+import java.nio.file.FileAlreadyExistsException;
 import java.nio.file.NoSuchFileException;
 import java.security.MessageDigest;
 import java.util.ArrayList;
@@ -22,23 +23,11 @@ final class SharedLog {
     static final int BATCH = 500;
     static final int READ = 5_000;
 
-    private static final int FORMAT = 1;
     /** Text is compressed in pieces of so many bytes, each by itself. */
     private static final int PIECE = 1 << 20;
     /** How many saved segments keep their calls in the log, for a slow process. */
     private static final int KEPT = 2;
-    private static final String TABLES = """
-            create table run(one integer primary key check (one = 1), format integer not null,
-                moves integer not null, joined bigint not null);
-            create table segment(number bigint primary key, first_move bigint not null,
-                moves bigint not null, events bigint not null, digest text not null,
-                length bigint not null, last_place bigint not null);
-            create table piece(segment bigint not null references segment, place integer not null,
-                data BLOB not null, primary key (segment, place));
-            create table call(place bigint primary key, token BLOB not null unique,
-                segment bigint not null, agent integer not null, call text not null,
-                scans text not null)""";
-    private static final String SEGMENT = "select number, first_move, moves, events, digest from segment";
+    private static final String SEGMENT = "select number, first_move, moves, events, digest from INsegment";
 
     /**
      * A fire call: whose it is, and in which segment its step began.
@@ -84,7 +73,7 @@ final class SharedLog {
      *         version
      */
     static SharedLog open(String target, Opening opening, int moves) throws IOException {
-        SharedLog log = new SharedLog(target, Database.connect(target, true, opening != null));
+        SharedLog log = new SharedLog(target, Database.connect(target, opening != null));
         boolean isOpen = false;
         try {
             log.join(opening, moves);
@@ -98,7 +87,7 @@ final class SharedLog {
 
     /** Opens a run to read. */
     static SharedLog read(String target) throws IOException {
-        SharedLog log = new SharedLog(target, Database.connect(target, false, false));
+        SharedLog log = new SharedLog(target, Database.connectToRead(target));
         boolean isOpen = false;
         try {
             log.check();
@@ -113,41 +102,54 @@ final class SharedLog {
     private void join(Opening opening, int most) throws IOException {
         if (opening == null && !database.hasRun())
             throw missingRun();
-        // This commit flushes what an earlier, killed process left unflushed.
-        database.transact(() -> {
-            if (!database.hasRun())
-                make(opening.journal(most), most);
-            check();
-            database.run("update run set joined = joined + 1");
-        });
+        try {
+            makeOrJoin(opening, most);
+        } catch (FileAlreadyExistsException made) {
+            makeOrJoin(opening, most); // another process has made it meanwhile
+        }
         if (opening != null
                 && !Segment.START.following(0, 0, ByteBuffer.wrap(opening.journal(moves)))
                             .equals(segment(0)))
-            throw new MismatchException("the run has another opening state: " + target);
+            throw new MismatchException("the run has another opening state: " + Strangers.shown(target));
+    }
+
+    private void makeOrJoin(Opening opening, int most) throws IOException {
+        // This commit flushes what an earlier, killed process left unflushed.
+        database.transact(() -> {
+            if (opening != null && !database.hasRun())
+                make(opening.journal(most), most);
+            check();
+            run("update INrun set joined = joined + 1");
+        });
+    }
+
+    /** Runs a statement, in which each table has IN before its name. */
+    private List<Object[]> run(String sql, Object... values) throws IOException {
+        return database.run(sql.replace("IN", database.inside()), values);
     }
 
     private NoSuchFileException missingRun() {
-        return new NoSuchFileException(target, null, "there is no run");
+        return new NoSuchFileException(Strangers.shown(target), null, "there is no run");
     }
 
     private void make(byte[] opening, int most) throws IOException {
         database.make();
-        for (String statement : TABLES.replace("BLOB", database.blob()).split(";"))
-            database.run(statement);
-        database.run("insert into run values (1, ?, ?, 0)", FORMAT, most);
+        for (String statement : Tables.ALL.replace("BLOB", database.blob()).split(";")) run(statement);
+        run("insert into INrun values (1, ?, ?, 0)", Tables.FORMAT, most);
         insert(Segment.START.following(0, 0, ByteBuffer.wrap(opening)), opening, 0);
     }
 
     private void check() throws IOException {
         List<Object[]> rows =
-                database.hasRun() ? database.run("select format, moves from run") : List.of();
+                database.hasRun() ? run("select format, moves from INrun") : List.of();
         if (rows.isEmpty())
             throw missingRun();
-        int format = ((Number) rows.get(0)[0]).intValue();
-        if (format != FORMAT)
-            throw new MismatchException("the tables are of version " + format
-                    + ", and these classes read " + FORMAT + ": " + target);
-        moves = ((Number) rows.get(0)[1]).intValue();
+        long format = Tables.count(rows.get(0)[0], 0);
+        if (format != Tables.FORMAT)
+            throw new MismatchException("the tables are of version " + format + ", and these classes read "
+                    + Tables.FORMAT + ": " + Strangers.shown(target));
+        moves = (int) Tables.count(rows.get(0)[1], Storage.CAPACITY, 0);
+        Tables.expect(moves > 0, 0, "a segment has no move");
     }
 
     String target() {
@@ -162,7 +164,7 @@ final class SharedLog {
     /** Connects again. */
     void reconnect() throws IOException {
         database.close();
-        database = Database.connect(target, true, false);
+        database = Database.connect(target, false);
     }
 
     boolean hold(int agent) throws IOException {
@@ -184,26 +186,22 @@ final class SharedLog {
         List<LogEntry> found = new ArrayList<>();
         for (Object[] row :
                 database.append(calls.stream().map(Call::row).toList(), applied, READ))
-            found.add(new LogEntry(number(row[0]),
-                    new Call((byte[]) row[1], number(row[2]), (int) number(row[3]), (String) row[4],
-                            (String) row[5])));
+            found.add(Tables.call(row));
         // Of calls that were appended twice the later place stays empty.
         if (!found.isEmpty() && found.get(0).place > applied + 1)
             expectUpToDate(applied);
         return found;
     }
 
-    private static long number(Object value) {
-        return ((Number) value).longValue();
-    }
-
     private long asked(String sql, Object... values) throws IOException {
-        return number(database.run(sql, values).get(0)[0]);
+        List<Object[]> rows = run(sql, values);
+        Tables.expect(rows.size() == 1, 0, "a row is missing");
+        return Tables.count(rows.get(0)[0], 0);
     }
 
     private void expectUpToDate(long applied) throws IOException, OutdatedException {
-        long dropped = asked("select coalesce(max(last_place), 0) from segment where number <="
-                        + " (select max(number) from segment) - ?",
+        long dropped = asked("select coalesce(max(last_place), 0) from INsegment where number <="
+                        + " (select max(number) from INsegment) - ?",
                 KEPT);
         if (dropped > applied)
             throw new OutdatedException();
@@ -219,11 +217,11 @@ final class SharedLog {
     void save(Segment segment, byte[] text, long lastPlace) throws IOException {
         database.transact(() -> {
             List<Object[]> there =
-                    database.run("select digest from segment where number = ?", segment.number());
+                    run("select digest from INsegment where number = ?", segment.number());
             if (there.isEmpty()) {
                 insert(segment, text, lastPlace);
-                database.run("delete from call where place <="
-                                + " (select last_place from segment where number = ?)",
+                run("delete from INcall where place <="
+                                + " (select last_place from INsegment where number = ?)",
                         segment.number() - KEPT);
             } else if (!there.get(0)[0].equals(segment.digest())) {
                 throw new DamagedException(
@@ -233,11 +231,11 @@ final class SharedLog {
     }
 
     private void insert(Segment segment, byte[] text, long lastPlace) throws IOException {
-        database.run("insert into segment values (?, ?, ?, ?, ?, ?, ?)", segment.number(),
+        run("insert into INsegment values (?, ?, ?, ?, ?, ?, ?)", segment.number(),
                 segment.first(), segment.moves(), segment.events(), segment.digest(),
                 (long) text.length, lastPlace);
         for (int at = 0, place = 0; at < text.length; at += PIECE, place++)
-            database.run("insert into piece values (?, ?, ?)", segment.number(), place,
+            run("insert into INpiece values (?, ?, ?)", segment.number(), place,
                     compressed(text, at, Math.min(PIECE, text.length - at)));
     }
 
@@ -259,7 +257,7 @@ final class SharedLog {
         byte[] piece = new byte[PIECE + 1]; // its end is seen only if there is room left
         try {
             int length = inflater.inflate(piece);
-            return inflater.finished() ? Arrays.copyOf(piece, length) : new byte[0];
+            return inflater.finished() && length <= PIECE ? Arrays.copyOf(piece, length) : new byte[0];
         } catch (DataFormatException damage) {
             return new byte[0];
         } finally {
@@ -271,8 +269,8 @@ final class SharedLog {
     List<Segment> segments() throws IOException {
         List<Segment> segments = new ArrayList<>();
         Segment last = Segment.START;
-        for (Object[] row : database.run(SEGMENT + " order by number")) {
-            Segment next = segment(row);
+        for (Object[] row : run(SEGMENT + " order by number")) {
+            Segment next = Tables.segment(row, last.number() + 1);
             if (next.number() != last.number() + 1 || next.first() != last.end())
                 throw new DamagedException(
                         last.number() + 1, "its row is missing, or has other numbers");
@@ -281,21 +279,16 @@ final class SharedLog {
         return segments;
     }
 
-    private static Segment segment(Object[] row) {
-        return new Segment(
-                number(row[0]), number(row[1]), number(row[2]), number(row[3]), (String) row[4]);
-    }
-
     private Segment segment(long number) throws IOException {
-        List<Object[]> rows = database.run(SEGMENT + " where number = ?", number);
+        List<Object[]> rows = run(SEGMENT + " where number = ?", number);
         if (rows.isEmpty())
             throw new DamagedException(number, "its row is missing");
-        return segment(rows.get(0));
+        return Tables.segment(rows.get(0), number);
     }
 
     /** Returns the last segment. */
     SegmentEnd last() throws IOException {
-        return ended(segment(asked("select max(number) from segment")));
+        return ended(segment(asked("select max(number) from INsegment")));
     }
 
     /** Returns a segment with what is before it. */
@@ -303,7 +296,7 @@ final class SharedLog {
         Segment before =
                 segment.number() == 0 ? Segment.START : segment(segment.number() - 1);
         return new SegmentEnd(segment, before,
-                asked("select last_place from segment where number = ?", segment.number()));
+                asked("select last_place from INsegment where number = ?", segment.number()));
     }
 
     /**
@@ -313,14 +306,13 @@ final class SharedLog {
      */
     void text(Segment segment, String previous, Segment.Sink sink) throws IOException {
         long number = segment.number();
-        List<Object[]> rows = database.run("select length from segment where number = ?", number);
-        long length = rows.isEmpty() ? 0 : number(rows.get(0)[0]);
+        long length = asked("select length from INsegment where number = ?", number);
         MessageDigest digest = segment.digestStart(previous, length);
         long done = 0;
         for (int place = 0; done < length; place++) {
-            List<Object[]> data = database.run(
-                    "select data from piece where segment = ? and place = ?", number, place);
-            byte[] piece = data.isEmpty() ? new byte[0] : decompressed((byte[]) data.get(0)[0]);
+            List<Object[]> data = run("select data from INpiece where segment = ? and place = ?", number, place);
+            byte[] piece = data.isEmpty() || !(data.get(0)[0] instanceof byte[] packed) ? new byte[0]
+                                                                                        : decompressed(packed);
             if (piece.length == 0)
                 throw new DamagedException(number,
                         "its piece " + place + " is missing or isn't the one that was saved");

@@ -154,7 +154,7 @@ public final class SharedRun implements AutoCloseable {
 
     @Override
     public String toString() {
-        return "SharedRun " + target;
+        return "SharedRun " + Strangers.shown(target);
     }
 
     /**

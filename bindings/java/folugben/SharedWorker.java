@@ -70,7 +70,7 @@ final class SharedWorker {
             if (!hasStarted)
                 link.close();
         }
-        thread = new Thread(this::work, "folugben " + log.target());
+        thread = new Thread(this::work, "folugben " + Strangers.shown(log.target()));
         thread.setDaemon(true);
         thread.start();
     }

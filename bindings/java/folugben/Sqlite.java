@@ -27,7 +27,7 @@ import java.util.Properties;
  */
 final class Sqlite extends Database.JdbcDatabase {
     /** The application number in the header of a file that is a run. */
-    private static final int APPLICATION = 0x466F6C75;
+    static final int APPLICATION = 0x466F6C75;
     /** How long a transaction waits for those of other processes, in ms. */
     private static final int PATIENCE = 60_000;
     /** Flags to open a file that exists by the name of a URI, to read and write, with a mutex. */
@@ -38,19 +38,21 @@ final class Sqlite extends Database.JdbcDatabase {
     private static final int READ_ONLY = 8;
     private static final int CORRUPT = 11;
     private static final int CAN_NOT_OPEN = 14;
+    private static final int TOO_BIG = 18;
     private static final int NOT_A_DATABASE = 26;
 
     private final Path path;
     private final Object key;
     private final Connection connection;
-    /** The locks of agents' numbers; null if nothing is written. */
+    /** The locks of agents' numbers. */
     private final ByteLocks agents;
 
-    Sqlite(Path path, boolean writes, boolean makes) throws IOException {
+    Sqlite(Path path, boolean makes) throws IOException {
         this.path = path;
         if (makes)
             make(path);
         key = key();
+        SqliteReader.expectOwnFiles(path);
         Driver driver = driver("jdbc:sqlite:", "sqlite-jdbc (Debian: libxerial-sqlite-jdbc-java)");
         Properties words = new Properties();
         words.setProperty("open_mode", "" + OPEN);
@@ -64,10 +66,7 @@ final class Sqlite extends Database.JdbcDatabase {
             if (hasRun() || makes)
                 writeAhead();
             run("pragma synchronous = full");
-            if (!writes)
-                run("pragma query_only = on");
-            agents = writes ? new ByteLocks(path.resolveSibling(path.getFileName() + "-agents"))
-                            : null;
+            agents = new ByteLocks(SqliteReader.beside(path, "-agents"));
         } catch (IOException | RuntimeException | Error fault) {
             super.close();
             throw fault;
@@ -112,15 +111,25 @@ final class Sqlite extends Database.JdbcDatabase {
 
     @Override
     IOException fault(SQLException thrown) {
+        return fault(path, thrown);
+    }
+
+    /** Returns the exception of a file that SQLite can't open or write; throws that of damage. */
+    static IOException fault(Path path, SQLException thrown) {
         String detail = "SQLite: " + thrown.getMessage();
-        switch (thrown.getErrorCode()) {
-            case NOT_A_DATABASE, CORRUPT:
+        switch (thrown.getErrorCode() & 0xFF) {
+            case NOT_A_DATABASE, CORRUPT, TOO_BIG:
                 throw new DamagedException(0, path + ": " + detail);
             case READ_ONLY, PERM, CAN_NOT_OPEN:
                 return (IOException) new AccessDeniedException("" + path, null, detail).initCause(thrown);
             default:
                 return (IOException) new FileSystemException("" + path, null, detail).initCause(thrown);
         }
+    }
+
+    @Override
+    public String inside() {
+        return "";
     }
 
     @Override
@@ -131,12 +140,12 @@ final class Sqlite extends Database.JdbcDatabase {
     @Override
     public List<Object[]> append(List<Object[]> calls, long since, int most) throws IOException {
         if (calls.isEmpty())
-            return run(SINCE, since, most);
+            return run(Tables.SINCE.replace("IN", ""), since, most);
         List<List<Object[]>> found = new ArrayList<>();
         transact(() -> {
             long last = ((Number) run("select coalesce(max(place), 0) from call").get(0)[0]).longValue();
             insert(calls, last);
-            found.add(run(SINCE, since, most));
+            found.add(run(Tables.SINCE.replace("IN", ""), since, most));
         });
         return found.get(0);
     }
@@ -182,12 +191,7 @@ final class Sqlite extends Database.JdbcDatabase {
 
     @Override
     public boolean hasRun() throws IOException {
-        Number tables = (Number) run("select count(*) from sqlite_schema").get(0)[0];
-        if (tables.longValue() == 0)
-            return false;
-        if (((Number) run("pragma application_id").get(0)[0]).intValue() != APPLICATION)
-            throw new DamagedException(0, path + " is another database than a run's");
-        return true;
+        return SqliteReader.hasRun(this, path);
     }
 
     @Override
@@ -208,8 +212,7 @@ final class Sqlite extends Database.JdbcDatabase {
     @Override
     public void close() {
         super.close();
-        if (agents != null)
-            agents.close();
+        agents.close();
     }
 
     /**

@@ -4,7 +4,6 @@ import java.io.IOException;
 import java.io.UncheckedIOException;
 import java.lang.ref.WeakReference;
 import java.nio.ByteBuffer;
-import java.nio.file.Files;
 import java.nio.file.Path;
 import java.util.ArrayList;
 import java.util.List;
@@ -21,7 +20,7 @@ import java.util.SortedMap;
  */
 public final class Storage implements AutoCloseable {
     static final int AGENTS = 256;
-    private static final int CAPACITY = 1_048_576;
+    static final int CAPACITY = 1_048_576;
 
     /** The storage's slot, and the lock of the calls on it. */
     private final Slot slot = new Slot();
@@ -317,7 +316,7 @@ public final class Storage implements AutoCloseable {
         synchronized (slot) {
             try {
                 if (path != null && slot.isFull())
-                    Files.writeString(path, closeJournal());
+                    Strangers.replace(path, closeJournal());
             } catch (IOException fault) {
                 throw new UncheckedIOException(fault);
             } finally {

@@ -17,7 +17,7 @@ _CAREFULLY = os.O_RDONLY | os.O_NONBLOCK | os.O_NOCTTY | os.O_CLOEXEC
 _PASSWORD, _WORD = re.compile(r"(?<=://)([^/:@]*):[^/]*@"), re.compile(r"(?<=[?&])([^=&#]*)=[^&#]*")
 
 
-def open_regular(path: str | os.PathLike[str], folder: int | None = None) -> BinaryIO:
+def open_regular(path: str | os.PathLike[str], folder: int | None = None) -> io.FileIO:
     """Open a regular file for reading, without a buffer; in a folder no link is followed.
 
     Raises:

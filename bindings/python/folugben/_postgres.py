@@ -40,9 +40,10 @@ _FOREIGN = """with trusted as (select oid from pg_catalog.pg_roles where rolname
     select 'the schema' from own where nspowner not in (select oid from trusted)
     union all select 'the relation ' || relname from things where relowner not in (select oid from trusted)
     union all select 'the relation ' || relname from things where relkind not in ('r', 'i') or relpersistence <> 'p'
-        or relispartition or relrowsecurity or relhasrules
+        or relispartition or relrowsecurity
     union all select 'a trigger of ' || relname from pg_catalog.pg_trigger it, things
         where it.tgrelid = things.oid and not it.tgisinternal
+    union all select 'a rule of ' || relname from pg_catalog.pg_rewrite it, things where it.ev_class = things.oid
     union all select 'a heir of ' || relname from pg_catalog.pg_inherits it, things where it.inhparent = things.oid
     union all select 'the default ' || attname from pg_catalog.pg_attribute it, things
         where it.attrelid = things.oid and (it.atthasdef or it.attgenerated <> '')
@@ -128,8 +129,10 @@ class Postgres:
 
     def _begin_session(self, writes: bool) -> None:
         """Set what each statement depends on: no name is looked up in a schema that others may fill, and no wait is endless."""
-        settings = {"search_path": "pg_catalog, pg_temp", "synchronous_commit": "on", "lock_timeout": _PATIENCE,
-                    "idle_in_transaction_session_timeout": _PATIENCE, "default_transaction_read_only": "off" if writes else "on"}
+        settings: dict[str, Any] = {"search_path": "pg_catalog, pg_temp", "synchronous_commit": "on", "lock_timeout": _PATIENCE,
+                    "idle_in_transaction_session_timeout": _PATIENCE}
+        if not writes:
+            settings["default_transaction_read_only"] = "on"
         sql = ", ".join("pg_catalog.set_config(?, ?, false)" for _ in settings)
         values = [str(it) for pair in settings.items() for it in pair]
         schema = self.run(f"select {sql}, (select oid from pg_catalog.pg_namespace where nspname = ?)", (*values, self._schema))[0][-1]

@@ -254,8 +254,8 @@ def part(run: str | os.PathLike[str] | BinaryIO, number: int) -> bytes:
         if is_stored_run(run):
             with contextlib.closing(open_store(run)) as store:
                 return _part_of(store, number)
-        with open_regular(run) as file:
-            return part(io.BufferedReader(file, CHUNK), number)
+        with io.BufferedReader(open_regular(run), CHUNK) as file:
+            return part(file, number)
     lines: list[bytes] = []
     at = -1
     for line in run:

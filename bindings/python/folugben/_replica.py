@@ -3,6 +3,7 @@
 It is a storage to which one agent fires the calls of the log, in their order.
 """
 import re
+import time
 from typing import NamedTuple
 
 from ._auditor import Auditor
@@ -16,6 +17,8 @@ from ._log import Call, LogReader
 _OWN, _HEADER = re.compile(rb'^\{"agent":0,', re.MULTILINE), re.compile(rb'\{"agents":\d+,')
 # A segment ends after this many calls for each of its moves, as stale ones are retained too.
 _CALLS = 2
+# How often a call of the log is tried that was refused memory, and how long after.
+_TRIES, _PAUSE = 100, 0.01
 # How many agents a storage makes: their numbers are below it.
 _AGENTS = 256
 
@@ -109,15 +112,11 @@ class Replica:
         return answer, self._end(era, place)
 
     def _fire(self, era: Era, call: Call, is_own: bool) -> Answer | None:
-        text, scans, fired, error = call.call.encode(), call.scans.encode(), 0, None
-        while True:
-            try:
-                fired = era.applier._fire(text, scans)
-            except MemoryError:
-                continue
-            except Error as refused:
-                error = refused
-            break
+        fired, error = 0, None
+        try:
+            fired = _fired(era.applier, call.call.encode(), call.scans.encode())
+        except Error as refused:
+            error = refused
         if error is None or error.code in (Code.STALE, Code.CLASH):
             era.agents.append(call.agent)
         if error is None:
@@ -139,6 +138,16 @@ class Replica:
         era.applier.follow()
         number, text = era.applier._state_text()
         return era.base + number, text
+
+
+def _fired(applier: Agent, text: bytes, scans: bytes) -> int:
+    """Fire a call, again if it is refused memory, but not without end."""
+    for _ in range(_TRIES):
+        try:
+            return applier._fire(text, scans)
+        except MemoryError:
+            time.sleep(_PAUSE)
+    return applier._fire(text, scans)
 
 
 def unsaved_journals(log: LogReader, last: Segment) -> list[bytes]:

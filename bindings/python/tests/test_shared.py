@@ -3,6 +3,7 @@
 They cover agents in threads, runs and processes.
 """
 import contextlib
+import importlib.util
 import os
 import signal
 import sqlite3
@@ -13,7 +14,9 @@ from unittest import mock
 
 import servers
 import shared_plays
-from folugben import BrokenError, DamagedError, Error, NestedError, SharedRun, audit
+from folugben import BrokenError, DamagedError, Error, NestedError, SharedRun, _postgres, audit
+from folugben._log import LogReader
+from folugben._reading import verify
 from rooms import COUNT, INIT, raised
 from threads import in_threads
 
@@ -209,6 +212,91 @@ class OnPostgres(Leads, shared_plays.Plays):
                 cutter.join()
         self.assertEqual(sorted(numbers), list(range(1, 121)))
         self.assert_is_run(120)
+
+    def foreign(self):
+        """Return a connection of another role that may create schemas."""
+        with contextlib.suppress(Exception):
+            self.server.run("create role mallory login; grant create on database postgres to mallory")
+        driver = importlib.import_module("psycopg" if importlib.util.find_spec("psycopg") else "psycopg2")
+        connection = driver.connect(self.server.target("").partition("#")[0].replace("folugben@", "mallory@"))
+        connection.autocommit = True
+        self.addCleanup(connection.close)
+        return connection.cursor()
+
+    def test_a_schema_of_another_role_is_refused(self):
+        base, theirs = self.server.target("").partition("#")[0], self.foreign()
+        theirs.execute("create schema traps; create table traps.seen(role text); grant usage on schema traps to public;"
+                       "create function traps.f() returns int language sql as 'insert into traps.seen values (current_user); select 1';"
+                       "create view traps.run as select traps.f() as format, 7 as moves; grant all on all tables in schema traps to public;")
+        SharedRun(self.target.replace("folugben@", "mallory@"), INIT).close()
+        run = self.target.partition("#")[2]
+        theirs.execute(f'grant usage on schema "{run}" to public; grant select, insert, update, delete on all tables in schema "{run}" to public')
+        for target in f"{base}#traps", f"{base}&owner=nobody#traps", self.target:
+            for call in lambda it: SharedRun(it, INIT), SharedRun, audit, verify:
+                with self.assertRaisesRegex(PermissionError, "is of another role"):
+                    call(target)
+        trusted = f"{base}&owner=mallory#{run}"
+        self.assertEqual(audit(trusted).moves, 0)
+        with SharedRun(trusted) as shared, shared.agent(0) as agent:
+            self.assertEqual(agent.play(raised)[0], 1)
+        for sql, what in (("create function traps.t() returns trigger language plpgsql as 'begin return new; end'", None),
+                          (f'create trigger t before update on "{run}".run for each row execute function traps.t()', "a trigger of run"),
+                          (f'drop trigger t on "{run}".run; create rule r as on update to "{run}".run do nothing', "a rule of run"),
+                          (f'drop rule r on "{run}".run; alter table "{run}".call alter scans set default now()', "the default scans"),
+                          (f'alter table "{run}".call alter scans drop default; create table "{run}".heir() inherits("{run}".call)', "a heir of call")):
+            theirs.execute(sql)
+            _postgres._trusted.clear()
+            for call in (SharedRun, audit) if what else ():
+                with self.assertRaisesRegex(PermissionError, what):
+                    call(trusted)
+        theirs.execute("select count(*) from traps.seen")
+        self.assertEqual(theirs.fetchall(), [(0,)])
+
+    def test_locks_of_strangers_hold_nothing_up(self):
+        theirs, name = self.foreign(), self.target.partition("#")[2]
+        theirs.execute("select pg_advisory_lock(hashtext('folugben'), hashtext(%s))", (name,))
+        with SharedRun(self.target, INIT) as run:
+            table = f"(select oid::integer from pg_class where relname = 'run' and relnamespace = '\"{name}\"'::regnamespace)"
+            theirs.execute(f"select pg_try_advisory_lock({table}, it) from generate_series(0, 511) it")
+            for _ in range(3):
+                with run.agent(0) as agent, run.agent(1):
+                    self.assertRaises(Error, run.agent, 1)
+                    agent.play(raised)
+            theirs.execute(f"select count(*) from pg_locks where locktype = 'advisory' and classid = {table}::oid and pid <> pg_backend_pid()")
+            self.assertEqual(theirs.fetchall(), [(0,)])
+        self.assert_is_run(3)
+
+    def test_each_wait_has_a_bound(self):
+        SharedRun(self.target, INIT).close()
+        name = self.target.partition("#")[2]
+        own = importlib.import_module("psycopg" if importlib.util.find_spec("psycopg") else "psycopg2")
+        with contextlib.closing(own.connect(self.server.target("").partition("#")[0])) as other, mock.patch.object(_postgres, "_PATIENCE", 500):
+            other.cursor().execute(f'lock table "{name}".run in exclusive mode')
+            with self.assertRaisesRegex(TimeoutError, "holds a lock"):
+                SharedRun(self.target)
+            other.rollback()
+            with self.assertRaises(BrokenError) as caught, SharedRun(self.target) as run, run.agent(0) as agent:
+                other.cursor().execute(f'lock table "{name}".run in exclusive mode')
+                agent.play(raised)
+            self.assertIsInstance(caught.exception.__cause__, TimeoutError)
+            other.rollback()
+
+    def test_an_audit_may_not_write(self):
+        SharedRun(self.target, INIT).close()
+        log = LogReader(self.target)
+        with self.assertRaisesRegex(PermissionError, "read-only"):
+            log._run("update {inside}run set joined = 0")
+        self.assertEqual(log._run("select current_setting('search_path')"), [("pg_catalog, pg_temp",)])
+        log.close()
+
+    def test_two_processes_make_a_run(self):
+        def work(_):
+            with SharedRun(self.target, INIT) as run:
+                opened.append(run.state()[0])
+
+        opened = []
+        self.assertEqual(in_threads(work, 6), ([], True))
+        self.assertEqual(opened, [0] * 6)
 
     def test_a_server_that_is_killed_and_started(self):
         self.disturb = self.restart

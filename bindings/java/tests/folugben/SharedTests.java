@@ -241,12 +241,12 @@ final class SharedTests {
     /** Changes the tables from outside. */
     private static void alter(String target, String sql) throws SQLException {
         boolean isServer = Database.isServer(target);
-        String url = isServer ? Postgres.ServerName.of(target).url() : "jdbc:sqlite:" + target;
+        String url = isServer ? ServerName.of(target).url() : "jdbc:sqlite:" + target;
         try (Connection own = isServer ? DriverManager.getConnection(url, "folugben", "")
                                        : DriverManager.getConnection(url);
                 Statement all = own.createStatement()) {
             if (isServer)
-                all.execute("set search_path = \"" + Postgres.ServerName.of(target).schema() + "\"");
+                all.execute("set search_path = \"" + ServerName.of(target).schema() + "\"");
             all.execute(sql);
         }
     }
@@ -307,6 +307,7 @@ final class SharedTests {
     static void onServer() throws Exception {
         try (Server server = new Server()) {
             for (int at = 0; at < ALL.size(); at++) ALL.get(at).use(server.target("run " + at));
+            StrangersTests.onServer(server);
             serversThatDoNotAnswer(server);
         }
     }
@@ -323,7 +324,7 @@ final class SharedTests {
         System.out.println("shared runs");
     }
 
-    private static boolean isAvailable(String driver) {
+    static boolean isAvailable(String driver) {
         try {
             Class.forName(driver);
             return true;

@@ -240,6 +240,7 @@ public final class Test {
         ScopeTests.RecordTests.all();
         MisuseTests.all();
         AuditTests.all();
+        StrangersTests.all();
         TurnTests.all();
         TakeTests.all();
         ConformanceTests.all();
