@@ -1,17 +1,23 @@
-//! Finds libfolugben.a: in the folder that `FOLUGBEN_LIB_DIR` names, beside the crate as in the files of a release, in the place
-//! to which `./build_c` writes it in a checkout, or by pkg-config.
-use std::path::PathBuf;
+//! Finds libfolugben.a: in the folder that `FOLUGBEN_LIB_DIR` names, in the installed tree of which the crate is a part, in the
+//! place to which `./build_c` writes it in a checkout, or by pkg-config.
+use std::path::{Path, PathBuf};
 use std::process::Command;
 use std::{env, fs};
 
 const ARCHIVE: &str = "libfolugben.a";
 
 fn candidates() -> Vec<PathBuf> {
-    let thread = PathBuf::from(env::var_os("CARGO_MANIFEST_DIR").unwrap_or_default());
+    let here = PathBuf::from(env::var_os("CARGO_MANIFEST_DIR").unwrap_or_default());
     match env::var_os("FOLUGBEN_LIB_DIR") {
         Some(folder) => vec![PathBuf::from(folder)],
-        None => ["lib", "../../../lib", "../out"].iter().map(|it| thread.join(it)).collect(),
+        None if is_installed(&here) => vec![here.join("../../../lib")],
+        None => vec![here.join("../out")],
     }
+}
+
+/// Whether the crate is in the tree of a release, and not below a folder in which anybody may have put a library.
+fn is_installed(here: &Path) -> bool {
+    here.ends_with("share/folugben/rust") && here.join("../../../include/folugben.h").is_file()
 }
 
 fn installed() -> Option<PathBuf> {

@@ -5,6 +5,7 @@ import com.sun.jna.Native;
 import java.io.IOException;
 import java.nio.ByteBuffer;
 import java.nio.channels.FileChannel;
+import java.nio.file.AccessDeniedException;
 import java.nio.file.FileAlreadyExistsException;
 import java.nio.file.FileSystemException;
 import java.nio.file.Files;
@@ -45,6 +46,7 @@ final class RunFolder implements AutoCloseable {
         FileGuard taken = null;
         try {
             key = key(path);
+            expectOwn(path);
             taken = lock = new FileGuard(path.resolve(LOCK));
             expectFolder();
             // What an earlier, killed run has renamed is flushed before it is reported.
@@ -99,8 +101,10 @@ final class RunFolder implements AutoCloseable {
     private static Path real(Path path) throws IOException {
         if (Files.isRegularFile(path))
             throw new FileSystemException(path.toString(), null,
-                    "a run is a folder; a run of version 0.2, one file, is imported by: python -m"
-                            + " folugben import");
+                    "a run is a folder; a run of version 0.2, one file, is imported by: folugben import");
+        if (Files.isSymbolicLink(path))
+            throw new FileSystemException(
+                    path.toString(), null, "a link leads to the folder: name the folder itself");
         return reached(path);
     }
 
@@ -135,6 +139,13 @@ final class RunFolder implements AutoCloseable {
 
     private static Object key(Path path, LinkOption... links) throws IOException {
         return Files.readAttributes(path, BasicFileAttributes.class, links).fileKey();
+    }
+
+    /** Throws if the folder is another user's, who may replace what is in it. */
+    private static void expectOwn(Path path) throws IOException {
+        int owner = (Integer) Files.getAttribute(path, "unix:uid", LinkOption.NOFOLLOW_LINKS);
+        if (owner != Posix.call("geteuid"))
+            throw new AccessDeniedException(path.toString(), null, "the folder belongs to another user");
     }
 
     private static long size(Path path) throws IOException {

@@ -141,6 +141,8 @@ class RunWriter(RunFolder):
         super().__init__(path)
         self._lock, self._size, self.last = -1, 0, START
         try:
+            if os.fstat(self._fd).st_uid != os.geteuid():
+                raise PermissionError(errno.EPERM, "the folder belongs to another user", str(path))
             self._lock = os.open(_LOCK, os.O_RDWR | os.O_CREAT | os.O_CLOEXEC | os.O_NOFOLLOW, 0o600, dir_fd=self._fd)
             fcntl.flock(self._lock, fcntl.LOCK_EX | fcntl.LOCK_NB)
             self._expect_unmoved()
@@ -160,8 +162,9 @@ class RunWriter(RunFolder):
         Raises:
             FileExistsError: the path leads to a run, or to something other than an empty folder.
             BlockingIOError: another process creates a run there.
+            OSError: the path is a link, or the folder belongs to another user.
         """
-        real = pathlib.Path(os.path.realpath(path))
+        real = _unlinked(path)
         with contextlib.suppress(FileExistsError):
             os.mkdir(real, 0o700)
         _expect_empty(real)
@@ -184,8 +187,9 @@ class RunWriter(RunFolder):
             FileNotFoundError: there is no run.
             BlockingIOError: another run uses the folder.
             DamagedError: the names aren't those of a run.
+            OSError: the path is a link, or the folder belongs to another user.
         """
-        with RunFolder(path) as folder:
+        with RunFolder(_unlinked(path)) as folder:
             folder.segments()  # nothing is created in a folder without a run
         writer = cls(folder.path)
         try:
@@ -281,6 +285,13 @@ def _open_folder(path: pathlib.Path) -> int:
     except NotADirectoryError as error:
         detail = "a run is a folder; a run of version 0.2, one file, is imported by: python -m folugben import"
         raise NotADirectoryError(error.errno, detail, str(path)) from None
+
+
+def _unlinked(path: str | os.PathLike[str]) -> pathlib.Path:
+    """Return the absolute path of a folder in which a run is written, which is no link: somebody else may change where that leads."""
+    if os.path.islink(pathlib.Path(path)):
+        raise OSError(errno.ELOOP, "a link leads to the folder: name the folder itself", str(path))
+    return pathlib.Path(os.path.realpath(path))
 
 
 def _expect_empty(path: pathlib.Path) -> None:

@@ -103,14 +103,35 @@ class Folders(Rooms):
         last = verify(self.path)
         self.assertEqual((last.number, last.end, last.digest), (2, 6, before))
 
-    def test_a_link_leads_to_the_run(self):
+    def test_a_link_is_read_and_not_written(self):
         with Run(self.path, INIT, 4) as run, run.agent(0) as agent:
             agent.play(raised)
-        link = self.room / "link"
+        link, above, empty = self.room / "link", self.room / "above", self.room / "empty"
         link.symlink_to(self.path)
-        with Run.resume(link) as run, run.agent(0) as agent:
+        above.symlink_to(self.room)
+        self.assertEqual(audit(link).moves, 1)
+        for call in lambda: Run.resume(link), lambda: Run(link, INIT), lambda: Run.resume(f"{link}/"):
+            with self.assertRaisesRegex(OSError, "a link leads to the folder"):
+                call()
+        empty.symlink_to(self.room / "absent")
+        self.assertRaises(OSError, Run, empty, INIT)
+        self.assertFalse((self.room / "absent").exists())
+        with Run.resume(above / "run") as run, run.agent(0) as agent:
             self.assertEqual(agent.play(raised), (2, None))
-        self.assertEqual(audit(link).moves, 2)
+
+    @unittest.skipUnless(os.geteuid() == 0, "only root gives a folder to others")
+    def test_a_folder_of_another_user_is_refused(self):
+        Run(self.path, INIT).close()
+        other = self.room / "other"
+        other.mkdir()
+        for path in self.path, other:
+            os.chown(path, 65534, 65534)
+        before = {it: sorted(it.iterdir()) for it in (self.path, other)}
+        for call in lambda: Run.resume(self.path), lambda: Run(other, INIT):
+            with self.assertRaisesRegex(PermissionError, "belongs to another user"):
+                call()
+        self.assertEqual({it: sorted(it.iterdir()) for it in (self.path, other)}, before)
+        self.assertEqual(audit(self.path).parts, 1)
 
     def test_the_lock_of_others_keeps_nobody_out(self):
         with Run(self.path, INIT) as run:

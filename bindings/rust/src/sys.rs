@@ -42,6 +42,12 @@ unsafe extern "C" {
     pub(crate) fn sigemptyset(set: *mut SignalSet) -> i32;
     pub(crate) fn sigaddset(set: *mut SignalSet, signal: i32) -> i32;
     pub(crate) fn pthread_sigmask(how: i32, set: *const SignalSet, before: *mut SignalSet) -> i32;
+    safe fn geteuid() -> u32;
+}
+
+/// The number of the user with whose rights this process works.
+pub(crate) fn effective_user() -> u32 {
+    geteuid()
 }
 
 unsafe extern "C" {

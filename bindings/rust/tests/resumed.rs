@@ -6,7 +6,7 @@ use folugben::{
     AuditError, Check, EndCause, Error, JournalError, Run, RunOptions, Storage, Value, audit_run, import_run,
 };
 use std::io::ErrorKind;
-use std::os::unix::fs::{MetadataExt, symlink};
+use std::os::unix::fs::{MetadataExt, chown, symlink};
 use std::process::Command;
 use std::{env, fs};
 
@@ -66,8 +66,9 @@ fn files_belong_to_their_owner_and_leftovers_are_removed() {
 fn a_folder_has_one_run_at_a_time() {
     let room = Room::new("lock");
     let run = open(&room, 5);
-    let link = room.path().with_extension("link");
-    symlink(room.path(), &link).unwrap();
+    let above = room.path().with_extension("above");
+    symlink(room.path().parent().unwrap(), &above).unwrap();
+    let link = above.join(room.path().file_name().unwrap());
     assert_eq!(Run::resume(room.path(), Check::All).err(), Some(Error::InUse));
     assert_eq!(Run::resume(&link, Check::Last).err(), Some(Error::InUse));
     let opened = Run::open([], room.path(), 5).unwrap_err();
@@ -76,7 +77,42 @@ fn a_folder_has_one_run_at_a_time() {
     add_one(&mut run.agent(0).unwrap()).unwrap();
     run.close().unwrap();
     assert_eq!(numbers(Run::resume(&link, Check::All).unwrap().saved()), (2, 1, 1));
-    fs::remove_file(link).unwrap();
+    fs::remove_file(above).unwrap();
+}
+
+#[test]
+fn links_and_folders_of_others_are_read_and_not_written() {
+    let room = Room::new("links");
+    open(&room, 5).close().unwrap();
+    let link = room.path().with_extension("link");
+    symlink(room.path(), &link).unwrap();
+    for error in [Run::resume(&link, Check::All).err(), Run::open([], &link, 5).err()] {
+        assert!(error.unwrap().to_string().contains("a link leads to the folder"));
+    }
+    assert!(audit_run(&link).is_ok());
+    fs::remove_file(&link).unwrap();
+    // Only root can give a folder to another user.
+    if chown(room.path(), Some(65_534), Some(65_534)).is_ok() {
+        let error = Run::resume(room.path(), Check::All).err().unwrap();
+        assert!(error.to_string().contains("belongs to another user"), "{error}");
+        assert!(audit_run(room.path()).is_ok());
+    }
+}
+
+#[test]
+fn pipes_are_not_waited_for() {
+    let room = Room::new("pipes");
+    open(&room, 5).close().unwrap();
+    let pipe = room.path().with_extension("pipe");
+    let segment = room.segments().remove(0);
+    fs::remove_file(&segment).unwrap();
+    for path in [&pipe, &segment] {
+        assert!(Command::new("mkfifo").arg(path).status().unwrap().success());
+    }
+    let error = audit_run(room.path()).unwrap_err();
+    assert!(matches!(error, Error::Damaged { segment: 0, .. }), "{error}");
+    assert!(folugben::import_run(&pipe, room.path().with_extension("new")).is_err());
+    fs::remove_file(pipe).unwrap();
 }
 
 #[test]

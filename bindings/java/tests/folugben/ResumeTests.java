@@ -82,7 +82,12 @@ final class ResumeTests {
         try (Run run = Run.open(opening(), path, 5)) {
             isRefused(path, path);
             Files.createSymbolicLink(link, path);
-            isRefused(path, link);
+            equal(faultOf(() -> Run.resume(link)).getMessage(),
+                    link + ": a link leads to the folder: name the folder itself");
+            equal(faultOf(() -> Run.open(opening(), link)).getClass(), FileSystemException.class);
+            Files.delete(link);
+            Files.createSymbolicLink(link, path.getParent());
+            isRefused(path, link.resolve(path.getFileName()));
             Files.readAllBytes(path.resolve("lock")); // it is closed here, and stays locked
             equal(OtherProcess.start("exec ", "resume", path).waitFor(), 3);
             try (RunAgent agent = run.agent(0)) {

@@ -1,7 +1,8 @@
 //! The folder of a run, to which this run alone writes: one text file a segment. No segment is changed, cut or removed.
 use crate::audit::Counts;
 use crate::error::Error;
-use crate::run::segment::{End, NO_FOLLOW, Segment, damaged, is_name, segments};
+use crate::run::segment::{End, NO_FOLLOW, NO_WAIT, Segment, damaged, is_name, segments};
+use crate::sys::effective_user;
 use std::fs::{self, DirBuilder, File, Metadata, TryLockError};
 use std::io::{self, Write};
 use std::os::unix::fs::{DirBuilderExt, MetadataExt, OpenOptionsExt};
@@ -43,7 +44,7 @@ pub(crate) struct RunFolder {
 impl RunFolder {
     /// A folder with an opening segment; the path leads to an empty one or to nothing.
     pub(crate) fn create(path: &Path, opening: &[u8]) -> Result<RunFolder, Error> {
-        let real = real(path).map_err(|error| at(path, &error))?;
+        let real = unlinked(path).map_err(|error| at(path, &error))?;
         match DirBuilder::new().mode(0o700).create(&real) {
             Err(error) if error.kind() == io::ErrorKind::AlreadyExists => expect_empty(&real)?,
             made => made.map_err(|error| at(path, &error))?,
@@ -60,7 +61,7 @@ impl RunFolder {
             let why = "a run is a folder; a run of version 0.2, one file, is imported by folugben::import_run";
             return Err(at(path, &io::Error::new(io::ErrorKind::NotADirectory, why)));
         }
-        let real = real(path).map_err(|error| at(path, &error))?;
+        let real = unlinked(path).map_err(|error| at(path, &error))?;
         segments(&real).map_err(|error| with_path(path, error))?; // nothing is made in a folder without a run
         let mut folder = RunFolder::open(real)?;
         let all = segments(&folder.path)?;
@@ -74,6 +75,10 @@ impl RunFolder {
 
     fn open(path: PathBuf) -> Result<RunFolder, Error> {
         let folder = File::open(&path).map_err(|error| at(&path, &error))?;
+        if folder.metadata()?.uid() != effective_user() {
+            let why = "the folder belongs to another user";
+            return Err(at(&path, &io::Error::new(io::ErrorKind::PermissionDenied, why)));
+        }
         let mut options = File::options();
         let lock = options.read(true).write(true).create(true).truncate(false).mode(0o600).custom_flags(NO_FOLLOW);
         let lock = lock.open(path.join(LOCK)).map_err(|error| at(&path, &error))?;
@@ -188,6 +193,24 @@ pub(crate) fn real(path: &Path) -> io::Result<PathBuf> {
     let name = path.file_name().ok_or(io::ErrorKind::InvalidFilename)?;
     let above = path.parent().filter(|it| !it.as_os_str().is_empty()).unwrap_or(Path::new("."));
     Ok(above.canonicalize()?.join(name))
+}
+
+/// Returns the path without links above it of a folder in which a run is written, which is no link itself.
+fn unlinked(path: &Path) -> io::Result<PathBuf> {
+    if fs::symlink_metadata(path).is_ok_and(|it| it.is_symlink()) {
+        return Err(io::Error::other("a link leads to the folder: name the folder itself"));
+    }
+    real(path)
+}
+
+/// Opens a regular file to read, which waits for no writer of a pipe; it follows a link only with these flags 0.
+pub(crate) fn open_regular(path: &Path, flags: i32) -> io::Result<File> {
+    let file = File::options().read(true).custom_flags(NO_WAIT | flags).open(path)?;
+    if file.metadata()?.is_file() {
+        Ok(file)
+    } else {
+        Err(io::Error::new(io::ErrorKind::InvalidInput, "no regular file"))
+    }
 }
 
 /// Expects a folder without anything but what a run leaves that was killed while it was created.

@@ -3,7 +3,7 @@ use crate::audit::{AuditError, Auditor, Counts};
 use crate::error::Error;
 use crate::journal::JournalError;
 use crate::run::MOVES;
-use crate::run::folder::{RunFolder, real, sync_folder};
+use crate::run::folder::{RunFolder, open_regular, real, sync_folder};
 use crate::run::writer::on_own_thread;
 use crate::storage::Storage;
 use std::fs::{self, File};
@@ -30,7 +30,7 @@ pub fn import_run(file: impl AsRef<Path>, folder: impl AsRef<Path>) -> Result<(C
         let why = format!("{}: there is something already", path.display());
         return Err(Error::File { kind: io::ErrorKind::AlreadyExists, why });
     }
-    let mut source = File::open(file)?;
+    let mut source = open_regular(file.as_ref(), 0)?;
     let made = import_path(&path)?;
     let result = on_own_thread(|| import_parts(&mut source, &made)).and_then(|result| {
         fs::rename(&made, &path)?;

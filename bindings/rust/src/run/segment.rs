@@ -1,14 +1,18 @@
 //! The segments of a run: text files of its folder, whose names hold a chain of digests.
 use crate::audit::{AuditError, Auditor, Counts};
 use crate::error::Error;
+use crate::run::folder::open_regular;
 use crate::run::sha256::Sha256;
-use std::fs::{self, File};
+use std::fs;
 use std::io::{self, Read, Write};
-use std::os::unix::fs::OpenOptionsExt;
 use std::path::Path;
 
 /// The flag of Linux on x86-64 by which a symbolic link isn't followed.
 pub(crate) const NO_FOLLOW: i32 = 0o400_000;
+/// The flags by which neither a pipe's writer is waited for nor a terminal is taken.
+pub(crate) const NO_WAIT: i32 = 0o4_000 | 0o400;
+/// The error of the system for a link that isn't followed.
+const IS_A_LINK: i32 = 40;
 const SUFFIX: &str = ".journal";
 const PIECE: usize = 1 << 16;
 
@@ -105,9 +109,12 @@ impl Segment {
 
     /// Writes the text to the output; it is the one that was saved, at its end at the latest.
     fn read(&self, folder: &Path, output: &mut dyn Write) -> Result<(), Error> {
-        let opened = File::options().read(true).custom_flags(NO_FOLLOW).open(folder.join(self.name()));
+        let opened = open_regular(&folder.join(self.name()), NO_FOLLOW);
         let mut file = opened.map_err(|error| match error.kind() {
             io::ErrorKind::NotFound => damaged(self.number(), "its file is missing".to_owned()),
+            _ if error.kind() == io::ErrorKind::InvalidInput || error.raw_os_error() == Some(IS_A_LINK) => {
+                damaged(self.number(), "its file is no regular file".to_owned())
+            }
             _ => error.into(),
         })?;
         let mut digest = self.before.digest_start(self.more, file.metadata()?.len());
