@@ -42,7 +42,7 @@ class Tokens {
       const found = TOKEN.exec(text);
       if (!found) throw new Fault(`${shortText(text.slice(at).trim().slice(0, 12))} can't be read; ${EXAMPLES}`);
       const token = found[0].trim();
-      this.list.push({ text: SAME[token] ?? token, isText: !!found[1], isNumber: !!found[2], isWord: !!found[3] });
+      this.list.push({ text: Object.hasOwn(SAME, token) ? SAME[token] : token, isText: !!found[1], isNumber: !!found[2], isWord: !!found[3] });
     }
     this.at = this.depth = 0;
   }

@@ -15,7 +15,7 @@ import { reveal } from "./sight.js";
 import { renewState, renewWrites, revealPlace, showState, showWrites, state, writes } from "./state.js";
 import { showSteps } from "./steps.js";
 import { marksNode, openingNode } from "./summary.js";
-import { grouped, plural } from "./terms.js";
+import { grouped, plainText, plural } from "./terms.js";
 import { paint } from "./theme.js";
 import { conditionText, followLocation, renewWatch, showWatch } from "./watch.js";
 
@@ -132,8 +132,8 @@ act.showRun = run => {
   $("refused").hidden = true;
   $("name").textContent = name;
   document.title = `${name} – Folugben`;
-  $("warning").hidden = run.events.length === run.announced;
-  $("warning").textContent = `This trace is cut off: it has ${plural(run.events.length, "event")} of ${grouped(run.announced)}. What is there is shown.`;
+  $("warning").hidden = run.events.length === run.announced && !run.where;
+  $("warning").textContent = run.where ? `The run isn't shown to its end: ${run.where}` : `This trace is cut off: it has ${plural(run.events.length, "event")} of ${grouped(run.announced)}. What is there is shown.`;
   $("fit").textContent = `Whole ${runName()}`;
   $("of").textContent = `of ${grouped(run.movesIn(run.events.length))}`;
   $("slider").max = run.events.length;
@@ -177,7 +177,8 @@ function verdict(run) {
   const to = (list, text, title) => make("button", { class: "fact illegal", type: "button", title, onclick: () => act.choose(list[0] + 1) }, `${text}, the first at event ${run.events[list[0]].ordinal}`);
   if (run.doubted.length) return [to(run.doubted, `doesn't agree with itself: ${plural(run.doubted.length, "event")}`, "Go to the first event that doesn't agree with the trace")];
   if (run.wrong.length) return [to(run.wrong, `not legal: ${plural(run.wrong.length, "wrong answer")}`, "Go to the first wrong answer")];
-  const by = CHECKERS.includes(run.by) ? run.by : null, word = run.events.length === run.announced ? "legal" : "legal so far";
+  const by = CHECKERS.includes(run.by) ? run.by : null;
+  const word = run.where ? "legal as far as it is shown" : run.part !== null ? "legal as far as the window shows" : run.events.length === run.announced ? "legal" : "legal so far";
   return by ? [make("span", { class: "fact legal", title: `The trace was made of a journal by ${by}, which has checked each answer.` }, `${word}, checked by ${by}`)]
     : [make("span", { class: "fact legal", title: "Each answer agrees with the state that the trace's changes leave. This page alone has checked that: a proved check reads the journal." }, `${word}, checked by this page`)];
 }
@@ -196,18 +197,21 @@ if (embedded.trim()) openTrace(embedded.replace(/^\n/, ""), $("trace").dataset.n
 // Runs that grow: if ./view --follow serves the page, it polls for what the run has gained.
 
 const EACH = 1000;
-let served = "";
+let served = "", missed = "";
 async function askAgain() {
   const { follow, name, by } = $("trace").dataset;
   try {
     const answer = await fetch(follow, { headers: served ? { "If-None-Match": served } : {}, cache: "no-store" });
     if (answer.status === 200) {
       served = answer.headers.get("ETag") ?? "";
-      const ends = (answer.headers.get("Folugben-Ends") ?? "").split(" ").filter(Boolean).map(Number);
-      await openTrace(await answer.text(), name, by, ends);
+      // The first line says after how many moves segments were full, and why the run isn't shown to its end.
+      const text = await answer.text(), end = text.indexOf("\n") + 1, { ends, where } = JSON.parse(text.slice(0, end));
+      await openTrace(text.slice(end), name, by, ends, plainText(where));
     } else if (answer.status !== 304) throw new Error(await answer.text());
+    missed = "";
   } catch (fault) {
-    return act.speak(`The run is no longer followed: ${fault.message}`);
+    if (missed !== fault.message) act.speak(`The run can't be followed now, and is tried again: ${plainText(fault.message)}`);
+    missed = fault.message;
   }
   setTimeout(askAgain, EACH);
 }

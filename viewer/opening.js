@@ -7,7 +7,7 @@ import { plainText } from "./terms.js";
 
 let opening = 0;
 // Read a trace and show its run. Until it is read, and if it is refused, the previous run stays on the page.
-export async function openTrace(source, fileName, by = "", ends = []) {
+export async function openTrace(source, fileName, by = "", ends = [], where = "") {
   const turn = ++opening, name = plainText(fileName);
   play(false);
   $("fault").hidden = true;
@@ -18,7 +18,7 @@ export async function openTrace(source, fileName, by = "", ends = []) {
     const run = await readRun(source, part => {
       $("busy").value = $("busy-here").value = part;
     }, ends);
-    if (turn === opening) act.showRun(Object.assign(run, { name, by }));
+    if (turn === opening) act.showRun(Object.assign(run, { name, by, where }));
   } catch (fault) {
     if (turn === opening) refuse(fault instanceof Fault ? fault.message : `It could not be read: ${plainText(fault.message)}`, name);
   } finally {

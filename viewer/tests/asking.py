@@ -88,7 +88,7 @@ def try_conditions(tries: Tries, browser: Browser) -> None:
     states = moments(BUSY)
     changed = [it for it in range(1, len(states)) if states[it].get(RICE) != states[it - 1].get(RICE)]
     tries.same('stock("rice") changes where it does', browser.run("watch(arguments[0]); return shown.onsets.map(it => it.count)", 'stock("rice") changes'), changed)
-    for text, words in {'stock("rice" < 1': "is missing", "door <": "a value or a location is missing", 'door < "a"': "a number must follow <", "nosuch = 1": "no location of this run", "= 1": "choose a location", "door = 1 2": "the condition ends", "door ~ 1": "can't be read"}.items():
+    for text, words in {'stock("rice" < 1': "is missing", "door <": "a value or a location is missing", 'door < "a"': "a number must follow <", "nosuch = 1": "no location of this run", "constructor changes": "no location of this run", "__proto__ = 1": "no location of this run", "= 1": "choose a location", "door = 1 2": "the condition ends", "door ~ 1": "can't be read"}.items():
         browser.run("renewWatch(arguments[0]); showWatch()", text)
         tries.claim(f"what {text} lacks is said", words in browser.text("watch-result").lower() and browser.find("watch").get_attribute("aria-invalid") == "true", browser.text("watch-result"))
     browser.load(tries.trace("strange", strange()))

@@ -3,16 +3,21 @@
 It comes by a file, by a drop, or by ./view.
 """
 
+import hashlib
 import json
 import os
 import shutil
+import socket
 import subprocess
+import time
 import urllib.error
 import urllib.request
+from collections.abc import Callable
 from pathlib import Path
+from typing import Any
 
 from browser import Browser
-from journal import Event, Fired, event_json, reply_json
+from journal import Event, Fired, History, event_json, reply_json
 from samples import ROOT, example, journal_of, strange, warehouse, write_journal, write_trace, wrong
 from tries import Tries
 from values import pairs_json
@@ -172,38 +177,144 @@ def try_view(tries: Tries, browser: Browser) -> None:
         tries.same("of a name nothing is printed that a terminal obeys", (ran.returncode != 0, b"\x1b" in output, "\u202e".encode() in output, b"\\x1b[31m\\u202eb" in output), (True, False, False, True))
 
 
+class Chain:
+    """The folder of a run, with the names and digests of its segments."""
+
+    def __init__(self, folder: Path) -> None:
+        self.folder, self.digest, self.number, self.moves = folder, "0" * 64, 0, 0
+        folder.mkdir()
+
+    def add(self, history: History) -> Path:
+        text, moves, events = write_journal(history), sum(isinstance(it.reply, Fired) for it in history.events), len(history.events)
+        line = f"{self.digest} {self.number} {self.moves} {moves} {events} {len(text)}\n".encode()
+        self.digest = hashlib.sha256(line + text).hexdigest()
+        file = self.folder / f"{self.number:08}-{moves}-{events}-{self.digest}.journal"
+        file.write_bytes(text)
+        self.number, self.moves = self.number + 1, self.moves + moves
+        return file
+
+
+class Follow:
+    """./view --follow of a run, until the end of a with."""
+
+    def __init__(self, room: Path, run: Path) -> None:
+        self.view = View(room)
+        self.server = subprocess.Popen([self.view.root / "view", "--follow", run], stdout=subprocess.PIPE, stderr=subprocess.PIPE,
+                                       env=os.environ | {"PATH": f"{self.view.opened}:{os.environ['PATH']}", "TMPDIR": str(room)})
+        assert self.server.stdout
+        self.address = self.server.stdout.readline().decode().strip()
+
+    def __enter__(self) -> "Follow":
+        return self
+
+    def __exit__(self, *_: object) -> None:
+        self.server.terminate()
+        self.server.wait(20)
+
+    def trace(self) -> tuple[dict[str, Any], list[bytes]]:
+        with urllib.request.urlopen(f"{self.address}trace", timeout=60) as answer:
+            first, *lines = answer.read().splitlines()
+        return json.loads(first), lines
+
+
+def growing_run(folder: Path) -> tuple[Chain, History]:
+    """Write the first two segments of a run; return what follows them too."""
+    put = lambda number, of, read: (0, {"fire": [["put", ["x"], number]], "reads": [[["x"], read]]}, of)
+    chain = Chain(folder)
+    chain.add(journal_of(capacity=1, init=[[["x"], 1]]))
+    chain.add(journal_of((0, {"read": [["x"]]}, {"number": 0, "values": [1]}), put(2, {"fired": 1}, 0), put(3, "full", 1), capacity=1, init=[[["x"], 1]]))
+    return chain, journal_of(put(3, {"fired": 1}, 0), put(4, {"stale": ["x"]}, 0), agents=3, init=[[["x"], 2]])
+
+
 def try_follow(tries: Tries, browser: Browser) -> None:
     """Test that a growing run is served on the loopback address.
 
     The address must be known, and the run is shown where it was.
     """
-    view, run = View(tries.room / "follow"), tries.room / "bank.run"
-    run.mkdir()
-    put = lambda number, of, read: (0, {"fire": [["put", ["x"], number]], "reads": [[["x"], read]]}, of)
-    first = journal_of((0, {"read": [["x"]]}, {"number": 0, "values": [1]}), put(2, {"fired": 1}, 0), put(3, "full", 1), capacity=1, init=[[["x"], 1]])
-    second = journal_of(put(3, {"fired": 1}, 0), put(4, {"stale": ["x"]}, 0), agents=3, init=[[["x"], 2]])
-    (run / "00000000-1-3-a.journal").write_bytes(write_journal(first))
-    server = subprocess.Popen([view.root / "view", "--follow", run], stdout=subprocess.PIPE, stderr=subprocess.PIPE, env=os.environ | {"PATH": poor_path(tries.room / "follow")})
-    try:
-        assert server.stdout
-        address = server.stdout.readline().decode().strip()
+    chain, second = growing_run(tries.room / "bank.run")
+    with Follow(tries.room / "follow", chain.folder) as following:
+        address = following.address
         host, token = address.removesuffix("/").rsplit("/", 1)
         tries.claim("the address is this computer's alone, and has a token", address.startswith("http://127.0.0.1:") and len(token) >= 32, address)
         tries.same("without the token nothing is served", [status(it) for it in (host + "/", f"{host}/{'x' * len(token)}/", f"{host}/{token}/../view", f"{host}/{token}/run")], [404] * 4)
+        opened = following.view.opened / "file"
+        wait_for(opened.exists)
+        page = Path(opened.read_text().strip())
+        tries.same("the browser is given a page of the user's own, and no word has the token", (token in str(page), page.stat().st_mode & 0o777, address in page.read_text()), (False, 0o600, True))
         browser.driver.get(address)
         browser.until("return !document.getElementById('main').hidden")
         tries.same("the page shows what there is", browser.texts("#facts .fact")[1:3] + browser.texts("#facts .legal"), ["3 events", "1 move", "legal, checked by asm_driver"])
         browser.slide(2)
         browser.run("act.chooseLocation(shown.run.locations.get('[\"x\"]'))")
-        (run / "00000001-1-2-b.journal").write_bytes(write_journal(second))
+        silent = [socket.create_connection(("127.0.0.1", int(host.rsplit(":", 1)[1]))) for _ in range(5)]
+        added = chain.add(second)
         browser.until("return shown.run.events.length === 5", 30)
         browser.frame()
         tries.same("what the run gains is added, and the place stays", (browser.title()[:8], browser.text("writes-title"), browser.texts("#facts .fact")[2]), ("Event 1 ", "x 2 writes", "2 moves"))
         tries.same("moves and events go on from those before", browser.run("return [shown.run.events[4].named[0].number, shown.run.events[3].move, shown.run.doubted.length]"), [1, 2, 0])
         tries.same("the console has no problem", [it for it in browser.problems() if "favicon" not in it], [])
-    finally:
-        server.terminate()
-        server.wait(20)
+        for it in silent:
+            it.close()
+        (chain.folder / "zzz.journal").write_bytes(added.read_bytes())
+        browser.until("return shown.run.where !== ''", 30)
+        browser.frame()
+        tries.same("a foreign file is no part of it, and the page says where it ends", (browser.texts("#facts .legal"), browser.text("warning"), browser.texts("#facts .fact")[1]), (
+            ["legal as far as it is shown, checked by asm_driver"], "The run isn't shown to its end: segment 3 isn't shown, and none after it: zzz.journal is no name of it", "5 events"))
+
+
+def wait_for(is_so: Callable[[], bool]) -> None:
+    end = time.monotonic() + 20
+    while not is_so() and time.monotonic() < end:
+        time.sleep(0.05)
+
+
+def try_refused_segments(tries: Tries, browser: Browser) -> None:
+    """Test that of a folder only what an audit accepts is shown."""
+    def apart(chain: Chain, second: History) -> None:
+        chain.add(journal_of((0, {"read": [["x"]]}, {"number": 0, "values": [9]}), init=[[["x"], 9]]))
+
+    def wrong_answer(chain: Chain, second: History) -> None:
+        chain.add(journal_of((0, {"read": [["x"]]}, {"number": 0, "values": [9]}), init=[[["x"], 2]]))
+
+    def altered(chain: Chain, second: History) -> None:
+        file = chain.add(second)
+        file.write_bytes(file.read_bytes().replace(b'"stale"', b'"Stale"'))
+
+    def missing(chain: Chain, second: History) -> None:
+        chain.add(second).unlink()
+        chain.add(journal_of((0, {"read": [["x"]]}, {"number": 0, "values": [3]}), init=[[["x"], 3]]))
+
+    def renamed(chain: Chain, second: History) -> None:
+        file = chain.add(second)
+        file.rename(file.with_name(file.name.replace("-1-2-", "-2-2-")))
+
+    def linked(chain: Chain, second: History) -> None:
+        file = chain.add(second)
+        file.rename(chain.folder / "elsewhere")
+        file.symlink_to(chain.folder / "elsewhere")
+
+    def piped(chain: Chain, second: History) -> None:
+        file = chain.add(second)
+        file.unlink()
+        os.mkfifo(file)
+
+    for number, (make, why) in enumerate({
+        apart: "apart", wrong_answer: "illegal", altered: "isn't the one that was saved", missing: "is no name of it",
+        renamed: "isn't the one that was saved", linked: "symbolic link", piped: "no regular file",
+    }.items()):
+        chain, second = growing_run(tries.room / f"refused{number}.run")
+        make(chain, second)
+        with Follow(tries.room / f"refused{number}", chain.folder) as following:
+            first, lines = following.trace()
+            tries.claim(f"a segment that is {make.__name__} isn't shown: {first['where']}", why in first["where"] and first["where"].startswith("segment 2 isn't shown"), first)
+            tries.same("those before it are", (len(lines), first["ends"]), (4, [1, 1]))
+    journal = tries.file("again.journal", b"half of it")
+    with Follow(tries.room / "again", journal) as following:
+        tries.same("a file that can't be read yet is tried again", status(f"{following.address}trace"), 503)
+        journal.write_bytes(write_journal(example("one_move")))
+        tries.same("once it is written it is shown", len(following.trace()[1]), 2)
+        journal.write_bytes(b"half of it")
+        tries.claim("while it is written again the last one stays", "refuses it" in following.trace()[0]["where"] and len(following.trace()[1]) == 2)
 
 
 def status(address: str) -> int:

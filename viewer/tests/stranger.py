@@ -66,7 +66,36 @@ def try_links(tries: Tries, browser: Browser) -> None:
     tries.same("a file with two names keeps what it has under the other", (existing.read_bytes() == before, page.read_bytes() == before), (True, False))
     tries.same("nothing else is left in the folder", sorted(it.name for it in view.room.iterdir()), ["kept.html", "root", "run.html"])
     os.mkfifo(view.room / "pipe.journal")
-    tries.same("a pipe into which nobody writes isn't waited for", view("--page", str(existing), str(view.room / "pipe.journal"), text=b"").returncode, 2)
+    ran = view("--page", str(existing), str(view.room / "pipe.journal"), text=b"")
+    tries.same("a pipe isn't waited for", (ran.returncode, b"is no regular file" in ran.stderr), (4, True))
+
+
+def try_inputs(tries: Tries, browser: Browser) -> None:
+    """Test that the input is never the page, and what is read of it and of an older page."""
+    view = View(tries.room / "inputs")
+    journal, other = view.room / "run.journal", view.room / "other.journal"
+    journal.write_bytes(write_journal(strange()))
+    os.link(journal, other)
+    before = journal.read_bytes()
+    for words in ((journal, journal), (other, journal), (journal, other)):
+        ran = view("--page", str(words[0]), str(words[1]), text=b"")
+        tries.same("a journal isn't replaced by its page", (ran.returncode, b"is the input" in ran.stderr, journal.read_bytes() == before), (4, True, True))
+    with journal.open("rb") as source:
+        ran = subprocess.run([view.root / "view", "--page", journal], stdin=source, capture_output=True, check=False)
+    tries.same("nor from standard input", (ran.returncode, b"is the input" in ran.stderr, journal.read_bytes() == before), (4, True, True))
+    page = view.room / "run.html"
+    with page.open("wb") as out:
+        out.write(b"<!doctype html>\n")
+        out.truncate(3 * 2**30)
+    ran = subprocess.run(["sh", "-c", 'ulimit -v 1000000; exec "$0" "$1"', view.root / "view", journal], cwd=view.room, capture_output=True, check=False, timeout=SECONDS)
+    tries.same("of a large file by the page's name only the beginning is read", (ran.returncode, b"is no page of a run" in ran.stderr), (4, True))
+    page.unlink()
+    value = '"' + "x" * (2**24 + 5) + '"'
+    window = '{"agents":1,"capacity":9,"events":0,"from":0,"init":[[["x"],' + value + ']],"moves":0,"part":0,"trace":2}\n'
+    tries.same("a window may have a longer header than the program reads", view("--page", str(page), text=window.encode()).returncode, 0)
+    view.write("asm_driver", "printf 'one\\n\\033[31mtwo\\342\\200\\256\\n' >&2; exit 2")
+    ran = view("--page", str(page), str(journal), text=b"")
+    tries.same("of what the program says the last line is shown, escaped", (ran.returncode, ran.stderr), (2, b"\\x1b[31mtwo\\u202e\n"))
 
 
 def umask() -> int:
