@@ -287,7 +287,7 @@ FOLUGBEN_NODISCARD int32_t asm_answer(struct asm_agent *agent, uint8_t *out, siz
 
 /* Takes in what the other agent of the same storage has seen, so that what the agent is answered
  * from then on comes after all that the other was answered before. Neither slot may be in another
- * call. ASM_EMPTY (one of the slots), ASM_OTHER. */
+ * call. ASM_EMPTY (one of the slots, or they are one), ASM_OTHER. */
 FOLUGBEN_NODISCARD int32_t asm_learn(struct asm_agent *agent, struct asm_agent *other);
 
 /* Takes in what the other agent of the same storage has seen, as asm_learn does, and exchanges the

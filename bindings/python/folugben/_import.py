@@ -1,6 +1,7 @@
 """Runs of version 0.2, which are one file, and their import into a folder."""
 import errno
 import io
+import json
 import os
 import pathlib
 import secrets
@@ -15,7 +16,6 @@ from ._files import open_regular
 from ._folder import CHUNK, RunWriter, sync_folder
 from ._library import Code
 from ._reading import HEADER
-from ._texts import decode
 
 
 def import_run(file: str | os.PathLike[str], folder: str | os.PathLike[str]) -> tuple[Counts, int]:
@@ -78,7 +78,8 @@ def _parts(source: BinaryIO) -> Iterator[tuple[bytes, Counts]]:
 
 def _opening(text: bytes) -> bytes:
     """Return the journal without a call that opens as this one does."""
-    header = decode(text.split(b"\n", 1)[0])
+    # It may have spaces, which the library's own texts haven't.
+    header = json.loads(text.split(b"\n", 1)[0])
     with Storage(header["init"], header["capacity"]) as storage:
         return storage.close_journal()
 
