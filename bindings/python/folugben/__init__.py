@@ -61,6 +61,13 @@ The storage distinguishes true from 1 and false from 0, but in Python True == 1 
 Likewise ("f", True) and ("f", 1) are two locations, and a value that was read as true equals 1; compare by `is True` where
 both may occur.
 """
+import os as _os
+import sys as _sys
+
+# python -m folugben in a stranger's folder would load a module of that folder in the place of one of Python's.
+if _sys.argv[:1] == ["-m"] and any(it[0] == "-" and f"{it}{then}".endswith("mfolugben") for it, then in zip(_sys.orig_argv[1:], [*_sys.orig_argv[2:], ""]) if it):
+    _sys.path[:] = [it for it in _sys.path if it and it != _os.getcwd()]
+
 import warnings
 from typing import TYPE_CHECKING
 

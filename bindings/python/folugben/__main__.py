@@ -1,4 +1,4 @@
-"""Run the commands on runs and journals: python -m folugben COMMAND .. (--help)."""
+"""Run the commands on runs and journals: folugben COMMAND .. (--help), or python3 -P -m folugben where there is none."""
 import argparse
 import contextlib
 import io

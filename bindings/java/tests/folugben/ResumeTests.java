@@ -229,7 +229,7 @@ final class ResumeTests {
         RunTests.drop(path);
         Files.writeString(path, "{\"agents\":");
         String message = faultOf(() -> Run.resume(path)).getMessage();
-        equal(message.endsWith("is imported by: python -m folugben import"), true);
+        equal(message.endsWith("is imported by: folugben import"), true);
         equal(Files.size(path), 10L);
     }
 
