@@ -65,7 +65,9 @@ import os as _os
 import sys as _sys
 
 # python -m folugben in a stranger's folder would load a module of that folder in the place of one of Python's.
-if _sys.argv[:1] == ["-m"] and any(it[0] == "-" and f"{it}{then}".endswith("mfolugben") for it, then in zip(_sys.orig_argv[1:], [*_sys.orig_argv[2:], ""]) if it):
+if _sys.argv[:1] == ["-m"] and any(
+    it[:1] == "-" and "mfolugben" in (it[-9:], f"{it[-1:]}{then}") for it, then in zip(_sys.orig_argv, [*_sys.orig_argv[1:], ""])
+):
     _sys.path[:] = [it for it in _sys.path if it and it != _os.getcwd()]
 
 import warnings
