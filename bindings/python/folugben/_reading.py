@@ -18,7 +18,7 @@ from ._sqlite import is_database
 # How the header of a part begins; no line of an event begins so.
 HEADER = b'{"agents":'
 # How often `follow` checks for a further segment.
-_POLL_PAUSE = 0.2
+_POLL_PAUSE, _REST = 0.2, 4
 
 
 class Readable(Protocol):
@@ -211,10 +211,13 @@ def follow(target: str | os.PathLike[str]) -> Iterator[Counts]:
     """
     with contextlib.closing(open_store(target)) as store, Reading(store) as reading:
         while True:
+            begun = time.monotonic()
             segments = store.segments()
+            took = time.monotonic() - begun
             if len(segments) > reading.last.number + 1:
                 yield reading.audit(segments)
-            time.sleep(_POLL_PAUSE)
+            # A SQLite file that is written meanwhile is copied each time.
+            time.sleep(max(_POLL_PAUSE, _REST * took))
 
 
 def texts(target: str | os.PathLike[str]) -> Iterator[bytes]:
