@@ -1,6 +1,6 @@
 """Compare moves of a SharedRun to a bare loop of transactions.
 
-Both use the same database. The comparison has 1, 4 and 16 agents that wait at once.
+Both use a file beside the other, or schemas of one server. The comparison has 1, 4 and 16 agents that wait at once.
 
 usage: shared.py TARGET [SECONDS]
 
@@ -27,10 +27,10 @@ def bare(database, size, seconds):
     while time.perf_counter() < end:
         database.run("begin")
         rows = [(count + at, secrets.token_bytes(16), 1, 10, CALL, "[]") for at in range(size)]
-        database.insert("bare", rows)
+        database.insert(f"{database.inside}bare", rows)
         database.run("commit")
         count += size
-    database.run("delete from bare")
+    database.run(f"delete from {database.inside}bare")
     return count / seconds
 
 
@@ -58,9 +58,11 @@ def shared_rate(run, agents, seconds):
 
 
 def main(target, seconds=2.0):
-    with SharedRun(target, init=[]) as run, contextlib.closing(connect(target)) as database:
+    beside = f"{target}.bare" if "#" in target or "://" not in target else f"{target}#bare"
+    with SharedRun(target, init=[]) as run, contextlib.closing(connect(beside, makes=True)) as database:
         blob = database.blob
-        database.run(f"create table if not exists bare(place bigint primary key, token {blob} not null unique, segment bigint, "
+        database.make()
+        database.run(f"create table if not exists {database.inside}bare(place bigint primary key, token {blob} not null unique, segment bigint, "
                      "agent integer, call text, scans text)")
         for agents in 1, 4, 16:
             rates = [(bare(database, agents, seconds), shared_rate(run, agents, seconds)) for _ in range(ROUNDS)]
