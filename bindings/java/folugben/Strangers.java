@@ -77,7 +77,7 @@ final class Strangers {
     static void replace(Path path, String text) throws IOException {
         Set<PosixFilePermission> mode = modeOf(path);
         Path beside = path.toAbsolutePath().resolveSibling(
-                "." + path.getFileName() + "." + Long.toHexString(RANDOM.nextLong()));
+                ".folugben-" + Long.toHexString(RANDOM.nextLong()));
         FileAttribute<?>[] modes = mode == null ? new FileAttribute<?>[0]
                                                 : new FileAttribute<?>[] {RunFolder.FileGuard.OWN};
         try {

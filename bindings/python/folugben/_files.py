@@ -59,7 +59,7 @@ def replacing(path: pathlib.Path) -> Iterator[BinaryIO]:
         FileExistsError: there is a link, a pipe, a folder or a device by that name.
     """
     mode = _mode_of(path)
-    beside = path.with_name(f".{path.name[:200]}.{secrets.token_hex(8)}")
+    beside = path.with_name(f".folugben-{secrets.token_hex(8)}")
     fd = os.open(beside, os.O_WRONLY | os.O_CREAT | os.O_EXCL | os.O_CLOEXEC | os.O_NOFOLLOW, 0o666 if mode is None else 0o600)
     try:
         with open(fd, "wb") as out:
