@@ -89,14 +89,15 @@ class Strangers(Rooms):
     def test_a_live_run_that_is_written_all_the_time(self):
         def work():
             while not stop.is_set():
-                agent.play(lambda step: step.put("x", "x" * 20_000))
+                agent.play(lambda step: step.put("x", "x" * 5_000))
+                time.sleep(0.002)
 
         path, stop = self.room / "bank.db", threading.Event()
-        with SharedRun(path, INIT, 40) as run, run.agent(0) as agent:
+        with SharedRun(path, INIT, 20) as run, run.agent(0) as agent:
             thread = threading.Thread(target=work)
             thread.start()
             try:
-                seen = [audit(path).moves for _ in range(15)]
+                seen = [audit(path).moves for _ in range(4)]
             finally:
                 stop.set()
                 thread.join()
