@@ -1,7 +1,6 @@
 """Tests of what strangers' files can do: nothing is written, waited for, believed or filled."""
 import contextlib
 import os
-import resource
 import signal
 import sqlite3
 import subprocess
@@ -174,8 +173,8 @@ with folugben.SharedRun(sys.argv[1], {"count": 0}, 3) as run, run.agent(0) as ag
         path = self.shared()
         self.alter(path, "update piece set data = ? where segment = 1", zlib.compress(b"\0" * 2**30))
         code = "import sys, folugben; folugben.audit(sys.argv[1])"
-        limit = lambda: resource.setrlimit(resource.RLIMIT_AS, (2**29, 2**29))
-        ran = subprocess.run([sys.executable, "-c", code, path], env=environment(), capture_output=True, text=True, preexec_fn=limit, timeout=60)
+        bounded = ["sh", "-c", 'ulimit -v 524288; exec "$0" "$@"', sys.executable, "-c", code, path]
+        ran = subprocess.run(bounded, env=environment(), capture_output=True, text=True, check=False)
         self.assertIn("its piece 0 is missing or isn't the one that was saved", ran.stderr)
 
     def test_a_statement_that_takes_too_long_ends(self):
