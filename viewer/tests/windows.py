@@ -28,6 +28,7 @@ def try_window(tries: Tries, browser: Browser) -> None:
     facts = browser.texts("#facts .fact")
     tries.claim("the facts say how many events the window has", f"{END - START} events" in facts, facts)
     tries.has("and of its place in the part", " ".join(facts), f"part 0 from event {START} on")
+    tries.same("it is legal only as far as it shows", browser.texts("#facts .legal"), ["legal as far as the window shows, checked by this page"])
     browser.slide(0)
     tries.same("what was before its first event is named so", browser.title(), f"Before event {START}")
     browser.slide(1)
