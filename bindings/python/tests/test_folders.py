@@ -198,7 +198,7 @@ class Pages(Rooms):
                 with contextlib.redirect_stdout(out):
                     exec(code, names)
                 continue
-            own = command.replace("python3", sys.executable)
+            own = re.sub("^folugben", f"{sys.executable} -P -m folugben", command)
             ran = subprocess.run(own, shell=True, capture_output=True, text=True, env=environment())
             # How many calls were stale is another number each time.
             calls = re.compile(r"legal \d+")
