@@ -26,7 +26,7 @@ enum { ITEM_ALLOCATIONS = 4, ITEM_BYTES = 1024 };
 /* Processor time is exact to a factor only, and what takes less than this isn't compared. A call
  * that walks over everything takes a hundred times as long, or more. */
 #define TIMES_LONGER 20
-#define SHORT_TIME 50e-6
+#define SHORT_TIME 200e-6
 
 enum { CALLS = 200, ROUNDS = 5 };
 
