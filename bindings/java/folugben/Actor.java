@@ -20,8 +20,9 @@ public sealed interface Actor extends AutoCloseable permits Agent, RunAgent, Sha
      * Plays the rule on a step and commits it, and begins again after each conflict.
      *
      * <p>Between vain tries other threads run, and after some it waits for up to a millisecond. A
-     * rule that pushes nothing fires nothing, and {@link Played#isFired} is false. An exception of
-     * the rule ends the play, and nothing is fired.
+     * rule that pushes nothing fires nothing, and {@link Played#isFired} is false. A rule that
+     * commits its step by itself ends the play with that move. An exception of the rule ends the
+     * play too, which fires nothing.
      *
      * @param <T> what the rule returns
      * @param <X> what the rule throws
@@ -29,7 +30,7 @@ public sealed interface Actor extends AutoCloseable permits Agent, RunAgent, Sha
      * @return the number of the move, what the rule returned, and how often it was begun again
      * @throws X as the rule
      * @throws FolugbenException as a {@link FullException} or {@link ManyException} of the commit
-     * @throws RunException if the run has ended
+     * @throws BrokenException if the run has ended
      */
     default <T, X extends Exception> Played<T> play(Rule<T, X> rule) throws X {
         return Patience.Plays.play(this, rule, Integer.MAX_VALUE, Patience.Plays.FOR_EVER);
@@ -91,16 +92,6 @@ public sealed interface Actor extends AutoCloseable permits Agent, RunAgent, Sha
      * what the rule returned; and how often it was begun again.
      */
     record Played<T>(long move, T result, int retries) {
-        /**
-         * Returns what the rule returned.
-         *
-         * @deprecated use {@link #result()}
-         */
-        @Deprecated(since = "0.2")
-        public T told() {
-            return result;
-        }
-
         /** Returns whether a move was fired. */
         public boolean isFired() {
             return move != 0;
@@ -190,7 +181,7 @@ public sealed interface Actor extends AutoCloseable permits Agent, RunAgent, Sha
          * @throws FolugbenException as a {@link StaleException}, {@link ClashException}, {@link
          *         FullException} or {@link BusyException} if it is another reply; of a step as a
          *         {@link CommitClashException} for a {@link ClashException}, or as a {@link
-         *         CommitMovedException}; of a run as a {@link PartException} for a {@link
+         *         CommitMovedException}; of a run as a {@link PastException} for a {@link
          *         FullException}
          */
         public long orThrow() {

@@ -19,7 +19,7 @@ abstract sealed class AgentCalls permits Agent {
         if (code != Code.EMPTY || slot.isFull())
             return code;
         if (isPast())
-            throw PartException.full();
+            throw PastException.full();
         throw FolugbenException.closed("the agent was returned");
     }
     /** Returns whether it is of a part of a run that is over. */
@@ -42,6 +42,7 @@ abstract sealed class AgentCalls permits Agent {
     }
     /** Returns the outcome of a fire with this code, while its agent's lock is held. */
     Actor.Reply reply(Code callCode, boolean isOfStep) {
+        noteThread();
         Code code = fullIfTooLate(callCode);
         long before = before();
         long move = code == Code.DONE ? before + room.number(0) : 0;
@@ -152,9 +153,15 @@ abstract sealed class AgentCalls permits Agent {
      * turns.
      */
     void takeState() {
+        noteThread();
         Agent other = storage.plays((Agent) this);
         if (other != null && other.number != number)
             withLocks(other, () -> slot.takeState(other.slot));
+    }
+
+    /** Notes that this thread makes a call that polls. */
+    final void noteThread() {
+        polledBy = Thread.currentThread();
     }
 
     /** Does the work with the locks of both, taken in the order of their numbers. */
@@ -167,6 +174,9 @@ abstract sealed class AgentCalls permits Agent {
         }
     }
 
+    /** The thread of its last call that polled. */
+    volatile Thread polledBy;
+
     AgentCalls(Storage storage, int number) {
         this.storage = storage;
         this.number = number;
@@ -174,6 +184,7 @@ abstract sealed class AgentCalls permits Agent {
 
     /** Validates the named reads. */
     final Actor.Reply validate(String reads, Turns.Player player) {
+        noteThread();
         byte[] call = Texts.utf8(reads, "reads");
         synchronized (slot) {
             Calls.Result result = slot.stands(call);

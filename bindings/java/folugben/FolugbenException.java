@@ -8,7 +8,7 @@ package folugben;
  */
 public sealed class FolugbenException extends RuntimeException
         permits AuditException, ClashException, ConflictException, DeepException, FullException,
-                LargeException, ManyException, MovedException {
+                LargeException, ManyException, MovedException, TooLongException {
     private static final long serialVersionUID = 1;
 
 
@@ -37,8 +37,9 @@ public sealed class FolugbenException extends RuntimeException
         return switch (code) {
             case MANY, LONG_MOVE, AGENTS -> new ManyException(code, detail);
             case DEEP -> new DeepException();
-            case MOVED -> new MovedException();
-            case LARGE, LONG_LINE, MANY_CALLS -> new LargeException(code, detail, null);
+            case MOVED -> new MovedException(detail);
+            case LARGE, MANY_CALLS -> new LargeException(code, detail, null);
+            case LONG_LINE -> new TooLongException(detail);
             default -> new FolugbenException(code, number, detail, where, null);
         };
     }
@@ -49,7 +50,7 @@ public sealed class FolugbenException extends RuntimeException
             case STALE -> new StaleException(reply.answer());
             case CLASH -> reply.isOfStep() ? new CommitClashException(reply.answer())
                                            : new ClashException(reply.answer());
-            case FULL -> reply.isOfRun() ? PartException.full() : new FullException();
+            case FULL -> reply.isOfRun() ? PastException.full() : new FullException();
             case BUSY -> new BusyException(reply.from(), reply.to());
             case MOVED -> new CommitMovedException();
             default -> of(reply.code(), 0, "", "");
@@ -91,7 +92,8 @@ public sealed class FolugbenException extends RuntimeException
     private static String message(Code code, String detail) {
         if (detail.isEmpty())
             return code.text();
-        return code == Code.NOT_JSON ? detail : code.text() + ": " + detail;
+        boolean saysAll = code == Code.NOT_JSON || code == Code.EMPTY;
+        return saysAll ? detail : code.text() + ": " + detail;
     }
 
     /** Returns its code, for a switch. */

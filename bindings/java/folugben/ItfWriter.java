@@ -102,9 +102,9 @@ final class ItfWriter {
         pieces.add("}");
         for (String it : pieces) written += it.codePointCount(0, it.length());
         if (written > limit)
-            throw new LargeException(Code.LONG_LINE, String.format(Locale.ROOT,
+            throw new TooLongException(String.format(Locale.ROOT,
                     "the states of moves %d to %d have more than %,d characters: take fewer by"
-                            + " first and last", first, index, limit), null);
+                            + " first and last", first, index, limit));
         for (String it : pieces) out.append(it);
     }
 

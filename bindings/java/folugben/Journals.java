@@ -110,7 +110,7 @@ public final class Journals {
      *
      * <p>It is the format of Apalache and Quint.
      *
-     * @throws LargeException if the states have more than 1,073,741,824 characters
+     * @throws TooLongException if the states have more than 1,073,741,824 characters
      * @throws FolugbenException if it is no journal; nothing is written
      * @throws UncheckedIOException if it can't be written
      */
@@ -126,7 +126,7 @@ public final class Journals {
      * its values. Each state is complete, as the format has no other, so the output grows with the
      * moves times the size of the state.
      *
-     * @throws LargeException if these states have more than 1,073,741,824 characters; those that
+     * @throws TooLongException if these states have more than 1,073,741,824 characters; those that
      *         come before the limit are written
      * @throws IllegalArgumentException if the source has a lone surrogate
      * @throws FolugbenException if it is no journal; nothing is written

@@ -58,7 +58,7 @@ final class Part implements Run.RunPart {
     /**
      * Opens the next part with the state of an agent that is at this part's last move.
      *
-     * @throws LargeException if that is too long for a line
+     * @throws TooLongException if that is too long for a line
      */
     synchronized void openNext(Agent agent) {
         if (isOver)

@@ -226,7 +226,7 @@ final class PartWriter {
             if (journal.get(at) != '\n')
                 continue;
             if (at - begin > Texts.Lines.LIMIT)
-                throw LargeException.line("what was done", at - begin);
+                throw TooLongException.line("what was done", at - begin);
             begin = at + 1;
             lines++;
         }

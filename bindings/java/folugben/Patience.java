@@ -61,13 +61,13 @@ final class Patience {
                 try (Step step = actor.step()) {
                     try {
                         T result = rule.play(step);
-                        if (step.isIdle())
-                            return new Actor.Played<>(0, result, tries);
+                        if (step.fired != 0 || step.isIdle())
+                            return new Actor.Played<>(step.fired, result, tries);
                         Actor.Reply reply = step.tryCommit();
                         isLast |= isTimed && System.nanoTime() - begin >= timeout.toNanos();
                         if (isLast || !reply.shouldRetry())
                             return new Actor.Played<>(reply.orThrow(), result, tries);
-                    } catch (PartException over) {
+                    } catch (PastException over) {
                         if (isLast || !step.isPast())
                             throw over;
                     }

@@ -160,7 +160,7 @@ final class Replica {
                     if (ended != null)
                         journals.add(ended.text());
                 }
-        } catch (LargeException full) {
+        } catch (TooLongException full) {
             // It is the last one, whose state is too long for a line.
         }
         if (replica.era.events() > 0)

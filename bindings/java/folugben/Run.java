@@ -61,7 +61,7 @@ public final class Run implements AutoCloseable {
     private final long receipts;
     private volatile boolean isRecording;
     private volatile Part newest;
-    private volatile RunException failure;
+    private volatile BrokenException failure;
     private volatile boolean isClosed;
 
     private Run(RunFolder folder, Storage storage, int moves, long receipts) {
@@ -80,7 +80,7 @@ public final class Run implements AutoCloseable {
      * @throws UncheckedIOException if there is a run or anything else, if another run is made
      *         there, or if the folder can't be written
      * @throws IllegalArgumentException as Value.of
-     * @throws LargeException if the opening state is too long for a line
+     * @throws TooLongException if the opening state is too long for a line
      */
     public static Run open(Map<Location, ?> init, Path path) {
         return open(init, path, MOVES);
@@ -163,27 +163,6 @@ public final class Run implements AutoCloseable {
         }
     }
 
-    /** How much an import copied, and how many bytes of an incomplete part it left out. */
-    public record Imported(Auditor.Counts counts, long leftOut) {}
-
-    /**
-     * Imports a run of version 0.2, which is one file, into a new folder.
-     * {@link #resume} goes on from there. The file isn't changed. The folder is complete or absent.
-     *
-     * @throws AuditException if a part isn't legal, or none is complete
-     * @throws UncheckedIOException if there is something at the folder's path; if a file can't be
-     *         read or written
-     */
-    public static Imported importFile(Path file, Path folder) {
-        Objects.requireNonNull(file, "file");
-        Objects.requireNonNull(folder, "folder");
-        try {
-            return RunImport.run(file, folder);
-        } catch (IOException fault) {
-            throw new UncheckedIOException(fault);
-        }
-    }
-
     private static void audit(Path folder, Check check, Auditor auditor) throws IOException {
         if (check == Check.ALL) {
             auditor.feed(folder);
@@ -205,7 +184,7 @@ public final class Run implements AutoCloseable {
      *
      * @throws IllegalArgumentException for another number
      * @throws FolugbenException NUMBER if an agent has it that isn't closed yet
-     * @throws RunException if a part of the run couldn't be written
+     * @throws BrokenException if a part of the run couldn't be written
      */
     public RunAgent agent(int number) {
         Storage.expectNumber(number);
@@ -243,9 +222,9 @@ public final class Run implements AutoCloseable {
     /**
      * Saves all moves up to now: they are on the disk when this returns.
      * It ends the part, which makes a segment. It waits a tenth of a second for steps: one that
-     * lasts longer throws a {@link PartException}, and play begins again.
+     * lasts longer throws a {@link PastException}, and play begins again.
      *
-     * @throws RunException if a part of the run couldn't be written
+     * @throws BrokenException if a part of the run couldn't be written
      */
     public void flush() {
         expectRunning();
@@ -283,9 +262,9 @@ public final class Run implements AutoCloseable {
 
     /** Throws what has ended the run. */
     void expectRunning() {
-        RunException ended = failure;
+        BrokenException ended = failure;
         if (ended != null)
-            throw new RunException(ended.part(), ended.getCause());
+            throw new BrokenException(ended.part(), ended.getCause());
         if (isClosed)
             throw FolugbenException.closed("the run was closed");
     }
@@ -358,7 +337,7 @@ public final class Run implements AutoCloseable {
     void fail(long part, Throwable fault) {
         synchronized (agents) {
             if (failure == null)
-                failure = new RunException(part,
+                failure = new BrokenException(part,
                         fault instanceof UncheckedIOException error ? error.getCause() : fault);
         }
         writer.wake();
@@ -368,7 +347,7 @@ public final class Run implements AutoCloseable {
      * Takes back all agents, saves the fired moves, and frees the folder.
      * Steps that are under way end. It may be called again.
      *
-     * @throws RunException if a part couldn't be written
+     * @throws BrokenException if a part couldn't be written
      */
     @Override
     public void close() {
@@ -376,7 +355,7 @@ public final class Run implements AutoCloseable {
         isClosed = true;
         writer.close();
         if (!wasClosed && failure != null)
-            throw new RunException(failure.part(), failure.getCause());
+            throw new BrokenException(failure.part(), failure.getCause());
     }
 
     /** What the agents of a run know of it: where they are, and whether it goes on. */

@@ -42,11 +42,11 @@ public final class RunAgent implements Actor {
      * Polls, and begins a step in the part that isn't over.
      *
      * <p>A fire that finds the part full by then replies FULL, which asks to begin another step
-     * ({@link Agent.Reply#shouldRetry}), and which fire throws as a {@link PartException}. The
+     * ({@link Agent.Reply#shouldRetry}), and which fire throws as a {@link PastException}. The
      * step's other calls throw it too, once the part has been full, or has had too many receipts,
      * for a tenth of a second.
      *
-     * @throws RunException if a part of the run couldn't be written
+     * @throws BrokenException if a part of the run couldn't be written
      */
     @Override
     public Step step() {
@@ -124,12 +124,12 @@ public final class RunAgent implements Actor {
      * <p>They depend on the reads, at most 256, each with the number of moves after which it was
      * read.
      *
-     * @throws FolugbenException as a {@link PartException} if something was read in a part that is
+     * @throws FolugbenException as a {@link PastException} if something was read in a part that is
      *         over: read again; as a {@link StaleException}, {@link BusyException} or {@link
      *         ClashException}; as a {@link ManyException}; AHEAD if a number is above that of the
      *         moves that the agent has seen
-     * @throws LargeException if the move's line would be longer than an audit reads
-     * @throws RunException if a part of the run couldn't be written
+     * @throws TooLongException if the move's line would be longer than an audit reads
+     * @throws BrokenException if a part of the run couldn't be written
      */
     public long fire(List<? extends Instruction> instructions, List<Named> reads) {
         Turns.Player.call(this);
@@ -154,7 +154,7 @@ public final class RunAgent implements Actor {
         long seen = before + own.seen();
         for (Named it : reads) {
             if (it.number() < before)
-                throw PartException.past(it, before);
+                throw PastException.past(it, before);
             if (it.number() > seen)
                 throw FolugbenException.ahead(JsonWriter.reads(reads), seen);
         }

@@ -224,8 +224,8 @@ public final class SharedAgent implements Actor {
         /**
          * Commits as a step of a storage does; returns once the answer is durable.
          *
-         * @throws LargeException if the move's line would be longer than an audit reads
-         * @throws RunException if the run has ended: whether the move was fired may not be known
+         * @throws TooLongException if the move's line would be longer than an audit reads
+         * @throws BrokenException if the run has ended: whether the move was fired may not be known
          * @throws UnknownException if whether the move was fired isn't known
          */
         @Override
@@ -233,8 +233,10 @@ public final class SharedAgent implements Actor {
             String call = offerText();
             Texts.Lines.expectCall(Texts.utf8(call, "call"));
             Agent.Reply reply = shared.fire(era, call, scans());
-            if (reply.isFired())
+            if (reply.isFired()) {
+                fired = reply.move();
                 close();
+            }
             return reply;
         }
     }

@@ -51,7 +51,7 @@ public final class SharedRun implements AutoCloseable {
      * @throws UncheckedIOException if the server doesn't answer, as a ConnectException; if the file
      *         can't be opened or the database not be written, as an AccessDeniedException
      * @throws IllegalStateException if no JDBC driver is on the class path
-     * @throws LargeException if the opening state is too long for a line
+     * @throws TooLongException if the opening state is too long for a line
      */
     public static SharedRun open(Map<Location, ?> init, String target) {
         return open(init, target, MOVES);
@@ -122,7 +122,7 @@ public final class SharedRun implements AutoCloseable {
      * <p>No other agent has the number, here or in another process that lives.
      *
      * @throws FolugbenException NUMBER if it is in use
-     * @throws RunException if the run has ended
+     * @throws BrokenException if the run has ended
      */
     public SharedAgent agent(int number) {
         Storage.expectNumber(number);
@@ -145,7 +145,7 @@ public final class SharedRun implements AutoCloseable {
     /**
      * Leaves the run, which goes on in other processes; it may be called again.
      *
-     * @throws RunException if the run has ended for this process by a fault
+     * @throws BrokenException if the run has ended for this process by a fault
      */
     @Override
     public void close() {

@@ -83,8 +83,8 @@ final class SharedWorker {
             throw FolugbenException.closed("the run was closed");
     }
 
-    private RunException broken() {
-        return new RunException(replica.era().number, fault);
+    private BrokenException broken() {
+        return new BrokenException(replica.era().number, fault);
     }
 
     Replica.Era era() {
@@ -186,7 +186,7 @@ final class SharedWorker {
     /**
      * Ends it, once all calls that wait are answered.
      *
-     * @throws RunException if the run has ended by a fault
+     * @throws BrokenException if the run has ended by a fault
      */
     void close() {
         lock.lock();

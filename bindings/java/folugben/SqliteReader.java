@@ -16,12 +16,14 @@ import java.sql.SQLException;
 import java.sql.Statement;
 import java.util.Arrays;
 import java.util.ArrayList;
+import java.util.Comparator;
 import java.util.List;
 import java.util.Properties;
 import java.util.concurrent.Executors;
 import java.util.concurrent.Future;
 import java.util.concurrent.ScheduledExecutorService;
 import java.util.concurrent.TimeUnit;
+import java.util.stream.Stream;
 
 /**
  * A file of SQLite of anybody, to read: nothing is written, and nothing is played back.
@@ -298,7 +300,10 @@ final class SqliteReader extends Database.JdbcDatabase {
     }
 
     private void drop() throws IOException {
-        if (room != null && Files.exists(room))
-            RunImport.drop(room);
+        if (room == null || !Files.exists(room))
+            return;
+        try (Stream<Path> all = Files.walk(room)) {
+            for (Path it : all.sorted(Comparator.reverseOrder()).toList()) Files.delete(it);
+        }
     }
 }

@@ -349,7 +349,7 @@ public sealed class Step extends StepCalls implements AutoCloseable permits Shar
      *
      * @throws FolugbenException MANY if more than 256 locations would be named and functions were
      *         scanned
-     * @throws LargeException on a run, if the line of the move, or of the read that is recorded,
+     * @throws TooLongException on a run, if the line of the move, or of the read that is recorded,
      *         would be longer than an audit reads
      */
     public Agent.Reply tryCommit() {
@@ -361,23 +361,11 @@ public sealed class Step extends StepCalls implements AutoCloseable permits Shar
      *
      * @throws ConflictException if the step must be begun again, as {@link Agent#play} does: as a
      *         {@link StaleException}, {@link BusyException}, {@link CommitClashException}, {@link
-     *         CommitMovedException} or {@link PartException}
+     *         CommitMovedException} or {@link PastException}
      * @throws FolugbenException as a {@link FullException} or {@link ManyException}
      */
     public long commit() {
         return tryCommit().orThrow();
-    }
-
-    /** @deprecated A step commits: call {@link #tryCommit}. */
-    @Deprecated
-    public final Agent.Reply tryFire() {
-        return tryCommit();
-    }
-
-    /** @deprecated A step commits: call {@link #commit}. */
-    @Deprecated
-    public final long fire() {
-        return commit();
     }
 
     /** Returns a text such as a step of agent 3 at 7, 2 moves pushed. */

@@ -13,6 +13,10 @@ abstract sealed class StepCalls permits Step {
     /** How many bytes it was passed and returned, as a limit of its lines in a journal. */
     long size;
     private boolean isPushed;
+    /** The thread that began it. */
+    private final Thread thread = Thread.currentThread();
+    /** The number of the move that it fired, or 0. */
+    volatile long fired;
     /** Whether a commit may name locations whose values weren't returned. */
     boolean namesMore;
     /** The step's slot, until the step is over: the agent then uses it for another. */
@@ -55,6 +59,13 @@ abstract sealed class StepCalls permits Step {
         int call(long agent, long step, long text, long len, long out, long room,
                 long written);
     }
+    /** Throws for an agent that was returned, or that another thread moved past the step. */
+    private Code expectUnmoved(Code code) {
+        agent.expectNotReturned(code);
+        if (code == Code.MOVED && agent.polledBy != thread)
+            throw new MovedException("agent " + agent.number() + " is used by two threads");
+        return code;
+    }
     Calls.Result resultOf(Call call, byte[] text) {
         synchronized (agent.slot) {
             long step = slot().at;
@@ -64,7 +75,7 @@ abstract sealed class StepCalls permits Step {
                             -> call.call(
                                     agent.slot.at, step, at, text.length, out, length, written));
             size += result.text().length();
-            agent.expectNotReturned(result.code());
+            expectUnmoved(result.code());
             return result;
         }
     }
@@ -87,7 +98,7 @@ abstract sealed class StepCalls permits Step {
                                          -> Calls.asm_get_at(agent.slot.at, step, location.slot.at,
                                                  room.value(), out, length, written));
             ManyException.expectPlaces(code);
-            location.expect(agent.expectNotReturned(code));
+            location.expect(expectUnmoved(code));
         }
         size += room.written();
         player.reads(location);
@@ -136,7 +147,7 @@ abstract sealed class StepCalls permits Step {
                                                     -> call.call(agent.slot.at, step, move.slot.at,
                                                             out, length, written)));
             }
-            agent.expectNotReturned(result.code());
+            expectUnmoved(result.code());
         }
         FolugbenException.expectNoObjection(result);
         ManyException.expectMove(result.code(), "the one move of all that are pushed");
@@ -148,7 +159,7 @@ abstract sealed class StepCalls permits Step {
             long step = slot().at;
             Calls.Result result = room.resultOf(
                     (text, out, length, written) -> Calls.asm_offer(step, out, length, written));
-            FolugbenException.expect(agent.expectNotReturned(result.code()));
+            FolugbenException.expect(expectUnmoved(result.code()));
             return result.text();
         }
     }
@@ -212,6 +223,7 @@ abstract sealed class StepCalls permits Step {
             if (agent.isOfRun() && mayBeLong && !isOver())
                 expectLines();
             Actor.Reply reply = agent.reply(committed(), true);
+            fired = reply.move();
             player.fired(reply);
             return reply;
         }
@@ -238,7 +250,7 @@ abstract sealed class StepCalls permits Step {
             synchronized (into.slot) {
                 into.bytes = size;
                 namesMore = true;
-                Code code = agent.expectNotReturned(into.takePopped(step));
+                Code code = expectUnmoved(into.takePopped(step));
                 ManyException.expectMove(code, "the one move of those that are popped");
                 FolugbenException.expect(code);
             }

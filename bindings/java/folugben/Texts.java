@@ -163,7 +163,7 @@ final class Texts {
                                    .orElse(0);
             long length = call.length + longest + ROOM;
             if (length > LIMIT)
-                throw LargeException.line("the move", length);
+                throw TooLongException.line("the move", length);
         }
 
         /** Throws so for a move that depends on these reads. */
@@ -178,13 +178,13 @@ final class Texts {
         static void expectRead(long locations, String answer) {
             long length = locations + bytes(answer) + ROOM;
             if (length > LIMIT)
-                throw LargeException.line("the read", length);
+                throw TooLongException.line("the read", length);
         }
 
         /** Throws if a journal can't open with a state whose text has so many bytes. */
         static void expectState(long length) {
             if (length + ROOM > LIMIT)
-                throw LargeException.line("the state", length + ROOM);
+                throw TooLongException.line("the state", length + ROOM);
         }
 
         static long bytes(String text) {

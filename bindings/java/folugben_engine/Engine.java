@@ -4,7 +4,7 @@ import folugben.Actor;
 import folugben.Agent;
 import folugben.Interleave;
 import folugben.Location;
-import folugben.PartException;
+import folugben.PastException;
 import folugben.Run;
 import folugben.Step;
 import folugben.Storage;
@@ -27,7 +27,7 @@ public final class Engine {
             Agent.Reply reply = step.tryCommit();
             if (!reply.shouldRetry()) // else others were quicker, and the next step sees what they did
                 reply.orThrow();
-        } catch (PartException over) {
+        } catch (PastException over) {
             // The part was full meanwhile, and the next step begins in the next one.
         }
         return true;

@@ -299,8 +299,8 @@ static PyMethodDef methods[] = {
         "play($self, rule, /, *, tries=None, timeout=None)\n--\n\n"
         "Play a rule until it fires: begin a step, play the rule on it, commit it; on a conflict, begin again.\n\n"
         "Return the number of the move and what the rule returned; `.retries` is the number of failed tries. A rule that writes nothing\n"
-        "fires nothing, and the number is 0. After `tries` tries, or the first one that ends after `timeout` seconds, the last\n"
-        "`ConflictError` is raised. What the rule raises ends the play, and nothing is fired; so does `FullError`. Between failed tries\n"
+        "fires nothing, and the number is 0. A rule that commits its step by itself ends the play with that move. After `tries` tries, or the first one that ends after `timeout` seconds, the last\n"
+        "`ConflictError` is raised. What the rule raises ends the play, which fires nothing; so does `FullError`. Between failed tries\n"
         "other threads run."},
     {"give", (PyCFunction)agent_return, METH_NOARGS, "give($self, /)\n--\n\nReturn it to its storage."},
     {"free", (PyCFunction)agent_free, METH_NOARGS, "free($self, /)\n--\n\nRelease it, as `abandon` does; releasing again has no effect."},

@@ -48,6 +48,18 @@ static PyObject *location_repr(Location *self)
     return result;
 }
 
+static PyObject *location_compare(PyObject *one, PyObject *other, int how)
+{
+    if (Py_TYPE(one) != Py_TYPE(other) || (how != Py_EQ && how != Py_NE))
+        return Py_NewRef(Py_NotImplemented);
+    return PyObject_RichCompare(((Location *)one)->text, ((Location *)other)->text, how);
+}
+
+static Py_hash_t location_hash(Location *self)
+{
+    return PyObject_Hash(self->text);
+}
+
 static void location_dealloc(Location *self)
 {
     Py_XDECREF(self->text);
@@ -67,9 +79,10 @@ static PyGetSetDef location_gets[] = {
 };
 static PyType_Slot location_slots[] = {
     {Py_tp_doc, "Location(place)\n--\n\n"
-                "A location that is prepared once, for agents and steps of any storage: calls with it write no text of it."},
+                "A location that is prepared once, for agents and steps of any storage: calls with it write no text of it. Two of one\n"
+                "place are equal."},
     {Py_tp_new, location_new}, {Py_tp_dealloc, location_dealloc}, {Py_tp_methods, location_methods}, {Py_tp_members, holder_members},
-    {Py_tp_getset, location_gets}, {Py_tp_repr, location_repr}, {0}};
+    {Py_tp_getset, location_gets}, {Py_tp_repr, location_repr}, {Py_tp_richcompare, location_compare}, {Py_tp_hash, location_hash}, {0}};
 PyType_Spec location_spec = {"folugben.Location", sizeof(Location), 0, Py_TPFLAGS_DEFAULT | Py_TPFLAGS_IMMUTABLETYPE, location_slots};
 
 /* Finds the kind by how the text begins. Returns whether it is one. */

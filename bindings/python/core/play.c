@@ -60,7 +60,11 @@ static PyObject *end_attempt(Step *step, PyObject *result, long tries)
         Py_CLEAR(result);
     }
     int is_idle = result && !step->is_pushed && IS_FULL(step);
-    int64_t number = !result ? -1 : is_idle ? 0 : fire_step(step, 1);
+    int64_t number = -1;
+    if (result && step->is_fired) /* by its rule */
+        number = (int64_t)(step->agent->base + step->fired);
+    else if (result)
+        number = is_idle ? 0 : fire_step(step, 1);
     if (IS_FULL(step) && !(ODD(step->agent->holder.is_busy) && unready(&step->agent->holder)))
         step_drop(step);
     Py_DECREF((PyObject *)step);

@@ -159,18 +159,6 @@ static PyObject *step_try_commit(Step *self, PyObject *Py_UNUSED(none))
     return number < 0 ? NULL : PyLong_FromLongLong(number);
 }
 
-static PyObject *step_fire(PyObject *self, PyObject *Py_UNUSED(none))
-{
-    int failed = PyErr_WarnEx(PyExc_DeprecationWarning, "Step.fire is deprecated: it is Step.commit", 1);
-    return failed ? NULL : PyObject_CallMethod(self, "commit", NULL);
-}
-
-static PyObject *step_try_fire(PyObject *self, PyObject *Py_UNUSED(none))
-{
-    int failed = PyErr_WarnEx(PyExc_DeprecationWarning, "Step.try_fire is deprecated: it is Step.try_commit", 1);
-    return failed ? NULL : PyObject_CallMethod(self, "try_commit", NULL);
-}
-
 static PyObject *step_free(Step *self, PyObject *Py_UNUSED(none))
 {
     if (UNREADY(&self->agent->holder))
@@ -199,6 +187,15 @@ static PyObject *step_exit(Step *self, PyObject *const *words, Py_ssize_t count)
     if (is_forgotten && PyErr_WarnEx(PyExc_ResourceWarning, "a step ended with moves that were pushed and not fired", 1))
         return NULL;
     return Py_NewRef(Py_None);
+}
+
+/* step[at] = value; del step[at] leaves the location empty. */
+static int step_assign(Step *self, PyObject *at, PyObject *value)
+{
+    PyObject *const words[] = {at, value ? value : Py_None};
+    PyObject *none = step_put(self, words, 2);
+    Py_XDECREF(none);
+    return none ? 0 : -1;
 }
 
 static PyObject *step_repr(Step *self)
@@ -282,8 +279,6 @@ static PyMethodDef methods[] = {
         "    ManyError: the fire would name more than 256 locations and functions."},
     {"try_commit", (PyCFunction)step_try_commit, METH_NOARGS,
         "try_commit($self, /)\n--\n\nCommit the same way, but return 0 if the step must be begun again."},
-    {"fire", step_fire, METH_NOARGS, NULL},
-    {"try_fire", step_try_fire, METH_NOARGS, NULL},
     {"free", (PyCFunction)step_free, METH_NOARGS, "free($self, /)\n--\n\nRelease it; releasing again has no effect."},
     {"_offer_text", (PyCFunction)step_offer_text, METH_NOARGS, NULL},
     {"_end", (PyCFunction)step_end, METH_O, NULL},
@@ -314,6 +309,6 @@ static PyType_Slot slots[] = {
                 "something that the step depends on was written since. A refused call leaves the step unchanged. The step is over once it is\n"
                 "fired, and at the end of its `with`; calls then raise `OverError`. A step that isn't fired leaves no trace. If its agent has\n"
                 "moved past `number`, a get, a scan or a push raises `MovedError`."},
-    {Py_mp_subscript, step_at}, {Py_tp_new, step_new}, {Py_tp_dealloc, step_dealloc}, {Py_tp_traverse, step_traverse}, {Py_tp_methods, methods},
+    {Py_mp_subscript, step_at}, {Py_mp_ass_subscript, step_assign}, {Py_tp_new, step_new}, {Py_tp_dealloc, step_dealloc}, {Py_tp_traverse, step_traverse}, {Py_tp_methods, methods},
     {Py_tp_members, members}, {Py_tp_getset, gets}, {Py_tp_repr, step_repr}, {0}};
 PyType_Spec step_spec = {"folugben.Step", sizeof(Step), 0, Py_TPFLAGS_DEFAULT | Py_TPFLAGS_BASETYPE | Py_TPFLAGS_HAVE_GC, slots};

@@ -70,9 +70,6 @@ if _sys.argv[:1] == ["-m"] and any(
 ):
     _sys.path[:] = [it for it in _sys.path if it and it != _os.getcwd()]
 
-import warnings
-from typing import TYPE_CHECKING
-
 try:
     from . import _core
 except ImportError as error:
@@ -109,17 +106,3 @@ __all__ = [
     "UnknownError", "Update", "Value", "aggregate", "audit", "check", "compose", "error_text", "explain", "explore", "import_run",
     "interleave", "part", "replay", "states", "trace", "version",
 ]
-
-if not TYPE_CHECKING:
-    # Former names, deprecated; the next version removes them.
-    _BEFORE = {name.removesuffix("Error"): name for name in __all__ if name.endswith("Error") and name != "Error"} | {
-        "Retry": "ConflictError",
-    }
-
-    def __getattr__(name):
-        kind = next((kind for kind in (Code, TextForm) if name in kind.__members__), None)
-        if kind is None and name not in _BEFORE:
-            raise AttributeError(f"module {__name__!r} has no attribute {name!r}")
-        now = _BEFORE.get(name) or f"{kind.__name__}.{name}"
-        warnings.warn(f"folugben.{name} is deprecated: it is folugben.{now}", DeprecationWarning, stacklevel=2)
-        return kind[name] if kind else globals()[now]

@@ -1,7 +1,6 @@
 """Exceptions of calls that weren't answered, or whose move wasn't fired or pushed."""
 import json
 import operator
-import warnings
 from collections.abc import Iterable
 from typing import Any, TypeAlias
 
@@ -12,6 +11,7 @@ CODES = frozenset(Code)
 # The codes whose own line says less than what an error says.
 _DETAIL_SUFFICES = frozenset({
     Code.NOT_JSON, Code.SHAPE, Code.CAPACITY, Code.AGENTS, Code.AHEAD, Code.OPERAND, Code.NO_FORM, Code.MANY, Code.LONG_MOVE,
+    Code.EMPTY,
 })
 
 # A text in UTF-8, or as a Python str.
@@ -44,27 +44,16 @@ def error_text(code: int) -> str:
     return _core.text_call(ERROR_TEXT, code if -(2**31) <= code < 2**31 else -1)[1].decode()
 
 
-class _Detailed:
-    """An error with a detail, and the former name of it."""
-
-    detail: str
-
-    @property
-    def said(self) -> str:
-        """Return `detail` by its former name, which the next version removes."""
-        name = type(self).__name__
-        warnings.warn(f"{name}.said is deprecated: it is {name}.detail", DeprecationWarning, stacklevel=2)
-        return self.detail
-
-
-class Error(_Detailed, Exception):
+class Error(Exception):
     """A call that wasn't answered, with its code, and its numbers if the code has any.
 
+    All errors of the package are of this class. `code` is None of one that no call of the library reports.
     `detail` reports, for a refused text, where and why, as `explain` does; for a refused move, at which location; and for
     refused declared reads and scans, which one is named at a number that the agent hasn't seen.
     """
 
     _detail_suffices = _DETAIL_SUFFICES
+    code: Code | int | None
 
     def __init__(self, code: int, numbers: Iterable[int] = (), detail: str = "") -> None:
         self.code = Code(code) if code in CODES else code
@@ -73,11 +62,26 @@ class Error(_Detailed, Exception):
         super().__init__(self.code, self.numbers, self.detail)
 
     def __str__(self) -> str:
-        text = error_text(self.code)
+        code = -1 if self.code is None else self.code
+        text = error_text(code)
         if self.detail:
-            text = self.detail if self.code in self._detail_suffices else f"{text}: {self.detail}"
-        where = NUMBERS[self.code].format(*self.numbers) if self.numbers else ""
+            text = self.detail if code in self._detail_suffices else f"{text}: {self.detail}"
+        where = NUMBERS[code].format(*self.numbers) if self.numbers else ""
         return text if text.endswith(where) else f"{text} ({where})"
+
+
+class PackageError(Error):
+    """An error that no call of the library reports: it has no code."""
+
+    code = None
+    numbers = ()
+    detail = ""
+
+    def __init__(self, *words: object) -> None:
+        Exception.__init__(self, *words)
+
+    def __str__(self) -> str:
+        return Exception.__str__(self)
 
 
 class ConflictError(Error):
@@ -160,7 +164,7 @@ class PastError(ConflictError):
     """
 
 
-class BrokenError(RuntimeError):
+class BrokenError(PackageError, RuntimeError):
     """A run has ended, as its part with the number `part` couldn't be written.
 
     What comes before that part in its file is complete. The cause is `MissingError` if an agent was abandoned that had fired,
@@ -176,7 +180,7 @@ class BrokenError(RuntimeError):
         return f"the run has ended, as its part {self.part} couldn't be written: {reason}"
 
 
-class DamagedError(_Detailed, RuntimeError):
+class DamagedError(PackageError, RuntimeError):
     """What is stored of a run isn't what the run has written.
 
     `segment` is the number of the first segment concerned.
@@ -190,14 +194,14 @@ class DamagedError(_Detailed, RuntimeError):
         return f"segment {self.segment}: {self.detail}"
 
 
-class MismatchError(ValueError):
+class MismatchError(PackageError, ValueError):
     """A shared run has another opening state, or tables of another version.
 
     The opening state is compared with the given one.
     """
 
 
-class UnknownError(RuntimeError):
+class UnknownError(PackageError, RuntimeError):
     """It is unknown whether a move of a shared run was fired.
 
     The process was away while others saved several segments.
@@ -291,7 +295,7 @@ def as_conflict(error: Error) -> Error:
     """Return the error of a commit that was answered as a fire."""
     if type(error) is not ClashError:
         return error
-    clash = CommitClashError(error.code, detail=error.detail)
+    clash = CommitClashError(Code.CLASH, detail=error.detail)
     clash.at, clash.cause = error.at, error.cause
     return clash
 

@@ -12,7 +12,7 @@ from contextlib import suppress
 from heapq import heappop, heappush
 from typing import TYPE_CHECKING, NamedTuple, TypeAlias
 
-from ._errors import Error
+from ._errors import Error, PackageError
 from ._footprint import Footprint, RecordingPlayer
 from ._breaches import Breach, Event, Holds, Invariant, turns_for
 from ._turns import EndlessError, Turns, interleave, play_all
@@ -27,7 +27,7 @@ Make: TypeAlias = "Callable[[], Storage]"
 Program: TypeAlias = "Callable[[Agent], object]"
 
 
-class DiffersError(RuntimeError):
+class DiffersError(PackageError, RuntimeError):
     """The programs did something else in the same schedule.
 
     For example, they draw at random, or share more than the storage.
@@ -37,7 +37,8 @@ class DiffersError(RuntimeError):
 class Explored(NamedTuple):
     """The result of a search.
 
-    Either all schedules hold (`is_exhaustive`), or the turns that break something are there, if not None.
+    Either all schedules hold (`is_exhaustive`), or the turns that break something are there, if not None. At a bound of the search
+    at least `left` schedules weren't played: as many are known, and each of them may lead to more.
 
     `interleave` plays the turns again, and `journal` is the journal of that schedule; `broken` says what doesn't hold, and
     `error` is what a program has raised.
@@ -49,6 +50,7 @@ class Explored(NamedTuple):
     journal: bytes | None = None
     broken: str = ""
     error: BaseException | None = None
+    left: int = 0
 
     def __repr__(self) -> str:
         return f"<Explored: {self}>"
@@ -56,7 +58,8 @@ class Explored(NamedTuple):
     def __str__(self) -> str:
         if self.turns is not None:
             return f"{self.broken}, by the turns {self.turns}; {self.schedules:,} schedules were played"
-        return f"{self.schedules:,} schedules hold, {'which are all' if self.is_exhaustive else 'and there are more'}"
+        more = f"and at least {self.left:,} are left" if self.left else "and there are more"
+        return f"{self.schedules:,} schedules hold, {'which are all' if self.is_exhaustive else more}"
 
 
 class _Node(NamedTuple):
@@ -210,7 +213,7 @@ class _Play:
 
 def explore(
     make: Make, programs: Sequence[Program], invariant: Invariant | None = None, *, at_end: Invariant | None = None,
-    schedules: int = 10_000, seconds: float = 60.0, turns: int = 10_000,
+    schedules: int = 10_000, seconds: float = 20.0, turns: int = 10_000,
 ) -> Explored:
     """Search for a schedule of the programs that breaks the invariant, shortest first.
 
@@ -225,7 +228,8 @@ def explore(
     The programs must share nothing except the storage, and must do the same in the same schedule. They may name the number of
     a move in a fire, but must not compute with it.
 
-    The search ends at the first finding, after the given number of schedules or seconds, or when it has tried all.
+    The search ends at the first finding, when it has tried all, or at a bound: after the given number of schedules or seconds.
+    At a bound the result says how many schedules hold, and how many more are known.
 
     Raises:
         EndlessError: a schedule hasn't ended after the given number of turns, for example because agents wait for each other.
@@ -250,7 +254,7 @@ def explore(
             return Explored(schedules_played, False, turns_of, journal, breach.broken, breach.error)
         if not queue and tree.has_grown:
             tree, queue = _Tree(tree.footprints), [(0, 0, [])]
-    return Explored(schedules_played, is_exact and not queue)
+    return Explored(schedules_played, is_exact and not queue, left=len(queue))
 
 
 def _replay_finding(make: Make, programs: Sequence[Program], breach: Breach, play: _Play, most: int) -> tuple[list[int], bytes]:

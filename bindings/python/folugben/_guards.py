@@ -8,18 +8,20 @@ from contextlib import AbstractContextManager
 from types import FrameType
 from typing import Any, NoReturn, ParamSpec, TypeVar
 
+from ._errors import PackageError
+
 _P = ParamSpec("_P")
 _R = TypeVar("_R")
 
 
-class NestedError(RuntimeError):
+class NestedError(PackageError, RuntimeError):
     """A signal handler or a finalizer called a run during another call of its thread.
 
     Nothing was done.
     """
 
 
-class ForkedError(RuntimeError):
+class ForkedError(PackageError, RuntimeError):
     """A call in the child of a fork used an object of its parent; nothing was done.
 
     The child has a copy of the parent's memory. So nothing that it fires reaches the parent, and a lock that another thread of

@@ -55,8 +55,8 @@ def play(
             else:
                 if isinstance(result, _NO_RULES):
                     no_rule(result)
-                if not step._is_pushed:
-                    return Played((0, result, retries))
+                if step.fired or not step._is_pushed:
+                    return Played((step.fired, result, retries))
                 try:
                     number = step.commit() if is_bounded else step.try_commit()
                 except ConflictError as error:

@@ -118,8 +118,20 @@ def leave(storage: "Storage", path: str, error: BaseException | None) -> None:
 
 def read(code: int, form: int, text: bytes) -> None:
     if code == Code.MANY:
-        expect(code, detail=f"{len(json.loads(text)):,} locations: a read, or a step, depends on at most 256 locations and functions")
+        count = len(json.loads(text))
+        many = f"{count:,} locations: a read, or a step, depends on at most 256 locations and functions"
+        expect(code, detail=many if count > 256 else _STEP_LIMITS[code])
+    if code == Code.SHAPE and (detail := _bare_name(json.loads(text))):
+        expect(code, detail=detail)
     expect_read(code, form, text)
+
+
+def _bare_name(places: Any) -> str:
+    """Return how to pass a name that stands for a location, or for a list of them; else nothing."""
+    if isinstance(places, str):
+        return f"the locations are a list, as [({places!r},)], and not {places!r}"
+    items = enumerate(places, 1) if isinstance(places, list) else ()
+    return next((f"location {place}: a location in a list is a tuple, as ({it!r},), and not {it!r}" for place, it in items if isinstance(it, str)), "")
 
 
 def stands(code: int, agent: "Agent", reads: bytes) -> None:

@@ -59,7 +59,7 @@ class RunAgent:
     ) -> Played[_R]:
         """Play a rule as the agent of a storage does; begin again if the part has ended.
 
-        An exception of the rule ends the play, and nothing is fired; except `PastError`, if the step was returned.
+        An exception of the rule ends the play, which fires nothing; except `PastError`, if the step was returned.
         """
         return play(self, rule, tries=tries, timeout=timeout)
 

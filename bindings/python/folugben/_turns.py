@@ -6,6 +6,7 @@ from types import TracebackType
 from typing import Any, Self, TypeVar
 
 from ._core import Played
+from ._errors import PackageError
 from ._play import play
 
 _A = TypeVar("_A")
@@ -21,7 +22,7 @@ CALLS = WRITES | {
 _GRACE = 5.0
 
 
-class EndlessError(RuntimeError):
+class EndlessError(PackageError, RuntimeError):
     """A schedule has not ended after the allowed number of turns.
 
     For example, an agent waits for another one forever.
@@ -166,6 +167,12 @@ class TurnProxy:
 
     def __getitem__(self, place: Any) -> Any:
         return self.player.call(self, "__getitem__", (place,), {})
+
+    def __setitem__(self, place: Any, value: Any) -> None:
+        self.player.call(self, "put", (place, value), {})
+
+    def __delitem__(self, place: Any) -> None:
+        self.player.call(self, "put", (place, None), {})
 
     def __enter__(self) -> Self:
         self.own.__enter__()

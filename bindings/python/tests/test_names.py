@@ -1,4 +1,4 @@
-"""Tests of former names, retry loops, and a package without its compiled part.
+"""Tests of names, retry loops, and a package without its compiled part.
 
 For retry loops they test what such a loop catches. python3 test.py runs them too.
 """
@@ -14,25 +14,12 @@ from folugben import ClashError, CommitClashError, ConflictError, StaleError, St
 
 
 class Names(unittest.TestCase):
-    def test_errors_end_in_error_and_old_names_stay(self) -> None:
+    def test_errors_end_in_error(self) -> None:
         for name in folugben.__all__:
             its = getattr(folugben, name)
             if isinstance(its, type) and issubclass(its, BaseException):
                 self.assertTrue(name.endswith("Error") and its.__name__ == name, name)
             self.assertFalse(name.isupper(), name)
-        for old, now in [("Stale", StaleError), ("Retry", ConflictError), ("STALE", folugben.Code.STALE), ("MOVE", folugben.TextForm.MOVE)]:
-            with self.assertWarnsRegex(DeprecationWarning, f"folugben.{old} is deprecated: it is folugben."):
-                self.assertIs(getattr(folugben, old), now)
-        with self.assertRaises(AttributeError):
-            folugben.Quick
-        for error in folugben.Error(folugben.Code.SHAPE, detail="a text"), folugben.DamagedError(1, "a text"):
-            with self.assertWarnsRegex(DeprecationWarning, "said is deprecated: it is .*detail"):
-                self.assertEqual(error.said, "a text")
-        with Storage() as storage, storage.agent(0) as agent:
-            with agent.step() as step, self.assertWarnsRegex(DeprecationWarning, "it is Step.commit"):
-                self.assertEqual(step.fire(), 1)
-            with agent.step() as step, self.assertWarnsRegex(DeprecationWarning, "it is Step.try_commit"):
-                self.assertEqual(step.try_fire(), 2)
 
     def test_a_retry_loop_catches_conflicts_alone(self) -> None:
         with Storage({"bag": {"bag": [["e", 1]]}, "count": 0}) as storage, storage.agent(0) as agent, storage.agent(1) as rival:

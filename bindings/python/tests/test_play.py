@@ -2,6 +2,7 @@
 
 python3 test.py runs them too.
 """
+import pickle
 import threading
 import time
 import unittest
@@ -55,6 +56,57 @@ class Plays(Rooms):
                 for limits in ({}, {"tries": 1}):
                     self.assertEqual(tuple(anna.play(rule, **limits)), (0, 0))
             self.assertEqual((anna.won, anna.follow()), (0, 0))
+
+    def test_a_rule_that_commits_ends_the_play_with_its_move(self):
+        for anna, ben in self.agents():
+            def commits(step):
+                step.inc("count", 1)
+                return step.commit()
+
+            def tries(step):
+                count = step["count"]
+                if ben.won == 0:
+                    ben.play(commits)
+                step.put("count", count + 1)
+                return step.try_commit()
+
+            for limits in ({}, {"tries": 2}):
+                played = anna.play(commits, **limits)
+                self.assertEqual((played.number, played.result, played.retries), (anna.won, anna.won, 0))
+            # The first commit was in vain, and so was that of the play.
+            played = anna.play(tries)
+            self.assertEqual((played.number, played.result, played.retries), (4, 4, 1))
+            self.assertEqual(anna.follow(), 4)
+            with self.assertRaises(folugben.OverError):
+                anna.play(lambda step: commits(step) and step["count"])
+            self.assertEqual((anna.follow(), anna.peek([("count",)])), (5, (5, [5])))
+
+    def test_locations_are_assigned(self):
+        def assigns(step):
+            step["count"] = step["count"] + 1
+            step["seat", True] = (1, None)
+            step[Location("bag")] = {"bag": [["e", 2]]}
+            self.assertEqual((step["count"], step["seat", True], step["seat", 1]), (1, (1, None), None))
+            del step["seat", True]
+            with self.assertRaisesRegex(Error, "a set can't hold a set"):
+                step["count"] = {"set": [{"set": []}]}
+            return step["bag"]["e"]
+
+        for anna, ben in self.agents():
+            self.assertEqual(anna.play(assigns)[1], 2)
+            self.assertEqual(anna.follow(), 1)
+            self.assertEqual(anna.peek([("count",), ("seat", True)])[1], [1, None])
+            interleave([anna, ben], [lambda agent: agent.play(lambda step: step.__setitem__("count", 5))] * 2, [0, 1, 1])
+            self.assertEqual(anna.follow(), 3)
+
+    def test_equal_locations_are_equal(self):
+        one, other = Location("x"), Location(("x",))
+        self.assertEqual((one == other, one != other, len({one, other})), (True, False, 1))
+        self.assertNotEqual(Location(("f", 1)), Location(("f", True)))
+        self.assertNotEqual(one, ("x",))
+        self.assertEqual(Location(("f", (1, "ä"))), Location(["f", {"list": [1, "ä"]}]))
+        with self.assertRaises(TypeError):
+            one < other
 
     def test_bounds(self):
         for anna, ben in self.agents():
@@ -158,6 +210,33 @@ class Messages(unittest.TestCase):
             self.assertRaises((TypeError, Error), call, 7)
         for name in ("a", "_", "Z9_", "x" * 64):
             self.assertEqual(self.agent.scan(name)[1], [])
+
+    def test_slips(self):
+        agent, step = self.agent, self.agent.step()
+        step.get([("x", k) for k in range(256)])
+        for call in (lambda: step.get([("y",)]), lambda: step["y"], lambda: step.get(Location("y"))):
+            self.assert_message(ManyError, "^a step depends on at most 256 locations and functions$", call)
+        for call in agent.read, agent.peek, step.get, step.see:
+            self.assert_message(Error, r"^the locations are a list, as \[\('x',\)\], and not 'x'$", call, "x")
+            self.assert_message(Error, r"^location 2: a location in a list is a tuple, as \('x',\), and not 'x'$", call, [("y",), "x"])
+        agent.give()
+        self.assert_message(Error, "^the agent was returned$", agent.follow)
+        self.assert_message(Error, "^the agent was returned$", lambda: step["x"])
+        move = Move()
+        move.free()
+        self.assert_message(Error, "^the move was freed$", move.put, "x", 1)
+
+    def test_every_error_is_an_error(self):
+        errors = [it for it in vars(folugben).values() if isinstance(it, type) and issubclass(it, Exception)]
+        self.assertEqual([it for it in errors if not issubclass(it, Error)], [])
+        others = {it.__name__ for it in errors if issubclass(it, (RuntimeError, ValueError))}
+        eight = "Broken Damaged Differs Endless Forked Mismatch Nested Unknown"
+        self.assertEqual(others, {f"{it}Error" for it in eight.split()})
+        with self.assertRaises(Error) as caught:
+            raise folugben.DamagedError(3, "a digest differs")
+        error = pickle.loads(pickle.dumps(caught.exception))
+        self.assertEqual((str(error), error.code, error.numbers, error.segment), ("segment 3: a digest differs", None, (), 3))
+        self.assertEqual(str(folugben.EndlessError("agent 1 is still running")), "agent 1 is still running")
 
     def test_an_agent_of_two_threads(self):
         step = self.agent.step()

@@ -148,8 +148,7 @@ final class AuditTests {
         Auditor auditor = new Auditor();
         auditor.close();
         auditor.close();
-        String message = Code.EMPTY.text()
-                + ": the auditor was closed";
+        String message = "the auditor was closed";
         for (Runnable call : List.<Runnable>of(auditor::end, auditor::state,
                      () -> auditor.feed(new byte[0]), () -> auditor.feed(new byte[1])))
             equal(refused(Code.EMPTY, call).getMessage(), message);
@@ -181,8 +180,7 @@ final class AuditTests {
             outOfRange(() -> other.goOn(0));
             taken.give();
             equal(refused(Code.EMPTY, () -> taken.goOn(3)).getMessage(),
-                    Code.EMPTY.text()
-                            + ": the agent was returned");
+                    "the agent was returned");
             try (Storage next = other.goOn(3); Agent behind = next.agent(0)) {
                 equal(behind.read(List.of(COUNT)).value(COUNT), Element.of(2));
                 behind.fire(up, List.of());

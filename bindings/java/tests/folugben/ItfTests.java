@@ -172,7 +172,7 @@ final class ItfTests {
         out.setLength(0);
         FolugbenException error = refused(Code.LONG_LINE,
                 () -> ItfWriter.write(Storage.trace(RUN), out, "", 0, 7, length - 1));
-        equal(error.getClass(), LargeException.class);
+        equal(error.getClass(), TooLongException.class);
         equal(error.getMessage(), Code.LONG_LINE.text() + ": the states of moves 0 to 7 have more than "
                 + String.format(Locale.ROOT, "%,d", length - 1) + " characters: take fewer by first and last");
         equal(out.toString(), STATES.substring(0, STATES.lastIndexOf(",\n")));

@@ -86,7 +86,6 @@ final class MisuseTests {
     }
 
     static void closedObjectsSaySo() {
-        String over = Code.EMPTY.text() + ": ";
         Storage storage = Storage.open(Map.of(), 10);
         Agent agent = storage.agent(3);
         try (Step step = agent.step(); PreparedLocation x = X.prepare(); Move move = new Move()) {
@@ -96,7 +95,7 @@ final class MisuseTests {
             for (Runnable call : List.<Runnable>of(step::commit, step::pop, () -> step.get(X),
                          () -> step.get(x), () -> step.scan("x"), step::push, () -> step.push(move)))
                 equal(refused(Code.EMPTY, call).getMessage(),
-                        over + "the step is over: it was fired or closed");
+                        "the step is over: it was fired or closed");
             refusedAt(Code.MISSING, 1, ": agent 3 was not returned: it fired move 1",
                     storage::closeJournal);
             storage.agent(4).abandon(); // which may have fired it
@@ -115,14 +114,14 @@ final class MisuseTests {
                          () -> agent.stands("[]"), () -> open.get(X), () -> open.get(x),
                          () -> open.push(move), open::push, open::commit))
                 equal(refused(Code.EMPTY, call).getMessage(),
-                        over + "the agent was returned");
+                        "the agent was returned");
             open.close();
         }
         storage.close();
         for (Runnable call : List.<Runnable>of(storage::moves, storage::closeJournal,
                      () -> storage.agent(1), () -> storage.next(1)))
             equal(refused(Code.EMPTY, call).getMessage(),
-                    over + "the storage was closed");
+                    "the storage was closed");
     }
 
     static void lookupsNeedElements() {

@@ -301,7 +301,7 @@ final class PlainTests {
             Step next = agent.step();
             x.close();
             x.close();
-            String message = Code.EMPTY.text() + ": the ";
+            String message = "the ";
             for (Runnable call : List.<Runnable>of(() -> next.get(x), () -> next.getNumber(x),
                          () -> agent.peek(x), () -> agent.peekNumber(x), () -> move.put(x, 1),
                          () -> move.put(x, "text")))

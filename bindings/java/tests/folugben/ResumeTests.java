@@ -334,44 +334,10 @@ final class ResumeTests {
             equal(RunTests.counted(path, 2).parts(), 3L);
         }
 
-        private static String part(int from, int to) {
-            StringBuilder text = new StringBuilder();
-            try (Storage storage = new Storage("[[[\"count\"]," + from + "]]", 10)) {
-                try (Agent agent = storage.agent(0)) {
-                    for (int count = from; count < to; count++)
-                        agent.fire(List.of(RunTests.up()), List.of());
-                }
-                text.append(storage.closeJournal());
-            }
-            return text.toString();
-        }
-
-        private static void filesAreImported(Path path) throws IOException {
-            Path file = path.resolveSibling("old.run");
-            String journal = part(0, 3) + part(3, 5);
-            Files.writeString(file, journal + part(5, 7).substring(0, 150));
-            Run.Imported imported = Run.importFile(file, path);
-            equal(imported, new Run.Imported(new Auditor.Counts(2, 5, 5), 150));
-            equal(RunTests.counted(path, 5), new Auditor.Counts(3, 5, 5));
-            try (Run run = Run.resume(path); RunAgent agent = run.agent(0)) {
-                equal(RunTests.count(agent).move(), 6L);
-            }
-            try {
-                Run.importFile(file, path);
-                throw new IllegalStateException("imported twice");
-            } catch (UncheckedIOException fault) {
-                equal(fault.getCause().getClass(), FileAlreadyExistsException.class);
-            }
-            Path bad = path.resolveSibling("bad");
-            Files.writeString(file, journal.replace("\"fired\":2", "\"fired\":1"));
-            Test.Checks.refused(Code.ILLEGAL, () -> Run.importFile(file, bad));
-            equal(Files.exists(bad), false);
-        }
-
         static void all() {
             try {
                 for (RunTests.OnFile test : List.<RunTests.OnFile>of(SavingTests::flushesSaveAll,
-                             SavingTests::timeEndsParts, SavingTests::filesAreImported))
+                             SavingTests::timeEndsParts))
                     RunTests.withFile(test);
             } catch (Exception fault) {
                 throw fault instanceof RuntimeException error ? error : new IllegalStateException(fault);

@@ -33,7 +33,7 @@ final class RunEndTests {
         step.push(RunTests.up());
         run.close();
         run.close();
-        String message = Code.EMPTY.text() + ": the run was closed";
+        String message = "the run was closed";
         for (Runnable call : List.<Runnable>of(agent::step, agent::follow, agent::state,
                      () -> run.agent(1), step::commit, () -> step.get(COUNT), () -> RunTests.count(agent)))
             equal(refused(Code.EMPTY, call).getMessage(), message);
@@ -43,27 +43,27 @@ final class RunEndTests {
         equal(RunTests.counted(path, 1), new Auditor.Counts(2, 1, 1));
     }
 
-    private static RunException fails(Runnable call) {
+    private static BrokenException fails(Runnable call) {
         try {
             call.run();
-        } catch (RunException fault) {
+        } catch (BrokenException fault) {
             return fault;
         }
         throw new IllegalStateException("the run hasn't ended");
     }
 
     /** Patience.Plays until the run has ended. */
-    private static RunException failsInTime(RunAgent agent) {
+    private static BrokenException failsInTime(RunAgent agent) {
         return fails(() -> {
             while (true) RunTests.count(agent);
         });
     }
 
-    private static void allThrow(Run run, RunException first, List<RunAgent> agents) {
+    private static void allThrow(Run run, BrokenException first, List<RunAgent> agents) {
         for (RunAgent agent : agents)
             for (Runnable call : List.<Runnable>of(
                          () -> RunTests.count(agent), agent::step, agent::follow, agent::state)) {
-                RunException error = fails(call);
+                BrokenException error = fails(call);
                 equal(error.part(), first.part());
                 equal(error.getCause(), first.getCause());
             }
@@ -81,7 +81,7 @@ final class RunEndTests {
         for (int i = 0; i < 4; i++) RunTests.count(agent);
         RunTests.count(lost);
         lost.abandon();
-        RunException error = failsInTime(agent);
+        BrokenException error = failsInTime(agent);
         equal(error.part(), 3L);
         equal(((FolugbenException) error.getCause()).code(), Code.MISSING);
         equal(error.getMessage(), "part 3 of the run can't be written: "
@@ -123,7 +123,7 @@ final class RunEndTests {
         Run run = Run.resume(path, 1000);
         List<RunAgent> agents = List.of(run.agent(0), run.agent(1));
         RunTests.count(agents.get(1));
-        RunException error = failsInTime(agents.get(0));
+        BrokenException error = failsInTime(agents.get(0));
         equal(error.part(), 6L);
         equal(error.part(), run.parts());
         equal(error.getCause() instanceof IOException, true);
@@ -165,7 +165,7 @@ final class RunEndTests {
             while (run.parts() < 2) Thread.sleep(1);
             harm.on(path);
             Step step = other.step();
-            RunException error = failsInTime(agent);
+            BrokenException error = failsInTime(agent);
             equal(error.part(), 2L);
             equal(error.getCause().getClass(), DamagedException.class);
             equal(fails(() -> step.get(COUNT)).part(), 2L);
@@ -183,7 +183,7 @@ final class RunEndTests {
     private static void linesAreShort(Path path) throws IOException {
         String state = "[[[\"a\"],\"" + "x".repeat(Texts.Lines.LIMIT) + "\"]]";
         equal(refused(Code.LONG_LINE, () -> Run.open(state, path, 5, 9)).getClass(),
-                LargeException.class);
+                TooLongException.class);
         equal(Files.exists(path), false);
     }
 
@@ -195,7 +195,7 @@ final class RunEndTests {
                 PreparedLocation at = text.prepare(); Move move = new Move()) {
             List<Instruction> both = List.of(Instruction.put(text, half),
                     Instruction.put(Location.of("u"), half));
-            Class<LargeException> kind = LargeException.class;
+            Class<TooLongException> kind = TooLongException.class;
             equal(refused(Code.LONG_LINE, () -> agent.fire(both, List.of())).getClass(), kind);
             try (Step step = agent.step()) {
                 step.push(both);
@@ -228,12 +228,12 @@ final class RunEndTests {
         agent.record(true);
         try (Step step = agent.step()) {
             step.get(texts);
-            equal(refused(Code.LONG_LINE, step::commit).getClass(), LargeException.class);
+            equal(refused(Code.LONG_LINE, step::commit).getClass(), TooLongException.class);
         }
         try (Step step = agent.step()) {
             for (Location it : texts)
                 refused(Code.CLASH, () -> step.push(Instruction.inc(it, 1)));
-            equal(refused(Code.LONG_LINE, step::commit).getClass(), LargeException.class);
+            equal(refused(Code.LONG_LINE, step::commit).getClass(), TooLongException.class);
         }
         agent.record(false);
     }
@@ -247,8 +247,7 @@ final class RunEndTests {
             agent.close();
             agent.close();
             equal(refused(Code.EMPTY, agent::step).getMessage(),
-                    Code.EMPTY.text()
-                            + ": the agent was closed");
+                    "the agent was closed");
             try (RunAgent again = run.agent(7)) {
                 equal(again.won(), 0L);
                 for (int i = 1; i < 5; i++)

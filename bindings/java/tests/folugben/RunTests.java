@@ -194,7 +194,7 @@ final class RunTests {
     private static void isFull(Agent.Reply reply) {
         equal(reply.code(), Code.FULL);
         equal(reply.isOfRun() && reply.shouldRetry(), true);
-        equal(refused(Code.FULL, reply::orThrow) instanceof PartException, true);
+        equal(refused(Code.FULL, reply::orThrow) instanceof PastException, true);
     }
 
     /** A step in a part that is full finds that out as it is fired, and in a while in any case. */
@@ -214,7 +214,7 @@ final class RunTests {
                 while (run.parts() < 5) Thread.sleep(1);
                 for (Runnable call : List.<Runnable>of(() -> step.get(COUNT),
                              () -> step.push(up()), () -> step.scan("count"), step::commit))
-                    equal(refused(Code.FULL, call) instanceof PartException, true);
+                    equal(refused(Code.FULL, call) instanceof PastException, true);
                 isFull(step.tryCommit());
             }
             int[] tries = new int[1];
@@ -225,7 +225,7 @@ final class RunTests {
                 return step.get(COUNT).asLong();
             }).result() > 20, true);
             equal(tries[0], 3);
-            PartException own = PartException.full();
+            PastException own = PastException.full();
             equal(refused(Code.FULL, () -> slow.play(step -> {
                 throw own;
             })) == own, true);
@@ -250,7 +250,7 @@ final class RunTests {
                 count(agent);
                 count(agent);
                 FolugbenException error = refused(Code.FULL, step::commit);
-                equal(error instanceof PartException && error instanceof ConflictException, true);
+                equal(error instanceof PastException && error instanceof ConflictException, true);
                 try (Step next = slow.step()) {
                     equal(next.number(), 3L);
                     equal(next.get(COUNT), Element.of(3));
@@ -260,7 +260,7 @@ final class RunTests {
             }
             FolugbenException error = refused(Code.FULL,
                     () -> slow.fire(List.of(Instruction.put(COUNT, 9)), old));
-            equal(error instanceof PartException, true);
+            equal(error instanceof PastException, true);
             equal(error.getMessage().endsWith(
                           "count is named at 1, and that part has ended at 2, so read again"),
                     true);
@@ -306,7 +306,7 @@ final class RunTests {
             equal(open.get(COUNT), Element.of(4));
             open.push(Instruction.put(COUNT, 4));
             return open.tryCommit().code() == Code.DONE;
-        } catch (PartException late) {
+        } catch (PastException late) {
             return false;
         } finally {
             open.close();
@@ -322,7 +322,7 @@ final class RunTests {
             for (int i = 0; i < 3; i++) count(agent);
             equal(agent.fire(List.of(up()), List.of()), 4L);
             equal(count(agent), new RunAgent.Played<>(5, 4L, 0));
-            equal(refused(Code.FULL, () -> step.get(COUNT)) instanceof PartException,
+            equal(refused(Code.FULL, () -> step.get(COUNT)) instanceof PastException,
                     true);
             isFull(step.tryCommit());
             step.close();

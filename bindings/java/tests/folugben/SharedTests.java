@@ -181,7 +181,7 @@ final class SharedTests {
                 equal(step.get(COUNT), Element.of(1));
                 equal(step.number(), 0L);
                 equal(step.tryCommit().code(), Code.FULL);
-                equal(refused(Code.FULL, step::commit) instanceof PartException, true);
+                equal(refused(Code.FULL, step::commit) instanceof PastException, true);
             }
             equal(raise(slow), new Actor.Played<>(5, 4L, 0));
             equal(slow.seen(), 5L);
@@ -267,11 +267,11 @@ final class SharedTests {
         SharedAgent agent = run.agent(0);
         raise(agent);
         Files.delete(Path.of(missing));
-        equal(faultOf(() -> raise(agent)).getClass(), RunException.class);
+        equal(faultOf(() -> raise(agent)).getClass(), BrokenException.class);
         equal(faultOf(() -> {
             run.close();
             return null;
-        }).getClass(), RunException.class);
+        }).getClass(), BrokenException.class);
         agent.close();
     }
 

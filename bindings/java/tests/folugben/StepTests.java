@@ -59,6 +59,57 @@ final class StepTests {
         }
     }
 
+    /** A rule that commits its step ends the play with that move. */
+    static void rulesCommit() {
+        try (Storage storage = new Storage(INIT, 8); Agent agent = storage.agent(0);
+                Agent rival = storage.agent(1)) {
+            Actor.Rule<Long, RuntimeException> raise = step -> {
+                step.push(inc("x", 1));
+                return step.commit();
+            };
+            equal(agent.play(raise), new Actor.Played<>(1, 1L, 0));
+            Actor.Played<Boolean> tried = agent.play(step -> {
+                long next = step.getNumber(Location.of("x")) + 1;
+                if (rival.won() == 0)
+                    rival.play(raise);
+                step.push(Instruction.put(Location.of("x"), next));
+                return step.tryCommit().isFired();
+            });
+            // The first commit was in vain, and so was that of the play.
+            equal(tried, new Actor.Played<>(3, true, 1));
+            refused(Code.EMPTY, () -> agent.play(step -> {
+                step.push(inc("x", 1));
+                step.commit();
+                return step.get("[]");
+            }));
+            equal(agent.follow(), 4);
+            equal(agent.peek("[[\"x\"]]"), seen(4, "11"));
+        }
+    }
+
+    /** A message says so if two threads use one agent. */
+    static void agentsAreOfOneThread() {
+        try (Storage storage = new Storage(INIT, 8); Agent agent = storage.agent(0);
+                Agent rival = storage.agent(1); PreparedLocation x = Location.of("x").prepare()) {
+            Step step = agent.step();
+            rival.fire(inc("x", 1), "[]");
+            Thread thread = new Thread(agent::follow);
+            thread.start();
+            Patience.join(thread);
+            for (Runnable call : List.<Runnable>of(() -> step.get(x), () -> step.get("[[\"x\"]]"),
+                         () -> step.push(inc("x", 1))))
+                refusedAt(Code.MOVED, 0, ": agent 0 is used by two threads", call);
+            Step next = agent.step();
+            rival.fire(inc("x", 1), "[]");
+            agent.follow();
+            refusedAt(Code.MOVED, 0, "", () -> next.get(x));
+            step.close();
+            next.close();
+            equal(refused(Code.EMPTY, () -> next.get(x)).getMessage(),
+                    "the step is over: it was fired or closed");
+        }
+    }
+
     static void scans() {
         try (Storage storage = new Storage(INIT, 8); Agent agent = storage.agent(0);
                 Agent rival = storage.agent(1)) {
@@ -412,6 +463,9 @@ final class StepTests {
         System.out.println("looks");
         scans();
         System.out.println("scans");
+        rulesCommit();
+        agentsAreOfOneThread();
+        System.out.println("rules that commit, and two threads");
         steps();
         System.out.println("steps");
         refusals();

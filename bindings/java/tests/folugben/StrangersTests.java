@@ -114,8 +114,7 @@ final class StrangersTests {
     private static void pipes(Path room) throws Exception {
         Path pipe = room.resolve("pipe");
         OtherProcess.run(List.of("mkfifo", "" + pipe));
-        for (Callable<?> call : List.<Callable<?>>of(() -> Auditor.audit(pipe), () -> SharedRun.audit("" + pipe),
-                     () -> Run.importFile(pipe, room.resolve("imported"))))
+        for (Callable<?> call : List.<Callable<?>>of(() -> Auditor.audit(pipe), () -> SharedRun.audit("" + pipe)))
             equal(SharedTests.faultOf(call) instanceof FileSystemException, true);
         Path folder = room.resolve("run");
         try (Run run = Run.open(INIT, folder); RunAgent agent = run.agent(0)) {

@@ -6,13 +6,13 @@ package folugben;
  * <p>The journal lacks a move, as an agent was abandoned that fired it, or the segment can't be
  * saved, as if a disk is full. The cause says which. The folder has the complete parts before it.
  */
-public final class RunException extends RuntimeException {
+public final class BrokenException extends RuntimeException {
     private static final long serialVersionUID = 1;
 
     /** The number of the part. */
     private final long part;
 
-    RunException(long part, Throwable cause) {
+    BrokenException(long part, Throwable cause) {
         super("part " + part + " of the run can't be written: " + cause.getMessage(), cause);
         this.part = part;
     }

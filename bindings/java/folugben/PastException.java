@@ -5,21 +5,21 @@ package folugben;
  *
  * <p>A step was begun in it, or something was read in it. Begin again, in the next part.
  */
-public final class PartException extends ConflictException {
+public final class PastException extends ConflictException {
     private static final long serialVersionUID = 1;
 
-    private PartException(Code code, String detail) {
+    private PastException(Code code, String detail) {
         super(code, 0, detail, "", null);
     }
 
     /** Returns that of a call in a part that is over. */
-    static PartException full() {
-        return new PartException(Code.FULL, "the run continues in its next part");
+    static PastException full() {
+        return new PastException(Code.FULL, "the run continues in its next part");
     }
 
     /** Returns that of a number of a part that is over. */
-    static PartException past(Named read, long begin) {
-        return new PartException(Code.FULL,
+    static PastException past(Named read, long begin) {
+        return new PastException(Code.FULL,
                 read.location() + " is named at " + read.number() + ", and that part has ended at "
                         + begin + ", so read again");
     }

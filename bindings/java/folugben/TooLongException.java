@@ -1,0 +1,25 @@
+package folugben;
+
+import java.util.Locale;
+
+/**
+ * Reports that a line or an output would be too long; nothing was done.
+ *
+ * <p>What a run does would make a line of its journal that is longer than the 1,073,741,824 bytes
+ * that an audit reads; or states in the Informal Trace Format have more than 1,073,741,824
+ * characters.
+ */
+public final class TooLongException extends FolugbenException {
+    private static final long serialVersionUID = 1;
+
+    TooLongException(String detail) {
+        super(Code.LONG_LINE, 0, detail, "", null);
+    }
+
+    /** Returns that of a line of so many bytes, which something would make. */
+    static TooLongException line(String what, long length) {
+        return new TooLongException(String.format(Locale.ROOT,
+                "%s would make a line of about %,d bytes, and an audit reads %,d", what, length,
+                Texts.Lines.LIMIT));
+    }
+}
