@@ -32,7 +32,7 @@ import java.util.function.Supplier;
  */
 public final class Explorer {
     private static final int SCHEDULES = 10_000;
-    private static final Duration TIME = Duration.ofSeconds(60);
+    private static final Duration TIME = Duration.ofSeconds(20);
     private static final int TURNS = 10_000;
 
     private final Supplier<Storage> make;
@@ -82,7 +82,7 @@ public final class Explorer {
         return new Explorer(make, works, invariants, most, time, turns);
     }
 
-    /** Returns such a search with at most so much time, a minute by default. */
+    /** Returns such a search with at most so much time, 20 seconds by default. */
     public Explorer time(Duration most) {
         return new Explorer(make, works, invariants, schedules, Objects.requireNonNull(most, "most"), turns);
     }
@@ -109,16 +109,24 @@ public final class Explorer {
      * The result of a search.
      *
      * <p>It has the number of played schedules, and whether everything holds in all of them, or
-     * else the finding, if there was one within the bounds.
+     * else the finding, if there was one within the bounds. At a bound at least `left` schedules
+     * weren't played: as many are known, and each of them may lead to more.
      */
-    public record Explored(int schedules, boolean isExhaustive, Optional<Finding> finding) {
+    public record Explored(
+            int schedules, boolean isExhaustive, Optional<Finding> finding, int left) {
         @Override
         public String toString() {
             return finding.map(it -> String.format(Locale.ROOT,
                                         "%s, by the turns %s; %,d schedules were played", it.broken,
                                         it.turns, schedules))
-                    .orElseGet(() -> String.format(Locale.ROOT, "%,d schedules hold, %s", schedules,
-                                        isExhaustive ? "which are all" : "and there are more"));
+                    .orElseGet(() -> String.format(Locale.ROOT, "%,d schedules hold, %s", schedules, rest()));
+        }
+
+        private String rest() {
+            if (isExhaustive)
+                return "which are all";
+            return left == 0 ? "and there are more"
+                             : String.format(Locale.ROOT, "and at least %,d are left", left);
         }
     }
 
@@ -163,13 +171,14 @@ public final class Explorer {
                 queue.add(new PlanEntry(plan.length(), ++pushed, plan.agents()));
             Invariants.Breach breach = schedule.isBlocked() ? null : invariants.breach(schedule);
             if (breach != null)
-                return new Explored(played, false, Optional.of(replayed(breach, schedule)));
+                return new Explored(played, false, Optional.of(replayed(breach, schedule)), 0);
             if (queue.isEmpty() && tree.hasGrown()) {
                 tree = new Schedule.Tree(tree.footprints());
                 queue.add(new PlanEntry(0, 0, List.of()));
             }
         }
-        return new Explored(played, isExact && queue.isEmpty(), Optional.empty());
+        return new Explored(
+                played, isExact && queue.isEmpty(), Optional.empty(), queue.size());
     }
 
     /**

@@ -11,6 +11,7 @@ import re
 import signal
 import subprocess
 import sys
+import time
 import unittest
 from unittest import mock
 
@@ -245,7 +246,14 @@ class Explored(unittest.TestCase):
         for bound in {"schedules": 2}, {"seconds": 0.0}:
             explored = explore(counting, [guarded] * 3, **bound)
             self.assertEqual((explored.is_exhaustive, explored.turns, explored.schedules), (False, None, bound.get("schedules", 0)))
-            self.assertIn("and there are more", str(explored))
+            self.assertGreater(explored.left, 0)
+            self.assertEqual(str(explored), f"{explored.schedules} schedules hold, and at least {explored.left} are left")
+        # Four agents of four steps at one number have more schedules than any time is enough for.
+        start = time.monotonic()
+        explored = explore(counting, [lambda agent: [guarded(agent) for _ in range(4)]] * 4, seconds=1.0)
+        self.assertLess(time.monotonic() - start, 15)
+        self.assertEqual((explored.is_exhaustive, explored.turns), (False, None))
+        self.assertGreater(explored.left, 0)
 
 
 def raising(at, times):
