@@ -136,13 +136,6 @@ extern "C" {
 #endif
 #endif
 
-/* A call under its old name, of which compilers warn. */
-#ifdef __GNUC__
-#define FOLUGBEN_DEPRECATED __attribute__((deprecated))
-#else
-#define FOLUGBEN_DEPRECATED
-#endif
-
 /* The version of this header, as asm_version returns that of the library: a million for each major
  * version, a thousand for each minor one. */
 #define FOLUGBEN_VERSION 2000
@@ -391,13 +384,6 @@ FOLUGBEN_NODISCARD int32_t asm_see(struct asm_agent *agent, struct asm_step *ste
  * isn't UTF-8. Else as asm_get. */
 FOLUGBEN_NODISCARD int32_t asm_step_scan(struct asm_agent *agent, struct asm_step *step,
     const uint8_t *name, size_t len, uint8_t *out, size_t room, size_t *written);
-
-/* The name of asm_step_scan in version 0.2, which the next version removes. */
-FOLUGBEN_NODISCARD FOLUGBEN_DEPRECATED static inline int32_t asm_get_all(
-    struct asm_agent *agent, struct asm_step *step, const uint8_t *name, size_t len, uint8_t *out,
-    size_t room, size_t *written) {
-    return asm_step_scan(agent, step, name, len, out, room, written);
-}
 
 /* Pushes the move [INSTR, ..]: later gets and pushes see what it leaves. A push that is refused, or
  * is popped, is a dry run, on which the step depends. ASM_CLASH, with the text

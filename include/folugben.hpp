@@ -110,12 +110,20 @@ inline std::string meaning(code of) {
 // was fired or lost.
 class error : public std::runtime_error {
   public:
-    error(folugben::code why, std::string text)
-        : std::runtime_error(text.empty() ? meaning(why) : meaning(why) + ": " + text), code_(why), text_(std::move(text)) {}
+    error(folugben::code why, std::string text) : std::runtime_error(message(why, text)), code_(why), text_(std::move(text)) {}
     folugben::code code() const noexcept { return code_; }
     const std::string &text() const noexcept { return text_; }
 
   private:
+    // Leaves out what the code means where the text says more.
+    static std::string message(folugben::code why, const std::string &text) {
+        using folugben::code;
+        if (text.empty())
+            return why == code::empty ? "the object was moved from, returned to its storage, or is over" : meaning(why);
+        const bool says_all = why == code::not_json || why == code::shape || why == code::capacity || why == code::agents ||
+                              why == code::ahead || why == code::operand;
+        return says_all ? text : meaning(why) + ": " + text;
+    }
     folugben::code code_;
     std::string text_;
 };
@@ -335,8 +343,14 @@ class element {
     asm_kind kind() const noexcept { return static_cast<asm_kind>(it_.index()); }
     bool is_undef() const noexcept { return it_.index() == 0; }
     bool is_true() const noexcept { return it_ == decltype(it_)(true); }
+    // Returns the number; of any other kind code::shape.
+    std::int64_t number() const {
+        const auto *it = std::get_if<std::int64_t>(&it_);
+        if (!it) detail::fail(code::shape, "no number is there");
+        return *it;
+    }
     // Returns the number; `otherwise` if it is none.
-    std::int64_t number(std::int64_t otherwise = 0) const noexcept {
+    std::int64_t number_or(std::int64_t otherwise) const noexcept {
         const auto *it = std::get_if<std::int64_t>(&it_);
         return it ? *it : otherwise;
     }
@@ -368,7 +382,7 @@ class element {
     friend std::strong_ordering operator<=>(const element &one, const element &other) noexcept {
         if (auto by_kind = one.it_.index() <=> other.it_.index(); by_kind != 0 || one.is_undef()) return by_kind;
         if (one.kind() == ASM_KIND_BOOL) return one.is_true() <=> other.is_true();
-        if (one.kind() == ASM_KIND_NUM) return one.number() <=> other.number();
+        if (one.kind() == ASM_KIND_NUM) return one.number_or(0) <=> other.number_or(0);
         if (one.kind() == ASM_KIND_TEXT) return one.text().compare(other.text()) <=> 0;
         if (auto by_size = one.items().size() <=> other.items().size(); by_size != 0) return by_size;
         for (std::size_t i = 0; i < one.items().size(); ++i)
@@ -517,11 +531,24 @@ class value {
   public:
     value() = default;
     value(asm_value head, std::string bytes) noexcept : head_(head), bytes_(std::move(bytes)) {}
+    value(const folugben::element &it) : head_{it.kind(), it.is_true() ? 1 : it.number_or(0)}, bytes_(it.text()) {
+        if (it.kind() == ASM_KIND_LIST) bytes_ = detail::json_of(it.items());
+    }
+    template <class It>
+        requires std::is_constructible_v<folugben::element, const It &>
+    value(const It &it) : value(folugben::element(it)) {}
+    value(const folugben::set &elements) : head_{ASM_KIND_SET, 0}, bytes_(detail::json_of(elements)) {}
+    value(const folugben::bag &counts) : head_{ASM_KIND_BAG, 0}, bytes_(detail::json_of(counts)) {}
     asm_kind kind() const noexcept { return static_cast<asm_kind>(head_.kind); }
     bool is_undef() const noexcept { return head_.kind == ASM_KIND_UNDEF; }
     bool is_true() const noexcept { return head_.kind == ASM_KIND_BOOL && head_.number == 1; }
+    // Returns the number; of any other kind, as undef or a text, code::shape.
+    std::int64_t number() const {
+        if (kind() != ASM_KIND_NUM) detail::fail(code::shape, "no number is there");
+        return head_.number;
+    }
     // Returns the number; `otherwise` if it is none.
-    std::int64_t number(std::int64_t otherwise = 0) const noexcept {
+    std::int64_t number_or(std::int64_t otherwise) const noexcept {
         return head_.kind == ASM_KIND_NUM ? head_.number : otherwise;
     }
     // Returns the text of a text, or the JSON of a list, a set or a bag; else empty.
@@ -552,11 +579,14 @@ class value {
     std::string bytes_;
 };
 
-// A location with its value, as scans return it.
+class location;
+
+// A location with its value, as scans return it and storages are opened with it.
 struct entry {
     std::string name;
     list args;
     folugben::value value;
+    location at() const;
 };
 
 namespace detail {
@@ -566,7 +596,7 @@ inline value read_value(reader &from) {
     const bool is_set = text.starts_with("{\"set\":"), is_bag = text.starts_with("{\"bag\":");
     if (!is_set && !is_bag) {
         const element it = from.element();
-        if (it.kind() != ASM_KIND_LIST) return value({it.kind(), it.is_true() ? 1 : it.number()}, it.text());
+        if (it.kind() != ASM_KIND_LIST) return value({it.kind(), it.is_true() ? 1 : it.number_or(0)}, it.text());
     } else if (is_set) {
         (void)from.set();
     } else {
@@ -574,6 +604,18 @@ inline value read_value(reader &from) {
     }
     const std::int32_t kind = is_set ? ASM_KIND_SET : is_bag ? ASM_KIND_BAG : ASM_KIND_LIST;
     return value({kind, 0}, std::string(text.substr(0, text.size() - from.left().size())));
+}
+
+// Returns the state [PAIR, ..] of the entries.
+inline std::string json_of(const std::vector<entry> &state) {
+    std::string text;
+    write_items(text, state, [&](const entry &it) {
+        text.append("[").append(json_of(it.name, it.args)).append(",");
+        if (it.value.kind() < ASM_KIND_LIST) it.value.as_element().write_json(text);
+        else text += it.value.text();
+        text += ']';
+    });
+    return text;
 }
 
 // Returns the entries of a text [PAIR, ..].
@@ -623,6 +665,8 @@ class location {
     detail::owned_slot<struct asm_location> slot_;
 };
 
+inline location entry::at() const { return location(name, args); }
+
 // An operand of an instruction: an element, the value of a location, a set or a bag; sets and bags can only be put. It has no copy
 // of a text.
 class operand {
@@ -634,7 +678,7 @@ class operand {
     operand(const char *text) noexcept : operand(std::string_view(text)) {}
     operand(const std::string &text) noexcept : operand(std::string_view(text)) {}
     operand(const value &from) noexcept : kind_(from.head_.kind), number_(from.head_.number), text_(from.bytes_) {}
-    operand(const element &it) : kind_(it.kind()), number_(it.is_true() ? 1 : it.number()), text_(it.text()) {
+    operand(const element &it) : kind_(it.kind()), number_(it.is_true() ? 1 : it.number_or(0)), text_(it.text()) {
         if (kind_ == ASM_KIND_LIST) own_ = detail::json_of(it.items());
     }
     operand(const list &items) : kind_(ASM_KIND_LIST), own_(detail::json_of(items)) {}
@@ -647,8 +691,9 @@ class operand {
         it.text_ = json;
         return it;
     }
-    // Returns where and why the JSON is refused.
+    // Returns where and why the JSON, or the text, is refused.
     std::string refusal() const {
+        if (kind_ == ASM_KIND_TEXT) return "the text isn't UTF-8";
         if (kind_ < ASM_KIND_LIST) return {};
         return detail::explanation(ASM_FORM_MOVE, detail::within("{\"fire\":[[\"put\",[\"at\"],", text(), "]],\"reads\":[]}"));
     }
@@ -905,8 +950,6 @@ class step {
     std::vector<entry> scan(std::string_view name) { return detail::entries(scan_json(name)); }
     // Returns the same as [PAIR, ..].
     std::string scan_json(std::string_view name);
-    [[deprecated("named scan")]] std::vector<entry> get_all(std::string_view name) { return scan(name); }
-    [[deprecated("named scan_json")]] std::string get_all_json(std::string_view name) { return scan_json(name); }
 
     // Pushes the move; `text` is that of a refusal, such as {"clash":[LOC,CAUSE]}.
     [[nodiscard]] code try_push(const instructions &move, std::string &text) noexcept;
@@ -948,8 +991,6 @@ class step {
     // move's number, and throws `conflict` if the step must be begun again.
     outcome try_commit() noexcept;
     std::uint32_t commit();
-    [[deprecated("named try_commit")]] [[nodiscard]] code try_fire(asm_numbers &numbers) noexcept;
-    [[deprecated("named commit")]] std::uint32_t fire() { return commit(); }
 
     struct asm_step *get_slot() const noexcept { return slot_.get(); }
 
@@ -965,7 +1006,7 @@ class step {
     detail::open_step open_;
     detail::owned_slot<struct asm_step> slot_;
     outcome last_;
-    std::uint32_t number_ = 0;
+    std::uint32_t number_ = 0, fired_ = 0;
 };
 
 // The result of a play: the number of the fired move, which is 0 if the rule pushed nothing, so that nothing was fired; how
@@ -1019,7 +1060,10 @@ class agent {
         if (!it.slot_) return code::empty;
         begin_turn();
         const code result{asm_begin(get(), it.slot_.get(), &it.number_)};
-        if (result == code::done) it.open_ = detail::open_step(seat_);
+        if (result == code::done) {
+            it.open_ = detail::open_step(seat_);
+            it.fired_ = 0;
+        }
         return result;
     }
     step begin() {
@@ -1029,8 +1073,8 @@ class agent {
     }
 
     // Begins a step, passes it to the rule and commits it, and begins again if that is a conflict, as long as the patience lasts:
-    // agent.play(rule, {.tries = 3}). A rule that pushes nothing fires nothing. What the rule throws ends it, and nothing is
-    // fired.
+    // agent.play(rule, {.tries = 3}). A rule that pushes nothing fires nothing. A rule may commit by itself: that ends the play,
+    // with that move. What the rule throws ends it too, and the play fires nothing.
     template <class Rule> auto play(Rule &&rule, patience most = {}) -> played<std::invoke_result_t<Rule &, step &>> {
         using result = std::invoke_result_t<Rule &, step &>;
         const auto start = std::chrono::steady_clock::now();
@@ -1175,9 +1219,11 @@ class agent {
     } catch (const std::bad_alloc &) {
         return code::memory;
     }
-    // Commits a play's step, with the number of its move; returns false if it must be begun again.
+    // Commits a play's step, unless its rule did, with the number of its move; returns false if it must be begun again.
     static bool ends(step &it, std::uint32_t &number) {
-        if (it.depth() == 0) return true;
+        if (!it.slot_) detail::fail(code::empty, {});
+        number = it.fired_;
+        if (number != 0 || it.depth() == 0) return true;
         it.last_ = it.try_commit();
         if (it.last_.is_conflict()) return false;
         detail::done(it.last_.code);
@@ -1281,14 +1327,11 @@ inline outcome step::try_commit() noexcept {
     asm_numbers numbers{};
     const auto call = open_.is_recording() ? asm_commit_recorded : asm_commit;
     const code it{call(get_agent(), slot_.get(), &numbers)};
-    if (it == code::done) open_ = {};
+    if (it == code::done) {
+        open_ = {};
+        fired_ = numbers.fired;
+    }
     return {it, numbers.fired};
-}
-
-inline code step::try_fire(asm_numbers &numbers) noexcept {
-    const outcome it = try_commit();
-    numbers = {it.number, 0, 0};
-    return it.code;
 }
 
 inline void step::fail_conflict() {
@@ -1378,6 +1421,9 @@ class storage {
         detail::expect_capacity(it, capacity);
         detail::done(it);
     }
+
+    // Opens a storage with these locations and values: storage({{"count", {}, 7}, {"account", {"anna"}, 0}}, 1000).
+    storage(const std::vector<entry> &init, std::uint32_t capacity) : storage(detail::json_of(init), capacity) {}
 
     // Has agents that are made or checked out from now on record, or not, as agent::record does. The storages of `next` and
     // agent::go_on do as this one.

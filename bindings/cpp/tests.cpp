@@ -86,6 +86,26 @@ void lists_sets_and_bags_are_operands() {
     WANTED(REFUSED(folugben::error, move.put(at, "\xff")).code() == code::shape && move.size() == 1);
 }
 
+void numbers_are_numbers() {
+    using folugben::element;
+    folugben::storage storage({{"count", {}, 7}, {"account", {"anna", 1}, "none"}, {"s", {}, folugben::set{1, "a"}},
+                               {"b", {}, folugben::bag{{"x", 2}}}, {"l", {}, folugben::list{1, nullptr}}, {"t", {}, true}},
+                              10);
+    folugben::agent agent = storage.make_agent(0);
+    WANTED(agent.state_json() == R"([[["account","anna",1],"none"],[["b"],{"bag":[["x",2]]}],[["count"],7],)"
+                                 R"([["l"],{"list":[1,null]}],[["s"],{"set":[1,"a"]}],[["t"],true]])");
+    folugben::step step = agent.begin();
+    for (const folugben::entry &it : step.scan("account")) {
+        const folugben::value there = step.get(it.at());
+        WANTED(there == it.value && there.number_or(3) == 3);
+        WANTED(REFUSED(folugben::error, (void)there.number()).code() == code::shape);
+    }
+    WANTED(step.get(folugben::location("count")).number() == 7);
+    WANTED(std::string(REFUSED(folugben::error, (void)step.get(folugben::location("none")).number()).what()) == "no number is there");
+    WANTED(REFUSED(folugben::error, (void)element(true).number()).code() == code::shape && element(2).number_or(3) == 2);
+    WANTED(REFUSED(folugben::error, folugben::storage({{"no name", {}, 1}}, 10)).code() == code::shape);
+}
+
 void elements_are_in_the_order_of_the_storage() {
     using folugben::element;
     using folugben::list;
@@ -95,7 +115,7 @@ void elements_are_in_the_order_of_the_storage() {
         for (std::size_t k = 0; k < ascending.size(); ++k) {
             WANTED((ascending[i] < ascending[k]) == (i < k) && (ascending[i] == ascending[k]) == (i == k));
         }
-    WANTED(element(7).number() == 7 && element("x").number(9) == 9 && element(7).text().empty() && element().is_undef());
+    WANTED(element(7).number() == 7 && element("x").number_or(9) == 9 && element(7).text().empty() && element().is_undef());
     WANTED(element(list{1, "a"}).items()[1].text() == "a" && element(true).is_true() && !element(1).is_true());
 }
 
@@ -190,6 +210,30 @@ void plays_return_what_their_rules_do() {
     int referent = 0;
     auto by_reference = agent.play([&](folugben::step &) -> int & { return referent; });
     WANTED(&by_reference.result == &referent);
+}
+
+// A rule that commits its step ends the play with that move.
+void rules_may_commit() {
+    folugben::storage storage(COUNT, 10);
+    folugben::agent agent = storage.make_agent(0), other = storage.make_agent(1);
+    const folugben::location count("count");
+    auto raise = [&](folugben::step &step) {
+        step.push(folugben::instructions().inc(count, 1));
+        return step.commit();
+    };
+    auto played = agent.play(raise);
+    WANTED(played.has_fired() && played.number == 1 && played.result == 1 && agent.won() == 1);
+    auto tried = agent.play([&](folugben::step &step) {
+        const auto next = step.get(count).number() + 1;
+        if (other.won() == 0) other.play(raise);
+        step.push(folugben::instructions().put(count, next));
+        return step.try_commit().code;
+    });
+    // The first commit was in vain, and so was that of the play.
+    WANTED(tried.number == 3 && tried.retries == 1 && tried.result == code::done);
+    folugben::step kept = agent.begin();
+    WANTED(REFUSED(folugben::error, agent.play([&](folugben::step &step) { kept = std::move(step); })).code() == code::empty);
+    WANTED(agent.follow() == 3 && agent.peek(count).number() == 10);
 }
 
 void moves_are_popped_seen_and_offered() {
@@ -325,6 +369,11 @@ void refusals_name_the_fault() {
     REFUSED(folugben::full, agent.play(empty_move));
     WANTED(REFUSED(folugben::conflict, throw folugben::conflict(code::busy, "")).code() == code::busy);
     WANTED(std::string(folugben::error(code::full, "").what()) == folugben::meaning(code::full));
+    folugben::agent moved = std::move(agent);
+    WANTED(std::string(REFUSED(folugben::error, agent.follow()).what()) == "the object was moved from, returned to its storage, or is over");
+    const folugben::location at("x");
+    WANTED(std::string(REFUSED(folugben::error, folugben::instructions().put(at, "a\xff")).what()) == "the text isn't UTF-8");
+    WANTED(std::string(REFUSED(folugben::error, folugben::storage(COUNT, 0)).what()) == "the capacity is 0, and must be 1 to 1048576");
 }
 
 } // namespace
@@ -333,10 +382,12 @@ int main() {
     steps_fire_as_one_move();
     values_are_read_by_their_kinds();
     lists_sets_and_bags_are_operands();
+    numbers_are_numbers();
     elements_are_in_the_order_of_the_storage();
     sets_bags_and_scans_are_read();
     conflicts_are_played_again();
     plays_return_what_their_rules_do();
+    rules_may_commit();
     moves_are_popped_seen_and_offered();
     moves_are_united();
     stale_and_short_steps_are_played_again();

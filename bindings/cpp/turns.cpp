@@ -28,7 +28,7 @@ std::int64_t raise(folugben::agent &agent) {
     const folugben::location count("count");
     return agent
         .play([&](folugben::step &step) {
-            const std::int64_t next = step.get(count).number() + 1;
+            const std::int64_t next = step.get(count).number_or(0) + 1;
             step.push(folugben::instructions().put(count, next));
             return next;
         })
@@ -81,7 +81,7 @@ void the_own_state_never_goes_back() {
         }
         std::uint32_t number = 0;
         folugben::value value;
-        WANTED(agents[it].try_peek(count, number, value) == code::done && value.number() == number && number >= versions[it]);
+        WANTED(agents[it].try_peek(count, number, value) == code::done && value.number_or(0) == number && number >= versions[it]);
         versions[it] = number;
     }
 }
@@ -212,7 +212,7 @@ double time_of(std::uint32_t count) {
         for (std::size_t i = 0; i < 5000; ++i) {
             folugben::step step = agents[i % count].begin();
             const auto &at = places[i % 32];
-            step.push(move.clear().put(at, step.get(at).number() + 1));
+            step.push(move.clear().put(at, step.get(at).number_or(0) + 1));
             step.commit();
         }
         const std::chrono::duration<double> time = std::chrono::steady_clock::now() - start;
