@@ -29,12 +29,6 @@ impl Counts {
         self.calls += more.calls;
         self.moves += more.moves;
     }
-
-    /// Returns how much more it is than before.
-    pub(crate) fn since(self, before: Counts) -> Counts {
-        let Counts { parts, calls, moves } = before;
-        Counts { parts: self.parts - parts, calls: self.calls - calls, moves: self.moves - moves }
-    }
 }
 
 impl fmt::Display for Counts {

@@ -4,14 +4,14 @@ use crate::cause::{Cause, Conflict, Limit, OutOfRange};
 use crate::json::{Json, read};
 use crate::number::{AgentNumber, MoveNumber};
 use crate::owned_slot::text_of_call;
-use crate::run::Ended;
+use crate::run::Broken;
 use crate::sys;
 use crate::value::Location;
 use std::{fmt, io};
 
 pub(crate) const TOO_LONG: &str = "a line would be longer than the 1,073,741,824 bytes that an audit reads";
 
-/// Why a call wasn't done. Nothing was fired or lost, except by [`Error::Ended`].
+/// Why a call wasn't done. Nothing was fired or lost, except by [`Error::Broken`].
 #[derive(Clone, Debug, PartialEq, Eq)]
 #[non_exhaustive]
 pub enum Error {
@@ -56,7 +56,7 @@ pub enum Error {
     /// The run was closed.
     Closed,
     /// The run ended at a part that couldn't be saved, and what this part and later ones have is lost.
-    Ended(Ended),
+    Broken(Broken),
     /// Another run, of this process or another one, uses the folder.
     InUse,
     /// A segment of a run is missing, or isn't the one that was saved.
@@ -117,7 +117,7 @@ impl fmt::Display for Error {
             Error::Missing(number) => write!(f, "move {number} was fired by an agent that wasn't returned"),
             Error::OtherStorage => f.write_str("the agent is of another storage"),
             Error::Closed => f.write_str("the run was closed"),
-            Error::Ended(ended) => ended.fmt(f),
+            Error::Broken(ended) => ended.fmt(f),
             Error::InUse => f.write_str("another run uses the folder"),
             Error::Damaged { segment, why } => write!(f, "segment {segment}: {why}"),
             Error::Audit(error) => error.fmt(f),
@@ -131,7 +131,7 @@ impl std::error::Error for Error {
     fn source(&self) -> Option<&(dyn std::error::Error + 'static)> {
         match self {
             Error::Conflict(conflict) => Some(conflict),
-            Error::Ended(ended) => Some(ended),
+            Error::Broken(ended) => Some(ended),
             Error::Audit(error) => Some(error),
             _ => None,
         }

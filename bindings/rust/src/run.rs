@@ -21,7 +21,6 @@
 mod agent;
 mod ended;
 mod folder;
-mod import;
 mod lines;
 mod part;
 mod parts;
@@ -31,8 +30,7 @@ mod sha256;
 mod writer;
 
 pub use agent::{RunAgent, RunStep};
-pub use ended::{EndCause, Ended};
-pub use import::import_run;
+pub use ended::{Broken, EndCause};
 pub(crate) use lines::short;
 pub(crate) use seat::SeatStep;
 pub use segment::audit_run;
@@ -149,8 +147,8 @@ impl RunOptions {
     ///
     /// # Errors
     ///
-    /// - [`Error::File`]: of the kind `NotFound` if there is no run, of the kind `NotADirectory` if the path leads to a file,
-    ///   which [`import_run`] may import; or the folder can't be read or written.
+    /// - [`Error::File`]: of the kind `NotFound` if there is no run, of the kind `NotADirectory` if the path leads to a file;
+    ///   or the folder can't be read or written.
     /// - [`Error::InUse`]: another run uses the folder.
     /// - [`Error::Damaged`]: a segment is missing, or isn't the one that was saved.
     /// - [`Error::Audit`]: a segment isn't legal.
@@ -228,7 +226,7 @@ impl Default for RunOptions {
 /// ```
 ///
 /// A run that is dropped is closed, but no error is reported: so [`Run::close`] it. If a part can't be saved, the run
-/// ends: each further call on it and its agents is [`Error::Ended`] with the part. What was saved before is complete.
+/// ends: each further call on it and its agents is [`Error::Broken`] with the part. What was saved before is complete.
 #[must_use = "a run is closed when it is dropped"]
 pub struct Run {
     core: Arc<Core>,
@@ -264,7 +262,7 @@ impl Run {
     /// # Errors
     ///
     /// - [`Error::NumberTaken`]: an agent with this number is in use; once that is dropped, another may be made.
-    /// - [`Error::Ended`], [`Error::Closed`].
+    /// - [`Error::Broken`], [`Error::Closed`].
     pub fn agent(&self, number: impl Into<AgentNumber>) -> Result<RunAgent, Error> {
         let seat = self.core.seat(number.into())?;
         Ok(RunAgent { core: Arc::clone(&self.core), seat })
@@ -304,7 +302,7 @@ impl Run {
     ///
     /// # Errors
     ///
-    /// - [`Error::Ended`]: a part couldn't be saved.
+    /// - [`Error::Broken`]: a part couldn't be saved.
     /// - [`Error::Closed`]: the run was closed.
     /// - [`Error::TooLong`]: the state is too long for a line, so the part goes on until it is full.
     pub fn flush(&self) -> Result<Counts, Error> {
@@ -318,7 +316,7 @@ impl Run {
     ///
     /// # Errors
     ///
-    /// [`Error::Ended`]: a part couldn't be saved.
+    /// [`Error::Broken`]: a part couldn't be saved.
     pub fn close(&self) -> Result<Counts, Error> {
         self.core.close()
     }

@@ -40,7 +40,7 @@ impl Step<'_> {
     /// - [`Error::Many`]: it would depend on more than 256 locations and functions.
     /// - [`Error::Refused`]: the location is against the rules.
     /// - [`Error::Memory`].
-    /// - Of a step of a run [`Error::Conflict`] with [`Past`](crate::Conflict::Past), [`Error::Ended`] and [`Error::Closed`], here
+    /// - Of a step of a run [`Error::Conflict`] with [`Past`](crate::Conflict::Past), [`Error::Broken`] and [`Error::Closed`], here
     ///   and below.
     pub fn get(&self, at: impl Into<Location>) -> Result<Value, Error> {
         let mut values = self.get_each(slice::from_ref(&at.into()))?;

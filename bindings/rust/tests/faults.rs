@@ -214,9 +214,9 @@ fn fails(path: &Path) {
     let mut agent = run.agent(0).unwrap();
     add_one(&mut agent).unwrap();
     let saved = run.saved();
-    let Err(Error::Ended(why)) = run.flush() else { panic!("not ended") };
+    let Err(Error::Broken(why)) = run.flush() else { panic!("not ended") };
     assert!(matches!(&why.cause, EndCause::Write { why, .. } if why.contains("os error 5")) && why.part == 1, "{why}");
-    assert_eq!((run.saved(), run.close()), (saved, Err(Error::Ended(why))));
+    assert_eq!((run.saved(), run.close()), (saved, Err(Error::Broken(why))));
 }
 
 #[test]
@@ -246,9 +246,9 @@ fn fills(path: &Path) {
             break error;
         }
     };
-    let Err(Error::Ended(why)) = run.close() else { panic!("not ended") };
+    let Err(Error::Broken(why)) = run.close() else { panic!("not ended") };
     assert!(matches!(why.cause, EndCause::Write { kind: ErrorKind::FileTooLarge, .. }), "{why}");
-    assert_eq!((ended, why.part, run.saved().moves), (Error::Ended(why.clone()), 2, 1));
+    assert_eq!((ended, why.part, run.saved().moves), (Error::Broken(why.clone()), 2, 1));
 }
 
 #[test]
@@ -386,9 +386,9 @@ fn moved_removed_or_replaced_files_are_noticed() {
         assert_eq!(run.flush().unwrap().moves, 4);
         add_one(&mut agent).unwrap();
         alter(&room);
-        let Err(Error::Ended(why)) = run.flush() else { panic!("{name}: not ended") };
+        let Err(Error::Broken(why)) = run.flush() else { panic!("{name}: not ended") };
         assert!(matches!(why.cause, EndCause::Damaged { .. }) && why.to_string().contains(said), "{name}: {why}");
-        assert_eq!((why.part, run.saved().moves, add_one(&mut agent)), (2, 4, Err(Error::Ended(why.clone()))));
+        assert_eq!((why.part, run.saved().moves, add_one(&mut agent)), (2, 4, Err(Error::Broken(why.clone()))));
         let _ = fs::remove_dir_all(room.path().with_extension("moved"));
     }
 }

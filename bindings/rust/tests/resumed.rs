@@ -1,10 +1,8 @@
-//! Runs that are resumed: after a close, and what is refused; and runs of version 0.2 that are imported.
+//! Runs that are resumed: after a close, and what is refused.
 mod common;
 
 use common::{Room, add_one, count, fired, numbers, open};
-use folugben::{
-    AuditError, Check, EndCause, Error, JournalError, Run, RunOptions, Storage, Value, audit_run, import_run,
-};
+use folugben::{AuditError, Check, EndCause, Error, JournalError, Run, RunOptions, Value, audit_run};
 use std::io::ErrorKind;
 use std::os::unix::fs::{MetadataExt, chown, symlink};
 use std::process::Command;
@@ -111,7 +109,6 @@ fn pipes_are_not_waited_for() {
     }
     let error = audit_run(room.path()).unwrap_err();
     assert!(matches!(error, Error::Damaged { segment: 0, .. }), "{error}");
-    assert!(folugben::import_run(&pipe, room.path().with_extension("new")).is_err());
     fs::remove_file(pipe).unwrap();
 }
 
@@ -128,7 +125,7 @@ fn a_folder_that_is_no_run_is_refused_and_unchanged() {
     assert_eq!(kind(Run::resume(room.path(), Check::All).err()).0, ErrorKind::NotFound);
     fs::write(room.path(), "a file").unwrap();
     let file = kind(Run::resume(room.path(), Check::All).err());
-    assert!(file.0 == ErrorKind::NotADirectory && file.1.contains("import_run"), "{file:?}");
+    assert!(file.0 == ErrorKind::NotADirectory && file.1.contains("a run is a folder"), "{file:?}");
     assert_eq!(kind(Run::open([], room.path(), 5).err()).0, ErrorKind::AlreadyExists);
     fs::remove_file(room.path()).unwrap();
 
@@ -230,65 +227,6 @@ fn too_long_lines() {
     assert_eq!(Run::resume(room.path(), Check::Last).err(), Some(Error::TooLong));
 }
 
-/// A run of version 0.2: one file.
-fn old_file(room: &Room) -> (Vec<u8>, usize) {
-    let (first, second) = (Room::new("old-1"), Storage::open([(count(), 3.into())], 2).unwrap());
-    let mut agent = second.agent(7).unwrap();
-    for _ in 0..2 {
-        agent.play(|step| step.inc(count(), 1)).unwrap();
-    }
-    agent.follow().unwrap();
-    let third = agent.go_on(9).unwrap();
-    drop(agent);
-    third.agent(1).unwrap().play(|step| step.inc(count(), 1)).unwrap();
-    let parts = [second.close().unwrap(), third.close().unwrap()].map(folugben::Journal::into_bytes);
-    drop(first);
-    fs::write(room.path(), parts.concat()).unwrap();
-    (parts.concat(), parts[0].len())
-}
-
-#[test]
-fn a_run_of_one_file_is_imported() {
-    let (file, room) = (Room::new("old"), Room::new("imported"));
-    let (complete, end) = old_file(&file);
-    // What an import leaves that was killed is no hindrance.
-    let left = room.path().with_file_name(format!(".{}.import", room.path().file_name().unwrap().to_str().unwrap()));
-    Run::open([], &left, 5).unwrap().close().unwrap();
-    let (counts, cut) = import_run(file.path(), room.path()).unwrap();
-    assert_eq!((numbers(counts), cut, left.exists()), ((3, 3, 3), 0, false));
-    assert_eq!(room.audited().1, [(count(), 6.into())]);
-    assert!(room.bytes().ends_with(&complete));
-    assert!(matches!(import_run(file.path(), room.path()), Err(Error::File { kind: ErrorKind::AlreadyExists, .. })));
-    let run = Run::resume(room.path(), Check::All).unwrap();
-    assert_eq!(add_one(&mut run.agent(0).unwrap()), Ok(4));
-    run.close().unwrap();
-
-    for cut in [end + 1, end + 100, complete.len() - 1] {
-        fs::remove_dir_all(room.path()).unwrap();
-        fs::write(file.path(), &complete[..cut]).unwrap();
-        let (counts, left) = import_run(file.path(), room.path()).unwrap();
-        assert_eq!((numbers(counts), left), ((2, 2, 2), (cut - end) as u64));
-        assert_eq!(fs::read(file.path()).unwrap(), &complete[..cut]);
-    }
-    fs::remove_dir_all(room.path()).unwrap();
-    let text = String::from_utf8(complete.clone()).unwrap();
-    for (damaged, part) in [
-        (text.replacen("\"fired\":2", "\"fired\":3", 1), 0),
-        (text.replacen("\"agent\":", "\"agend\":", 1), 0),
-        (text.clone() + &text, 2),
-        (text[..30].to_owned(), 0),
-    ] {
-        fs::write(file.path(), damaged).unwrap();
-        let error = import_run(file.path(), room.path()).unwrap_err();
-        assert!(
-            matches!(error, Error::Audit(AuditError::Illegal { part: at, .. } | AuditError::Journal { part: at, .. }
-            | AuditError::Apart { part: at }) if at == part),
-            "{error}"
-        );
-        assert!(!room.path().exists() && !left.exists());
-    }
-}
-
 #[test]
 fn an_unwritable_folder_ends_the_run_and_saved_moves_stay() {
     let room = Room::new("full");
@@ -301,9 +239,9 @@ fn an_unwritable_folder_ends_the_run_and_saved_moves_stay() {
     // A folder is in the place where the next file is made.
     fs::create_dir(room.path().join("new")).unwrap();
     add_one(&mut agent).unwrap();
-    let Err(Error::Ended(why)) = run.flush() else { panic!("not ended") };
+    let Err(Error::Broken(why)) = run.flush() else { panic!("not ended") };
     assert!(matches!(why.cause, EndCause::Write { .. }) && why.part == 2, "{why}");
-    assert_eq!((agent.step().err(), run.close().err()), (Some(Error::Ended(why.clone())), Some(Error::Ended(why))));
+    assert_eq!((agent.step().err(), run.close().err()), (Some(Error::Broken(why.clone())), Some(Error::Broken(why))));
     assert_eq!(numbers(run.saved()), (2, 3, 3));
     fs::remove_dir(room.path().join("new")).unwrap();
     assert_eq!(numbers(room.audited().0), (2, 3, 3));

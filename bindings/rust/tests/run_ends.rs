@@ -3,7 +3,7 @@
 mod common;
 
 use common::{Draw, Room, add_one, count, fired, numbers, open};
-use folugben::{EndCause, Ended, Error, Location, Move, MoveNumber, OutOfRange, Run, RunAgent, Value};
+use folugben::{Broken, EndCause, Error, Location, Move, MoveNumber, OutOfRange, Run, RunAgent, Value};
 use std::thread;
 use std::time::Duration;
 
@@ -17,7 +17,7 @@ fn an_abandoned_agent_is_reported_when_a_part_ends_at_rest() {
     }
     abandoned.abandon();
     let ended = run.flush().unwrap_err();
-    let Error::Ended(Ended { part, cause, .. }) = &ended else { panic!("{ended}") };
+    let Error::Broken(Broken { part, cause, .. }) = &ended else { panic!("{ended}") };
     assert_eq!((*part, cause), (2, &EndCause::Missing(MoveNumber::new(1))));
     assert_eq!(run.close(), Err(ended));
     assert_eq!(numbers(room.audited().0), (2, 20, 20));
@@ -45,7 +45,7 @@ fn an_abandoned_agent_ends_the_run_and_saved_moves_stay() {
             Err(error) => break error,
         }
     };
-    let Error::Ended(why) = &ended else { panic!("{ended}") };
+    let Error::Broken(why) = &ended else { panic!("{ended}") };
     assert_eq!((why.part, &why.cause), (2, &EndCause::Missing(MoveNumber::new(2))));
     assert_eq!(ended.to_string(), "the run ended at part 2: the agent that fired its move 2 is lost");
     assert_eq!(step.commit(), Err(ended.clone()));

@@ -47,7 +47,7 @@ impl RunAgent {
     ///
     /// # Errors
     ///
-    /// - [`Error::Ended`]: a part couldn't be saved.
+    /// - [`Error::Broken`]: a part couldn't be saved.
     /// - [`Error::Closed`]: the run was closed.
     /// - [`Error::TooLong`]: the part is full, and the state too long to open a further one.
     /// - [`Error::Memory`]: the call may be made again.
@@ -117,7 +117,7 @@ impl RunAgent {
     /// # Errors
     ///
     /// - [`Error::Refused`]: a location is against the rules.
-    /// - [`Error::Ended`], [`Error::Closed`], [`Error::Memory`].
+    /// - [`Error::Broken`], [`Error::Closed`], [`Error::Memory`].
     pub fn peek(&mut self, places: &[Location]) -> Result<Reading, Error> {
         let (before, result) = self.call_on_state(|agent| agent.peek(places))?;
         Ok(Reading { number: result.number.behind(before), ..result })
@@ -127,7 +127,7 @@ impl RunAgent {
     ///
     /// # Errors
     ///
-    /// [`Error::Ended`], [`Error::Closed`], [`Error::Memory`].
+    /// [`Error::Broken`], [`Error::Closed`], [`Error::Memory`].
     pub fn scan(&mut self, name: &str) -> Result<(MoveNumber, Vec<(Location, Value)>), Error> {
         let (before, (number, result)) = self.call_on_state(|agent| agent.scan(name))?;
         Ok((number.behind(before), result))
@@ -137,7 +137,7 @@ impl RunAgent {
     ///
     /// # Errors
     ///
-    /// [`Error::Ended`], [`Error::Closed`], [`Error::Memory`].
+    /// [`Error::Broken`], [`Error::Closed`], [`Error::Memory`].
     pub fn state(&mut self) -> Result<(MoveNumber, Vec<(Location, Value)>), Error> {
         let (before, (number, result)) = self.call_on_state(Agent::state)?;
         Ok((number.behind(before), result))

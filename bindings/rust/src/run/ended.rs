@@ -6,7 +6,7 @@ use std::{fmt, io};
 /// Where and why a [`Run`](crate::Run) ended before it was closed. What was saved before is complete.
 #[derive(Clone, Debug, PartialEq, Eq)]
 #[non_exhaustive]
-pub struct Ended {
+pub struct Broken {
     /// The number of the part that couldn't be saved, which would be that of its segment.
     pub part: u64,
     /// Why it couldn't.
@@ -39,7 +39,7 @@ pub enum EndCause {
     TooLong,
 }
 
-impl fmt::Display for Ended {
+impl fmt::Display for Broken {
     fn fmt(&self, f: &mut fmt::Formatter<'_>) -> fmt::Result {
         write!(f, "the run ended at part {}: {}", self.part, self.cause)
     }
@@ -57,7 +57,7 @@ impl fmt::Display for EndCause {
     }
 }
 
-impl std::error::Error for Ended {
+impl std::error::Error for Broken {
     fn source(&self) -> Option<&(dyn std::error::Error + 'static)> {
         Some(&self.cause)
     }

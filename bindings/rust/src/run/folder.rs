@@ -58,7 +58,7 @@ impl RunFolder {
     /// The folder of an earlier run, with its segments, of which no text is read.
     pub(crate) fn reopen(path: &Path) -> Result<(RunFolder, Vec<Segment>), Error> {
         if path.is_file() {
-            let why = "a run is a folder; a run of version 0.2, one file, is imported by folugben::import_run";
+            let why = "a run is a folder, and this is a file";
             return Err(at(path, &io::Error::new(io::ErrorKind::NotADirectory, why)));
         }
         let real = unlinked(path).map_err(|error| at(path, &error))?;

@@ -3,7 +3,7 @@ use crate::agent::Agent;
 use crate::audit::Counts;
 use crate::error::Error;
 use crate::number::AgentNumber;
-use crate::run::ended::{EndCause, Ended};
+use crate::run::ended::{Broken, EndCause};
 use crate::run::lines::expect_state;
 use crate::run::part::{Limits, Part};
 use crate::run::seat::Seat;
@@ -40,14 +40,14 @@ struct State {
     is_closing: bool,
     /// The writer has ended.
     is_done: bool,
-    ended: Option<Ended>,
+    ended: Option<Broken>,
     saved: Counts,
 }
 
 impl State {
     fn expect_running(&self) -> Result<(), Error> {
         match &self.ended {
-            Some(ended) => Err(Error::Ended(ended.clone())),
+            Some(ended) => Err(Error::Broken(ended.clone())),
             None if self.is_closing => Err(Error::Closed),
             None => Ok(()),
         }
@@ -241,7 +241,7 @@ impl Core {
         }
         loop {
             if let Some(ended) = &state.ended {
-                return Err(Error::Ended(ended.clone()));
+                return Err(Error::Broken(ended.clone()));
             }
             if state.saved.parts >= wanted || state.is_done {
                 return Ok(state.saved);
@@ -262,7 +262,7 @@ impl Core {
             state = self.wait(state, None);
         }
         match &state.ended {
-            Some(ended) => Err(Error::Ended(ended.clone())),
+            Some(ended) => Err(Error::Broken(ended.clone())),
             None => Ok(state.saved),
         }
     }
@@ -358,7 +358,7 @@ impl Core {
     pub(crate) fn end(&self, cause: EndCause) {
         let mut state = self.lock();
         let part = state.saved.parts;
-        state.ended.get_or_insert(Ended { part, cause });
+        state.ended.get_or_insert(Broken { part, cause });
         state.end_newest();
         drop(state);
         self.changed.notify_all();
