@@ -22,10 +22,13 @@ use Rattle.asm_storage.specs.Machine.{Machine, machine_state, reply_to}
 use Rattle.asm_storage.specs.History.{move_of, fired_moves}
 use Rattle.asm_storage.specs.Limits.{events_limit}
 use Rattle.asm_storage.specs.declared.call.Answer.{Answer}
+use Rattle.asm_storage.specs.declared.call.Answer.TheVariants as answer
+use Rattle.asm_storage.specs.declared.call.Reply.{Reply}
 use Rattle.asm_storage.specs.declared.history.Event.{Event}
 use Rattle.asm_storage.specs.declared.history.History.{History}
 use Rattle.asm_storage.proofs.Legal.{fired_moves-append}
 use Rattle.asm_journal.specs.Check.{machine, machine_of, moves_with}
+use Rattle.asm_journal.specs.Event.{reply_json_of}
 use Rattle.asm_journal.specs.Text.{line}
 use Rattle.asm_trace.specs.Change.{changes_of}
 use Rattle.asm_trace.specs.Note.{Note, IsNoteOf, AreNotesOf, IsJudged, IsCorrection}
@@ -244,3 +247,10 @@ first_wrong_reported part h notes k are first =
     let split = subst (λ es. AreNotesOf m [] 0 es notes) (sym first.stands) are in
     subst (IsFirstToTell notes) first.counted
     (first_reported m [] 0 first.before first.after first.event notes first.legal first.wrong split)
+
+-- ---- the right answer to a fire
+
+-- the right reply is written in full, whatever was answered
+pub right_of_fire : (given : Answer) (r : Reply) → right_json_of given (answer.Fire r) ≡ reply_json_of r
+right_of_fire (answer.Read n vs) r = refl
+right_of_fire (answer.Fire s) r = refl

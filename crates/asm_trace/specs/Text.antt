@@ -22,11 +22,12 @@ use Rattle.asm_journal.specs.Shape.{list_of, pair_of, one_of, two_of, number_jso
 use Rattle.asm_journal.specs.Text.{header_members_of, line}
 use Rattle.asm_journal.specs.Value.{value_json_of}
 use Rattle.asm_trace.specs.Change.{Change, OfSet, OfBag, OfValue, Recount, without, recounts, changed}
-use Rattle.asm_trace.specs.Note.{Note, IsNoteOf, AreNotesOf, all_changes}
+use Rattle.asm_trace.specs.Note.{Note, IsNoteOf, AreNotesOf, IsJudged, all_changes}
 use Rattle.asm_element.specs.Bag.{ElementBag, count}
 use Rattle.asm_element.specs.Set.{ElementSet, contains}
 use Rattle.asm_update.specs.Aggregator.{Meaning, AggregatorLaws}
 use Rattle.asm_storage.specs.History.{fired_moves, IsLegal}
+use Rattle.asm_storage.specs.Machine.{reply_to}
 use Rattle.asm_storage.specs.Proper.{IsProper}
 
 -- ---- changes
@@ -90,6 +91,18 @@ abbrev pub right_json_of : Answer → Answer → Data
 right_json_of (answer.Read n given) (answer.Read number right) =
     two_of (codes "differs") (list_of (map number_json_of (differing_positions given right))) (codes "number") (number_json_of number)
 right_json_of given right = answer_json_of right
+
+-- the JSON of the right answer beside the event's own, after the moves that the state has followed
+abbrev pub IsRightJson : Part → ℕ → Event → StateView → Data → Type 0
+IsRightJson part capacity e s d =
+    (right : Answer) × (d ≡ right_json_of e.answer right)
+    × ((init : State) (q : List Move) → FollowsFrom part init s q → right ≡ reply_to (machine part init capacity) q e.call)
+
+-- once an event is judged on a state: the JSON of its right answer where it has another, and the new state has followed
+-- its move too
+abbrev pub IsJudgedAs : Part → ℕ → Event → StateView → StateView → Option Data → Type 0
+IsJudgedAs part capacity e old new o =
+    (reported : Option Answer) × (o ≡ option_map (right_json_of e.answer) reported) × IsJudged part capacity e old new reported
 
 -- the JSON of a note
 abbrev pub note_json_of : Note → Data

@@ -1,25 +1,27 @@
 //! Events, judged and written one by one.
 ghost use Rattle.std.specs.Prelude.{◌≡◌, ◌<◌, ◌++◌, ◌∷◌, [], true, List, IfOk, OnOk, filter, map, option_map, string_bytes};
 ghost use Rattle.serde_json.specs.View.{view};
+ghost use Rattle.asm_element.specs.Value.{value_eq};
 ghost use Rattle.asm_update.specs.State as plain;
 ghost use Rattle.asm_update.specs.Move.{Move};
 ghost use Rattle.asm_state.specs.View.{value_at};
 ghost use Rattle.asm_state.specs.FollowsFrom.{FollowsFrom};
 ghost use Rattle.asm_storage.specs.Limits.{events_limit};
 ghost use Rattle.asm_storage.specs.Machine.{reply_to};
+ghost use Rattle.asm_storage.specs.declared.call.Answer.TheVariants as answer;
+ghost use Rattle.asm_storage.specs.declared.call.Call.TheVariants as call;
 ghost use Rattle.asm_journal.specs.Check.{machine, judged_reply, moves_with};
 ghost use Rattle.asm_journal.specs.Shape.{list_of, number_json_of};
 ghost use Rattle.asm_trace.specs.Change.{IsLocal};
-ghost use Rattle.asm_trace.specs.Note.{IsJudged};
-ghost use Rattle.asm_trace.specs.Text.{differing_positions, event_with, is_other_at, right_json_of, IsNoteAppended};
+ghost use Rattle.asm_trace.specs.Text.{differing_positions, event_with, is_other_at, right_json_of, IsRightJson, IsJudgedAs, IsNoteAppended};
 
 use crate::changes::event_changes;
 use crate::json::{array_of, differs_and_number, put_some};
-use asm_element::{Items, Location, Value};
+use asm_element::{Element, Items, Location, Value};
 use asm_journal::{ToJson, judge_event, push_line};
-use asm_state::{Objection, State};
+use asm_state::{Named, Objection, State};
 use asm_storage::{Answer, Call, Event, Reply};
-use asm_update::{Aggregator, Lookup};
+use asm_update::{Aggregator, Instructions, Lookup};
 use serde_json::{Map, Value as Json};
 use std::alloc::{AllocError, Global};
 
@@ -60,30 +62,24 @@ fn reply_of(objection: Option<Objection>, capacity: u32, number: u32) -> Reply
     }
 }
 
-/// Return the sequential storage's answer to the call.
+/// Return the sequential storage's reply to the move.
 ///
-/// It is the answer after the moves that the state has followed.
-fn right_answer<A: Aggregator>(
+/// It is the reply after the moves that the state has followed.
+fn right_reply<A: Aggregator>(
     alloc: Global,
     aggregator: &A,
     state: &State,
     capacity: u32,
-    call: &Call,
-) -> Result<Answer, AllocError>
-    ensures { IfOk result (λ a. (init : plain.State) (q : List Move) →
+    reads: &[Named],
+    instructions: &Instructions,
+) -> Result<Reply, AllocError>
+    ensures { IfOk result (λ reply. (init : plain.State) (q : List Move) →
         FollowsFrom (A.meaning aggregator.now).part init state.now q →
-        a ≡ reply_to (machine (A.meaning aggregator.now).part init capacity) q call.now) }
+        answer.Fire reply ≡ reply_to (machine (A.meaning aggregator.now).part init capacity) q
+        (call.Fire reads.now instructions.now)) }
 {
-    match call {
-        Call::Read(places) => Ok(Answer::Read {
-            number: state.number(),
-            values: Items::new(all_held(alloc, state, places.as_slice())?),
-        }),
-        Call::Fire { reads, instrs } => {
-            let objection = state.objection(alloc, aggregator, reads.as_slice(), instrs)?;
-            Ok(Answer::Fire(reply_of(objection, capacity, state.number())))
-        }
-    }
+    let objection = state.objection(alloc, aggregator, reads, instructions)?;
+    Ok(reply_of(objection, capacity, state.number()))
 }
 
 /// Follow the event's move, if it fired one, whatever the right answer is.
@@ -104,33 +100,24 @@ fn follow_event<A: Aggregator>(
     }
 }
 
-/// Return the right answer to the event's call, if the event has another.
-///
-/// It is the answer after the moves that the state has followed. The state follows the event's move.
-fn other_answer<A: Aggregator>(
-    alloc: Global,
-    aggregator: &A,
-    state: &mut State,
-    capacity: u32,
-    event: &Event,
-) -> Result<Option<Answer>, AllocError>
-    requires { state.old.number < events_limit }
-    ensures { IfOk result (IsJudged (A.meaning aggregator.now).part capacity event.now state.old state.new) }
+/// Return whether the state has the value at the location.
+fn is_held(state: &State, at: &Location, given: &Value) -> bool
+    ensures { result ≡ value_eq given.now (value_at state.now at.now) }
 {
-    if judge_event(alloc, aggregator, state, capacity, event)? {
-        return Ok(None);
+    match state.get(at) {
+        Some(held) => given == held,
+        None => given == &Value::Plain(Element::Undef),
     }
-    let right = right_answer(alloc, aggregator, state, capacity, &event.call)?;
-    follow_event(alloc, aggregator, state, event)?;
-    Ok(Some(right))
 }
 
 /// Return whether the right value at this position was not answered.
-fn differs_at(given: &[Value], right: &[Value], i: usize) -> bool
-    ensures { result ≡ is_other_at given.now right.now i }
+///
+/// The right value is the one that the state has at the location there.
+fn differs_at(given: &[Value], state: &State, places: &[Location], i: usize) -> bool
+    ensures { result ≡ is_other_at given.now (map (value_at state.now) places.now) i }
 {
-    match (given.get(i), right.get(i)) {
-        (Some(given), Some(right)) => given != right,
+    match (given.get(i), places.get(i)) {
+        (Some(given), Some(at)) => !is_held(state, at, given),
         (None, Some(_)) => true,
         _ => false,
     }
@@ -141,55 +128,102 @@ fn push_other(
     alloc: Global,
     list: &mut Vec<Json>,
     given: &[Value],
-    right: &[Value],
+    state: &State,
+    places: &[Location],
     i: usize,
 ) -> Result<(), AllocError>
-    ensures { OnOk result (map view list.new.items
-        ≡ map view list.old.items ++ map number_json_of (filter (is_other_at given.now right.now) (i ∷ []))) }
+    ensures { OnOk result (map view list.new.items ≡ map view list.old.items
+        ++ map number_json_of (filter (is_other_at given.now (map (value_at state.now) places.now)) (i ∷ []))) }
 {
-    if differs_at(given, right, i) {
+    if differs_at(given, state, places, i) {
         list.push(Json::from(i as u64))?;
     }
     Ok(())
 }
 
 /// Return the JSON of the positions of the right values that were not answered.
-fn positions_json(alloc: Global, given: &[Value], right: &[Value]) -> Result<Json, AllocError>
-    ensures { IfOk result (λ json. view json
-        ≡ list_of (map number_json_of (differing_positions given.now right.now))) }
+///
+/// The right values are those of the state, which are compared where they are.
+fn positions_json(
+    alloc: Global,
+    given: &[Value],
+    state: &State,
+    places: &[Location],
+) -> Result<Json, AllocError>
+    ensures { IfOk result (λ json. view json ≡ list_of (map number_json_of
+        (differing_positions given.now (map (value_at state.now) places.now)))) }
 {
     let mut list = Vec::new(alloc);
-    for i in 0..right.len() {
-        push_other(alloc, &mut list, given, right, i)?;
+    for i in 0..places.len() {
+        push_other(alloc, &mut list, given, state, places, i)?;
     }
     Ok(array_of(list))
 }
 
-/// Return the JSON of the right answer beside the given one.
-fn right_json(alloc: Global, given: &Answer, right: &Answer) -> Result<Json, AllocError>
-    ensures { IfOk result (λ json. view json ≡ right_json_of given.now right.now) }
+/// Return the JSON of the right answer to a read beside the given answer.
+fn right_read_json(
+    alloc: Global,
+    state: &State,
+    places: &[Location],
+    given: &Answer,
+) -> Result<Json, AllocError>
+    ensures { IfOk result (λ json. view json
+        ≡ right_json_of given.now (answer.Read state.now.number (map (value_at state.now) places.now))) }
 {
-    match (given, right) {
-        (Answer::Read { values: given, .. }, Answer::Read { number, values }) => {
-            let positions = positions_json(alloc, given.as_slice(), values.as_slice())?;
-            differs_and_number(alloc, positions, Json::from(*number))
+    match given {
+        Answer::Read { values, .. } => {
+            let positions = positions_json(alloc, values.as_slice(), state, places)?;
+            differs_and_number(alloc, positions, Json::from(state.number()))
         }
-        _ => right.to_json(alloc),
+        Answer::Fire(_) => {
+            let number = state.number();
+            let values = Items::new(all_held(alloc, state, places)?);
+            Answer::Read { number, values }.to_json(alloc)
+        }
     }
 }
 
-/// Return the JSON of the right answer beside the given one, if there is one.
-fn some_right_json(
+/// Return the JSON of the right answer beside the event's own.
+///
+/// It is the answer after the moves that the state has followed.
+fn right_json<A: Aggregator>(
     alloc: Global,
-    given: &Answer,
-    right: &Option<Answer>,
-) -> Result<Option<Json>, AllocError>
-    ensures { IfOk result (λ o. option_map view o ≡ option_map (right_json_of given.now) right.now) }
+    aggregator: &A,
+    state: &State,
+    capacity: u32,
+    event: &Event,
+) -> Result<Json, AllocError>
+    ensures { IfOk result (λ json. IsRightJson (A.meaning aggregator.now).part capacity event.now state.now (view json)) }
 {
-    match right {
-        Some(right) => Ok(Some(right_json(alloc, given, right)?)),
-        None => Ok(None),
+    match &event.call {
+        Call::Read(places) => right_read_json(alloc, state, places.as_slice(), &event.answer),
+        Call::Fire { reads, instrs } => {
+            let reply = right_reply(alloc, aggregator, state, capacity, reads.as_slice(), instrs)?;
+            reply.to_json(alloc)
+        }
     }
+}
+
+/// Return the JSON of the right answer to the event's call, if the event has another.
+///
+/// It is the answer after the moves that the state has followed. The state follows the event's move.
+fn other_json<A: Aggregator>(
+    alloc: Global,
+    aggregator: &A,
+    state: &mut State,
+    capacity: u32,
+    event: &Event,
+) -> Result<Option<Json>, AllocError>
+    requires { state.old.number < events_limit }
+    ensures { IfOk result (λ o. IsJudgedAs (A.meaning aggregator.now).part capacity
+        event.now state.old state.new (option_map view o)) }
+{
+    if judge_event(alloc, aggregator, state, capacity, event)? {
+        return Ok(None);
+    }
+    let right = right_json(alloc, aggregator, state, capacity, event)?;
+    follow_event(alloc, aggregator, state, event)?;
+    Ok(Some(right))
 }
 
 /// Write as JSON the event with this number.
@@ -199,13 +233,12 @@ fn note_json(
     alloc: Global,
     number: u64,
     event: &Event,
-    right: &Option<Answer>,
+    right: Option<Json>,
     changes: Option<Json>,
 ) -> Result<Json, AllocError>
     ensures { IfOk result (λ json. view json
-        ≡ event_with number event.now (option_map (right_json_of event.now.answer) right.now) (option_map view changes)) }
+        ≡ event_with number event.now (option_map view right) (option_map view changes)) }
 {
-    let right = some_right_json(alloc, &event.answer, right)?;
     let mut members = Map::new(alloc);
     serde_json::put(&mut members, alloc, "agent", Json::from(event.agent))?;
     serde_json::put(&mut members, alloc, "call", event.call.to_json(alloc)?)?;
@@ -235,7 +268,7 @@ pub(crate) fn push_note<A: Aggregator>(
         (string_bytes text.old) (string_bytes text.new)) }
 {
     let changes = event_changes(alloc, aggregator, is_local, state, event)?;
-    let right = other_answer(alloc, aggregator, state, capacity, event)?;
-    let json = note_json(alloc, number, event, &right, changes)?;
+    let right = other_json(alloc, aggregator, state, capacity, event)?;
+    let json = note_json(alloc, number, event, right, changes)?;
     push_line(alloc, text, &json)
 }
