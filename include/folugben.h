@@ -413,12 +413,14 @@ FOLUGBEN_NODISCARD int32_t asm_pop(struct asm_step *step);
 
 /* Takes these away too, and puts the one move that does what they do in turn into a slot that is
  * empty or holds a move, which is then dropped: asm_push_move and asm_extend_move take it, on this
- * step or on another. A move that none joined is put unchanged, and tracks nothing; of others the
- * locations are tracked that two of them change, if the first has partial updates alone that were
- * judged on the state. ASM_TAKEN (`move` holds something else), before all others; ASM_EMPTY
- * (`step`), ASM_NO_PUSH; ASM_LONG_MOVE: the first of the moves come to more than 4,096
- * instructions, though all might come to fewer; ASM_MANY: more than 256 places would be taken;
- * ASM_CLASH, ASM_LARGE: never for a step of the agent's storage; ASM_MEMORY. */
+ * step or on another. At a location that one of them alone changes it does what that one does. If it
+ * is pushed again in their place, the commit depends on the same locations, and has the same answer
+ * and effect. A move that none joined is put unchanged, and tracks nothing; of others the locations
+ * are tracked that two of them change, if the first has partial updates alone that were judged on the
+ * state. ASM_TAKEN (`move` holds something else), before all others; ASM_EMPTY (`step`), ASM_NO_PUSH;
+ * ASM_LONG_MOVE: the first of the moves come to more than 4,096 instructions, though all might come
+ * to fewer; ASM_MANY: more than 256 places would be taken; ASM_CLASH, ASM_LARGE: never for a step of
+ * the agent's storage; ASM_MEMORY. */
 FOLUGBEN_NODISCARD int32_t asm_pop_move(struct asm_step *step, struct asm_move *move);
 
 /* How many moves are pushed; 0 for a slot without a step. */

@@ -14,7 +14,7 @@ use Rattle.asm_slots.specs.declared.codes.Code.{Code}
 use Rattle.asm_slots.specs.declared.codes.Code.TheVariants as code
 use Rattle.asm_slots.specs.declared.content.Content.{Content}
 
--- the answer is what the moves of the step's last group compose to, which does what they do in turn, or why they don't compose
+-- the answer is the one move of the step's last group, which does what its moves do in turn, or why they have none
 abbrev pub IsComposedLast : StepView → Result Move ComposeError → Type 0
 IsComposedLast s r = (a : AgentAt Standard) (groups : List (List Move)) (group : List Move) →
     IsStepOn a s (groups ++ group ∷ []) → IsOneOf standard group r × KeepsTurns part group r

@@ -83,14 +83,14 @@ next_is a old s groups M y step next =
     record {
       written = written_more a.part old (all_moves groups) M is.updates next.updates (frame y.outcomes) is.written
           (subst (λ (o : Old). IsUpdateSet a.part o M next.updates) same next.set)
-          (λ l. next.written l ∙ ap (option_or (finite.get next.updates l)) (is.show l));
-      does = next_does a old s groups M (one_move_of y) step (first_continued a (one_move s) M (one_move_of y) next.extends)
-          next.extends.1;
-      each = next_each a old s groups M (one_move_of y) step (first_continued a (one_move s) M (one_move_of y) next.extends)
-          next.each;
-      keeps = next_keeps a old s groups M (one_move_of y) step next.extends;
-      building = λ l. next.building l ∙ builds_push a.part old s groups step M l;
-      dependencies = λ l. next.dependencies l ∙ depends_push a.part old s groups step M l;
+          (λ l. next.over.written l ∙ ap (option_or (finite.get next.updates l)) (is.show l));
+      does = next_does a old s groups M (one_move_of y) step (first_continued a (one_move s) M (one_move_of y) next.over.extends)
+          next.over.extends.1;
+      each = next_each a old s groups M (one_move_of y) step (first_continued a (one_move s) M (one_move_of y) next.over.extends)
+          next.over.each;
+      keeps = next_keeps a old s groups M (one_move_of y) step next.over.extends;
+      building = λ l. next.over.building l ∙ builds_push a.part old s groups step M l;
+      dependencies = λ l. next.over.dependencies l ∙ depends_push a.part old s groups step M l;
     }
 
 -- a step that was pushed, extended or popped
@@ -99,7 +99,7 @@ pub step_push : (a : Meaning) (old : Old) (s : List Layer) (groups : List (List 
     IsStepOf a.part old s groups → IsNextLayer a old s M y →
     IsStepOf a.part old (s ++ y ∷ []) (groups ++ (M ∷ []) ∷ [])
 step_push a old s groups M y step next =
-    layers_push a.part old [] groups s (M ∷ []) y step next.moves (next_is a old s groups M y step next)
+    layers_push a.part old [] groups s (M ∷ []) y step next.over.moves (next_is a old s groups M y step next)
 
 pub step_extend : (a : Meaning) (old : Old) (s : List Layer) (groups : List (List Move)) (M : Move) (x y : Layer) →
     IsStepOf a.part old (s ++ x ∷ []) groups → IsNextLayer a old (s ++ x ∷ []) M y →
@@ -109,7 +109,7 @@ step_extend a old s groups M x y step next =
     let split = subst (λ gs. IsStepOf a.part old (s ++ x ∷ []) gs) last.parts step in
     let below = layers_split a.part old [] last.before s last.last x split in
     let has : x.moves ++ y.moves ≡ last.last ++ M ∷ [] =
-    (λ i. layers_last a.part old [] last.before s last.last x split i ++ next.moves i) in
+    (λ i. layers_last a.part old [] last.before s last.last x split i ++ next.over.moves i) in
     let all : all_moves groups ++ M ∷ [] ≡ all_moves last.before ++ (last.last ++ M ∷ []) =
     ap (λ gs. all_moves gs ++ M ∷ []) last.parts ∙ ap (λ Ms. Ms ++ M ∷ []) (moves-push last.before last.last)
     ∙ append_assoc (all_moves last.before) last.last (M ∷ []) in
@@ -127,7 +127,7 @@ step_pop part old s groups group y step = layers_split part old [] groups s grou
 
 pub answered_ok : (a : Meaning) (old : Old) (s new : List Layer) (M : Move) (y : Layer) → IsNextLayer a old s M y →
     one_move new ≡ Some (one_move_of y) → IsPushAnswer a old s new M (Ok tt)
-answered_ok a old s new M y next is = ((next.updates, next.set), (one_move_of y, is, next.extends.0))
+answered_ok a old s new M y next is = ((next.updates, next.set), (one_move_of y, is, next.over.extends.0))
 
 -- on a state that has what is below, a move that fires is not refused for those before it
 not_refused : (a : Meaning) (old : Old) (s : List Layer) (groups : List (List Move)) (M : Move) (A B : State) →
@@ -281,7 +281,7 @@ module _ (a : Meaning) (old : Old) (s new : List Layer) (M : Move) where
   taken_on (Ok _) (y, next, is) groups B step proper has =
       subst (λ (t : List Layer). IsPushAnswerOn a.part B s t M (Ok tt)) (sym is)
       (answered_on_ok a old s groups M B step proper has (all_but_last s ++ behind (moves_of s) y ∷ []) next.updates next.set
-      (λ l. shown_on_top (all_but_last s) (behind (moves_of s) y) l ∙ next.written l))
+      (λ l. shown_on_top (all_but_last s) (behind (moves_of s) y) l ∙ next.over.written l))
   taken_on (Err e) taken groups B step proper has =
       subst (λ (t : List Layer). IsPushAnswerOn a.part B s t M (Err e)) (sym taken.1)
       (answered_on_err a old s groups M B step proper has e taken.0)

@@ -31,7 +31,8 @@ use Rattle.asm_step.specs.declared.front.Growth.{Growth}
 use Rattle.asm_step.specs.declared.layer.OwnLayer.{OwnLayer}
 use Rattle.asm_step.proofs.Joined.{as_joined, res_partial}
 use Rattle.asm_step.proofs.Stacked.{kept_at, kept_within, placed_length}
-use Rattle.asm_step.proofs.Nexts.{next_ok, topmost_is}
+use Rattle.asm_step.proofs.Continued.{has_updates}
+use Rattle.asm_step.proofs.Nexts.{next_ok, of_next, topmost_is}
 use Rattle.asm_step.proofs.Prefixes.{top_sound, all_laid, all_push, extended_top, held-push, layers-push, sound_behind, sound_items}
 use Rattle.std.specs.declared.alloc.AllocError.{AllocError}
 use Rattle.asm_step.specs.InTurn.{all_but_last}
@@ -242,8 +243,9 @@ module _ {a : Meaning} (laws : AggregatorLaws a) (old : Old) (s : List Layer) (s
 
     goes_on_behind : IsNextLayer a old s M (stacked_on os going)
     goes_on_behind =
-        next_ok laws old s M E M [] U sound set kept shared apart proper_here proper (omega arith) F composed_is z.count count
-        going next counted few refl first
+        of_next a old s M U set (stacked_on os going)
+        (next_ok laws s M E M [] U sound (has_updates a.part (seen_through (frames_of s) old) M U set) kept shared apart proper_here
+        proper (omega arith) F composed_is z.count count going next counted few refl first)
 
   -- where there are none
   module _ (none : o.actions ≡ []) where
@@ -296,11 +298,13 @@ module _ {a : Meaning} (laws : AggregatorLaws a) (old : Old) (s : List Layer) (s
 
     goes_on_alone : IsNextLayer a old s M (stacked_on os going)
     goes_on_alone =
-        next_ok laws old s M [] [] M U sound set none_kept none_shared all_apart (All-nil IsProperInstruction)
-        (All-nil IsProperInstruction) (omega arith) [] nothing_composed z.count count going first_next
+        of_next a old s M U set (stacked_on os going)
+        (next_ok laws s M [] [] M U sound (has_updates a.part (seen_through (frames_of s) old) M U set) none_kept none_shared
+        all_apart (All-nil IsProperInstruction) (All-nil IsProperInstruction) (omega arith) [] nothing_composed z.count count
+        going first_next
         (let longer = gone.applied.longer in
         let one = gone.applied.few in
-        let nothing = ap length none in omega (arith, longer, one, nothing, listed_here)) few refl first
+        let nothing = ap length none in omega (arith, longer, one, nothing, listed_here)) few refl first)
 
   pub extends : IsNextLayer a old s M (stacked_on os going)
   extends = by_actions o.actions refl where
@@ -379,6 +383,6 @@ module _ {a : Meaning} (laws : AggregatorLaws a) (t items : List OwnLayer) (now 
       let taken = taken_in laws old t items now x new M seen is sound gone in
       subst (λ (s : List Layer). All IsSound s) (sym taken.2)
       (all_push IsSound (all_but_last now) (behind (moves_of now) taken.0) (sound_items now sound)
-      (sound_behind (moves_of now) taken.0 taken.1.sound))
+      (sound_behind (moves_of now) taken.0 taken.1.over.sound))
   step_sound old (Ok false) gone same = subst (λ (s : List Layer). All IsSound s) (sym (back gone)) sound
   step_sound old (Err e) gone same = subst (λ (s : List Layer). All IsSound s) (sym (back same)) sound

@@ -1,5 +1,5 @@
 -- A step stays one of its moves when one is pushed, extended or popped, and its one move does what they do.
-use Rattle.std.proofs.Common.{◌≡◌, List, [], ◌∷◌, ◌++◌, append_assoc, append-nil, Option, Some, None, Ok, IsOk, refl, sym, ap, ◌∙◌, subst, ◌≢◌, ◌<◌, ◌+◌, ◌-◌, ℕ, inl, inr, Contains, arith, drop, get_or, length, length-append, take, Result, Err, IsErr}
+use Rattle.std.proofs.Common.{◌≡◌, List, [], ◌∷◌, ◌++◌, append_assoc, append-nil, Option, Some, None, Ok, IsOk, refl, sym, ap, ◌∙◌, subst, ◌≢◌, ◌<◌, ◌+◌, ◌-◌, ℕ, Contains, arith, drop, get_or, length, length-append, take, Result, Err, IsErr}
 use Rattle.std.specs.Option.{option_map, option_map_or}
 use Rattle.asm_element.specs.Place.{Place, location_cmp}
 use Rattle.asm_update.specs.Fire.{Part, Old, fire, then_fire}
@@ -16,12 +16,11 @@ use Rattle.std.proofs.lemmas.Bool.{false≢true}
 use Rattle.std.proofs.lemmas.List.{drop_more, take-append-drop, take_more}
 use Rattle.std.proofs.lemmas.List.Elements.{Contains-append_left}
 use Rattle.std.proofs.Math.Seq.{take-append_seam}
-use Rattle.asm_update.specs.Aggregator.{Meaning}
 use Rattle.asm_update.specs.declared.clash.Clash.{Clash}
-use Rattle.asm_aggregate.specs.Compose.{IsComposition, KeepsSequence, NeverFires}
+use Rattle.asm_aggregate.specs.Compose.{KeepsSequence, NeverFires}
 use Rattle.asm_aggregate.specs.declared.composition.ComposeError.{ComposeError}
 use Rattle.asm_step.specs.Places.{all_partial_places, partial_places}
-use Rattle.asm_step.specs.Popped.{IsComposedOf, KeepsTurns, NeverFireAll}
+use Rattle.asm_step.specs.Popped.{KeepsTurns, NeverFireAll}
 use Rattle.std.specs.FinMap as finite
 use Rattle.asm_aggregate.specs.declared.composition.ComposeError.TheVariants as compose_error
 
@@ -262,17 +261,6 @@ keeps_err part Ms Ns C N (compose_error.Clash c) does never = never_in_turn part
 keeps_err part Ms Ns C N (compose_error.Large l) does never = never_in_turn part Ms Ns C N does never
 keeps_err part Ms Ns C N compose_error.ManyInstructions does never = tt
 keeps_err part Ms Ns C N compose_error.Memory does never = tt
-
--- a refusal of memory tells nothing
-pub none_reported : (a : Meaning) (M : Move) (Ms : List Move) → IsComposedOf a M Ms (Err compose_error.Memory)
-none_reported a M [] = tt
-none_reported a M (N ∷ Ns) = inl tt
-
--- a next one that is composed, and then the others
-pub more_composed : (a : Meaning) (M N D : Move) (Ns : List Move) (r : Result Move ComposeError) →
-    IsComposition a M N (Ok D) → IsComposedOf a D Ns r → IsComposedOf a M (N ∷ Ns) r
-more_composed a M N D Ns (Ok C) first rest = (D, first, rest)
-more_composed a M N D Ns (Err e) first rest = inr (D, first, rest)
 
 -- the first of some moves, the next one, and the others
 pub record IsAt (Ms : List Move) (i : ℕ) (M : Move) : Type 0 where

@@ -20,3 +20,9 @@ pub mod Pushed
 pub mod Depending
 pub mod SetLists
 pub mod Standing
+pub mod AsOne
+pub mod Again
+pub mod Columns
+pub mod Dependents
+pub mod ExtendedMoves
+mod ProperResults

@@ -11,7 +11,7 @@ use Rattle.asm_update.specs.State.{Updates}
 use Rattle.asm_overlay.specs.Frames.{topmost, seen_through}
 use Rattle.asm_step.specs.Layers.{Layer, IsSound, alone_in, first_of, frames_of, stacked_on, one_move, one_move_of, outcomes_of, top_of}
 use Rattle.asm_step.specs.InTurn.{IsSequenceAt}
-use Rattle.asm_step.specs.Next.{AreNext, IsComposed, IsContinued, IsLayerFrom, IsNext, IsNextLayer, KeepsEach, first_alone, is_first, next_at, on_top, those}
+use Rattle.asm_step.specs.Next.{AreNext, AreWhere, IsComposed, IsContinued, IsLayerFrom, IsLayerOver, IsNext, IsNextLayer, IsOver, KeepsEach, first_alone, is_first, next_at, on_top, those}
 use Rattle.asm_step.specs.Outcomes.{Outcome, Outcomes, actions_in, frame, stacked, listed, acts_at, builds_at, own_of, put_alone, put_outcome, sees_at}
 use Rattle.asm_step.specs.declared.error.StepError.{StepError}
 use Rattle.asm_step.specs.declared.layer.OwnLayer.{OwnLayer}
@@ -90,14 +90,21 @@ kept_same os own U C M next has =
 abbrev no_move : Option Move
 no_move = None
 
-module _ {a : Meaning} (laws : AggregatorLaws a) (old : Old) (s : List Layer) (M E S O : Move) (U : Updates)
-    (sound : All IsSound s) (set : IsUpdateSet a.part (seen_through (frames_of s) old) M U)
+-- with the update set of the move it is the next layer
+pub of_next : (a : Meaning) (old : Old) (s : List Layer) (M : Move) (U : Updates) →
+    IsUpdateSet a.part (seen_through (frames_of s) old) M U → (y : Layer) → IsLayerOver a s M U y → IsNextLayer a old s M y
+of_next a old s M U set y over = record { updates = U; set = set; over = over }
+
+pub next_over : (a : Meaning) (old : Old) (s : List Layer) (M : Move) (U : Updates) →
+    IsUpdateSet a.part (seen_through (frames_of s) old) M U → (r : Result Layer StepError) → IsOver a s M U r → IsNext a old s M r
+next_over a old s M U set (Ok y) over = of_next a old s M U set y over
+next_over a old s M U set (Err e) refused = inr ((U, set), refused)
+
+module _ {a : Meaning} (laws : AggregatorLaws a) (s : List Layer) (M E S O : Move) (U : Updates)
+    (sound : All IsSound s) (has : AreWhere M U)
     (kept : E ≡ kept_at (outcomes_of s) (finite.entries U)) (shared : S ≡ those true (outcomes_of s) M)
     (apart : O ≡ those false (outcomes_of s) M) (proper : All IsProperInstruction E) (proper' : All IsProperInstruction S)
     (short : length M ≤ 4096) where
-  has : (l : Place) → is_some (finite.get U l) ≡ writes M l
-  has = has_updates a.part (seen_through (frames_of s) old) M U set
-
   module _ (z : Layer) (top : top_of s ≡ Some z) where
     outcomes_are : outcomes_of s ≡ z.outcomes
     outcomes_are = ap (λ (t : Option Layer). option_map_or (λ (y : Layer). y.outcomes) t finite.empty) top
@@ -237,10 +244,8 @@ module _ {a : Meaning} (laws : AggregatorLaws a) (old : Old) (s : List Layer) (M
         by_top None top h e = tt
 
       -- the layer of the move
-      pub next_ok : IsNextLayer a old s M (stacked_on (outcomes_of s) y)
+      pub next_ok : IsLayerOver a s M U (stacked_on (outcomes_of s) y)
       next_ok = record {
-        updates = U;
-        set = set;
         written = written_over s U C M y.own next;
         extends = extends;
         each = keeps_each;
@@ -278,10 +283,10 @@ module _ {a : Meaning} (laws : AggregatorLaws a) (old : Old) (s : List Layer) (M
           absurd (omega (arith, none, count, few, many, all, short))
 
     -- what is answered
-    pub next_answer : (r : Result OwnLayer StepError) → IsLayerFrom s U (n - length E) C M r → IsNext a old s M (on_top s r)
+    pub next_answer : (r : Result OwnLayer StepError) → IsLayerFrom s U (n - length E) C M r → IsOver a s M U (on_top s r)
     next_answer (Ok y) (next, counted, few, moves, first) = next_ok y next counted few moves first
-    next_answer (Err step_error.Many) (own, next, few, many) = inr ((U, set), too_many own next few many)
-    next_answer (Err step_error.Memory) h = inr ((U, set), (tt, tt))
+    next_answer (Err step_error.Many) (own, next, few, many) = too_many own next few many
+    next_answer (Err step_error.Memory) h = (tt, tt)
     next_answer (Err (step_error.Clash clash)) h = absurd h
     next_answer (Err (step_error.Large l)) h = absurd h
     next_answer (Err step_error.Deep) h = absurd h
@@ -313,12 +318,13 @@ module _ {a : Meaning} (laws : AggregatorLaws a) (old : Old) (s : List Layer) (M
   pub first_answer : (U : Updates) → IsUpdateSet a.part (seen_through (frames_of s) old) M U →
       (r : Result OwnLayer StepError) → IsLayerFrom s U 0 M M r → IsNext a old s M (on_top s r)
   first_answer U set r from =
-      next_answer laws old s M [] [] M U sound set
+      next_over a old s M U set (on_top s r)
+      (next_answer laws s M [] [] M U sound (has_updates a.part (seen_through (frames_of s) old) M U set)
       (sym (none_kept (outcomes_of s) (finite.entries U) (λ l. found (λ (o : Outcome). o.actions) [] l)))
       (sym (none_shared (outcomes_of s) M nowhere)) (sym (all_others (outcomes_of s) M nowhere))
       (All-nil IsProperInstruction) (All-nil IsProperInstruction) short []
       (subst (λ (t : Option Layer). IsComposed a (option_map (λ (y : Layer). []) t) [] (Ok [])) (sym top) ((refl, omega arith), tt))
-      0 (sym (ap length (ap (λ (os : Outcomes). listed os) none ∙ none_of_empty))) r from where
+      0 (sym (ap length (ap (λ (os : Outcomes). listed os) none ∙ none_of_empty))) r from) where
         nowhere : (l : Place) → acts_at (outcomes_of s) l ≡ false
         nowhere = acts_nowhere (outcomes_of s) none
 

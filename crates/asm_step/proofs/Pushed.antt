@@ -25,7 +25,7 @@ use Rattle.asm_overlay.proofs.FrameLemmas.{topmost-append}
 use Rattle.asm_step.specs.Next.{AreMerged}
 use Rattle.std.specs.FinMap as finite
 
-writes-push : (Ms : List Move) (M : Move) (l : Place) → one_writes (Ms ++ M ∷ []) l ≡ (one_writes Ms l || writes M l)
+pub writes-push : (Ms : List Move) (M : Move) (l : Place) → one_writes (Ms ++ M ∷ []) l ≡ (one_writes Ms l || writes M l)
 writes-push Ms M l =
     list_any-append (λ N. writes N l) Ms (M ∷ []) ∙ ap (λ b. one_writes Ms l || b) (or_false (writes M l))
 
@@ -109,7 +109,7 @@ keeps_one M l sees alone = by_test (writes M l) refl where
   by_test false w = unwritten M l w
 
 -- where not both write, what goes on has what the one that writes does
-continued_alone : (a : Meaning) (D M C : Move) → continued a D M ≡ Ok C → (l : Place) → (writes M l && writes D l) ≡ false →
+pub continued_alone : (a : Meaning) (D M C : Move) → continued a D M ≡ Ok C → (l : Place) → (writes M l && writes D l) ≡ false →
     actions_at C l ≡ cond (writes M l) (actions_at M l) (actions_at D l)
 continued_alone a D M C is l apart = by_tests (writes M l) (writes D l) refl refl apart where
   at : (is_in (locations (D ++ M)) l ≡ true → continued_at a D M l ≡ Ok (actions_at C l))

@@ -1,5 +1,5 @@
 -- What comes to the layer of a move that is next.
-use Rattle.std.specs.Prelude.{◌≡◌, ◌⊎◌, ◌≤◌, ◌<◌, ◌+◌, ℕ, Bool, true, false, not, filter, if◌then◌else◌, List, [], ◌∷◌, ◌++◌, length, Option, None, Some, Result, Ok, Err, ◌-◌, All}
+use Rattle.std.specs.Prelude.{◌≡◌, ◌⊎◌, ◌≤◌, ◌<◌, ◌+◌, ℕ, Bool, true, false, not, filter, if◌then◌else◌, List, [], ◌∷◌, ◌++◌, length, Option, None, Some, Result, Ok, Err, ◌-◌, All, is_some}
 use Rattle.std.specs.List.{list_any}
 use Rattle.std.specs.Option.{option_or, option_map, option_map_or}
 use Rattle.asm_element.specs.Place.{Place}
@@ -80,10 +80,8 @@ depends_next os M l = if writes M l then builds_at os l else depends_at os l
 abbrev pub first_alone : List Layer → Move → Option Move
 first_alone s M = option_map_or (λ _. None) (top_of s) (Some M)
 
--- the layer of a move that comes next: it writes the move's update set, over what those before write
-pub record IsNextLayer (a : Meaning) (old : Old) (s : List Layer) (M : Move) (y : Layer) : Type 0 where
-  pub updates : Updates
-  pub set : IsUpdateSet a.part (seen_through (frames_of s) old) M updates
+-- the layer of a move over those before it, which writes these updates
+pub record IsLayerOver (a : Meaning) (s : List Layer) (M : Move) (updates : Updates) (y : Layer) : Type 0 where
   pub written : (l : Place) → map.get (frame y.outcomes) l ≡ option_or (map.get updates l) (topmost (frames_of s) l)
   pub extends : IsContinued a (one_move s) M (Ok (one_move_of y))
   pub each : KeepsEach a.part (one_move s) M (one_move_of y)
@@ -92,6 +90,21 @@ pub record IsNextLayer (a : Meaning) (old : Old) (s : List Layer) (M : Move) (y 
   pub sound : IsSound y
   pub moves : y.moves ≡ M ∷ []
   pub alone : y.alone ≡ first_alone s M
+
+-- the answer is that layer, or why there is no one move with it
+abbrev pub IsOver : Meaning → List Layer → Move → Updates → Result Layer StepError → Type 0
+IsOver a s M updates (Ok y) = IsLayerOver a s M updates y
+IsOver a s M updates (Err e) = IsContinued a (one_move s) M (Err e)
+
+-- the updates are at the locations that the move writes
+abbrev pub AreWhere : Move → Updates → Type 0
+AreWhere M updates = (l : Place) → is_some (map.get updates l) ≡ writes M l
+
+-- the layer of a move that comes next: it writes the move's update set, over what those before write
+pub record IsNextLayer (a : Meaning) (old : Old) (s : List Layer) (M : Move) (y : Layer) : Type 0 where
+  pub updates : Updates
+  pub set : IsUpdateSet a.part (seen_through (frames_of s) old) M updates
+  pub over : IsLayerOver a s M updates y
 
 -- the answer is the layer of a move that is next, or why it has none: it has no update set, or doesn't compose
 abbrev pub IsNext : Meaning → Old → List Layer → Move → Result Layer StepError → Type 0

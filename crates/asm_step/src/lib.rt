@@ -10,6 +10,7 @@ mod error;
 mod front;
 mod held;
 mod in_place;
+mod joining;
 mod layer;
 mod listing;
 mod next;

@@ -10,7 +10,7 @@ ghost use Rattle.asm_update.specs.Limits.{instructions_limit};
 ghost use Rattle.asm_update.specs.Move.{Move};
 ghost use Rattle.asm_step.specs.InTurn.{all_but_last};
 ghost use Rattle.asm_step.specs.Layers.{Layer, IsSound, alone_in, behind, stacked_on, moves_of, outcomes_of, top_of};
-ghost use Rattle.asm_step.specs.Next.{IsNext, AreFilled, AreMarked, AreOpened, IsLayerFrom, count_of, is_first, on_top, opened_at, those};
+ghost use Rattle.asm_step.specs.Next.{AreWhere, IsNext, IsOver, AreFilled, AreMarked, AreOpened, IsLayerFrom, count_of, is_first, on_top, opened_at, those};
 ghost use Rattle.asm_step.specs.Next.{IsStepExtendedInPlace, IsExtensionAnswer};
 ghost use Rattle.asm_step.specs.Outcomes.{acts_at, actions_in, listed, own_of, with_put};
 
@@ -294,6 +294,32 @@ impl Step {
         self.layer_of(alloc, updates, 0, &none, instructions, instructions)
     }
 
+    /// Return the layer of a move over those so far, which writes these updates.
+    ///
+    /// Of the updates the values alone are new: what the one move does depends on their locations.
+    pub(crate) fn layer_over<A: Aggregator>(
+        &self,
+        alloc: Global,
+        aggregator: &A,
+        frame: UpdateSet,
+        instructions: &Instructions,
+    ) -> Result<OwnLayer, StepError>
+        requires { AreWhere instructions.now frame }
+        ensures { IsOver (A.meaning aggregator.now) self.now instructions.now frame (on_top self.now result) }
+    {
+        // Proof: the invariant is known once a field is read.
+        let _ = &self.layers;
+        within_limit(instructions);
+        let earlier = self.earlier_at(alloc, &frame)?;
+        let (shared, apart) = self.split(alloc, instructions)?;
+        // Proof: the sequence is promised of well-formed moves.
+        earlier.proper();
+        shared.proper();
+        let composed = move_after(alloc, aggregator, self.if_later(&earlier), &shared)?;
+        let others = self.count() - earlier.len();
+        self.layer_of(alloc, frame, others, &composed, &apart, instructions)
+    }
+
     // The layer of a move that comes after others.
     fn later_layer<A: Aggregator, L: Lookup>(
         &self,
@@ -305,18 +331,8 @@ impl Step {
         ensures { IsNext (A.meaning aggregator.now) (L.value_at below.now) self.now instructions.now
             (on_top self.now result) }
     {
-        // Proof: the invariant is known once a field is read.
-        let _ = &self.layers;
-        within_limit(instructions);
         let frame = frame_on(alloc, aggregator, &self.over(below), instructions)?;
-        let earlier = self.earlier_at(alloc, &frame)?;
-        let (shared, apart) = self.split(alloc, instructions)?;
-        // Proof: the sequence is promised of well-formed moves.
-        earlier.proper();
-        shared.proper();
-        let composed = move_after(alloc, aggregator, self.if_later(&earlier), &shared)?;
-        let others = self.count() - earlier.len();
-        self.layer_of(alloc, frame, others, &composed, &apart, instructions)
+        self.layer_over(alloc, aggregator, frame, instructions)
     }
 
     /// Return the layer of a move that is next.
@@ -337,8 +353,8 @@ impl Step {
         }
     }
 
-    // Lets the topmost layer take in the layer of a move that extends it. On error, nothing changes.
-    fn extend_top(&mut self, alloc: Global, next: OwnLayer) -> Result<(), AllocError>
+    /// Let the topmost layer take in the layer of a move that extends it. On error, nothing changes.
+    pub(crate) fn extend_top(&mut self, alloc: Global, next: OwnLayer) -> Result<(), AllocError>
         requires some { self.old ≢ [] }
         requires sound { IsSound (stacked_on (outcomes_of self.old) next) }
         requires one { (M : Move) × (next.moves ≡ M ∷ []) }

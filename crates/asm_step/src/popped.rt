@@ -1,9 +1,12 @@
 //! A pushed move with those that extend it.
-ghost use Rattle.std.specs.Prelude.{◌≡◌, ◌≢◌, ◌++◌, ◌∷◌, [], List, OnErr, OnOk};
+ghost use Rattle.std.specs.Prelude.{◌≡◌, ◌≢◌, ◌++◌, ◌∷◌, [], IfOk, List, OnErr, OnOk};
+ghost use Rattle.asm_update.specs.Fire.{Old};
 ghost use Rattle.asm_update.specs.Move.{Move};
-ghost use Rattle.asm_step.specs.Popped.{IsOneOf, KeepsTurns};
+ghost use Rattle.asm_step.specs.Layers.{IsStepOf, Layer};
+ghost use Rattle.asm_step.specs.Popped.{AreProper, IsAsOne, IsOneOf, IsPushedAgain, KeepsTurns};
 
-use asm_aggregate::{ComposeError, compose};
+use crate::step::Step;
+use asm_aggregate::ComposeError;
 use asm_update::{Aggregator, Instructions};
 use std::alloc::{AllocError, Global};
 use std::marker::Model;
@@ -75,14 +78,28 @@ impl Popped {
         (&self.first, self.more.as_slice())
     }
 
+    // Return a step that has the one move of these.
+    fn as_one<A: Aggregator>(&self, alloc: Global, aggregator: &A) -> Result<Step, ComposeError>
+        ensures { IsAsOne (A.meaning aggregator.now) self.now result }
+    {
+        let mut step = Step::new(alloc);
+        step.join(alloc, aggregator, &self.first)?;
+        for next in &self.more {
+            step.join(alloc, aggregator, next)?;
+        }
+        Ok(step)
+    }
+
     /// Return the one move that does what these do in turn.
     ///
-    /// If nothing extends the first one, it is the answer itself. Else the answer is what they compose to, each with
-    /// those before it, by location in ascending order. A composition costs by what is composed, so many moves at many
-    /// locations cost more than each of them did.
+    /// If nothing extends the first one, it is the answer itself. Else the answer is by location, in ascending order. At
+    /// a location that one of them alone writes it has the same updates, even if they change nothing. Where several
+    /// write, it has what these compose to. So the step itself makes its one move. The call costs by the moves' own
+    /// instructions.
     ///
     /// On a state on which all but the last of them fire in turn, it does what they do, clashes of the last included.
-    /// On others nothing is promised, as with any composition.
+    /// On others nothing is promised, as with any composition. Pushed again in their place, it leaves the step what it
+    /// is, on each state that has what is below wherever the step depends on it.
     ///
     /// # Errors
     ///
@@ -96,11 +113,15 @@ impl Popped {
     ) -> Result<Instructions, ComposeError>
         ensures one { IsOneOf (A.meaning aggregator.now) self.now result }
         ensures turns { KeepsTurns (A.meaning aggregator.now).part self.now result }
+        ensures again { IfOk result (λ one. (old : Old) (s : List Layer) (groups : List (List Move)) →
+            IsStepOf (A.meaning aggregator.now).part old s (groups ++ self.now ∷ []) → AreProper s →
+            IsPushedAgain (A.meaning aggregator.now) old s groups self.now one) }
     {
-        let mut one = self.first.copy(alloc)?;
-        for next in &self.more {
-            one = compose(alloc, aggregator, &one, next)?;
+        let (first, more) = self.moves();
+        if more.is_empty() {
+            return Ok(first.copy(alloc)?);
         }
-        Ok(one)
+        let step = self.as_one(alloc, aggregator)?;
+        Ok(step.as_move(alloc)?)
     }
 }

@@ -1,12 +1,12 @@
-use Rattle.std.proofs.Common.{◌-◌, ◌++◌, All, List, Err, Ok, length, inl, inr, ap, subst, ◌∙◌, arith}
+use Rattle.std.proofs.Common.{Err, inl, subst}
 use Rattle.std.proofs.lemmas.Result.{err_from_is_err_and}
 use Rattle.asm_update.specs.Fire.{IsUpdateSet}
 use Rattle.asm_overlay.specs.Frames.{OverView, seen_through}
 use Rattle.asm_aggregate.proofs.Exits.{handed_on}
-use Rattle.asm_step.specs.Layers.{Layer, IsSound, outcomes_of}
-use Rattle.asm_step.specs.Next.{IsComposed, IsFrame, IsLayerFrom, IsNext, on_top}
-use Rattle.asm_step.proofs.Stacked.{kept_within}
-use Rattle.asm_step.proofs.Nexts.{next_answer, not_continued}
+use Rattle.asm_step.specs.Layers.{frames_of}
+use Rattle.asm_step.specs.Next.{IsFrame, IsNext, on_top}
+use Rattle.asm_step.proofs.Continued.{has_updates}
+use Rattle.asm_step.proofs.Nexts.{next_over}
 use Rattle.asm_step.proofs.step.Step.later_layer.Goals as goal
 
 pub returns-in_err-frame : goal.returns-in_err-frame
@@ -20,26 +20,14 @@ returns-in_err-frame g c =
     (inl (subst (λ (o : OverView _). IsFrame a.part (seen_through o.frames (g.L.Lookup.value_at o.below)) M (Err c.in_err-frame.field-0.0))
     c.over.ensures c.in_err-frame.ensures))
 
-pub returns-in_err-composed : goal.returns-in_err-composed
-returns-in_err-composed g c =
+pub layer_over-requires : goal.layer_over-requires
+layer_over-requires g c =
     let a = g.A.Aggregator.meaning c.args.aggregator.now in
     let old = g.L.Lookup.value_at c.args.below.now in
-    let s = c.args.self.now in
     let M = c.args.instructions.now in
     let U = c.in_ok-frame.frame in
-    let p = err_from_is_err_and c.from_residual-in_err-composed.result c.from_residual-in_err-composed.ensures.1 in
-    let set = subst (λ (o : OverView _). IsUpdateSet a.part (seen_through o.frames (g.L.Lookup.value_at o.below)) M U)
-    c.over.ensures c.in_ok-frame.ensures in
-    let sound = subst (λ (t : List Layer). All IsSound t) c.self.view_is c.self.invariant.1 in
-    let S = c.in_ok-shared.shared in
-    let composed = subst (λ o. IsComposed a o S (Err c.in_err-composed.field-0.0)) c.if_later.ensures c.in_err-composed.ensures in
-    handed_on (λ r. IsNext a old s M (on_top s r)) c.from_residual-in_err-composed.result p.0 c.in_err-composed.field-0.0 p.1 p.2
-    (inr (
-      (U, set),
-      not_continued (g.met.A.Aggregator.laws c.args.aggregator.now) old s M c.in_ok-earlier.earlier S c.in_ok-shared.apart U sound set
-          c.in_ok-earlier.ensures c.in_ok-shared.ensures.shared c.in_ok-shared.ensures.apart c.proper.ensures c.proper-2.ensures
-          c.within_limit.ensures c.in_err-composed.field-0.0 composed,
-    ))
+    has_updates a.part (seen_through (frames_of c.args.self.now) old) M U
+    (subst (λ (o : OverView _). IsUpdateSet a.part (seen_through o.frames (g.L.Lookup.value_at o.below)) M U) c.over.ensures c.in_ok-frame.ensures)
 
 pub returns : goal.returns
 returns g c =
@@ -48,25 +36,6 @@ returns g c =
     let s = c.args.self.now in
     let M = c.args.instructions.now in
     let U = c.in_ok-frame.frame in
-    let E = c.in_ok-earlier.earlier in
-    let C = c.in_ok-composed.composed in
-    let set = subst (λ (o : OverView _). IsUpdateSet a.part (seen_through o.frames (g.L.Lookup.value_at o.below)) M U)
-    c.over.ensures c.in_ok-frame.ensures in
-    let sound = subst (λ (t : List Layer). All IsSound t) c.self.view_is c.self.invariant.1 in
-    let S = c.in_ok-shared.shared in
-    let O = c.in_ok-shared.apart in
-    let composed = subst (λ o. IsComposed a o S (Ok C)) c.if_later.ensures c.in_ok-composed.ensures in
-    next_answer (g.met.A.Aggregator.laws c.args.aggregator.now) old s M E S O U sound set
-    c.in_ok-earlier.ensures c.in_ok-shared.ensures.shared c.in_ok-shared.ensures.apart c.proper.ensures c.proper-2.ensures
-    c.within_limit.ensures C composed c.count.result
-    (c.count.ensures.count ∙ c.count.ensures.listed) c.layer_of.result
-    (subst (λ k. IsLayerFrom s U (c.count.result - k) (C ++ O) M c.layer_of.result) c.len.ensures.len c.layer_of.ensures)
-
-pub layer_of-requires : goal.layer_of-requires
-layer_of-requires g c = omega (arith, c.count.ensures.count, c.count.ensures.few)
-
-pub overflow_sub-others : goal.overflow_sub-others
-overflow_sub-others g c =
-    let within = kept_within (outcomes_of c.args.self.now) c.in_ok-frame.frame in
-    let long = ap length c.in_ok-earlier.ensures in
-    omega (arith, within, long, c.len.ensures.len, c.count.ensures.count, c.count.ensures.listed)
+    next_over a old s M U
+    (subst (λ (o : OverView _). IsUpdateSet a.part (seen_through o.frames (g.L.Lookup.value_at o.below)) M U) c.over.ensures c.in_ok-frame.ensures)
+    (on_top s c.layer_over.result) c.layer_over.ensures

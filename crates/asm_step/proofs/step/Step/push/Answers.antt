@@ -29,7 +29,7 @@ invariant_of-self-2 g c =
     let more = ap length c.in_ok-push.ensures.items ∙ length-append c.self.inside.layers.items (c.in_ok-layer.layer ∷ []) in
     let same = sym (length-layers finite.empty c.self.inside.layers.items) ∙ ap (λ (t : List Layer). length t) c.self.view_is in (
       omega (arith, more, same, c.depth.ensures.value, c.if-depth-ge-FRAMES_LIMIT.false),
-      subst (λ (t : List Layer). All IsSound t) (sym is) (all_push IsSound s y sound c.in_ok-layer.ensures.sound),
+      subst (λ (t : List Layer). All IsSound t) (sym is) (all_push IsSound s y sound c.in_ok-layer.ensures.over.sound),
     )
 
 pub returns-clause-step : goal.returns-clause-step
@@ -70,4 +70,4 @@ returns-clause-answer_on g c groups B step proper has =
     let is = on_layers c.self.inside.layers.items c.push.new.self.items c.in_ok-layer.layer s c.in_ok-push.ensures.items c.self.view_is in
     subst (λ (t : List Layer). IsPushAnswerOn a.part B s t M (Ok tt)) (sym is)
     (answered_on_ok a old s groups M B step proper has (s ++ y ∷ []) next.updates next.set
-    (λ l. shown_on_top s y l ∙ next.written l))
+    (λ l. shown_on_top s y l ∙ next.over.written l))

@@ -51,7 +51,7 @@ extend_top-requires-clause-later g c =
     let same : c.extend_in_place.new.self ≡ s =
     subst (λ b. IsStepExtendedInPlace a old s c.extend_in_place.new.self M b) c.if-done.false (c.in_ok-done.ensures.ok old) in
     let none : Option Move = None in
-    c.in_ok-next.ensures.alone
+    c.in_ok-next.ensures.over.alone
     ∙ ap (λ (t : Option Layer). option_map_or (λ (y : Layer). none) t (Some M)) (ap top_of same ∙ c.requires.1)
 
 pub returns-in_err-extend_top : goal.returns-in_err-extend_top
