@@ -18,6 +18,7 @@ mod outcomes;
 mod over;
 mod own;
 mod popped;
+mod proper;
 mod scan;
 mod sides;
 mod step;
