@@ -67,6 +67,8 @@ impl<T> Progress<T> {
     }
 
     /// Return the entry at place `k`, counted from 0, of those that were seen.
+    ///
+    /// It reads the cell again, which still has that entry: no copy of an entry is retained.
     pub fn at<'r>(&self, row: &'r Row<T>, k: u32) -> &'r T
         requires own { row.now ≡ self.now.row }
         requires seen { k < length self.now.seen }
@@ -191,8 +193,9 @@ impl<T> Progress<T> {
 impl<T: Drop> Progress<T> {
     /// Attempt to append `value`: set the first unseen cell, if that is empty.
     ///
-    /// Either way one entry more was then seen, the one in the cell: on `Ok` the passed one, and `won` grows by one.
-    /// Contracts cover the seen cells alone; tests show that a lost value is put into no other cell.
+    /// Either way one entry more was then seen, the one in the cell: on `Ok` the passed one, and `won` grows by one. A
+    /// lost attempt learns the entry from the failed set itself, and doesn't read the cell again. Contracts cover the
+    /// seen cells alone; tests show that a lost value is put into no other cell.
     ///
     /// # Errors
     ///
