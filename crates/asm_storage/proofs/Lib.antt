@@ -7,6 +7,7 @@ pub mod Legal
 pub mod Lists
 pub mod MergedReceipts
 pub mod Moves
+pub mod NamedReads
 pub mod PartInvariant
 pub mod ProperResults
 pub mod Rounds

@@ -4,6 +4,7 @@ pub mod Closed
 pub mod History
 pub mod Limits
 pub mod Machine
+pub mod NamedRead
 pub mod Part
 pub mod Proper
 pub mod ReceiptOrder

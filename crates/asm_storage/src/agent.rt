@@ -6,6 +6,7 @@ ghost use Rattle.asm_storage.specs.Agents.{IsAgent, is_fired};
 ghost use Rattle.asm_storage.specs.Calls.{HasPolledFor, IsBehind, IsFire, IsFireOver, IsPeek, IsRead, IsRecall, IsStaleRead};
 ghost use Rattle.asm_storage.specs.Calls.{MadeOffers, Ran};
 ghost use Rattle.asm_storage.specs.Limits.{agents_limit, reads_limit};
+ghost use Rattle.asm_storage.specs.NamedRead.{IsNamedRead};
 ghost use Rattle.asm_storage.specs.Part.{agent_of, IsFollowing, IsPartOf};
 ghost use Rattle.asm_storage.specs.Storage.{machine_of, has_seen, has_polled, last_poll};
 ghost use Rattle.asm_storage.specs.Storage.{FollowsOn, IsUpToDate, IsSameAgent, Missed};
@@ -16,7 +17,7 @@ use crate::entry::Entry;
 use crate::error::{FireError, ReadError, RecallError};
 use crate::limits::READS_LIMIT;
 use crate::part::AgentPart;
-use crate::reading::Reading;
+use crate::reading::{NamedReading, Reading};
 use crate::receipt::Receipt;
 use crate::shared_lists::copied_named;
 use crate::storage::Storage;
@@ -273,6 +274,28 @@ impl<'s, A: Aggregator + Sync + Drop> Agent<'s, A> {
     {
         let storage = self.storage;
         self.part.recall(alloc, storage, places)
+    }
+
+    /// Validate at most 256 declared reads, and read their locations if none is stale.
+    /// The call polls as `read` does. `Stale` has the smallest location that was written since its read, and adds no
+    /// receipt. Else the locations are read in the order of the declared reads; the receipt is at the number of moves
+    /// that the agent has then seen, so behind all that it had seen before.
+    ///
+    /// # Errors
+    /// - `ReadError::ManyLocations` exactly for more declared reads, before anything else.
+    /// - `Memory` only if memory is refused; it may then have seen more, and no receipt was added.
+    pub fn read_named(&mut self, alloc: Global, reads: &[Named]) -> Result<NamedReading, ReadError>
+        ensures same { IsSameAgent self.old self.new }
+        ensures answered { IfOk result (IsNamedRead A.meaning self.old self.new reads.now) }
+        ensures polled { OnOk result (Missed self.old (last_poll self.new) self.new) }
+        ensures seen { IsPrefix self.old.account.seen self.new.account.seen }
+        ensures refused { OnErr result (self.new ≡ has_polled self.old self.new.account.seen self.new.misses self.new.number) }
+        ensures follows { FollowsOn self.old self.new }
+        ensures unread { IfErr result (HasPolledFor self.old self.new) }
+        ensures many { IsErrOf result ManyLocations ↔ (reads_limit < length reads.now) }
+    {
+        let storage = self.storage;
+        self.part.read_named(alloc, storage, reads)
     }
 
     /// Fire a move, unless a declared read or a scan was overtaken since it was made.

@@ -34,6 +34,6 @@ pub use held_values::{has_value, have_values};
 pub use history::{Event, History};
 pub use limits::{AGENTS_LIMIT, EVENTS_LIMIT, OFFERS_LIMIT, READS_LIMIT};
 pub use part::AgentPart;
-pub use reading::Reading;
+pub use reading::{NamedReading, Reading};
 pub use receipt::Receipt;
 pub use storage::Storage;

@@ -15,6 +15,17 @@ pub struct Reading {
     pub(crate) values: Items<Value>,
 }
 
+/// The answer to a read of declared reads.
+#[derive(Drop)]
+pub enum NamedReading {
+    /// No declared read was stale: their locations and values.
+    Read(Reading),
+    /// The smallest declared location that was written since its read.
+    ///
+    /// Nothing was read.
+    Stale(Location),
+}
+
 impl Model for Reading {
     ghost use Rattle.std.specs.Prelude.{◌≡◌, length};
     ghost use Rattle.asm_element.specs.contracts.location.Location.{the_row as location_row};

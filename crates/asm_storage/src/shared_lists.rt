@@ -1,5 +1,5 @@
 //! Lists that calls, answers, receipts and events share, so that a copy of one takes no memory.
-ghost use Rattle.std.specs.Prelude.{◌≡◌, IfOk};
+ghost use Rattle.std.specs.Prelude.{◌≡◌, map, IfOk};
 ghost use Rattle.asm_storage.specs.Scans.{with_found};
 
 use asm_element::{Items, Location};
@@ -37,6 +37,18 @@ pub(crate) fn share_or_copy_places(
         Some(list) if list.as_slice() == places => same_list(list),
         _ => copied_places(alloc, places),
     }
+}
+
+/// Return the locations of the declared reads, in their order.
+pub(crate) fn places_named(alloc: Global, reads: &[Named]) -> Result<Vec<Location>, AllocError>
+    ensures { IfOk result (λ places. places.items ≡ map (λ x. x.at) reads.now) }
+{
+    let mut places = Vec::with_capacity(alloc, reads.len())?;
+    for named in reads {
+        let place = named.at.copy(alloc)?;
+        places.push(place)?;
+    }
+    Ok(places)
 }
 
 // Copies of the declared reads.

@@ -76,13 +76,33 @@ pub(crate) fn places_of(
     Ok(list)
 }
 
-fn named_of(alloc: Global, reads: &[At]) -> Result<Vec<Named>, AllocError> {
+pub(crate) fn named_of(alloc: Global, reads: &[At]) -> Result<Vec<Named>, AllocError> {
     let mut list = Vec::new(alloc);
     for read in reads {
         let at = location(alloc, read.0)?;
         list.push(Named { at, number: read.1 })?;
     }
     Ok(list)
+}
+
+/// Return the receipt of a read of these locations, with these contents at this number.
+pub(crate) fn receipt_of_read(
+    alloc: Global,
+    reads: &[At],
+    number: u32,
+    contents: &[Option<i64>],
+) -> Result<Receipt, AllocError> {
+    let mut places = Vec::new(alloc);
+    for read in reads {
+        let place = location(alloc, read.0)?;
+        places.push(place)?;
+    }
+    let values = Items::new(values_of(alloc, contents)?);
+    Ok(Receipt {
+        call: Call::Read(Items::new(places)),
+        answer: Answer::Read { number, values },
+        stood: number,
+    })
 }
 
 fn values_of(alloc: Global, contents: &[Option<i64>]) -> Result<Vec<Value>, AllocError> {

@@ -16,6 +16,8 @@ mod fires_on_threads;
 #[cfg(test)]
 mod limits;
 #[cfg(test)]
+mod named_reads;
+#[cfg(test)]
 mod performing;
 #[cfg(test)]
 mod reads_on_threads;

@@ -8,7 +8,8 @@ use asm_aggregate::{Standard, standard};
 use asm_element::Location;
 use asm_state::{Named, Scanned};
 use asm_storage::{
-    Agent, AgentsError, FireError, ReadError, Reading, RecallError, Reply, Storage, StorageError,
+    Agent, AgentsError, FireError, NamedReading, ReadError, Reading, RecallError, Reply, Storage,
+    StorageError,
 };
 use asm_test_support::location;
 use asm_update::{Instructions, PlainState};
@@ -114,6 +115,24 @@ fn named_many(alloc: Global, n: usize) -> Result<Vec<Named>, AllocError> {
         reads.push(Named { at, number: 0 })?;
     }
     Ok(reads)
+}
+
+/// Return whether so many declared reads are read, or refused for their number where that isn't good.
+pub(crate) fn reads_named_many(
+    alloc: Global,
+    agent: &mut Agent<'_, Standard>,
+    n: usize,
+    is_good: bool,
+) -> Result<bool, AllocError>
+    ensures { IsSameAgent agent.old agent.new }
+{
+    let reads = named_many(alloc, n)?;
+    match agent.read_named(alloc, &reads) {
+        Ok(NamedReading::Read(reading)) => Ok(is_good && reading.len() == n),
+        Ok(NamedReading::Stale(_)) => Ok(false),
+        Err(ReadError::ManyLocations) => Ok(!is_good),
+        Err(ReadError::Memory) => Err(AllocError),
+    }
 }
 
 /// Return whether a move with so many declared reads fires, or is refused for their number where that isn't good.

@@ -2,13 +2,14 @@
 ghost use Rattle.std.specs.Prelude.{◌≡◌};
 ghost use Rattle.asm_storage.specs.Storage.{IsSameAgent};
 
-use crate::asked::{Act, Want, places_of, receipt_of};
+use crate::asked::{Act, At, Want, named_of, places_of, receipt_of, receipt_of_read};
 use asm_aggregate::Standard;
 use asm_element::{Location, Value};
 use asm_state::Named;
 use asm_storage::{
-    Agent, Answer, Call, FireError, ReadError, Reading, RecallError, Receipt, Reply,
+    Agent, Answer, Call, FireError, NamedReading, ReadError, Reading, RecallError, Receipt, Reply,
 };
+use asm_test_support::location;
 use asm_update::Instructions;
 use std::alloc::{AllocError, Global};
 
@@ -120,17 +121,17 @@ pub(crate) fn retries(
     }
 }
 
-/// What a recall gives.
+/// What a read of declared reads gives.
 #[derive(Clone, Copy)]
-pub(crate) enum Recalled {
+pub(crate) enum Validated {
     /// These values, at this number.
-    Values(u32, &'static [Option<i64>]),
-    /// The agent's own state is behind its receipts.
-    Behind,
+    Read(u32, &'static [Option<i64>]),
+    /// The location of this name is stale.
+    Stale(&'static str),
 }
 
-/// Return whether the recall gave the values of the receipt, which is then the agent's last one.
-fn is_recalled(agent: &Agent<'_, Standard>, reading: &Reading, wanted: &Receipt) -> bool {
+/// Return whether the values of the receipt were read, which is then the agent's last one.
+fn is_read_with(agent: &Agent<'_, Standard>, reading: &Reading, wanted: &Receipt) -> bool {
     match &wanted.answer {
         Answer::Read { number, values } => {
             reading.number() == *number
@@ -139,6 +140,62 @@ fn is_recalled(agent: &Agent<'_, Standard>, reading: &Reading, wanted: &Receipt)
         }
         Answer::Fire(_) => false,
     }
+}
+
+/// Read by the declared reads; return whether that gives the receipt, or else the stale location.
+fn reads_named_once(
+    alloc: Global,
+    agent: &mut Agent<'_, Standard>,
+    reads: &[Named],
+    wanted: &Result<Receipt, Location>,
+) -> Result<bool, AllocError>
+    ensures { IsSameAgent agent.old agent.new }
+{
+    match (agent.read_named(alloc, reads), wanted) {
+        (Ok(NamedReading::Read(reading)), Ok(receipt)) => {
+            Ok(is_read_with(agent, &reading, receipt))
+        }
+        (Ok(NamedReading::Stale(at)), Err(location)) => Ok(at == *location),
+        (Err(ReadError::Memory), _) => Err(AllocError),
+        _ => Ok(false),
+    }
+}
+
+/// Read by the declared reads, and once more if memory was refused.
+///
+/// Return whether that gives what is wanted, the agent's state has followed all that it has seen, and it has one
+/// receipt more, or none if a read is stale or memory was refused.
+pub(crate) fn reads_named(
+    alloc: Global,
+    agent: &mut Agent<'_, Standard>,
+    reads: &'static [At],
+    want: Validated,
+) -> Result<bool, AllocError>
+    ensures { IsSameAgent agent.old agent.new }
+{
+    let wanted = match want {
+        Validated::Read(number, values) => Ok(receipt_of_read(alloc, reads, number, values)?),
+        Validated::Stale(name) => Err(location(alloc, name)?),
+    };
+    let named = named_of(alloc, reads)?;
+    let receipts = agent.receipts().len();
+    let is_right = match reads_named_once(alloc, agent, &named, &wanted) {
+        Err(_) if agent.receipts().len() != receipts => return Ok(false),
+        Err(_) => reads_named_once(alloc, agent, &named, &wanted)?,
+        Ok(is_right) => is_right,
+    };
+    let receipts = receipts.saturating_add(usize::from(wanted.is_ok()));
+    let has_followed = agent.state().number() == agent.seen();
+    Ok(is_right && has_followed && agent.receipts().len() == receipts)
+}
+
+/// What a recall gives.
+#[derive(Clone, Copy)]
+pub(crate) enum Recalled {
+    /// These values, at this number.
+    Values(u32, &'static [Option<i64>]),
+    /// The agent's own state is behind its receipts.
+    Behind,
 }
 
 /// Recall the locations; return whether that gives the receipt.
@@ -153,7 +210,7 @@ fn recalls_once(
     ensures { IsSameAgent agent.old agent.new }
 {
     match (agent.recall(alloc, places), wanted) {
-        (Ok(reading), Some(wanted)) => Ok(is_recalled(agent, &reading, wanted)),
+        (Ok(reading), Some(wanted)) => Ok(is_read_with(agent, &reading, wanted)),
         (Err(RecallError::Behind), None) => Ok(true),
         (Err(RecallError::Memory), _) => Err(AllocError),
         _ => Ok(false),

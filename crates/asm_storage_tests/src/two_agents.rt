@@ -2,11 +2,11 @@
 ghost use Rattle.std.specs.Prelude.{◌≡◌, ◌<◌};
 ghost use Rattle.asm_storage.specs.Storage.{IsSameAgent};
 
-use crate::asked::{Act, Want};
+use crate::asked::{Act, At, Want};
 use crate::closings::{Closing, closes};
 use crate::contests::{Contest, contends};
-use crate::limits::{depends, looks, names_many, reads_many, recalls_many};
-use crate::performing::{Recalled, asks, counts, learns, recalls, retries};
+use crate::limits::{depends, looks, names_many, reads_many, reads_named_many, recalls_many};
+use crate::performing::{Recalled, Validated, asks, counts, learns, reads_named, recalls, retries};
 use asm_aggregate::{Standard, standard};
 use asm_storage::{Agent, Storage};
 use asm_test_support::{location, value};
@@ -49,6 +49,10 @@ pub(crate) enum Step {
     ReadMany(usize, bool),
     /// The first fires by so many declared reads; whether that isn't refused for their number.
     NameMany(usize, bool),
+    /// The first reads by these declared reads, which gives that.
+    ReadNamed(&'static [At], Validated),
+    /// The first reads by so many declared reads; whether that isn't refused for their number.
+    ReadNamedMany(usize, bool),
     /// The first recalls these locations, which gives that.
     Recall(&'static [&'static str], Recalled),
     /// The first recalls so many locations; whether that isn't refused for their number.
@@ -117,6 +121,8 @@ impl Two<'_> {
             Step::Look => looks(alloc, &mut self.a),
             Step::ReadMany(n, is_good) => reads_many(alloc, &mut self.a, n, is_good),
             Step::NameMany(n, is_good) => names_many(alloc, &mut self.a, n, is_good),
+            Step::ReadNamed(reads, want) => reads_named(alloc, &mut self.a, reads, want),
+            Step::ReadNamedMany(n, is_good) => reads_named_many(alloc, &mut self.a, n, is_good),
             Step::Recall(names, want) => recalls(alloc, &mut self.a, names, want),
             Step::RecallMany(n, is_good) => recalls_many(alloc, &mut self.a, n, is_good),
             Step::Retry(act, want, seen) => retries(alloc, &mut self.a, act, want, seen),

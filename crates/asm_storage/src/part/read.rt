@@ -1,22 +1,25 @@
-ghost use Rattle.std.specs.Prelude.{◌≡◌, ◌↔◌, ◌<◌, ◌≤◌, map, length, take, IfOk, OnOk, OnErr, IsErrOf, IsTrue};
+ghost use Rattle.std.specs.Prelude.{◌≡◌, ◌↔◌, ◌<◌, ◌≤◌, map, length, take, IfOk, IfErr, OnOk, OnErr, IsErrOf, IsTrue};
+ghost use mathlib.Core.List.{IsPrefix};
 ghost use Rattle.asm_update.specs.State.{val};
 ghost use Rattle.asm_storage.specs.declared.call.Call.TheVariants as call;
+ghost use Rattle.asm_storage.specs.declared.error.ReadError.TheVariants as read_error;
 ghost use Rattle.asm_storage.specs.declared.error.RecallError.TheVariants.{Behind, ManyLocations};
 ghost use Rattle.asm_storage.specs.Machine.{machine_state};
 ghost use Rattle.asm_storage.specs.Agents.{moves_seen, next_stood};
 ghost use Rattle.asm_storage.specs.Limits.{reads_limit};
-ghost use Rattle.asm_storage.specs.Storage.{machine_of, with_receipt};
-ghost use Rattle.asm_storage.specs.Calls.{receipt_at, read_answer, IsBehind, IsPeek, IsRecall, IsStaleRead};
+ghost use Rattle.asm_storage.specs.NamedRead.{IsNamedRead};
+ghost use Rattle.asm_storage.specs.Storage.{has_polled, last_poll, machine_of, with_receipt, Missed};
+ghost use Rattle.asm_storage.specs.Calls.{receipt_at, read_answer, HasPolledFor, IsBehind, IsPeek, IsRecall, IsStaleRead};
 ghost use Rattle.asm_storage.specs.Part.{agent_of, IsPartOf};
 
 use crate::call::{Answer, Call};
-use crate::error::RecallError;
+use crate::error::{ReadError, RecallError};
 use crate::held_values::have_values;
 use crate::limits::READS_LIMIT;
 use crate::part::AgentPart;
-use crate::reading::Reading;
+use crate::reading::{NamedReading, Reading};
 use crate::receipt::Receipt;
-use crate::shared_lists::{same_list, share_or_copy_places};
+use crate::shared_lists::{places_named, same_list, share_or_copy_places};
 use crate::storage::Storage;
 use asm_element::{Items, Location, Value};
 use asm_state::{Named, Objection};
@@ -211,6 +214,60 @@ impl AgentPart {
             Some(Objection::Stale(at)) => Ok(Some(at)),
             Some(Objection::Clash(_clash)) => Ok(None),
             None => Ok(None),
+        }
+    }
+
+    // Reads the locations of the declared reads from the agent's own state, and adds a receipt of that.
+    fn read_own_named<A: Aggregator + Sync + Drop>(
+        &mut self,
+        alloc: Global,
+        storage: &Storage<A>,
+        reads: &[Named],
+    ) -> Result<Reading, AllocError>
+        requires part { IsPartOf A.meaning storage.now self.old }
+        requires later { next_stood 0 self.old.receipts.items ≤ self.old.state.number }
+        ensures part { IsPartOf A.meaning storage.now self.new }
+        ensures read { IfOk result (IsRecall A.meaning (agent_of storage.now self.old) (agent_of storage.now self.new)
+            (map (λ x. x.at) reads.now)) }
+        ensures refused { OnErr result (agent_of storage.now self.new ≡ agent_of storage.now self.old) }
+    {
+        let places = places_named(alloc, reads)?;
+        self.read_own(alloc, storage, &places)
+    }
+
+    /// Read the locations of at most 256 declared reads, if none is stale, as `Agent::read_named` does.
+    ///
+    /// The part came from this storage.
+    ///
+    /// # Errors
+    ///
+    /// - Those of `Agent::read_named`.
+    pub fn read_named<A: Aggregator + Sync + Drop>(
+        &mut self,
+        alloc: Global,
+        storage: &Storage<A>,
+        reads: &[Named],
+    ) -> Result<NamedReading, ReadError>
+        requires { IsPartOf A.meaning storage.now self.old }
+        ensures part { IsPartOf A.meaning storage.now self.new }
+        ensures answered { IfOk result (
+            IsNamedRead A.meaning (agent_of storage.now self.old) (agent_of storage.now self.new) reads.now) }
+        ensures polled { OnOk result (Missed (agent_of storage.now self.old) (last_poll (agent_of storage.now self.new))
+            (agent_of storage.now self.new)) }
+        ensures seen { IsPrefix self.old.progress.seen self.new.progress.seen }
+        ensures onward { self.old.state.number ≤ self.new.state.number }
+        ensures refused { OnErr result (agent_of storage.now self.new ≡
+            has_polled (agent_of storage.now self.old) self.new.progress.seen self.new.progress.misses self.new.state.number) }
+        ensures unread { IfErr result (HasPolledFor (agent_of storage.now self.old) (agent_of storage.now self.new)) }
+        ensures many { IsErrOf result read_error.ManyLocations ↔ (reads_limit < length reads.now) }
+    {
+        if reads.len() > READS_LIMIT {
+            return Err(ReadError::ManyLocations);
+        }
+        self.follow_row(alloc, storage)?;
+        match self.stale_read(alloc, storage, reads)? {
+            Some(at) => Ok(NamedReading::Stale(at)),
+            None => Ok(NamedReading::Read(self.read_own_named(alloc, storage, reads)?)),
         }
     }
 }
