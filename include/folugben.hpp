@@ -772,6 +772,8 @@ struct shared {
     std::mutex lock;
     std::vector<owned_slot<struct asm_agent>> waiting; // agents that were freed when there was no memory to return them
     bool is_recording = false;                   // what agents that are made or checked out do; under the lock
+    // For each number, also of a returned agent, whether another agent took its state, so that it polls before that is shown.
+    std::array<std::atomic<bool>, 256> behind{};
 
     shared() { waiting.reserve(256); }
     void give(owned_slot<struct asm_agent> agent) noexcept {
@@ -793,7 +795,8 @@ struct shared {
 // another thread has the seat name that one; it waits while the state is being taken.
 class seat {
   public:
-    explicit seat(std::shared_ptr<shared> storage) : of_(std::move(storage)), storage_(of_.get()) {}
+    seat(std::shared_ptr<shared> storage, std::uint32_t number)
+        : of_(std::move(storage)), storage_(of_.get()), number_(number % of_->behind.size()) {}
     ~seat() { give(); }
     seat(const seat &) = delete;
     seat &operator=(const seat &) = delete;
@@ -828,17 +831,21 @@ class seat {
     void act() noexcept { has_acted_.store(true, std::memory_order_relaxed); }
     // Polls, before its state is shown without a poll, if another agent took it.
     code catch_up(const std::shared_ptr<seat> &own) noexcept {
-        if (!is_behind_.load(std::memory_order_relaxed)) return code::done;
+        if (!of_ || !of_->behind[number_].load(std::memory_order_relaxed)) return code::done;
         begin_turn(own);
         std::uint32_t number = 0;
-        return code{asm_follow(get(), &number)};
+        return polled(code{asm_follow(get(), &number)});
+    }
+    // Runs after a poll; returns its code.
+    code polled(code it) const noexcept {
+        if (it == code::done || it == code::stale) of_->behind[number_].store(false, std::memory_order_relaxed);
+        return it;
     }
     // Takes the state of the agent that polled last in this thread, if that has acted; before a poll of `own`, which is this.
     void begin_turn(const std::shared_ptr<seat> &own) noexcept {
         claim(here());
         if (const auto other = replace_last(own)) take_state(*other);
         has_acted_.store(false, std::memory_order_relaxed);
-        is_behind_.store(false, std::memory_order_relaxed);
     }
 
   private:
@@ -888,8 +895,8 @@ class seat {
         if (!other.thread_.compare_exchange_strong(thread, thread | claiming, std::memory_order_acquire, std::memory_order_relaxed)) return;
         if (other.has_acted_.load(std::memory_order_relaxed) && other.steps_.load(std::memory_order_relaxed) == 0) {
             // An agent that was returned or abandoned is refused, and nothing is done.
-            (void)asm_take_state(slot_.get(), other.slot_.get());
-            other.is_behind_.store(true, std::memory_order_relaxed);
+            const bool is_done = asm_take_state(slot_.get(), other.slot_.get()) == ASM_DONE;
+            if (is_done) of_->behind[other.number_].store(true, std::memory_order_relaxed);
         }
         other.thread_.store(here(), std::memory_order_release);
     }
@@ -897,9 +904,10 @@ class seat {
     owned_slot<struct asm_agent> slot_;
     std::shared_ptr<shared> of_;
     const shared *storage_;
+    std::size_t number_; // of the agent
     mutable std::atomic<std::uintptr_t> thread_{no_thread}; // of the last call
     std::atomic<std::uint32_t> steps_{0};                 // that haven't ended
-    std::atomic<bool> has_acted_{false}, is_behind_{false}, is_recording_{false};
+    std::atomic<bool> has_acted_{false}, is_recording_{false};
 };
 
 // A step of an agent that hasn't ended.
@@ -1059,7 +1067,7 @@ class agent {
     [[nodiscard]] code try_begin(step &it) noexcept {
         if (!it.slot_) return code::empty;
         begin_turn();
-        const code result{asm_begin(get(), it.slot_.get(), &it.number_)};
+        const code result = polled(code{asm_begin(get(), it.slot_.get(), &it.number_)});
         if (result == code::done) {
             it.open_ = detail::open_step(seat_);
             it.fired_ = 0;
@@ -1098,7 +1106,7 @@ class agent {
     std::uint32_t follow() {
         begin_turn();
         std::uint32_t number = 0;
-        detail::done(asm_follow(get(), &number));
+        detail::done(polled(code{asm_follow(get(), &number)}));
         return number;
     }
     [[nodiscard]] code try_peek(const location &at, std::uint32_t &number, value &what) noexcept {
@@ -1114,6 +1122,19 @@ class agent {
         std::uint32_t number = 0;
         detail::done(try_peek(at, number, what));
         return what;
+    }
+    // Returns {"number":N,"values":[VALUE, ..]} of any number of locations [LOC, ..] in its own state.
+    std::string peek_json(std::string_view locations) {
+        detail::done(catch_up());
+        std::string text;
+        const code it = detail::text_of_call(
+            [&](auto *out, auto room, auto *written) {
+                return asm_peek(get(), detail::bytes(locations), locations.size(), out, room, written);
+            },
+            text);
+        if (detail::is_refused(it)) detail::fail(it, detail::explanation(ASM_FORM_LOCATIONS, locations));
+        detail::done(it);
+        return text;
     }
     // Return its own state, ascending by locations; and the same as [PAIR, ..].
     std::vector<entry> state() { return detail::entries(state_json()); }
@@ -1142,7 +1163,7 @@ class agent {
     // the complete functions of [[NAME,NUMBER], ..] too.
     std::string read_json(std::string_view locations) {
         begin_turn();
-        const code it{asm_read(get(), detail::bytes(locations), locations.size())};
+        const code it = polled(code{asm_read(get(), detail::bytes(locations), locations.size())});
         if (detail::is_refused(it)) detail::fail(it, detail::explanation(ASM_FORM_LOCATIONS, locations));
         detail::done(it);
         return answer();
@@ -1168,11 +1189,11 @@ class agent {
     // move that comes in between.
     void stands_json(std::string_view reads) {
         std::string text;
-        const code it = detail::text_of_call(
+        const code it = polled(detail::text_of_call(
             [&](auto *out, auto room, auto *written) {
                 return asm_stands(get(), detail::bytes(reads), reads.size(), out, room, written);
             },
-            text);
+            text));
         if (detail::is_refused(it)) text = detail::explanation(ASM_FORM_MOVE, detail::within("{\"fire\":[],\"reads\":", reads, "}"));
         if (it == code::ahead) text = detail::ahead_of(seen());
         detail::done(it, std::move(text));
@@ -1206,6 +1227,7 @@ class agent {
         if (seat_) seat_->begin_turn(seat_);
     }
     code catch_up() noexcept { return seat_ ? seat_->catch_up(seat_) : code::done; }
+    code polled(code it) const noexcept { return seat_ ? seat_->polled(it) : it; }
     void give() noexcept {
         if (seat_) seat_->give();
         seat_.reset();
@@ -1434,7 +1456,7 @@ class storage {
 
     // Makes an agent. A storage makes one of each number, 0 to 255.
     agent make_agent(std::uint32_t number) {
-        auto seat = std::make_shared<detail::seat>(shared_);
+        auto seat = std::make_shared<detail::seat>(shared_, number);
         std::lock_guard<std::mutex> guard(own().lock);
         const code it{asm_agent(own().storage.get(), number, seat->get())};
         if (it == code::agents) detail::fail_range(it, "the agent's number", number, 0, 255);
@@ -1446,7 +1468,7 @@ class storage {
     // Checks out the agent with this number that was returned, with all that it had; code::no_agent if none was, or it was
     // checked out since. The journal of an earlier `close` is discarded.
     agent take(std::uint32_t number) {
-        auto seat = std::make_shared<detail::seat>(shared_);
+        auto seat = std::make_shared<detail::seat>(shared_, number);
         std::lock_guard<std::mutex> guard(own().lock);
         detail::done(own().give_waiting());
         detail::done(asm_take(own().storage.get(), number, seat->get()));

@@ -138,7 +138,7 @@ class replayer {
     // Commits; if the agent has moved on, without recording, as nothing was done then.
     std::string commit(const words &of) {
         const std::uint32_t before = steps_.at(number(of[0])).number();
-        const bool has_moved = is_recording_ && number(peek({of[0], "[]"}).substr(10)) != before;
+        const bool has_moved = is_recording_ && own_version(of) != before;
         folugben::outcome it = step(of).try_commit();
         if (has_moved != (it.code == code::moved) && it.code != code::empty) return "moved on: " + std::to_string(has_moved);
         if (it.code == code::moved) {
@@ -163,16 +163,13 @@ class replayer {
         const auto at = reading.find("\"values\":") + 9;
         return reading.substr(at, reading.size() - at - 1);
     }
-    std::string peek(const words &of) {
-        std::string answer;
-        folugben::detail::done(folugben::detail::text_of_call(
-            [&](auto *out, auto room, auto *written) {
-                return asm_peek(agent(of).get(), folugben::detail::bytes(of[1]), of[1].size(), out, room, written);
-            },
-            answer), refused_shape(of[1]));
-        return answer;
+    // The version of the agent's own state as it is, also if another agent took a newer one.
+    std::uint32_t own_version(const words &of) {
+        std::uint32_t version = 0;
+        std::size_t written = 0;
+        (void)asm_state(agent(of).get(), &version, nullptr, 0, &written);
+        return version;
     }
-    static std::string refused_shape(const std::string &locations) { return folugben::explain(ASM_FORM_LOCATIONS, locations); }
     std::string audit(const std::string &run) {
         folugben::auditor auditor;
         auditor.feed(run);
@@ -217,7 +214,7 @@ class replayer {
         {"give", [this](const words &of) { { folugben::agent moved = std::move(agent(of)); } return "null"; }},
         {"learn", [this](const words &of) { return agent(of).learn(agents_.at(number(of[1]))), "null"; }},
         {"read", [this](const words &of) { return agent(of).read_json(of[1]); }},
-        {"peek", [this](const words &of) { return peek(of); }},
+        {"peek", [this](const words &of) { return agent(of).peek_json(of[1]); }},
         {"fire", [this](const words &of) {
              return member("fired", std::to_string(agent(of).fire_json("{\"fire\":" + of[1] + ",\"reads\":" + of[2] + "}", of[3])));
          }},

@@ -77,8 +77,14 @@ void the_own_state_never_goes_back() {
         case 0: versions[it] = agents[it].follow(); break;
         case 1: raise(agents[it]); break;
         case 2: versions[it] = agents[it].begin().number(); break;
-        default: break;
+        default: {
+            // A returned agent has it still when it is checked out again.
+            { const folugben::agent returned = std::move(agents[it]); }
+            agents[it] = storage.take(static_cast<std::uint32_t>(it));
         }
+        }
+        // A call that is refused polls nothing.
+        (void)REFUSED(folugben::error, agents[it].stands_json(R"([[["count"],1000]])"));
         std::uint32_t number = 0;
         folugben::value value;
         WANTED(agents[it].try_peek(count, number, value) == code::done && value.number_or(0) == number && number >= versions[it]);

@@ -5,8 +5,8 @@ import java.util.Objects;
 /** An agent's fields, and the results of its calls on the library, with its lock. */
 abstract sealed class AgentCalls permits Agent {
     /** The agent's slot, and the lock of the calls on it and on its steps. */
-    final Slot.AgentSlot slot = new Slot.AgentSlot();
-    final Room room = slot.room;
+    final Slot.AgentSlot slot;
+    final Room room;
     final Storage storage;
     final int number;
     /** The part that it belongs to, if it is of a run; else null. */
@@ -180,6 +180,8 @@ abstract sealed class AgentCalls permits Agent {
     AgentCalls(Storage storage, int number) {
         this.storage = storage;
         this.number = number;
+        slot = new Slot.AgentSlot(storage.lent, number);
+        room = slot.room;
     }
 
     /** Validates the named reads. */

@@ -41,8 +41,15 @@ class Slot extends Memory {
         private StepSlot idle;
         /** Whether the last call was a fire, or the end of a step: the next polls first. */
         private boolean isIdle;
-        /** Whether another agent took the state, so that the one that is here is older. */
-        private boolean isLent;
+        /** Of its storage: see {@link Storage#lent}. */
+        private final boolean[] lent;
+        private final int number;
+
+        /** An empty slot for the agent with this number, of the storage that has this. */
+        AgentSlot(boolean[] lent, int number) {
+            this.lent = lent;
+            this.number = number;
+        }
 
         /** Returns a slot for a step, which has it to itself until the step returns it. */
         StepSlot takeStep(Step step) {
@@ -99,22 +106,21 @@ class Slot extends Memory {
             if (!isFull() || !other.isFull() || !other.isIdle || other.hasStep())
                 return;
             // It is lent before it is taken, as this thread may be stopped in between.
-            other.isLent = true;
+            lent[other.number] = true;
             Calls.asm_take_state(at, other.at);
-            isLent = false;
         }
 
         /** Notes the code of a call that polls, after which the state is as new as any. */
         private Code afterPoll(Code code) {
             isIdle = false;
-            if (code == Code.DONE)
-                isLent = false;
+            if (code == Code.DONE || code == Code.STALE)
+                lent[number] = false;
             return code;
         }
 
         /** Polls if the state is older than it was, before it is shown. */
         private Code catchUp() {
-            return isLent ? follow() : Code.DONE;
+            return lent[number] ? follow() : Code.DONE;
         }
 
         Code read(byte[] locations) {

@@ -31,6 +31,12 @@ public final class Storage implements AutoCloseable {
     /** Agents that were made and not returned, by number; with the lock of the slot. */
     private final Agent[] agents = new Agent[AGENTS];
 
+    /**
+     * For each number, also of a returned agent, whether another agent took its state, so that it
+     * polls before that is shown; with the lock of the agent's slot.
+     */
+    final boolean[] lent = new boolean[AGENTS];
+
     /** Whether agents that are made or checked out record. */
     private volatile boolean isRecording;
 

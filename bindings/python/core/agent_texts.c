@@ -36,7 +36,7 @@ PyObject *agent_read(Agent *self, PyObject *places)
     if (!UNREADY(&self->holder)) {
         take_newest_state(self);
         CALL(code, &self->holder, IS_LONG(&text) || agent_is_far(self), read_and_answer(self, &text, &room));
-        update_seen(self);
+        update_seen(self, code);
         result = code == ASM_DONE ? numbered_values(self->holder.core, &room) : refuse_text(self, code, ASM_FORM_LOCATIONS, &text);
     }
     room_end(&room);
@@ -157,7 +157,7 @@ PyObject *agent_follow(Agent *self, PyObject *Py_UNUSED(none))
         return NULL;
     take_newest_state(self);
     CALL(code, &self->holder, agent_is_far(self), asm_follow(SLOT(self), &number));
-    update_seen(self);
+    update_seen(self, code);
     return code == ASM_DONE ? PyLong_FromUnsignedLong(number) : refuse_agent(self, code);
 }
 
@@ -192,7 +192,7 @@ static PyObject *peek(Agent *self, PyObject *places, int is_length)
         return NULL;
     room_begin(&room);
     if (!UNREADY(&self->holder)) {
-        RUN(&self->holder, IS_LONG(&text) || self->is_behind,
+        RUN(&self->holder, IS_LONG(&text) || IS_BEHIND(self),
             if ((code = catch_up(self)) == ASM_DONE) WITH_ROOM(code, &room, asm_peek(SLOT(self), BYTES(&text), ROOM(&room))));
         if (code != ASM_DONE)
             refuse_text(self, code, ASM_FORM_LOCATIONS, &text);
@@ -274,7 +274,7 @@ PyObject *agent_stands(Agent *self, PyObject *named)
     if (!write_list(self->holder.core, &text, "", 0, named, "reads") && !UNREADY(&self->holder)) {
         int is_long = IS_LONG(&text) || agent_is_far(self);
         RUN(&self->holder, is_long, WITH_ROOM(code, &room, asm_stands(SLOT(self), BYTES(&text), ROOM(&room))));
-        update_seen(self);
+        update_seen(self, code);
         if (code == ASM_DONE)
             result = Py_NewRef(Py_None);
         else if (code == ASM_EMPTY)

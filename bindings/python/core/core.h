@@ -65,6 +65,7 @@ typedef struct {
     int is_abandoned;   /* an agent was freed that wasn't returned */
     char is_made, records; /* whether commits record the tracked reads of their steps */
     Agent *first;       /* its agents, without references */
+    char behind[AGENTS]; /* for each number, also of a returned agent, whether another agent took its state */
     PyObject *journal;  /* the path of its journal, or null */
     Turn turns[TURNS];
 } Storage;
@@ -75,12 +76,13 @@ struct Agent {
     uint32_t own, seen, returned_seen, returned_won; /* the last two: of an agent whose slot is empty */
     uint64_t base;                           /* how many moves of a run came before its storage */
     char is_withdrawn;                           /* another thread has returned it */
-    char is_behind;                          /* another agent has taken its state */
     unsigned steps;                          /* how many of its steps are open */
     unsigned long thread;                    /* of its last call that polled */
     Step *last;                              /* the step that it began last, without a reference */
     Agent *next, **before;
 };
+/* Whether another agent has taken its state, so that it polls before that is shown. */
+#define IS_BEHIND(agent) ((agent)->storage->behind[(agent)->own])
 
 struct Step {
     Holder holder;
@@ -238,7 +240,7 @@ int32_t agent_give(Agent *self);
 int agent_is_far(const Agent *self);
 PyObject *agent_play(Agent *self, PyObject *words, PyObject *named);
 void take_newest_state(Agent *self);
-void update_seen(Agent *self);
+void update_seen(Agent *self, int32_t code);
 int32_t catch_up(Agent *self);
 PyObject *refuse_agent(Agent *self, int32_t code);
 PyObject *agent_read(Agent *self, PyObject *places);

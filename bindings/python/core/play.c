@@ -1,10 +1,12 @@
 /* Rules that agents play, and agents that one thread plays by turns. */
 #include "core.h"
 
-void update_seen(Agent *self)
+/* Runs after a poll with this code. */
+void update_seen(Agent *self, int32_t code)
 {
     self->seen = asm_seen(SLOT(self));
-    self->is_behind = 0;
+    if (code == ASM_DONE || code == ASM_STALE)
+        IS_BEHIND(self) = 0;
 }
 
 /* Runs before a poll, by a call that names no numbers. If the last poll of this thread was by another agent that is in no
@@ -19,7 +21,7 @@ void take_newest_state(Agent *self)
     int is_free = other && other != self && other->thread == thread && !other->steps && !other->holder.is_busy;
     if (is_free && other->seen > self->seen && asm_take_state(SLOT(self), SLOT(other)) == ASM_DONE) {
         other->seen = self->seen;
-        other->is_behind = 1;
+        IS_BEHIND(other) = 1;
         self->seen = asm_seen(SLOT(self));
     }
     turn->thread = self->thread = thread;
@@ -30,8 +32,9 @@ void take_newest_state(Agent *self)
 int32_t catch_up(Agent *self)
 {
     uint32_t number;
-    int32_t code = self->is_behind ? asm_follow(SLOT(self), &number) : ASM_DONE;
-    self->is_behind = code != ASM_DONE;
+    int32_t code = IS_BEHIND(self) ? asm_follow(SLOT(self), &number) : ASM_DONE;
+    if (code == ASM_DONE)
+        IS_BEHIND(self) = 0;
     return code;
 }
 

@@ -40,7 +40,7 @@ Step *begin_step(Agent *agent, PyTypeObject *type)
         return (Step *)refuse_agent(agent, code);
     }
     agent->seen = self->number;
-    agent->is_behind = 0;
+    IS_BEHIND(agent) = 0;
     agent->last = self;
     self->thread = agent->thread;
     agent->steps++;

@@ -62,7 +62,13 @@ class Turns(unittest.TestCase):
                 steps = {}
                 for _ in range(120):
                     own = rng.randrange(4)
-                    agent, call = agents[own], rng.choice(["peek", "at", "state", "scan", "follow", "play", "read", "fire", "begin", "end"])
+                    agent = agents[own]
+                    call = rng.choice(["peek", "at", "state", "scan", "follow", "play", "read", "fire", "begin", "end", "take"])
+                    if call == "take":
+                        agent.give()
+                        agents[own] = storage.take(own)
+                        steps.pop(own, None)
+                        continue
                     if call == "play":
                         fired = agent.play(raised)[0]
                         values[fired] = values[fired - 1] + 1

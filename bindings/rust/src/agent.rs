@@ -53,7 +53,7 @@ pub struct Agent {
 
 impl Agent {
     pub(crate) fn new(agent: OwnedSlot, shared: &Arc<Shared>, number: AgentNumber) -> Agent {
-        let slots = Arc::new(AgentSlots::new(agent, Arc::as_ptr(shared).addr()));
+        let slots = Arc::new(AgentSlots::new(agent, number, shared.lent()));
         let is_recording = shared.is_recording();
         Agent { slots, shared: Arc::clone(shared), number, is_recording, in_one_thread: PhantomData }
     }
@@ -134,7 +134,8 @@ impl Agent {
         self.slots.begin_turn();
         let mut number = 0;
         // SAFETY: the slots are held by this agent, no call is at work on them, and the texts and numbers outlive the call.
-        done(unsafe { sys::asm_begin(self.slots.agent(), self.slots.step(), &raw mut number) })?;
+        let code = unsafe { sys::asm_begin(self.slots.agent(), self.slots.step(), &raw mut number) };
+        done(self.slots.polled(code))?;
         Ok(number)
     }
 
@@ -178,6 +179,7 @@ impl Agent {
         let text = places.json();
         // SAFETY: the slots are held by this agent, no call is at work on them, and the texts and numbers outlive the call.
         let code = unsafe { sys::asm_read(self.slots.agent(), text.as_ptr(), text.len()) };
+        self.slots.polled(code);
         if code == sys::MANY {
             let different = places.iter().collect::<BTreeSet<_>>();
             return Err(Error::Many(Limit::Places(Some(different.len()))));
@@ -285,7 +287,8 @@ impl Agent {
         self.slots.begin_turn();
         let mut number = 0;
         // SAFETY: the slots are held by this agent, no call is at work on them, and the texts and numbers outlive the call.
-        done(unsafe { sys::asm_follow(self.slots.agent(), &raw mut number) })?;
+        let code = unsafe { sys::asm_follow(self.slots.agent(), &raw mut number) };
+        done(self.slots.polled(code))?;
         Ok(number)
     }
 
@@ -306,7 +309,7 @@ impl Agent {
         let (code, output) = text_of_call(|out, room, written| unsafe {
             sys::asm_stands(self.slots.agent(), text.as_ptr(), text.len(), out, room, written)
         });
-        match code {
+        match self.slots.polled(code) {
             sys::NOT_JSON | sys::SHAPE => {
                 let call = format!("{{\"fire\":[],\"reads\":{text}}}");
                 done_with(code, sys::FORM_MOVE, &call)

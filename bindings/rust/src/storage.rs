@@ -7,20 +7,18 @@ use crate::json::ToJson;
 use crate::number::AgentNumber;
 use crate::owned_slot::{OwnedSlot, text_of_call};
 use crate::sys;
-use crate::turns::AgentSlots;
+use crate::turns::{AGENTS, AgentSlots, Lent};
 use crate::value::{Location, Value};
 use std::fmt;
 use std::sync::atomic::{AtomicBool, Ordering};
 use std::sync::{Arc, Mutex, MutexGuard, PoisonError};
-
-/// How many agents a storage makes at most.
-const AGENTS: usize = 256;
 
 /// What a storage and its agents share.
 pub(crate) struct Shared {
     slots: Mutex<Slots>,
     /// Whether agents that are made or checked out record.
     is_recording: AtomicBool,
+    lent: Arc<Lent>,
 }
 
 struct Slots {
@@ -39,6 +37,10 @@ impl Shared {
 
     pub(crate) fn is_recording(&self) -> bool {
         self.is_recording.load(Ordering::Relaxed)
+    }
+
+    pub(crate) fn lent(&self) -> &Arc<Lent> {
+        &self.lent
     }
 
     /// Returns the agent, or keeps it until there is memory.
@@ -144,6 +146,7 @@ impl Storage {
             shared: Arc::new(Shared {
                 slots: Mutex::new(Slots { storage, made: [false; AGENTS], waiting }),
                 is_recording: AtomicBool::new(false),
+                lent: Arc::new(Lent::none()),
             }),
         })
     }

@@ -8,6 +8,7 @@
 //! 2. *A state is taken only from an agent whose slots name the taker's own thread*, and no call of which is at work there.
 //! 3. *Only the state of an agent whose last call was a commit, a fire or the end of a step is taken.* So no step is in it, and
 //!    what an agent has followed to is what it peeks at, whatever other agents do.
+use crate::number::AgentNumber;
 use crate::owned_slot::OwnedSlot;
 use crate::sys;
 use std::cell::RefCell;
@@ -15,6 +16,8 @@ use std::sync::atomic::{AtomicBool, AtomicUsize, Ordering};
 use std::sync::{Arc, Weak};
 use std::{ptr, thread};
 
+/// How many agents a storage makes at most.
+pub(crate) const AGENTS: usize = 256;
 /// A thread remembers the last agents of so many storages.
 const STORAGES: usize = 8;
 /// No thread: the agent was returned or abandoned.
@@ -39,18 +42,26 @@ fn thread_mark() -> usize {
     MARK.with(|it| ptr::from_ref(it).addr())
 }
 
+/// For each number of a storage's agents, also of those that were returned: whether another agent took its state, so that it
+/// polls before that is shown.
+pub(crate) struct Lent([AtomicBool; AGENTS]);
+
+impl Lent {
+    pub(crate) const fn none() -> Lent {
+        Lent([const { AtomicBool::new(false) }; AGENTS])
+    }
+}
+
 /// The slots of an agent and of its step.
 pub(crate) struct AgentSlots {
     agent: OwnedSlot,
     step: OwnedSlot,
-    /// The address of its storage, which is only compared.
-    storage: usize,
+    number: AgentNumber,
+    lent: Arc<Lent>,
     /// The thread that made the last call on them.
     thread: AtomicUsize,
     /// The last call has ended what the agent did with its state.
     has_acted: AtomicBool,
-    /// Another agent took the state.
-    is_behind: AtomicBool,
 }
 
 // SAFETY: An agent's owner makes calls in one thread at a time, as an `Agent` isn't Sync; and whoever takes the state of another
@@ -58,16 +69,20 @@ pub(crate) struct AgentSlots {
 unsafe impl Sync for AgentSlots {}
 
 impl AgentSlots {
-    pub(crate) fn new(agent: OwnedSlot, storage: usize) -> AgentSlots {
-        let (has_acted, is_behind) = (AtomicBool::new(false), AtomicBool::new(false));
+    pub(crate) fn new(agent: OwnedSlot, number: AgentNumber, lent: &Arc<Lent>) -> AgentSlots {
         AgentSlots {
             agent,
             step: OwnedSlot::empty(),
-            storage,
+            number,
+            lent: Arc::clone(lent),
             thread: AtomicUsize::new(NO_THREAD),
-            has_acted,
-            is_behind,
+            has_acted: AtomicBool::new(false),
         }
+    }
+
+    /// An address that identifies its storage, which is only compared.
+    fn storage(&self) -> usize {
+        Arc::as_ptr(&self.lent).addr()
     }
 
     /// The agent, for one call of its owner.
@@ -125,21 +140,32 @@ impl AgentSlots {
             self.take_state(&other);
         }
         self.has_acted.store(false, Ordering::Relaxed);
-        self.is_behind.store(false, Ordering::Relaxed);
+    }
+
+    /// After a poll with this code, which is returned.
+    pub(crate) fn polled(&self, code: i32) -> i32 {
+        if matches!(code, sys::DONE | sys::STALE) {
+            self.is_lent().store(false, Ordering::Relaxed);
+        }
+        code
     }
 
     /// Before its state is shown without a poll: whether another agent took it, so that a poll has to bring it there again.
     pub(crate) fn is_behind(&self) -> bool {
-        self.is_behind.load(Ordering::Relaxed)
+        self.is_lent().load(Ordering::Relaxed)
+    }
+
+    fn is_lent(&self) -> &AtomicBool {
+        &self.lent.0[usize::from(self.number)]
     }
 
     /// Has this be the last agent of its storage in this thread: the one before, if that is another.
     fn replace_last(self: &Arc<AgentSlots>) -> Option<Weak<AgentSlots>> {
         let replace = |last: &RefCell<Vec<Last>>| {
             let mut last = last.borrow_mut();
-            let Some(at) = last.iter().position(|it| it.storage == self.storage) else {
+            let Some(at) = last.iter().position(|it| it.storage == self.storage()) else {
                 last.truncate(STORAGES - 1);
-                last.insert(0, Last { storage: self.storage, agent: Arc::downgrade(self) });
+                last.insert(0, Last { storage: self.storage(), agent: Arc::downgrade(self) });
                 return None;
             };
             last[..=at].rotate_right(1);
@@ -159,8 +185,10 @@ impl AgentSlots {
         if other.has_acted.load(Ordering::Relaxed) {
             // SAFETY: this thread makes no other call, and no other thread makes one on the slots: see the top of the file. A slot
             // that is empty by now is refused, and nothing done.
-            let _ = unsafe { sys::asm_take_state(self.agent.at(), other.agent.at()) };
-            other.is_behind.store(true, Ordering::Relaxed);
+            let code = unsafe { sys::asm_take_state(self.agent.at(), other.agent.at()) };
+            if code == sys::DONE {
+                other.is_lent().store(true, Ordering::Relaxed);
+            }
         }
         other.thread.store(thread, Ordering::Release);
     }

@@ -67,7 +67,7 @@ fn the_own_state_never_goes_back() {
     let at = Prepared::new(&count()).unwrap();
     for _ in 0..400 {
         let i = draw.below(5) as usize;
-        match draw.below(4) {
+        match draw.below(5) {
             0 => shown[i] = agents[i].follow().unwrap().get(),
             1 => {
                 raise(&mut agents[i]);
@@ -76,8 +76,15 @@ fn the_own_state_never_goes_back() {
                 let step = agents[i].step().unwrap();
                 shown[i] = step.number().get();
             }
+            3 => {
+                let number = agents[i].number();
+                drop(agents.remove(i));
+                agents.insert(i, storage.take(number).unwrap());
+            }
             _ => {}
         }
+        // A call that is refused polls nothing.
+        let _ = agents[i].stands(&[(count(), 1_000.into())]);
         let (number, value) = agents[i].peek_at(&at).unwrap();
         assert_eq!(value, i64::try_from(number.get()).unwrap().into());
         assert!(number.get() >= shown[i], "{number} after {}", shown[i]);

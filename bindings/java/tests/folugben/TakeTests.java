@@ -106,6 +106,14 @@ final class TakeTests {
             equal(last.peek(List.of(X)).number(), 162);
             equal(last.state().number(), 162);
             equal(last.scan("x").number(), 162);
+            // Nor does it once it was returned and checked out again.
+            last.step().close();
+            agents.get(4).step().close();
+            last.give();
+            last = storage.take(15);
+            agents.set(15, last);
+            refused(Code.AHEAD, () -> agents.get(15).stands(List.of(new Named(X, 999))));
+            equal(last.peek(List.of(X)).number(), 162);
             // A step goes on while others begin theirs.
             try (Step step = agents.get(5).step()) {
                 agents.get(6).play(other -> {
