@@ -536,6 +536,84 @@ FOLUGBEN_NODISCARD int32_t asm_push_move(struct asm_agent *agent, struct asm_ste
 FOLUGBEN_NODISCARD int32_t asm_extend_move(struct asm_agent *agent, struct asm_step *step,
     struct asm_move *move, uint8_t *out, size_t room, size_t *written);
 
+/* OF ONE KIND: asm_get_at and asm_instruct for a number, a truth value or a text. A get returns
+ * their codes, and ASM_SHAPE for a value of another kind, such as that of a location that holds
+ * nothing; what it writes is 0 then, as with each code except ASM_DONE. After ASM_SHAPE the location
+ * may not be tracked: call asm_get_at if it may hold values of several kinds. */
+
+/* Returns the code of a get for a value of a wanted kind. ASM_SMALL without room is that of a value
+ * with bytes. */
+static inline int32_t asm_code_of_kind(int32_t code, int32_t kind, int32_t wanted, bool has_room) {
+    bool is_other = code == ASM_DONE ? kind != wanted : code == ASM_SMALL && !has_room;
+    return is_other ? ASM_SHAPE : code;
+}
+
+FOLUGBEN_NODISCARD static inline int32_t asm_get_num(struct asm_agent *agent, struct asm_step *step,
+    struct asm_location *at, int64_t *number) {
+    asm_value value;
+    size_t written;
+    int32_t code = asm_get_at(agent, step, at, &value, NULL, 0, &written);
+    code = asm_code_of_kind(code, value.kind, ASM_KIND_NUM, false);
+    *number = code == ASM_DONE ? value.number : 0;
+    return code;
+}
+
+/* The same, but the number is `otherwise` if the location holds nothing. */
+FOLUGBEN_NODISCARD static inline int32_t asm_get_num_or(struct asm_agent *agent,
+    struct asm_step *step, struct asm_location *at, int64_t otherwise, int64_t *number) {
+    asm_value value;
+    size_t written;
+    int32_t code = asm_get_at(agent, step, at, &value, NULL, 0, &written);
+    bool is_undef = code == ASM_DONE && value.kind == ASM_KIND_UNDEF;
+    code = asm_code_of_kind(code, is_undef ? ASM_KIND_NUM : value.kind, ASM_KIND_NUM, false);
+    *number = is_undef ? otherwise : code == ASM_DONE ? value.number : 0;
+    return code;
+}
+
+FOLUGBEN_NODISCARD static inline int32_t asm_get_bool(struct asm_agent *agent,
+    struct asm_step *step, struct asm_location *at, bool *is_true) {
+    asm_value value;
+    size_t written;
+    int32_t code = asm_get_at(agent, step, at, &value, NULL, 0, &written);
+    code = asm_code_of_kind(code, value.kind, ASM_KIND_BOOL, false);
+    *is_true = code == ASM_DONE && value.number == 1;
+    return code;
+}
+
+/* Writes the UTF-8 of the text, without quotes. ASM_SMALL comes for any value whose bytes don't fit. */
+FOLUGBEN_NODISCARD static inline int32_t asm_get_text(struct asm_agent *agent,
+    struct asm_step *step, struct asm_location *at, uint8_t *out, size_t room, size_t *written) {
+    asm_value value;
+    int32_t code = asm_get_at(agent, step, at, &value, out, room, written);
+    code = asm_code_of_kind(code, value.kind, ASM_KIND_TEXT, true);
+    if (code == ASM_SHAPE)
+        *written = 0;
+    return code;
+}
+
+/* Append to a move that the location gets the number, the truth value or the text, that it is left
+ * empty, and that the number there grows by so much. */
+FOLUGBEN_NODISCARD static inline int32_t asm_put_num(struct asm_move *move, struct asm_location *at,
+    int64_t number) {
+    return asm_instruct(move, at, ASM_PUT, ASM_KIND_NUM, number, NULL, 0, 0);
+}
+FOLUGBEN_NODISCARD static inline int32_t asm_put_bool(struct asm_move *move,
+    struct asm_location *at, bool is_true) {
+    return asm_instruct(move, at, ASM_PUT, ASM_KIND_BOOL, is_true, NULL, 0, 0);
+}
+FOLUGBEN_NODISCARD static inline int32_t asm_put_text(struct asm_move *move,
+    struct asm_location *at, const uint8_t *text, size_t len) {
+    return asm_instruct(move, at, ASM_PUT, ASM_KIND_TEXT, 0, text, len, 0);
+}
+FOLUGBEN_NODISCARD static inline int32_t asm_put_undef(struct asm_move *move,
+    struct asm_location *at) {
+    return asm_instruct(move, at, ASM_PUT, ASM_KIND_UNDEF, 0, NULL, 0, 0);
+}
+FOLUGBEN_NODISCARD static inline int32_t asm_inc_num(struct asm_move *move, struct asm_location *at,
+    int64_t by) {
+    return asm_instruct(move, at, ASM_INC, ASM_KIND_NUM, by, NULL, 0, 0);
+}
+
 /* How many moves the agent has seen, how many it fired, and how many of its polls found no further
  * move; 0 for a slot without an agent. */
 uint32_t asm_seen(struct asm_agent *agent);

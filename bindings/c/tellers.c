@@ -21,15 +21,15 @@ static void *teller(void *agent) {
     struct asm_location at = {0};
     struct asm_step step = {0};
     struct asm_move move = {0};
-    asm_value balance;
     asm_numbers numbers;
+    int64_t balance;
     uint32_t number;
     size_t length;
     DONE(asm_location(TEXT("[\"balance\"]"), &at));
     for (int done = 0; done < 100;) {
         DONE(asm_begin(agent, &step, &number)); /* what follows reads one state */
-        DONE(asm_get_at(agent, &step, &at, &balance, NULL, 0, &length));
-        DONE(asm_instruct(&move, &at, ASM_PUT, ASM_KIND_NUM, balance.number + 10, NULL, 0, 0));
+        DONE(asm_get_num(agent, &step, &at, &balance));
+        DONE(asm_put_num(&move, &at, balance + 10));
         DONE(asm_push_move(agent, &step, &move, NULL, 0, &length));
         asm_free_move(&move);
         int32_t code = asm_commit(agent, &step, &numbers);

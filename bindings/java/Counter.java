@@ -16,10 +16,8 @@ public final class Counter {
         try (Run run = Files.exists(path) ? Run.resume(path) : Run.open(Map.of(COUNT, 0), path);
                 RunAgent agent = run.agent(0)) {
             for (int done = 0; done < 1000; done++)
-                agent.play(step -> { // again, if others were quicker or a part is full
-                    step.push(Instruction.inc(COUNT, 1));
-                    return null;
-                });
+                agent.run(step -> // again, if others were quicker or a part is full
+                        step.push(Instruction.inc(COUNT, 1)));
         }
         Auditor.Counts counts = Auditor.audit(path);
         System.out.println(counts.moves() + " moves in " + counts.parts() + " parts are legal");

@@ -10,10 +10,8 @@ public final class Tellers {
     static void teller(Agent agent) {
         try (PreparedLocation at = Location.of("balance").prepare(); Move move = new Move()) {
             for (int done = 0; done < 100; done++)
-                agent.play(step -> { // again on conflict
-                    step.push(move.clear().put(at, step.getNumber(at) + 10));
-                    return null;
-                });
+                agent.run(step -> // again on conflict
+                        step.push(move.clear().put(at, step.getLong(at) + 10)));
         }
     }
 

@@ -1,6 +1,7 @@
 package folugben;
 
 import java.time.Duration;
+import java.util.Iterator;
 import java.util.List;
 import java.util.SortedMap;
 
@@ -56,6 +57,21 @@ public sealed interface Actor extends AutoCloseable permits Agent, RunAgent, Sha
         return Patience.Plays.play(this, rule, tries, timeout);
     }
 
+    /**
+     * Plays a rule without a result, as {@link #play(Rule)} plays one that has some.
+     *
+     * @param <X> what the rule throws
+     * @param rule what is played on each step
+     * @return the number of the move, and how often the rule was begun again
+     * @throws X as the rule
+     */
+    default <X extends Exception> Played<Void> run(Task<X> rule) throws X {
+        return play(step -> {
+            rule.run(step);
+            return null;
+        });
+    }
+
     /** Polls until no further move is found, and returns how many moves it has seen. */
     long follow();
 
@@ -85,6 +101,13 @@ public sealed interface Actor extends AutoCloseable permits Agent, RunAgent, Sha
         T play(Step step) throws X;
     }
 
+    /** What is run on a step, without a result. */
+    @FunctionalInterface
+    interface Task<X extends Exception> {
+        /** Reads from the step and pushes to it. */
+        void run(Step step) throws X;
+    }
+
     /**
      * The result of a play.
      *
@@ -106,10 +129,17 @@ public sealed interface Actor extends AutoCloseable permits Agent, RunAgent, Sha
      *
      * <p>A step returns it as it is seen through the pushed moves.
      */
-    record State(long number, String pairs) {
+    record State(long number, String pairs) implements Iterable<Pair> {
         /** Returns its locations that aren't empty with their values, in ascending order. */
         public SortedMap<Location, Value> values() {
             return JsonReader.state(pairs);
+        }
+
+        /** Returns the same as pairs, one after the other. */
+        @Override
+        public Iterator<Pair> iterator() {
+            return values().entrySet().stream()
+                    .map(each -> new Pair(each.getKey(), each.getValue())).iterator();
         }
     }
 

@@ -243,7 +243,7 @@ public final class Agent extends AgentCalls implements Actor {
      *
      * @throws IllegalStateException if the value is no number
      */
-    public long peekNumber(PreparedLocation location) {
+    public long peekLong(PreparedLocation location) {
         Turns.Player player = Turns.Player.call(this);
         synchronized (slot) {
             peekInto(location, player);

@@ -17,7 +17,7 @@ import java.util.Objects;
  * <pre>{@code
  * try (PreparedLocation count = Location.of("count").prepare(); Move move = new Move()) {
  *     try (Step step = agent.step()) {
- *         step.push(move.clear().put(count, step.getNumber(count) + 1));
+ *         step.push(move.clear().put(count, step.getLong(count) + 1));
  *         step.commit(); // throws a ConflictException if another step must be begun
  *     }
  * }

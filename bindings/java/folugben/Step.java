@@ -3,7 +3,6 @@ package folugben;
 import java.util.Arrays;
 import java.util.List;
 import java.util.Objects;
-import java.util.SortedMap;
 
 /**
  * A transaction of an agent: it reads values, pushes moves and commits.
@@ -73,8 +72,17 @@ public sealed class Step extends StepCalls implements AutoCloseable permits Shar
      *
      * @throws IllegalStateException if the value is no number
      */
-    public long getNumber(Location location) {
+    public long getLong(Location location) {
         return get(location).asLong();
+    }
+
+    /**
+     * Returns the number there, or the other one if nothing is there.
+     *
+     * @throws IllegalStateException if a value of another kind is there
+     */
+    public long getLong(Location location, long otherwise) {
+        return get(location).asLong(otherwise);
     }
 
     /**
@@ -124,11 +132,7 @@ public sealed class Step extends StepCalls implements AutoCloseable permits Shar
      *         others
      */
     public Value get(PreparedLocation location) {
-        Turns.Player player = Turns.Player.call(this);
-        synchronized (agent.slot) {
-            take(location, player);
-            return room.readValue();
-        }
+        return taken(location, room::readValue);
     }
 
     /**
@@ -138,7 +142,7 @@ public sealed class Step extends StepCalls implements AutoCloseable permits Shar
      *
      * @throws IllegalStateException if the value is no number
      */
-    public long getNumber(PreparedLocation location) {
+    public long getLong(PreparedLocation location) {
         Turns.Player player = Turns.Player.call(this);
         synchronized (agent.slot) {
             take(location, player);
@@ -147,33 +151,42 @@ public sealed class Step extends StepCalls implements AutoCloseable permits Shar
     }
 
     /**
-     * Returns the boolean there, as getNumber returns a number.
+     * Returns the number there, or the other one if nothing is there.
+     *
+     * @throws IllegalStateException if a value of another kind is there
+     */
+    public long getLong(PreparedLocation location, long otherwise) {
+        Turns.Player player = Turns.Player.call(this);
+        synchronized (agent.slot) {
+            take(location, player);
+            return room.kind() == Room.NUM ? room.number() : room.readValue().asLong(otherwise);
+        }
+    }
+
+    /**
+     * Returns the boolean there, as getLong returns a number.
      *
      * @throws IllegalStateException if the value is no boolean
      */
     public boolean getBoolean(PreparedLocation location) {
-        Turns.Player player = Turns.Player.call(this);
-        synchronized (agent.slot) {
-            take(location, player);
-            return room.kind() == Room.BOOL ? room.number() != 0 : room.readValue().asBoolean();
-        }
+        return taken(location, ()
+                -> room.kind() == Room.BOOL ? room.number() != 0 : room.readValue().asBoolean());
     }
 
     /**
-     * Returns the text there, as getNumber returns a number.
+     * Returns the text there, as getLong returns a number.
      *
      * @throws IllegalStateException if the value is no text
      */
     public String getText(PreparedLocation location) {
-        Turns.Player player = Turns.Player.call(this);
-        synchronized (agent.slot) {
-            take(location, player);
-            return room.kind() == Room.STRING ? room.text() : room.readValue().asText();
-        }
+        return taken(location, ()
+                -> room.kind() == Room.STRING ? room.text() : room.readValue().asText());
     }
 
     /**
      * Scans a function: returns all its locations with their values, through the pushed moves.
+     *
+     * <p>{@code for (Pair each : step.scan("shelf"))} takes them in ascending order.
      *
      * <p>The step then depends on the whole function: a write to any location of it, including one
      * that has no value yet, makes the commit stale. A scan takes one of the 256 places, however
@@ -183,11 +196,6 @@ public sealed class Step extends StepCalls implements AutoCloseable permits Shar
      */
     public Agent.State scan(String name) {
         return scanned(name);
-    }
-
-    /** Returns what a scan finds: the locations with their values, in ascending order. */
-    public SortedMap<Location, Value> getAll(String name) {
-        return scan(name).values();
     }
 
     /**

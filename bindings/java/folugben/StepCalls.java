@@ -2,6 +2,7 @@ package folugben;
 
 import java.util.List;
 import java.util.Objects;
+import java.util.function.Supplier;
 
 /** A step's fields, and its calls on the library, with the lock of its agent. */
 abstract sealed class StepCalls permits Step {
@@ -103,6 +104,14 @@ abstract sealed class StepCalls permits Step {
         size += room.written();
         player.reads(location);
         player.observe(room);
+    }
+    /** Reads and tracks the value, and returns what is read from the agent's room. */
+    <T> T taken(PreparedLocation location, Supplier<T> read) {
+        Turns.Player player = Turns.Player.call(this);
+        synchronized (agent.slot) {
+            take(location, player);
+            return read.get();
+        }
     }
     void grow(Call call, String move) {
         byte[] text = Texts.utf8(move, "move");

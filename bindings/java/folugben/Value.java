@@ -88,6 +88,20 @@ public sealed interface Value permits Element, Value.SetOf, Value.BagOf {
         return Element.of(value);
     }
 
+    /** Returns undef, the value of an empty location. */
+    static Element undef() {
+        return Element.undef();
+    }
+
+    /**
+     * Returns a list of these, each an element as {@link Element#of} takes it.
+     *
+     * @throws IllegalArgumentException as Element.of
+     */
+    static Element list(Object... items) {
+        return Element.list(items);
+    }
+
     /**
      * Returns a set of these, each an element as {@link Element#of} takes it.
      *
@@ -152,6 +166,11 @@ public sealed interface Value permits Element, Value.SetOf, Value.BagOf {
         if (this instanceof Element.Num num)
             return num.value();
         throw Texts.Words.isNo("number", this);
+    }
+
+    /** Returns its number, or the other one if it is undef. */
+    default long asLong(long otherwise) {
+        return isUndef() ? otherwise : asLong();
     }
 
     /** Returns its text, without quotes. */

@@ -60,7 +60,7 @@ public final class Bank implements Machine {
         Rule rule = seq(
                 update(due, Rule.Term.value(NEED)),
                 iterate(collect),
-                par(update(account, see -> see.getNumber(account) + NEED - see.getNumber(due)),
+                par(update(account, see -> see.getLong(account) + NEED - see.getLong(due)),
                         update(due, Rule.Term.value(null))));
         return new Program(rule, actor -> actor.won() == times);
     }

@@ -99,7 +99,7 @@ public final class Rules {
 
     private static List<Rule> each(Step step, String name, BiPredicate<Location, Value> where,
             BiFunction<Location, Value, Rule> body) {
-        return step.getAll(name).entrySet().stream()
+        return step.scan(name).values().entrySet().stream()
                 .filter(it -> where.test(it.getKey(), it.getValue()))
                 .map(it -> body.apply(it.getKey(), it.getValue())).toList();
     }

@@ -12,7 +12,7 @@ fn account(number: i64) -> Location {
 /// Takes at most 7 from one account to another; what was moved.
 fn transfer(agent: &mut folugben::Agent, from: &Location, to: &Location) -> Result<i64, Error> {
     let played = agent.play(|step| {
-        let moved = step.get(from)?.as_num().unwrap_or(0).min(7);
+        let moved = step.get_num(from)?.min(7);
         step.inc(from, -moved)?;
         step.inc(to, moved)?;
         Ok::<_, Error>(moved)

@@ -20,7 +20,7 @@ fn work(agent: &mut RunAgent, end: Instant) -> Result<(), Error> {
     for i in (usize::from(agent.number())..).take_while(|_| Instant::now() < end) {
         let (from, to) = (&all[i % all.len()], &all[(i + 1 + i % 4) % all.len()]);
         agent.play(|step| {
-            let moved = step.get(from)?.as_num().unwrap_or(0).min(7);
+            let moved = step.get_num(from)?.min(7);
             step.inc(from, -moved)?;
             step.inc(to, moved)
         })?;

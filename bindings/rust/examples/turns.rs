@@ -11,7 +11,7 @@ const ROUNDS: usize = 9;
 
 fn add_one(agent: &mut Agent, at: &Prepared, put: &mut PreparedMove) -> Result<(), Error> {
     let mut step = agent.step()?;
-    let next = step.get_at(at)?.as_num().unwrap_or(0) + 1;
+    let next = step.get_num(at)? + 1;
     step.push_prepared(put.clear().put(at, next)?)?;
     step.commit().map(drop)
 }

@@ -81,7 +81,7 @@ impl Agent {
     /// let storage = Storage::open([("n".into(), 6.into())], 10)?;
     /// let mut agent = storage.agent(0)?;
     /// agent.set_recording(true);
-    /// agent.play(|step| step.put("double", 2 * step.get("n")?.as_num().unwrap_or(0)))?;
+    /// agent.play(|step| step.put("double", 2 * step.get_num("n")?))?;
     /// drop(agent);
     /// let journal = String::from_utf8_lossy(storage.close()?.as_bytes()).into_owned();
     /// assert!(journal.contains(r#""call":{"read":[["n"]]},"reply":{"number":0,"values":[6]}"#));

@@ -6,7 +6,7 @@ use crate::number::{AgentNumber, MoveNumber};
 use crate::owned_slot::text_of_call;
 use crate::run::Broken;
 use crate::sys;
-use crate::value::Location;
+use crate::value::{Location, Value};
 use std::{fmt, io};
 
 pub(crate) const TOO_LONG: &str = "a line would be longer than the 1,073,741,824 bytes that an audit reads";
@@ -38,6 +38,15 @@ pub enum Error {
     Deep,
     /// An amount or a sum is too large, at this location.
     Large(Location),
+    /// The value of a location is of another kind than the call returns.
+    OtherKind {
+        /// The location.
+        at: Location,
+        /// Which kind was wanted, in English: "number", for example.
+        wanted: &'static str,
+        /// What is there.
+        found: Value,
+    },
     /// No move is pushed, so there is none to pop.
     NoMove,
     /// No journal was made since an agent was returned.
@@ -109,6 +118,7 @@ impl fmt::Display for Error {
             Error::Many(limit) => limit.fmt(f),
             Error::Deep => f.write_str("64 moves are pushed already"),
             Error::Large(at) => write!(f, "too large an amount or sum at {at}"),
+            Error::OtherKind { at, wanted, found } => write!(f, "no {wanted} is at {at}: {:.60}", found.to_string()),
             Error::NoMove => f.write_str("no move is pushed"),
             Error::NoJournal => f.write_str("no journal was made since an agent was returned"),
             Error::Range(range) => range.fmt(f),

@@ -83,21 +83,25 @@ impl<A: ToJson, B: ToJson> ToJson for (A, B) {
     }
 }
 
+fn write_elements(out: &mut String, items: &[Element]) {
+    out.push_str("{\"list\":");
+    write_list(out, items);
+    out.push('}');
+}
+
+fn write_num(out: &mut String, number: i64) {
+    let _ = write!(out, "{number}");
+}
+
 impl ToJson for Element {
     fn write(&self, out: &mut String) {
         match self {
             Element::Undef => out.push_str("null"),
             Element::Bool(true) => out.push_str("true"),
             Element::Bool(false) => out.push_str("false"),
-            Element::Num(number) => {
-                let _ = write!(out, "{number}");
-            }
+            Element::Num(number) => write_num(out, *number),
             Element::Text(text) => write_text(out, text),
-            Element::List(items) => {
-                out.push_str("{\"list\":");
-                write_list(out, items);
-                out.push('}');
-            }
+            Element::List(items) => write_elements(out, items),
         }
     }
 }
@@ -105,7 +109,12 @@ impl ToJson for Element {
 impl ToJson for Value {
     fn write(&self, out: &mut String) {
         match self {
-            Value::Plain(element) => element.write(out),
+            Value::Undef => out.push_str("null"),
+            Value::Bool(true) => out.push_str("true"),
+            Value::Bool(false) => out.push_str("false"),
+            Value::Num(number) => write_num(out, *number),
+            Value::Text(text) => write_text(out, text),
+            Value::List(items) => write_elements(out, items),
             Value::Set(elements) => {
                 out.push_str("{\"set\":");
                 write_list(out, elements);
@@ -318,7 +327,7 @@ impl Json {
 
     pub(crate) fn value(self) -> Option<Value> {
         let Json::Object(mut members) = self else {
-            return self.element().map(Value::Plain);
+            return self.element().map(Value::from);
         };
         if let Some(elements) = members.remove("set") {
             let elements = elements.list()?.into_iter().map(Json::element);
@@ -331,7 +340,7 @@ impl Json {
             });
             return counts.collect::<Option<BTreeMap<_, _>>>().map(Value::Bag);
         }
-        Json::Object(members).element().map(Value::Plain)
+        Json::Object(members).element().map(Value::from)
     }
 
     pub(crate) fn location(self) -> Option<Location> {

@@ -17,7 +17,7 @@
 //!     let mut teller = storage.agent(0)?;
 //!
 //!     let played = teller.play(|step| {
-//!         let there = step.get(balance("anna"))?.as_num().unwrap_or(0);
+//!         let there = step.get_num(balance("anna"))?;
 //!         let moved = there.min(30);
 //!         step.inc(balance("anna"), -moved)?;
 //!         step.inc(balance("ben"), moved)?;
@@ -73,6 +73,7 @@ mod step;
 mod storage;
 mod sys;
 mod turns;
+mod typed;
 mod value;
 
 pub use agent::{Agent, Reading};
@@ -87,4 +88,5 @@ pub use prepared::{Prepared, PreparedMove};
 pub use run::{Broken, Check, EndCause, Run, RunAgent, RunOptions, RunStep, audit_run};
 pub use step::Step;
 pub use storage::Storage;
+pub use typed::{FromValue, Place};
 pub use value::{Element, Location, Value};

@@ -43,7 +43,7 @@ pub enum Outcome {
 /// let (mut agent, mut other) = (storage.agent(0)?, storage.agent(1)?);
 /// let patience = Patience::new().tries(3).timeout(Duration::from_secs(1));
 /// let told = agent.play_with(patience, |step| {
-///     let n = step.get("n")?.as_num().unwrap_or(0);
+///     let n = step.get_num("n")?;
 ///     other.play(|step| step.inc("n", 1))?; // it is always quicker
 ///     step.put("n", n)
 /// });

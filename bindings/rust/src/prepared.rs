@@ -51,7 +51,7 @@ impl fmt::Debug for Prepared {
 /// The value that a call returned by its kind, its number and its bytes.
 pub(crate) fn value_of(head: &sys::Value, bytes: &[u8]) -> Result<Value, Error> {
     Ok(match head.kind {
-        sys::KIND_UNDEF => Value::UNDEF,
+        sys::KIND_UNDEF => Value::Undef,
         sys::KIND_BOOL => Value::from(head.number == 1),
         sys::KIND_NUM => Value::from(head.number),
         sys::KIND_TEXT => Value::from(String::from_utf8_lossy(bytes).into_owned()),
@@ -105,11 +105,11 @@ impl PreparedMove {
 
     fn instruct(&mut self, verb: i32, at: &Prepared, operand: Value, amount: u32) -> Result<&mut PreparedMove, Error> {
         let (kind, number, bytes) = match operand {
-            Value::Plain(Element::Undef) => (sys::KIND_UNDEF, 0, String::new()),
-            Value::Plain(Element::Bool(is_true)) => (sys::KIND_BOOL, i64::from(is_true), String::new()),
-            Value::Plain(Element::Num(number)) => (sys::KIND_NUM, number, String::new()),
-            Value::Plain(Element::Text(text)) => (sys::KIND_TEXT, 0, text),
-            list @ Value::Plain(Element::List(_)) => (sys::KIND_LIST, 0, list.json()),
+            Value::Undef => (sys::KIND_UNDEF, 0, String::new()),
+            Value::Bool(is_true) => (sys::KIND_BOOL, i64::from(is_true), String::new()),
+            Value::Num(number) => (sys::KIND_NUM, number, String::new()),
+            Value::Text(text) => (sys::KIND_TEXT, 0, text),
+            list @ Value::List(_) => (sys::KIND_LIST, 0, list.json()),
             set @ Value::Set(_) => (sys::KIND_SET, 0, set.json()),
             bag @ Value::Bag(_) => (sys::KIND_BAG, 0, bag.json()),
         };
@@ -153,7 +153,7 @@ impl PreparedMove {
     ///
     /// Those of [`PreparedMove::put`].
     pub fn add(&mut self, at: &Prepared, element: impl Into<Element>) -> Result<&mut PreparedMove, Error> {
-        self.instruct(1, at, Value::Plain(element.into()), 0)
+        self.instruct(1, at, Element::into(element.into()), 0)
     }
 
     /// The set there loses the element.
@@ -162,7 +162,7 @@ impl PreparedMove {
     ///
     /// Those of [`PreparedMove::put`].
     pub fn remove(&mut self, at: &Prepared, element: impl Into<Element>) -> Result<&mut PreparedMove, Error> {
-        self.instruct(2, at, Value::Plain(element.into()), 0)
+        self.instruct(2, at, Element::into(element.into()), 0)
     }
 
     /// The bag there gets the element so many times.
@@ -176,7 +176,7 @@ impl PreparedMove {
         element: impl Into<Element>,
         amount: u32,
     ) -> Result<&mut PreparedMove, Error> {
-        self.instruct(3, at, Value::Plain(element.into()), amount)
+        self.instruct(3, at, Element::into(element.into()), amount)
     }
 
     /// The bag there loses the element so many times.
@@ -190,7 +190,7 @@ impl PreparedMove {
         element: impl Into<Element>,
         amount: u32,
     ) -> Result<&mut PreparedMove, Error> {
-        self.instruct(4, at, Value::Plain(element.into()), amount)
+        self.instruct(4, at, Element::into(element.into()), amount)
     }
 
     /// The same with the instructions of the other move, which are carried out at once with its own.

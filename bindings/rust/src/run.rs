@@ -205,7 +205,7 @@ impl Default for RunOptions {
 ///         let count = &count;
 ///         threads.spawn(move || {
 ///             for _ in 0..250 {
-///                 agent.play(|step| step.put(count, step.get(count)?.as_num().unwrap_or(0) + 1))?;
+///                 agent.play(|step| step.put(count, step.get_num(count)? + 1))?;
 ///             }
 ///             Ok::<(), Error>(())
 ///         });
@@ -218,7 +218,7 @@ impl Default for RunOptions {
 ///
 /// let run = Run::resume(&path, Check::Last)?; // also after a crash
 /// let mut agent = run.agent(0)?;
-/// assert_eq!(agent.step()?.get(&count)?.as_num(), Some(1_000));
+/// assert_eq!(agent.step()?.get_num(&count)?, 1_000);
 /// # run.close()?;
 /// # std::fs::remove_dir_all(&path)?;
 /// # Ok(())

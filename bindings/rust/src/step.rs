@@ -7,11 +7,10 @@ use crate::json::{Json, ToJson};
 use crate::number::MoveNumber;
 use crate::owned_slot::text_of_call;
 use crate::play::Outcome;
-use crate::prepared::{Prepared, PreparedMove, value_of};
+use crate::prepared::PreparedMove;
 use crate::sys;
 use crate::value::{Element, Location, Value};
 use std::fmt;
-use std::slice;
 
 /// A transaction of an agent: it gets values, pushes moves and commits.
 ///
@@ -29,22 +28,6 @@ impl Step<'_> {
     /// The number of moves at which it began.
     pub fn number(&self) -> MoveNumber {
         MoveNumber::from(self.number).behind(self.agent.before())
-    }
-
-    /// Returns the value of the location, seen through the pushed moves.
-    ///
-    /// The step then depends on the location, if the value comes from the state that it began on.
-    ///
-    /// # Errors
-    ///
-    /// - [`Error::Many`]: it would depend on more than 256 locations and functions.
-    /// - [`Error::Refused`]: the location is against the rules.
-    /// - [`Error::Memory`].
-    /// - Of a step of a run [`Error::Conflict`] with [`Past`](crate::Conflict::Past), [`Error::Broken`] and [`Error::Closed`], here
-    ///   and below.
-    pub fn get(&self, at: impl Into<Location>) -> Result<Value, Error> {
-        let mut values = self.get_each(slice::from_ref(&at.into()))?;
-        values.pop().ok_or(Error::Unknown(sys::DONE))
     }
 
     /// As [`Step::get`], of each of the locations.
@@ -79,29 +62,13 @@ impl Step<'_> {
     }
 
     /// Makes a call with the slots of the agent and the step that writes a text: its code and the text.
-    fn text_of_call(
+    pub(crate) fn text_of_call(
         &self,
         mut call: impl FnMut(*mut sys::Slot, *mut sys::Slot, *mut u8, usize, *mut usize) -> i32,
     ) -> Result<(i32, Vec<u8>), Error> {
         self.agent.with(|agent| {
             Ok(text_of_call(|out, room, written| call(agent.slots.agent(), agent.slots.step(), out, room, written)))
         })
-    }
-
-    /// As [`Step::get`], of a prepared location, and quicker.
-    ///
-    /// # Errors
-    ///
-    /// [`Error::Many`], [`Error::Memory`].
-    pub fn get_at(&self, at: &Prepared) -> Result<Value, Error> {
-        let mut head = sys::Value::default();
-        // SAFETY: the slots are of one agent and its step, which this thread alone has, and the texts and numbers outlive the call.
-        let (code, bytes) = self.text_of_call(|slot, step, out, room, written| unsafe {
-            sys::asm_get_at(slot, step, at.slot.at(), &raw mut head, out, room, written)
-        })?;
-        self.agent.count(at.size + bytes.len());
-        done(code)?;
-        value_of(&head, &bytes)
     }
 
     /// Scans a function: returns all its locations, ascending.
@@ -342,7 +309,7 @@ impl Step<'_> {
     /// fn raise(agent: &mut Agent) -> Result<MoveNumber, Error> {
     ///     loop {
     ///         let mut step = agent.step()?;
-    ///         let n = step.get("n")?.as_num().unwrap_or(0);
+    ///         let n = step.get_or("n", 0)?;
     ///         step.put("n", n + 1)?;
     ///         if let Outcome::Fired(number) = step.try_commit()? {
     ///             return Ok(number);

@@ -89,7 +89,7 @@ impl Slots {
 ///         let count = &count;
 ///         threads.spawn(move || {
 ///             for _ in 0..100 {
-///                 agent.play(|step| step.put(count, step.get(count)?.as_num().unwrap_or(0) + 1))?;
+///                 agent.play(|step| step.put(count, step.get_num(count)? + 1))?;
 ///             }
 ///             Ok::<(), folugben::Error>(())
 ///         });

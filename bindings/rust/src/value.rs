@@ -53,12 +53,21 @@ impl PartialOrd for Element {
     }
 }
 
-/// What a location holds.
-#[derive(Clone, Debug, PartialEq, Eq, Hash)]
+/// What a location holds: an element, a set or a bag.
+#[derive(Clone, Debug, Default, PartialEq, Eq, Hash)]
 #[non_exhaustive]
 pub enum Value {
-    /// An element.
-    Plain(Element),
+    /// What a location holds that nothing was put at.
+    #[default]
+    Undef,
+    /// True or false.
+    Bool(bool),
+    /// An integer.
+    Num(i64),
+    /// A text.
+    Text(String),
+    /// At most 4,096 elements, of which lists nest to a depth of 8 at most.
+    List(Vec<Element>),
     /// A set of elements.
     Set(BTreeSet<Element>),
     /// A bag of elements: how often each is there, at least once.
@@ -66,20 +75,17 @@ pub enum Value {
 }
 
 impl Value {
-    /// What a location holds that nothing was put at.
-    pub const UNDEF: Value = Value::Plain(Element::Undef);
-
     /// Whether it is undef.
     #[must_use]
     pub fn is_undef(&self) -> bool {
-        *self == Value::UNDEF
+        *self == Value::Undef
     }
 
     /// The number, if it is one.
     #[must_use]
     pub fn as_num(&self) -> Option<i64> {
         match self {
-            Value::Plain(Element::Num(number)) => Some(*number),
+            Value::Num(number) => Some(*number),
             _ => None,
         }
     }
@@ -88,7 +94,7 @@ impl Value {
     #[must_use]
     pub fn as_bool(&self) -> Option<bool> {
         match self {
-            Value::Plain(Element::Bool(is_true)) => Some(*is_true),
+            Value::Bool(is_true) => Some(*is_true),
             _ => None,
         }
     }
@@ -97,7 +103,7 @@ impl Value {
     #[must_use]
     pub fn as_text(&self) -> Option<&str> {
         match self {
-            Value::Plain(Element::Text(text)) => Some(text),
+            Value::Text(text) => Some(text),
             _ => None,
         }
     }
@@ -106,7 +112,7 @@ impl Value {
     #[must_use]
     pub fn as_list(&self) -> Option<&[Element]> {
         match self {
-            Value::Plain(Element::List(items)) => Some(items),
+            Value::List(items) => Some(items),
             _ => None,
         }
     }
@@ -130,12 +136,6 @@ impl Value {
     }
 }
 
-impl Default for Value {
-    fn default() -> Value {
-        Value::UNDEF
-    }
-}
-
 macro_rules! from_plain {
     ($($from:ty, $it:ident => $element:expr;)*) => {$(
         impl From<$from> for Element {
@@ -146,7 +146,7 @@ macro_rules! from_plain {
 
         impl From<$from> for Value {
             fn from(it: $from) -> Value {
-                Value::Plain(it.into())
+                Element::from(it).into()
             }
         }
     )*};
@@ -168,7 +168,13 @@ from_plain! {
 
 impl From<Element> for Value {
     fn from(element: Element) -> Value {
-        Value::Plain(element)
+        match element {
+            Element::Undef => Value::Undef,
+            Element::Bool(is_true) => Value::Bool(is_true),
+            Element::Num(number) => Value::Num(number),
+            Element::Text(text) => Value::Text(text),
+            Element::List(items) => Value::List(items),
+        }
     }
 }
 
@@ -182,7 +188,7 @@ impl<T: Into<Element>> From<Option<T>> for Element {
 /// None is undef.
 impl<T: Into<Value>> From<Option<T>> for Value {
     fn from(it: Option<T>) -> Value {
-        it.map_or(Value::UNDEF, Into::into)
+        it.map_or(Value::Undef, Into::into)
     }
 }
 
@@ -279,6 +285,12 @@ fn write_all(f: &mut fmt::Formatter<'_>, elements: &[Element]) -> fmt::Result {
     Ok(())
 }
 
+fn write_list(f: &mut fmt::Formatter<'_>, items: &[Element]) -> fmt::Result {
+    f.write_str("[")?;
+    write_all(f, items)?;
+    f.write_str("]")
+}
+
 impl fmt::Display for Element {
     fn fmt(&self, f: &mut fmt::Formatter<'_>) -> fmt::Result {
         match self {
@@ -286,11 +298,7 @@ impl fmt::Display for Element {
             Element::Bool(is_true) => write!(f, "{is_true}"),
             Element::Num(number) => write!(f, "{number}"),
             Element::Text(text) => write!(f, "{text:?}"),
-            Element::List(items) => {
-                f.write_str("[")?;
-                write_all(f, items)?;
-                f.write_str("]")
-            }
+            Element::List(items) => write_list(f, items),
         }
     }
 }
@@ -298,7 +306,11 @@ impl fmt::Display for Element {
 impl fmt::Display for Value {
     fn fmt(&self, f: &mut fmt::Formatter<'_>) -> fmt::Result {
         match self {
-            Value::Plain(element) => write!(f, "{element}"),
+            Value::Undef => f.write_str("undef"),
+            Value::Bool(is_true) => write!(f, "{is_true}"),
+            Value::Num(number) => write!(f, "{number}"),
+            Value::Text(text) => write!(f, "{text:?}"),
+            Value::List(items) => write_list(f, items),
             Value::Set(elements) => {
                 let texts: Vec<String> = elements.iter().map(Element::to_string).collect();
                 write!(f, "{{{}}}", texts.join(", "))

@@ -206,10 +206,10 @@ fn agents_return_their_own_state() {
     let (mut one, mut other) = (run.agent(0).unwrap(), run.agent(1).unwrap());
     let n = MoveNumber::new;
     let peek = |one: &mut RunAgent| one.peek(&[count(), "none".into()]).map(|it| (it.number, it.values)).unwrap();
-    assert_eq!(peek(&mut one), (n(0), vec![0.into(), Value::UNDEF]));
+    assert_eq!(peek(&mut one), (n(0), vec![0.into(), Value::Undef]));
     add_one(&mut other).unwrap();
-    assert_eq!(peek(&mut one), (n(0), vec![0.into(), Value::UNDEF]));
-    assert_eq!((one.follow(), peek(&mut one)), (Ok(n(1)), (n(1), vec![1.into(), Value::UNDEF])));
+    assert_eq!(peek(&mut one), (n(0), vec![0.into(), Value::Undef]));
+    assert_eq!((one.follow(), peek(&mut one)), (Ok(n(1)), (n(1), vec![1.into(), Value::Undef])));
     for _ in 0..7 {
         add_one(&mut other).unwrap();
     }

@@ -150,7 +150,7 @@ fn values_of_each_kind_come_back() {
         Element::List(vec![Element::List(vec![]), 1.into()]),
     ];
     let values = [
-        Value::UNDEF,
+        Value::Undef,
         false.into(),
         i64::MIN.into(),
         elements[3].clone().into(),
@@ -168,7 +168,7 @@ fn values_of_each_kind_come_back() {
         assert_eq!((result.values.len(), &result.values[0]), (1, value));
         let prepared = Prepared::new(&at).unwrap();
         assert_eq!(agent.peek_at(&prepared).unwrap().1, *value);
-        assert_eq!(agent.step().unwrap().get_at(&prepared).unwrap(), *value);
+        assert_eq!(agent.step().unwrap().get(&prepared).unwrap(), *value);
     }
     let found = agent.step().unwrap().scan("f").unwrap();
     assert_eq!(found.len(), values.len() - 1);
@@ -179,7 +179,7 @@ fn values_of_each_kind_come_back() {
 #[test]
 fn prepared_moves_do_what_moves_do() {
     let places = ["n", "s", "b", "t"].map(Location::new);
-    let opening = [Value::from(1), Value::Set(BTreeSet::new()), Value::Bag(BTreeMap::new()), Value::UNDEF];
+    let opening = [Value::from(1), Value::Set(BTreeSet::new()), Value::Bag(BTreeMap::new()), Value::Undef];
     let storage = Storage::open(places.iter().cloned().zip(opening), 10).unwrap();
     let mut agent = storage.agent(0).unwrap();
     let [n, s, b, t] = places.each_ref().map(|it| Prepared::new(it).unwrap());
@@ -225,14 +225,14 @@ fn prepared_moves_put_lists_sets_and_bags() {
         gathered.clear().put(&at, value.clone()).unwrap();
         let mut step = agent.step().unwrap();
         step.push_prepared(&gathered).unwrap();
-        assert_eq!(step.get_at(&at).unwrap(), *value);
+        assert_eq!(step.get(&at).unwrap(), *value);
     }
     let mut step = agent.step().unwrap();
     step.push_prepared(gathered.bag_add(&at, list.clone(), 1).unwrap()).unwrap_err();
     step.push_prepared(gathered.clear().put(&at, values[1].clone()).unwrap()).unwrap();
     step.push_prepared(gathered.clear().remove(&at, list.clone()).unwrap().add(&at, vec![]).unwrap()).unwrap();
     let left = BTreeSet::from([Element::Undef, Element::List(vec![])]);
-    assert_eq!(step.get_at(&at).unwrap(), Value::Set(left));
+    assert_eq!(step.get(&at).unwrap(), Value::Set(left));
     let deep = (0..9).fold(Element::List(vec![]), |inner, _| Element::List(vec![inner]));
     assert!(matches!(gathered.put(&at, deep), Err(Error::Refused(_))));
     assert!(matches!(gathered.put(&at, Value::Bag(BTreeMap::from([(list, 0)]))), Err(Error::Refused(_))));
@@ -273,7 +273,7 @@ fn seen_locations_are_not_named_and_an_offer_lists_the_named() {
     let mut step = one.step().unwrap();
     assert_eq!(step.offer().unwrap(), (Move::new(), vec![]));
     step.push(&Move::new().inc(count(), 2)).unwrap();
-    assert_eq!(step.see(&[count(), other_place.clone()]).unwrap(), [3.into(), Value::UNDEF]);
+    assert_eq!(step.see(&[count(), other_place.clone()]).unwrap(), [3.into(), Value::Undef]);
     assert!(step.see(&[Location::new("1")]).is_err());
     step.get(&other_place).unwrap();
     let (instructions, reads) = step.offer().unwrap();
@@ -370,7 +370,7 @@ fn a_manual_loop_retries_conflicts() {
 fn values_are_made_of_plain_ones_and_read() {
     let [a, b, c, d] = [Value::from(7_u8), Value::from(-7_i8), 300_u16.into(), (-300_i16).into()];
     assert_eq!([a, b, c, d].map(|it| it.as_num()), [7, -7, 300, -300].map(Some));
-    assert_eq!((Value::from(None::<bool>), Element::from(Some("x"))), (Value::UNDEF, Element::from("x")));
+    assert_eq!((Value::from(None::<bool>), Element::from(Some("x"))), (Value::Undef, Element::from("x")));
     assert_eq!(Value::from(vec![Element::from(1)]).as_list(), Some(&[Element::Num(1)][..]));
     assert_eq!(Value::from(1).as_list(), None);
     let storage = open(&[]);
@@ -388,4 +388,31 @@ fn errors_have_sources() {
     let source = std::error::Error::source(&error).unwrap();
     assert_eq!(source.downcast_ref(), Some(&Conflict::Stale(count())));
     assert!(std::error::Error::source(&Error::Full).is_none());
+}
+
+#[test]
+fn values_of_one_type_are_got() {
+    let state = [("n", 7.into()), ("b", true.into()), ("t", "ä".into()), ("s", Value::Set(BTreeSet::from([1.into()])))];
+    let storage = Storage::open(state.map(|(name, value)| (name.into(), value)), 10).unwrap();
+    let (mut one, mut other) = (storage.agent(0).unwrap(), storage.agent(1).unwrap());
+    let (place, nothing) = (Location::new("n"), Prepared::new(&"u".into()).unwrap());
+    let prepared = Prepared::new(&place).unwrap();
+    let mut step = one.step().unwrap();
+    for got in [step.get_num("n"), step.get_num(&place), step.get_num(place.clone()), step.get_num(&prepared)] {
+        assert_eq!(got, Ok(7));
+    }
+    assert_eq!((step.get_bool("b"), step.get_text("t")), (Ok(true), Ok("ä".to_owned())));
+    assert_eq!((step.get_or("n", 1), step.get_or(&nothing, 1)), (Ok(7), Ok(1)));
+    assert_eq!((step.get_or("b", false), step.get_or("u", true)), (Ok(true), Ok(true)));
+    assert_eq!(step.get_or("s", BTreeSet::new()), Ok(BTreeSet::from([1.into()])));
+    assert_eq!(step.get_or("u", vec![Element::Undef]), Ok(vec![Element::Undef]));
+    let refused = Error::OtherKind { at: "t".into(), wanted: "number", found: Value::Text("ä".to_owned()) };
+    assert_eq!(refused.to_string(), r#"no number is at t: "ä""#);
+    assert_eq!((step.get_num("t"), step.get_or("t", 1)), (Err(refused.clone()), Err(refused)));
+    let undef = Error::OtherKind { at: "u".into(), wanted: "boolean", found: Value::Undef };
+    assert_eq!(step.get_bool(&nothing), Err(undef));
+    // The step depends on what was of another kind.
+    step.put("n", 8).unwrap();
+    other.play(|step| step.put("u", 1)).unwrap();
+    assert!(matches!(step.commit(), Err(Error::Conflict(Conflict::Stale(at))) if at == "u".into()));
 }

@@ -235,7 +235,11 @@ fn json_of(items: &[Element]) -> String {
 
 fn json(value: &Value) -> String {
     match value {
-        Value::Plain(it) => json_of(slice::from_ref(it)),
+        Value::Undef => "null".to_owned(),
+        Value::Bool(it) => it.to_string(),
+        Value::Num(it) => it.to_string(),
+        Value::Text(it) => json_of(&[it.as_str().into()]),
+        Value::List(it) => json_of(&[it.clone().into()]),
         Value::Set(it) => format!("{{\"set\":[{}]}}", json_of(&it.iter().cloned().collect::<Vec<_>>())),
         Value::Bag(it) => {
             let pair = |(it, count): (&Element, &u32)| format!("[{},{count}]", json_of(slice::from_ref(it)));
@@ -248,7 +252,7 @@ fn json(value: &Value) -> String {
 /// Values of all kinds.
 fn values() -> Vec<Value> {
     let items = [Element::Undef, true.into(), (-7).into(), "a \"\\ä".into(), vec![Element::from(1)].into()];
-    let mut all: Vec<Value> = items.iter().cloned().map(Value::Plain).collect();
+    let mut all: Vec<Value> = items.iter().cloned().map(Value::from).collect();
     all.extend([i64::MIN.into(), i64::MAX.into(), false.into(), "".into()]);
     all.push(Value::Set(BTreeSet::from(items.clone())));
     all.push(Value::Bag(items.into_iter().zip([1, 2, 3, 4, u32::MAX]).collect::<BTreeMap<_, _>>()));
@@ -271,7 +275,7 @@ fn recorded_steps(mut agent: Agent, values: &[Value]) -> Vec<String> {
             let value = match draw.below(3) {
                 0 => step.get(&at).unwrap(),
                 1 => step.get_each(slice::from_ref(&at)).unwrap().remove(0),
-                _ => step.get_at(&Prepared::new(&at).unwrap()).unwrap(),
+                _ => step.get(Prepared::new(&at).unwrap()).unwrap(),
             };
             returned.insert(at.args().to_vec(), value);
         }

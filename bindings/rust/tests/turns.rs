@@ -242,7 +242,7 @@ fn time_of(count: usize) -> Duration {
         for i in 0..5_000 {
             let mut step = agents[i % count].step().unwrap();
             let at = &places[i % 32];
-            let next = step.get_at(at).unwrap().as_num().unwrap_or(0) + 1;
+            let next = step.get(at).unwrap().as_num().unwrap_or(0) + 1;
             step.push_prepared(put.clear().put(at, next).unwrap()).unwrap();
             step.commit().unwrap();
         }

@@ -33,7 +33,7 @@ final class Plain implements Side {
     public boolean step(int thread, int location) {
         PreparedLocation at = places[thread][location];
         try (Step step = agents[thread].step()) {
-            step.push(moves[thread].clear().put(at, step.getNumber(at) + 1));
+            step.push(moves[thread].clear().put(at, step.getLong(at) + 1));
             return step.tryCommit().move() != 0;
         }
     }
@@ -42,7 +42,7 @@ final class Plain implements Side {
     public long close() {
         long sum = 0;
         try (Step step = agents[0].step()) {
-            for (PreparedLocation at : places[0]) sum += step.getNumber(at);
+            for (PreparedLocation at : places[0]) sum += step.getLong(at);
         }
         for (int i = 0; i < Bench.THREADS; i++) {
             for (PreparedLocation at : places[i]) at.close();

@@ -179,8 +179,8 @@ final class MisuseTests {
             equal(step.get(X), Element.of(5));
             try (Step other = agent.step()) {
                 other.push(move.clear().put(x, 9));
-                equal(other.getNumber(x), 9L);
-                equal(step.getNumber(x), 5L);
+                equal(other.getLong(x), 9L);
+                equal(step.getLong(x), 5L);
             }
         }
     }
@@ -254,7 +254,7 @@ final class MisuseTests {
             thrown(IllegalStateException.class, message, () -> move.inc(x, 1));
             thrown(IllegalStateException.class, message, () -> step.push(move));
             step.push(move.clear().inc(x, 1));
-            equal(step.getNumber(x), 2L);
+            equal(step.getLong(x), 2L);
         }
     }
 

@@ -50,10 +50,10 @@ final class ObjectTests {
                 equal(agent.read(places), new Reading(0, places, values));
                 equal(agent.peek(places), agent.read(places));
                 equal(step.get(places), values);
-                equal(step.getAll("x"), agent.scan("x").values());
+                equal(step.scan("x").values(), agent.scan("x").values());
                 Map<Location, Value> found = new TreeMap<>(state);
                 found.keySet().removeIf(place -> !place.name().equals("x"));
-                equal(step.getAll("x"), found);
+                equal(step.scan("x").values(), found);
             }
         }
     }
@@ -256,7 +256,7 @@ final class ObjectTests {
             thrown(kind, "second", () -> Moves.compose(List.of(), move));
             thrown(kind, "state", () -> Moves.aggregate(state, List.of()));
             thrown(kind, "init", () -> Storage.open(state, 8));
-            refusedValue("name has a lone surrogate at index 0", () -> step.getAll("\ude00"));
+            refusedValue("name has a lone surrogate at index 0", () -> step.scan("\ude00").values());
         }
     }
 

@@ -50,8 +50,8 @@ final class PlainTests {
             equal(step.get(at), value);
             equal(agent.peek(at), new Agent.Peeked(0, value));
             plain("number", value, value instanceof Element.Num num ? num.value() : null,
-                    () -> step.getNumber(at), () -> agent.peekNumber(at),
-                    () -> step.getNumber(location));
+                    () -> step.getLong(at), () -> agent.peekLong(at),
+                    () -> step.getLong(location));
             plain("boolean", value, value instanceof Element.Bool bool ? bool.value() : null,
                     () -> step.getBoolean(at), () -> step.getBoolean(location));
             plain("text", value, value instanceof Element.Text text ? text.value() : null,
@@ -181,14 +181,14 @@ final class PlainTests {
             move.put(x, 7);
             refused(Code.DEEP, () -> step.push(move));
             step.extend(move);
-            equal(step.getNumber(x), 7L);
+            equal(step.getLong(x), 7L);
             for (int i = 1; i <= 256; i++)
                 try (PreparedLocation w = Location.of("w", i).prepare()) {
                     equal(step.get(w).isUndef(), true);
                 }
             try (PreparedLocation w = Location.of("w", 0).prepare()) {
                 refused(Code.MANY, () -> step.get(w));
-                refused(Code.MANY, () -> step.getNumber(w));
+                refused(Code.MANY, () -> step.getLong(w));
                 equal(agent.peek(w).value().isUndef(), true);
             }
             equal(step.tryCommit().move(), 1);
@@ -251,7 +251,7 @@ final class PlainTests {
         try (Move last = step.popMove()) {
             step.extend(last);
             equal(step.depth(), 1);
-            equal(step.getNumber(x), 19L);
+            equal(step.getLong(x), 19L);
             step.extend(last.clear().put(x, Value.bag(Map.of("e", 2))));
             equal(step.get(x), Value.bag(Map.of("e", 2)));
         }
@@ -275,7 +275,7 @@ final class PlainTests {
         equal(move.size(), 2);
         step.pop();
         step.push(move);
-        equal(step.getNumber(x), 18L);
+        equal(step.getLong(x), 18L);
         Move closed = new Move();
         closed.close();
         refused(Code.EMPTY, () -> step.popMove(closed));
@@ -302,8 +302,8 @@ final class PlainTests {
             x.close();
             x.close();
             String message = "the ";
-            for (Runnable call : List.<Runnable>of(() -> next.get(x), () -> next.getNumber(x),
-                         () -> agent.peek(x), () -> agent.peekNumber(x), () -> move.put(x, 1),
+            for (Runnable call : List.<Runnable>of(() -> next.get(x), () -> next.getLong(x),
+                         () -> agent.peek(x), () -> agent.peekLong(x), () -> move.put(x, 1),
                          () -> move.put(x, "text")))
                 equal(refused(Code.EMPTY, call).getMessage(), message + "location was closed");
             next.push(move);
@@ -361,11 +361,11 @@ final class PlainTests {
                     try (Agent agent = storage.agent(own)) {
                         while (fired[own] < 500)
                             try (Step step = agent.step(); Move raise = new Move()) {
-                                long seen = step.getNumber(x);
+                                long seen = step.getLong(x);
                                 step.push(raise.put(x, seen + 1));
                                 if (move.size() < 500)
                                     move.inc(x, 1);
-                                agent.peekNumber(x);
+                                agent.peekLong(x);
                                 if (step.tryCommit().move() != 0)
                                     fired[own]++;
                             }
@@ -376,11 +376,11 @@ final class PlainTests {
             for (Thread thread : threads) thread.start();
             for (Thread thread : threads) thread.join();
             try (Agent agent = storage.agent(9); Step step = agent.step()) {
-                equal(step.getNumber(x), 2000L);
+                equal(step.getLong(x), 2000L);
                 int size = move.size();
                 equal(size >= 500 && size <= 503, true);
                 step.push(move);
-                equal(step.getNumber(x), 2000L + size);
+                equal(step.getLong(x), 2000L + size);
                 equal(step.tryCommit().move(), 2001);
                 agent.give();
             }

@@ -190,7 +190,7 @@ final class ScopeTests {
             Value kind = step.see(at); // which isn't recorded
             try (PreparedLocation prepared = at.prepare()) {
                 if (way == 2 && kind instanceof Element.Num)
-                    return Value.of(step.getNumber(prepared));
+                    return Value.of(step.getLong(prepared));
                 if (way == 2 && kind instanceof Element.Bool)
                     return Value.of(step.getBoolean(prepared));
                 if (way == 2 && kind instanceof Element.Text)
@@ -289,7 +289,7 @@ final class ScopeTests {
             agent.play(step -> {
                 step.push(Instruction.put(X, step.get(X)));
                 step.see(Y);
-                step.getAll("y");
+                step.scan("y").values();
                 return null;
             });
             agent.close();

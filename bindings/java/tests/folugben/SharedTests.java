@@ -153,7 +153,7 @@ final class SharedTests {
                 refused(Code.STALE, step::commit);
             }
             try (Step step = agent.step()) {
-                equal(step.getAll("task").size(), 0);
+                equal(step.scan("task").values().size(), 0);
                 step.push(Instruction.put(COUNT, 9));
                 rival.play(own -> {
                     own.push(Instruction.put(task, true));

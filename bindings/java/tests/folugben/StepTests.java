@@ -4,9 +4,12 @@ import static folugben.Test.Checks.equal;
 import static folugben.Test.Checks.outOfRange;
 import static folugben.Test.Checks.refused;
 import static folugben.Test.Checks.refusedAt;
+import static folugben.Test.Checks.thrown;
 
 import java.util.Collections;
 import java.util.List;
+import java.util.Map;
+import java.util.function.Supplier;
 
 /** Tests of peeks, steps, moves without an agent, and runs that go on. */
 final class StepTests {
@@ -69,7 +72,7 @@ final class StepTests {
             };
             equal(agent.play(raise), new Actor.Played<>(1, 1L, 0));
             Actor.Played<Boolean> tried = agent.play(step -> {
-                long next = step.getNumber(Location.of("x")) + 1;
+                long next = step.getLong(Location.of("x")) + 1;
                 if (rival.won() == 0)
                     rival.play(raise);
                 step.push(Instruction.put(Location.of("x"), next));
@@ -458,11 +461,42 @@ final class StepTests {
         }
     }
 
+    private static <T> void isNo(String message, Supplier<T> call) {
+        thrown(IllegalStateException.class, message, call::get);
+    }
+
+    /** Values of one kind, another number where nothing is, and what a scan finds in turn. */
+    private static void valuesOfOneKind() {
+        Location number = Location.of("n"), text = Location.of("t"), none = Location.of("u");
+        try (Storage storage = Storage.open(Map.of(number, 7, text, "a"), 9);
+                Agent agent = storage.agent(0); Step step = agent.step();
+                PreparedLocation n = number.prepare(); PreparedLocation u = none.prepare();
+                PreparedLocation t = text.prepare()) {
+            equal(step.getLong(number) + step.getLong(n), 14);
+            equal(step.getLong(number, 1) + step.getLong(n, 1), 14);
+            equal(step.getLong(none, 1) + step.getLong(u, 1), 2);
+            isNo("no number: \"a\"", () -> step.getLong(text, 1));
+            isNo("no number: \"a\"", () -> step.getLong(t, 1));
+            isNo("no number: undef", () -> step.getLong(u));
+            equal(step.get(none), Value.undef());
+            step.push(Instruction.put(Location.of("f", 2), Value.list(1, "b")),
+                    Instruction.put(Location.of("f", 1), true));
+            StringBuilder found = new StringBuilder();
+            for (Pair each : step.scan("f")) found.append(each).append(';');
+            equal(found.toString(), "f(1) = true;f(2) = [1, \"b\"];");
+            step.commit();
+            Agent.Played<Void> played = agent.run(own -> own.push(Instruction.inc(number, 1)));
+            equal(played.move(), 2);
+            equal(agent.run(own -> {}).isFired(), false);
+        }
+    }
+
     static void all() throws InterruptedException {
         readings();
         System.out.println("looks");
         scans();
-        System.out.println("scans");
+        valuesOfOneKind();
+        System.out.println("scans and values of one kind");
         rulesCommit();
         agentsAreOfOneThread();
         System.out.println("rules that commit, and two threads");

@@ -184,7 +184,7 @@ final class TakeTests {
             int[] tries = new int[1];
             Actor.Rule<Object, RuntimeException> spoiled = step -> {
                 tries[0]++;
-                long there = step.getNumber(X);
+                long there = step.getLong(X);
                 rival.fire(List.of(Instruction.put(X, there + 1)), List.of());
                 step.push(Instruction.put(X, -1));
                 return null;
@@ -276,7 +276,7 @@ final class TakeTests {
                     for (int round = 0; round < rounds; round++)
                         for (Agent agent : agents)
                             try (Step step = agent.step()) {
-                                step.push(move.clear().put(at, step.getNumber(at) + 1));
+                                step.push(move.clear().put(at, step.getLong(at) + 1));
                                 step.tryCommit().orThrow();
                             }
                     long took = clock.getCurrentThreadCpuTime() - begin;

@@ -266,7 +266,7 @@ final class ValueTests {
                 }
                 equal(step.tryCommit().cause() == null, true);
                 kind(MovedException.class, Code.MOVED, () -> step.get(S));
-                kind(MovedException.class, Code.MOVED, () -> step.getAll("s"));
+                kind(MovedException.class, Code.MOVED, () -> step.scan("s").values());
                 kind(MovedException.class, Code.MOVED, step::push);
                 kind(MovedException.class, Code.MOVED, step::extend);
             }

@@ -60,7 +60,7 @@ public final class EngineTests {
     }
 
     private static long count(Step see) {
-        return see.getNumber(COUNT);
+        return see.getLong(COUNT);
     }
 
     private static Rule raised(long by) {
@@ -112,7 +112,7 @@ public final class EngineTests {
         Rule rule = seq(update(sum, Rule.Term.value(0)),
                 iterate(let(EngineTests::count,
                         rest -> when(Rule.Term.value(rest.asLong() > 0),
-                                par(raised(-1), update(sum, see -> see.getNumber(sum) + rest.asLong()))))));
+                                par(raised(-1), update(sum, see -> see.getLong(sum) + rest.asLong()))))));
         equal(played(rule, COUNT, sum), values(0, 6));
         Rule long_ = iterate(when(see -> count(see) < 1000, raised(1)));
         equal(played(long_, COUNT), values(1000));
