@@ -23,7 +23,10 @@ static int wait_for_both(Agent *self)
 static int32_t check_out(Agent *self, int is_take, int is_made)
 {
     Storage *storage = self->storage;
-    int32_t code = is_take ? asm_take(SLOT(storage), self->own, SLOT(self)) : ASM_NO_AGENT;
+    int is_reader = is_made && storage->reader.full && storage->reader_own == self->own;
+    int32_t code = is_reader ? asm_give(SLOT(storage), READER(storage)) : ASM_DONE;
+    if (code == ASM_DONE)
+        code = is_take || is_reader ? asm_take(SLOT(storage), self->own, SLOT(self)) : ASM_NO_AGENT;
     if (code == ASM_NO_AGENT && is_made)
         code = asm_agent(SLOT(storage), self->own, SLOT(self));
     if (code != ASM_DONE)

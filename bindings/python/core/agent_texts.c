@@ -84,6 +84,10 @@ static PyObject *fire(Agent *self, const Offer *its)
 /* Writes the items of an iterable, after a word of JSON. */
 static int write_list(Core *core, Text *text, const char *word, size_t len, PyObject *its, const char *name)
 {
+    if (its && (PyUnicode_Check(its) || PyBytes_Check(its) || PyDict_Check(its) || PyAnySet_Check(its))) {
+        refuse(core, ASM_SHAPE, "no_list", "(sO)", name, its);
+        return -1;
+    }
     PyObject *list = its ? PySequence_List(its) : PyList_New(0);
     int failed = !list || text_put(text, word, len) || write_more(core, text, list, name);
     Py_XDECREF(list);

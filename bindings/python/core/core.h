@@ -65,6 +65,8 @@ typedef struct {
     int is_abandoned;   /* an agent was freed that wasn't returned */
     char is_made, records; /* whether commits record the tracked reads of their steps */
     Agent *first;       /* its agents, without references */
+    asm_slot reader;    /* the agent that reads its state for itself, if there is one, and its number */
+    uint32_t reader_own;
     char behind[AGENTS]; /* for each number, also of a returned agent, whether another agent took its state */
     PyObject *journal;  /* the path of its journal, or null */
     Turn turns[TURNS];
@@ -232,6 +234,13 @@ void change_end(Change *its);
 /* storage.c, and move.c */
 Storage *storage_next_of(const Storage *behind, PyObject *words, PyObject *named, uint32_t *capacity);
 PyObject *refuse_storage(Storage *self, int32_t code);
+
+/* reader.c */
+#define READER(storage) ((struct asm_agent *)&(storage)->reader)
+PyObject *storage_state(Storage *self, PyObject *none);
+PyObject *storage_at(Storage *self, PyObject *place);
+PyObject *storage_run(Storage *self, PyObject *words, PyObject *named);
+
 PyObject *refuse_location(Location *self, int32_t code);
 
 /* agent.c, agent_texts.c and play.c */

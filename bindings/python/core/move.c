@@ -340,8 +340,6 @@ static PyObject *move_repr(Move *self)
 static PyMethodDef methods[] = {
     HOLDER_METHODS,
     CHANGE_METHODS(move),
-    {"bagadd", METHOD(move_bag_add), METH_FASTCALL, NULL},
-    {"bagremove", METHOD(move_bag_remove), METH_FASTCALL, NULL},
     {"unite", (PyCFunction)unite, METH_O,
         "unite($self, other, /)\n--\n\n"
         "Append the instructions of another move: the move then does what both do at once. `one | other` makes a third move.\n\n"

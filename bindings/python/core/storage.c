@@ -223,16 +223,31 @@ static PyObject *storage_next(Storage *self, PyObject *words, PyObject *named)
     return NULL;
 }
 
+/* Releases it, and the agent that reads for it. */
+static void drop(Storage *self)
+{
+    asm_free(&self->reader);
+    asm_free(SLOT(self));
+}
+
+static PyObject *storage_free(Storage *self, PyObject *Py_UNUSED(none))
+{
+    if (UNREADY(&self->holder))
+        return NULL;
+    drop(self);
+    return Py_NewRef(Py_None);
+}
+
 static PyObject *storage_exit(Storage *self, PyObject *const *words, Py_ssize_t count)
 {
     Core *core = self->holder.core;
     if (!self->journal || !IS_FULL(self) || self->holder.born != forks)
-        return holder_free(&self->holder, NULL);
+        return storage_free(self, NULL);
     PyObject *error = count > 1 ? words[1] : Py_None;
     PyObject *result = PyObject_CallMethod(core->refusals, "leave", "OOO", (PyObject *)self, self->journal, error);
     /* It is released in any case; what was raised stays raised. */
     if (!self->holder.is_busy)
-        asm_free(SLOT(self));
+        drop(self);
     return result;
 }
 
@@ -248,6 +263,8 @@ static PyObject *storage_repr(Storage *self)
 static void storage_dealloc(Storage *self)
 {
     Py_XDECREF(self->journal);
+    if (self->holder.born == forks)
+        asm_free(&self->reader);
     holder_dealloc(self);
 }
 
@@ -262,6 +279,17 @@ static PyMethodDef methods[] = {
         "Raises:\n"
         "    Error: no such agent was returned; the code is NO_AGENT."},
     {"moves", (PyCFunction)storage_moves, METH_NOARGS, "moves($self, /)\n--\n\nReturn how many moves were fired on it."},
+    {"state", (PyCFunction)storage_state, METH_NOARGS,
+        "state($self, /)\n--\n\n"
+        "Return how many moves were fired, and the state after them: pairs of a location and a value, ascending.\n\n"
+        "`storage[location]` returns one value. The first of these calls makes an agent that reads for the storage. It has the\n"
+        "greatest number that isn't in use, until `agent` is asked for that number."},
+    {"run", METHOD(storage_run), METH_VARARGS | METH_KEYWORDS,
+        "run($self, rule, /, workers=1, times=1)\n--\n\n"
+        "Play a rule with so many workers, each `times` times on a thread of its own. Return how many moves were fired meanwhile.\n\n"
+        "The workers' agents have the smallest numbers that nobody has, and are returned at the end.\n\n"
+        "Raises:\n"
+        "    the first error of a rule, once all workers have ended."},
     {"give", (PyCFunction)storage_give, METH_O, "give($self, agent, /)\n--\n\nReturn an agent to the storage."},
     {"close_journal", (PyCFunction)storage_close_journal, METH_NOARGS,
         "close_journal($self, /)\n--\n\nReturn the journal of the agents that were returned, as bytes.\n\n"
@@ -273,7 +301,7 @@ static PyMethodDef methods[] = {
         "That state is the one after the moves of the closed journal. The journals of both, one after the other, are one run.\n\n"
         "Raises:\n"
         "    Error: an agent was returned, or a move was fired, since the last journal; the code is NO_JOURNAL."},
-    {"free", (PyCFunction)holder_free, METH_NOARGS, "free($self, /)\n--\n\nRelease it; releasing again has no effect."},
+    {"free", (PyCFunction)storage_free, METH_NOARGS, "free($self, /)\n--\n\nRelease it; releasing again has no effect."},
     {"_open_text", (PyCFunction)storage_open_text, METH_VARARGS | METH_CLASS, NULL},
     {"_close", (PyCFunction)storage_close, METH_NOARGS, NULL},
     {"__exit__", METHOD(storage_exit), METH_FASTCALL, NULL},
@@ -287,11 +315,12 @@ static PyMemberDef members[] = {
 static PyType_Slot slots[] = {
     {Py_tp_doc, "Storage(init=(), capacity=4096, journal=None, *, record=False)\n--\n\n"
                 "A storage for `capacity` moves. It opens with a state: a dict of values by location, or pairs of the two.\n\n"
+                "`storage[location]` is the present value there.\n\n"
                 "If `journal` names a file, the end of the `with` writes the journal there, also after an exception. All agents must be\n"
                 "returned before.\n\n"
                 "With `record` each commit also records the tracked reads of its step, as a read before the fire, and `check` validates them.\n"
                 "The journal never records what scans returned. Such a commit raises `CommitMovedError` if its agent has moved past the step's\n"
                 "number, and `play` begins again. `next` and `go_on` open a storage with the same `record`."},
     {Py_tp_new, storage_new}, {Py_tp_init, storage_init}, {Py_tp_dealloc, storage_dealloc}, {Py_tp_methods, methods},
-    {Py_tp_members, members}, {Py_tp_getset, holder_getters}, {Py_tp_repr, storage_repr}, {0}};
+    {Py_mp_subscript, storage_at}, {Py_tp_members, members}, {Py_tp_getset, holder_getters}, {Py_tp_repr, storage_repr}, {0}};
 PyType_Spec storage_spec = {"folugben.Storage", sizeof(Storage), 0, Py_TPFLAGS_DEFAULT | Py_TPFLAGS_BASETYPE, slots};

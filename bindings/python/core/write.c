@@ -5,7 +5,7 @@
 
 /* The kind of what is written, which decides what a tuple is there: a list as a value, and an array otherwise. If one location
  * is expected (AT), a str is one without arguments. */
-enum { VALUE, MEMBERS, BAG, COUNT, PLACE, AT, PLACES, UPDATE, MOVE, PAIR, PAIRS, NAME, SCAN, SCANS };
+enum { VALUE, MEMBERS, BAG, COUNT, PLACE, AT, PLACES, VERB, UPDATE, MOVE, PAIR, PAIRS, NAME, SCAN, SCANS };
 
 static const struct {
     const char *name;
@@ -22,7 +22,7 @@ static int inner(int kind, Py_ssize_t place)
     case PAIRS: return PAIR;
     case SCANS: return SCAN;
     case SCAN: return place == 0 ? NAME : VALUE;
-    case UPDATE: return place == 1 ? AT : VALUE;
+    case UPDATE: return place == 0 ? VERB : place == 1 ? AT : VALUE;
     case PAIR: return place == 0 ? AT : VALUE;
     default: return VALUE;
     }
@@ -243,6 +243,12 @@ static int write_value(Core *core, Text *text, PyObject *value, int kind)
         const char *at = PyUnicode_AsUTF8AndSize(value, &len);
         if (!at || !is_name(at, len))
             return odd(text, value);
+    }
+    if (kind == VERB && PyUnicode_Check(value)) {
+        if (!PyUnicode_CompareWithASCIIString(value, "bag_add"))
+            return PUT(text, "\"bagadd\"");
+        if (!PyUnicode_CompareWithASCIIString(value, "bag_remove"))
+            return PUT(text, "\"bagremove\"");
     }
     if (kind == AT && PyUnicode_Check(value))
         return PUT(text, "[") || write_str(text, value) ? -1 : PUT(text, "]");

@@ -16,11 +16,12 @@ from ._library import Code, INC, TEXT, TextForm
 from ._play import back_off, no_rule, play
 from ._text_errors import INSTRUCTIONS, READS, expect_part, expect_read, expect_scans
 from ._texts import expect_name, not_a_value
+from ._workers import run
 
 if TYPE_CHECKING:
     from ._core import Agent, Step, Storage
 
-__all__ = ["back_off", "no_rule", "play"]
+__all__ = ["back_off", "no_rule", "play", "run"]
 
 _WORDS = (b"put", b"add", b"remove", b"bagadd", b"bagremove", b"inc")
 _RANGES = {
@@ -65,6 +66,10 @@ def no_value(name: str, path: str, value: Any) -> NoReturn:
     not_a_value(value, name + path)
 
 
+def no_list(name: str, it: Any) -> NoReturn:
+    raise Error(Code.SHAPE, detail=f"the {name} are a list or a tuple, and not {it!r:.60}")
+
+
 def no_agent(detail: str, it: Any) -> NoReturn:
     raise TypeError(f"{detail}, and not {'from ' * detail.endswith('from an agent')}{type(it).__name__!r}")
 
@@ -100,6 +105,10 @@ def missing(move: int, agents: bytes, is_abandoned: bool) -> NoReturn:
 
 def journal_behind(fired: int, closed: int) -> NoReturn:
     raise Error(Code.NO_JOURNAL, detail=f"{fired} moves were fired, and the journal has {closed}: close it again")
+
+
+def no_reader() -> NoReturn:
+    raise Error(Code.NUMBER, detail="all 256 agents of the storage were made, so ask one of them: it has no number to read with")
 
 
 def not_full(seen: int) -> NoReturn:

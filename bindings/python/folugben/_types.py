@@ -13,5 +13,6 @@ Element: TypeAlias = Union[None, bool, int, str, tuple["Element", ...], Mapping[
 Value: TypeAlias = Union[Element, Set[Element], "Counter[Any]", Mapping[str, Sequence[Sequence["Element"]]]]
 # ("name", argument, ..), or a list of these; where one location is expected, also the name alone.
 Place: TypeAlias = Union[str, Sequence[Element]]
-# An instruction: ("put", place, value), ("add", place, element), ("bagadd", place, element, amount), ("inc", place, number) ..
+# An instruction: ("put", place, value), ("add", place, element), ("bag_add", place, element, amount), ("inc", place, number) ..;
+# also with the words of journals, such as "bagadd".
 Update: TypeAlias = Sequence[Union[str, int, Place, Value]]

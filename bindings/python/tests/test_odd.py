@@ -62,9 +62,9 @@ class Odd(unittest.TestCase):
             arguments = [[], Cunning(2**32 + 1)] if call is Storage else [Cunning(2**32 + 1)]
             self.assert_refused(Error, "", call, *arguments)
         count, move = Location(["n"]), Move()
-        self.assert_refused(Error, "an amount is 1 to", move.bagadd, count, 1, Cunning(2**32 + 1))
+        self.assert_refused(Error, "an amount is 1 to", move.bag_add, count, 1, Cunning(2**32 + 1))
         self.assert_refused(Error, "a number is", move.put, count, Cunning(2**64))
-        self.assert_refused(TypeError, "float", move.bagadd, count, 1, 1.0)
+        self.assert_refused(TypeError, "float", move.bag_add, count, 1, 1.0)
         self.agent.fire([["put", ["n"], Cunning(7)], ["put", [Mute("m")], Mute("x")]])
         self.agent.follow()
         self.assertEqual(self.agent.peek([["n"], ["m"]]), (1, [7, "x"]))

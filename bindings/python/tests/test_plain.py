@@ -63,7 +63,7 @@ class Plain(unittest.TestCase):
 
     def test_a_gathered_move_does_what_a_list_does(self):
         rng, clashes, places = random.Random(7), 0, {}
-        words = {"s": ["add", "remove"], "b": ["bagadd", "bagremove"], "n": ["inc"]}
+        words = {"s": ["add", "remove"], "b": ["bag_add", "bag_remove"], "n": ["inc"]}
 
         def instruction():
             name = rng.choice("sbnp")
@@ -259,9 +259,9 @@ class Plain(unittest.TestCase):
         for value in (Decimal(1), Enum("Kind", "A").A, [], {}, {"lists": []}, b"", object()):
             for call in (move.put, move.add, move.remove, move.inc):
                 self.assertRaises(TypeError, call, at, value)
-            self.assertRaises(TypeError, move.bagadd, at, value, 1)
+            self.assertRaises(TypeError, move.bag_add, at, value, 1)
         for value in ({"set": []}, {"bag": []}, {1}, Counter("a")):
-            for call in (move.add, move.remove, lambda *words: move.bagadd(*words, 1)):
+            for call in (move.add, move.remove, lambda *words: move.bag_add(*words, 1)):
                 result = self.code_of(call, at, value)
                 self.assertEqual(result, (folugben.Code.OPERAND, "a set or a bag can be put, and is no element"))
             self.assertEqual(self.code_of(move.inc, at, value)[0], folugben.Code.OPERAND)
@@ -272,15 +272,15 @@ class Plain(unittest.TestCase):
                       {"list": [2**63]}, {"list": [{"set": []}]}, {"list": 1}):
             self.assertEqual(self.code_of(move.put, at, value)[0], folugben.Code.SHAPE)
             if "list" in value:
-                self.assertEqual(self.code_of(move.bagadd, at, value, 2)[0], folugben.Code.SHAPE)
+                self.assertEqual(self.code_of(move.bag_add, at, value, 2)[0], folugben.Code.SHAPE)
         self.assertEqual(self.code_of(move.put, at, "\ud83d")[0], folugben.Code.SHAPE)
         for number in (2**63, -(2**63) - 1, 10**30):
             for call in (move.put, move.add, move.inc):
                 self.assertEqual(self.code_of(call, at, number)[0], folugben.Code.OPERAND)
         for amount in (0, -1, 2**32, 2**40):
-            for call in (move.bagadd, move.bagremove):
+            for call in (move.bag_add, move.bag_remove):
                 self.assertEqual(self.code_of(call, at, 1, amount)[0], folugben.Code.OPERAND)
-        self.assertRaises(TypeError, move.bagadd, at, 1, "1")
+        self.assertRaises(TypeError, move.bag_add, at, 1, "1")
         for value in (True, None, "1"):
             self.assertEqual(self.code_of(move.inc, at, value)[0], folugben.Code.OPERAND)
         self.assertEqual(len(move.put(["count"], 1).inc("count", 1)), 3)

@@ -234,7 +234,7 @@ class Scopes(unittest.TestCase):
             ("isn't Unicode", lambda: put(agent, "\ud800")),
             ("isn't Unicode", lambda: agent.scan("\ud800")),
             ("a number is", lambda: move.put(place, 2**63)),
-            ("an amount is 1 to", lambda: move.bagadd(place, 1, 0)),
+            ("an amount is 1 to", lambda: move.bag_add(place, 1, 0)),
         ]:
             with self.subTest(regex), self.assertRaisesRegex(Error, regex):
                 call()

@@ -144,7 +144,7 @@ class UnitedMoves(unittest.TestCase):
             def gather(instructions):
                 move = Move()
                 for word, *words in instructions:
-                    getattr(move, word)(*words)
+                    getattr(move, word.replace("bag", "bag_"))(*words)
                 return move
 
             def effect(push):
