@@ -9,9 +9,8 @@
 
 #define AT(word) ((void *)(intptr_t)(word))
 #define OWN __attribute__((unused)) JNIEnv *env, __attribute__((unused)) jclass calls
-#define TEXTS jlong out, jlong room, jlong written
-#define TEXTS_AT AT(out), (size_t)room, AT(written)
 
+/* Written by tools/declarations from bindings/calls.toml. */
 /* The addresses of the library's calls, each of the type in the header. A call is written once, by folugben_bind. */
 static struct {
     __typeof__(asm_begin) *begin;
@@ -29,67 +28,85 @@ static struct {
     __typeof__(asm_free) *free;
 } library;
 
-static jint JNICALL begin(OWN, jlong agent, jlong step, jlong number) {
+static jint JNICALL quick_begin(OWN, jlong agent, jlong step, jlong number) {
     return library.begin(AT(agent), AT(step), AT(number));
 }
 
-#define TEXT_CALL(name)                                                                   \
-    static jint JNICALL name(OWN, jlong agent, jlong step, jlong text, jlong len, TEXTS) { \
-        return library.name(AT(agent), AT(step), AT(text), (size_t)len, TEXTS_AT);        \
-    }
-TEXT_CALL(get)
-TEXT_CALL(see)
-TEXT_CALL(push)
-TEXT_CALL(extend)
-
-#define COMMIT_CALL(name)                                                    \
-    static jint JNICALL name(OWN, jlong agent, jlong step, jlong numbers) { \
-        return library.name(AT(agent), AT(step), AT(numbers));              \
-    }
-COMMIT_CALL(commit)
-COMMIT_CALL(commit_recorded)
-
-static jint JNICALL peek_at(OWN, jlong agent, jlong at, jlong number, jlong value, TEXTS) {
-    return library.peek_at(AT(agent), AT(at), AT(number), AT(value), TEXTS_AT);
+static jint JNICALL quick_get(
+    OWN, jlong agent, jlong step, jlong locations, jlong len, jlong out, jlong room, jlong written) {
+    return library.get(AT(agent), AT(step), AT(locations), (size_t)len, AT(out), (size_t)room, AT(written));
 }
 
-static jint JNICALL get_at(OWN, jlong agent, jlong step, jlong at, jlong value, TEXTS) {
-    return library.get_at(AT(agent), AT(step), AT(at), AT(value), TEXTS_AT);
+static jint JNICALL quick_see(
+    OWN, jlong agent, jlong step, jlong locations, jlong len, jlong out, jlong room, jlong written) {
+    return library.see(AT(agent), AT(step), AT(locations), (size_t)len, AT(out), (size_t)room, AT(written));
 }
 
-static jint JNICALL instruct(OWN, jlong move, jlong at, jint verb, jint kind, jlong number, jlong bytes, jlong len,
-                             jint amount) {
+static jint JNICALL quick_push(
+    OWN, jlong agent, jlong step, jlong move, jlong len, jlong out, jlong room, jlong written) {
+    return library.push(AT(agent), AT(step), AT(move), (size_t)len, AT(out), (size_t)room, AT(written));
+}
+
+static jint JNICALL quick_extend(
+    OWN, jlong agent, jlong step, jlong move, jlong len, jlong out, jlong room, jlong written) {
+    return library.extend(AT(agent), AT(step), AT(move), (size_t)len, AT(out), (size_t)room, AT(written));
+}
+
+static jint JNICALL quick_commit(OWN, jlong agent, jlong step, jlong numbers) {
+    return library.commit(AT(agent), AT(step), AT(numbers));
+}
+
+static jint JNICALL quick_commit_recorded(OWN, jlong agent, jlong step, jlong numbers) {
+    return library.commit_recorded(AT(agent), AT(step), AT(numbers));
+}
+
+static jint JNICALL quick_peek_at(
+    OWN, jlong agent, jlong at, jlong number, jlong value, jlong out, jlong room, jlong written) {
+    return library.peek_at(AT(agent), AT(at), AT(number), AT(value), AT(out), (size_t)room, AT(written));
+}
+
+static jint JNICALL quick_get_at(
+    OWN, jlong agent, jlong step, jlong at, jlong value, jlong out, jlong room, jlong written) {
+    return library.get_at(AT(agent), AT(step), AT(at), AT(value), AT(out), (size_t)room, AT(written));
+}
+
+static jint JNICALL quick_instruct(
+    OWN, jlong move, jlong at, jint verb, jint kind, jlong number, jlong bytes, jlong len, jint amount) {
     return library.instruct(AT(move), AT(at), verb, kind, number, AT(bytes), (size_t)len, (uint32_t)amount);
 }
 
-#define MOVE_CALL(name)                                                        \
-    static jint JNICALL name(OWN, jlong agent, jlong step, jlong move, TEXTS) { \
-        return library.name(AT(agent), AT(step), AT(move), TEXTS_AT);          \
-    }
-MOVE_CALL(push_move)
-MOVE_CALL(extend_move)
+static jint JNICALL quick_push_move(OWN, jlong agent, jlong step, jlong move, jlong out, jlong room, jlong written) {
+    return library.push_move(AT(agent), AT(step), AT(move), AT(out), (size_t)room, AT(written));
+}
 
-static void JNICALL release(OWN, jlong slot) { library.free(AT(slot)); }
+static jint JNICALL quick_extend_move(OWN, jlong agent, jlong step, jlong move, jlong out, jlong room, jlong written) {
+    return library.extend_move(AT(agent), AT(step), AT(move), AT(out), (size_t)room, AT(written));
+}
+
+static void JNICALL quick_free(OWN, jlong slot) {
+    library.free(AT(slot));
+}
 
 /* A method, its function here, and the place of the address of the library's call. */
 static const struct {
     JNINativeMethod method;
     void *call;
 } bound[] = {
-    {{"asm_begin", "(JJJ)I", (void *)begin}, &library.begin},
-    {{"asm_get", "(JJJJJJJ)I", (void *)get}, &library.get},
-    {{"asm_see", "(JJJJJJJ)I", (void *)see}, &library.see},
-    {{"asm_push", "(JJJJJJJ)I", (void *)push}, &library.push},
-    {{"asm_extend", "(JJJJJJJ)I", (void *)extend}, &library.extend},
-    {{"asm_commit", "(JJJ)I", (void *)commit}, &library.commit},
-    {{"asm_commit_recorded", "(JJJ)I", (void *)commit_recorded}, &library.commit_recorded},
-    {{"asm_peek_at", "(JJJJJJJ)I", (void *)peek_at}, &library.peek_at},
-    {{"asm_get_at", "(JJJJJJJ)I", (void *)get_at}, &library.get_at},
-    {{"asm_instruct", "(JJIIJJJI)I", (void *)instruct}, &library.instruct},
-    {{"asm_push_move", "(JJJJJJ)I", (void *)push_move}, &library.push_move},
-    {{"asm_extend_move", "(JJJJJJ)I", (void *)extend_move}, &library.extend_move},
-    {{"asm_free", "(J)V", (void *)release}, &library.free},
+    {{"asm_begin", "(JJJ)I", (void *)quick_begin}, &library.begin},
+    {{"asm_get", "(JJJJJJJ)I", (void *)quick_get}, &library.get},
+    {{"asm_see", "(JJJJJJJ)I", (void *)quick_see}, &library.see},
+    {{"asm_push", "(JJJJJJJ)I", (void *)quick_push}, &library.push},
+    {{"asm_extend", "(JJJJJJJ)I", (void *)quick_extend}, &library.extend},
+    {{"asm_commit", "(JJJ)I", (void *)quick_commit}, &library.commit},
+    {{"asm_commit_recorded", "(JJJ)I", (void *)quick_commit_recorded}, &library.commit_recorded},
+    {{"asm_peek_at", "(JJJJJJJ)I", (void *)quick_peek_at}, &library.peek_at},
+    {{"asm_get_at", "(JJJJJJJ)I", (void *)quick_get_at}, &library.get_at},
+    {{"asm_instruct", "(JJIIJJJI)I", (void *)quick_instruct}, &library.instruct},
+    {{"asm_push_move", "(JJJJJJ)I", (void *)quick_push_move}, &library.push_move},
+    {{"asm_extend_move", "(JJJJJJ)I", (void *)quick_extend_move}, &library.extend_move},
+    {{"asm_free", "(J)V", (void *)quick_free}, &library.free},
 };
+/* End of what tools/declarations writes. */
 
 /* Returns the version of the header, as asm_version returns that of the library. */
 JNIEXPORT int32_t folugben_quick_version(void) { return FOLUGBEN_VERSION; }

@@ -68,9 +68,10 @@ final class Calls {
         return name.isEmpty() ? "folugben" : name;
     }
 
-    static native int asm_version();
-
+    // Written by tools/declarations from bindings/calls.toml.
     static native int asm_error_text(int code, byte[] out, long room, long[] written);
+
+    static native int asm_version();
 
     static native int asm_open(byte[] init, long len, int capacity, long storage);
 
@@ -79,11 +80,13 @@ final class Calls {
     static native int asm_read(long agent, long locations, long len);
 
     static native int asm_try_fire_over(
-            long agent, long call, long len, long scans, long scansLen, long numbers);
+            long agent, long call, long callLen, long scans, long scansLen, long numbers);
 
     static native int asm_answer(long agent, long out, long room, long written);
 
     static native int asm_learn(long agent, long other);
+
+    static native int asm_take_state(long agent, long other);
 
     static native int asm_follow(long agent, long number);
 
@@ -119,9 +122,9 @@ final class Calls {
 
     static native int asm_pop_move(long step, long move);
 
-    static native int asm_offer(long step, long out, long room, long written);
-
     static native int asm_depth(long step);
+
+    static native int asm_offer(long step, long out, long room, long written);
 
     static native int asm_commit(long agent, long step, long numbers);
 
@@ -135,21 +138,19 @@ final class Calls {
     static native int asm_get_at(
             long agent, long step, long at, long value, long out, long room, long written);
 
-    static native int asm_instruct(
-            long move, long at, int verb, int kind, long number, long bytes, long len, int amount);
+    static native int asm_instruct(long move, long at, int verb, int kind, long number,
+            long bytes, long len, int amount);
 
     static native int asm_instruct(long move, long at, int verb, int kind, long number,
             byte[] bytes, long len, int amount);
+
+    static native int asm_unite(long move, long other);
 
     static native int asm_push_move(
             long agent, long step, long move, long out, long room, long written);
 
     static native int asm_extend_move(
             long agent, long step, long move, long out, long room, long written);
-
-    static native int asm_unite(long move, long other);
-
-    static native int asm_take_state(long agent, long other);
 
     static native int asm_seen(long agent);
 
@@ -161,6 +162,8 @@ final class Calls {
 
     static native int asm_give(long storage, long agent);
 
+    static native int asm_take(long storage, int number, long agent);
+
     static native int asm_close(long storage, int[] number);
 
     static native int asm_journal(long storage, byte[] out, long room, long[] written);
@@ -171,17 +174,15 @@ final class Calls {
 
     static native int asm_go_on(long agent, int capacity, long next);
 
-    static native int asm_take(long storage, int number, long agent);
-
-    static native int asm_audit(long audit, long bytes, long len, long taken, long numbers);
-
-    static native int asm_audited(long audit, long numbers);
-
-    static native int asm_audit_state(long audit, long out, long room, long written);
-
     static native void asm_free(long slot);
 
     static native int asm_check(byte[] journal, long len, long[] calls, int[] moves);
+
+    static native int asm_audit(long audit, long bytes, long len, long taken, long told);
+
+    static native int asm_audited(long audit, long told);
+
+    static native int asm_audit_state(long audit, long out, long room, long written);
 
     static native int asm_replay(
             byte[] journal, long len, byte[] out, long room, long[] written, long[] line);
@@ -197,6 +198,7 @@ final class Calls {
 
     static native int asm_explain(
             int form, byte[] text, long len, byte[] out, long room, long[] written);
+    // End of what tools/declarations writes.
 
     /** What asm_explain says of a text. */
     static String explain(Storage.Form form, byte[] bytes) {

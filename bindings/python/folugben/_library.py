@@ -10,10 +10,42 @@ LIBRARY_VERSION = 2000
 class Code(IntEnum):
     """What a call of the library answers."""
 
-    DONE, STALE, CLASH, MEMORY, FULL, EMPTY, CAPACITY, SMALL, BUSY, MANY, NO_ANSWER = range(11)
-    TAKEN, NUMBER, MISSING, OTHER, ILLEGAL, NOT_JSON, SHAPE, VERSION, CUT, LARGE, MOVED, DEEP, APART = range(11, 24)
-    AGENTS, AHEAD, OPERAND, NO_FORM, NO_JOURNAL, NO_PUSH, NO_AGENT, NO_PART, NOT_FULL = range(24, 33)
-    MANY_CALLS, LONG_LINE, LONG_MOVE = range(33, 36)
+    DONE = 0
+    STALE = 1
+    CLASH = 2
+    MEMORY = 3
+    FULL = 4
+    EMPTY = 5
+    CAPACITY = 6
+    SMALL = 7
+    BUSY = 8
+    MANY = 9
+    NO_ANSWER = 10
+    TAKEN = 11
+    NUMBER = 12
+    MISSING = 13
+    OTHER = 14
+    ILLEGAL = 15
+    NOT_JSON = 16
+    SHAPE = 17
+    VERSION = 18
+    CUT = 19
+    LARGE = 20
+    MOVED = 21
+    DEEP = 22
+    APART = 23
+    AGENTS = 24
+    AHEAD = 25
+    OPERAND = 26
+    NO_FORM = 27
+    NO_JOURNAL = 28
+    NO_PUSH = 29
+    NO_AGENT = 30
+    NO_PART = 31
+    NOT_FULL = 32
+    MANY_CALLS = 33
+    LONG_LINE = 34
+    LONG_MOVE = 35
 
 
 class TextForm(IntEnum):

@@ -50,12 +50,28 @@ pub(crate) fn effective_user() -> u32 {
     geteuid()
 }
 
+pub(crate) const KIND_UNDEF: i32 = 0;
+pub(crate) const KIND_BOOL: i32 = 1;
+pub(crate) const KIND_NUM: i32 = 2;
+pub(crate) const KIND_TEXT: i32 = 3;
+pub(crate) const KIND_LIST: i32 = 4;
+pub(crate) const KIND_SET: i32 = 5;
+pub(crate) const KIND_BAG: i32 = 6;
+
+pub(crate) const FORM_LOCATIONS: i32 = 0;
+pub(crate) const FORM_MOVE: i32 = 1;
+pub(crate) const FORM_STATE: i32 = 2;
+
+// Written by tools/declarations from bindings/calls.toml.
+#[allow(dead_code, reason = "the list has all calls")]
 unsafe extern "C" {
     pub(crate) fn asm_error_text(code: i32, out: *mut u8, room: usize, written: *mut usize) -> i32;
     pub(crate) fn asm_version() -> u32;
     pub(crate) fn asm_open(init: *const u8, len: usize, capacity: u32, storage: *mut Slot) -> i32;
     pub(crate) fn asm_agent(storage: *mut Slot, number: u32, agent: *mut Slot) -> i32;
+    pub(crate) fn asm_agents(storage: *mut Slot, agents: *mut Slot, count: usize) -> i32;
     pub(crate) fn asm_read(agent: *mut Slot, locations: *const u8, len: usize) -> i32;
+    pub(crate) fn asm_try_fire(agent: *mut Slot, call: *const u8, len: usize, numbers: *mut Numbers) -> i32;
     pub(crate) fn asm_try_fire_over(
         agent: *mut Slot,
         call: *const u8,
@@ -142,8 +158,8 @@ unsafe extern "C" {
     ) -> i32;
     pub(crate) fn asm_pop(step: *mut Slot) -> i32;
     pub(crate) fn asm_pop_move(step: *mut Slot, instrs: *mut Slot) -> i32;
-    pub(crate) fn asm_offer(step: *mut Slot, out: *mut u8, room: usize, written: *mut usize) -> i32;
     pub(crate) fn asm_depth(step: *mut Slot) -> u32;
+    pub(crate) fn asm_offer(step: *mut Slot, out: *mut u8, room: usize, written: *mut usize) -> i32;
     pub(crate) fn asm_commit(agent: *mut Slot, step: *mut Slot, numbers: *mut Numbers) -> i32;
     pub(crate) fn asm_commit_recorded(agent: *mut Slot, step: *mut Slot, numbers: *mut Numbers) -> i32;
     pub(crate) fn asm_location(location: *const u8, len: usize, at: *mut Slot) -> i32;
@@ -197,13 +213,22 @@ unsafe extern "C" {
     pub(crate) fn asm_misses(agent: *mut Slot) -> u64;
     pub(crate) fn asm_moves(storage: *mut Slot, moves: *mut u32) -> i32;
     pub(crate) fn asm_give(storage: *mut Slot, agent: *mut Slot) -> i32;
+    pub(crate) fn asm_take(storage: *mut Slot, number: u32, agent: *mut Slot) -> i32;
     pub(crate) fn asm_close(storage: *mut Slot, number: *mut u32) -> i32;
     pub(crate) fn asm_journal(storage: *mut Slot, out: *mut u8, room: usize, written: *mut usize) -> i32;
     pub(crate) fn asm_next(storage: *mut Slot, capacity: u32, next: *mut Slot) -> i32;
     pub(crate) fn asm_go_on(agent: *mut Slot, capacity: u32, next: *mut Slot) -> i32;
-    pub(crate) fn asm_take(storage: *mut Slot, number: u32, agent: *mut Slot) -> i32;
     pub(crate) fn asm_free(slot: *mut Slot);
     pub(crate) fn asm_check(journal: *const u8, len: usize, calls: *mut u64, moves: *mut u32) -> i32;
+    pub(crate) fn asm_audit(
+        audit: *mut Slot,
+        bytes: *const u8,
+        len: usize,
+        taken: *mut usize,
+        told: *mut AuditNumbers,
+    ) -> i32;
+    pub(crate) fn asm_audited(audit: *mut Slot, told: *mut AuditNumbers) -> i32;
+    pub(crate) fn asm_audit_state(audit: *mut Slot, out: *mut u8, room: usize, written: *mut usize) -> i32;
     pub(crate) fn asm_replay(
         journal: *const u8,
         len: usize,
@@ -220,15 +245,6 @@ unsafe extern "C" {
         written: *mut usize,
         line: *mut u64,
     ) -> i32;
-    pub(crate) fn asm_audit(
-        audit: *mut Slot,
-        bytes: *const u8,
-        len: usize,
-        taken: *mut usize,
-        numbers: *mut AuditNumbers,
-    ) -> i32;
-    pub(crate) fn asm_audited(audit: *mut Slot, numbers: *mut AuditNumbers) -> i32;
-    pub(crate) fn asm_audit_state(audit: *mut Slot, out: *mut u8, room: usize, written: *mut usize) -> i32;
     pub(crate) fn asm_aggregate(
         state: *const u8,
         state_len: usize,
@@ -257,46 +273,44 @@ unsafe extern "C" {
     ) -> i32;
 }
 
-pub(crate) const DONE: i32 = 0;
-pub(crate) const STALE: i32 = 1;
-pub(crate) const CLASH: i32 = 2;
-pub(crate) const MEMORY: i32 = 3;
-pub(crate) const FULL: i32 = 4;
-pub(crate) const EMPTY: i32 = 5;
-pub(crate) const CAPACITY: i32 = 6;
-pub(crate) const SMALL: i32 = 7;
-pub(crate) const BUSY: i32 = 8;
-pub(crate) const MANY: i32 = 9;
-pub(crate) const NUMBER: i32 = 12;
-pub(crate) const MISSING: i32 = 13;
-pub(crate) const OTHER: i32 = 14;
-pub(crate) const ILLEGAL: i32 = 15;
-pub(crate) const NOT_JSON: i32 = 16;
-pub(crate) const SHAPE: i32 = 17;
-pub(crate) const VERSION: i32 = 18;
-pub(crate) const CUT: i32 = 19;
-pub(crate) const LARGE: i32 = 20;
-#[cfg(test)]
-pub(crate) const MOVED: i32 = 21;
-pub(crate) const DEEP: i32 = 22;
-pub(crate) const APART: i32 = 23;
-pub(crate) const OPERAND: i32 = 26;
-pub(crate) const NO_JOURNAL: i32 = 28;
-pub(crate) const NO_PUSH: i32 = 29;
-pub(crate) const NO_AGENT: i32 = 30;
-pub(crate) const NO_PART: i32 = 31;
-pub(crate) const NOT_FULL: i32 = 32;
-pub(crate) const LONG_LINE: i32 = 34;
-pub(crate) const LONG_MOVE: i32 = 35;
-
-pub(crate) const KIND_UNDEF: i32 = 0;
-pub(crate) const KIND_BOOL: i32 = 1;
-pub(crate) const KIND_NUM: i32 = 2;
-pub(crate) const KIND_TEXT: i32 = 3;
-pub(crate) const KIND_LIST: i32 = 4;
-pub(crate) const KIND_SET: i32 = 5;
-pub(crate) const KIND_BAG: i32 = 6;
-
-pub(crate) const FORM_LOCATIONS: i32 = 0;
-pub(crate) const FORM_MOVE: i32 = 1;
-pub(crate) const FORM_STATE: i32 = 2;
+#[allow(dead_code, reason = "the list has all codes")]
+mod codes {
+    pub(crate) const DONE: i32 = 0;
+    pub(crate) const STALE: i32 = 1;
+    pub(crate) const CLASH: i32 = 2;
+    pub(crate) const MEMORY: i32 = 3;
+    pub(crate) const FULL: i32 = 4;
+    pub(crate) const EMPTY: i32 = 5;
+    pub(crate) const CAPACITY: i32 = 6;
+    pub(crate) const SMALL: i32 = 7;
+    pub(crate) const BUSY: i32 = 8;
+    pub(crate) const MANY: i32 = 9;
+    pub(crate) const NO_ANSWER: i32 = 10;
+    pub(crate) const TAKEN: i32 = 11;
+    pub(crate) const NUMBER: i32 = 12;
+    pub(crate) const MISSING: i32 = 13;
+    pub(crate) const OTHER: i32 = 14;
+    pub(crate) const ILLEGAL: i32 = 15;
+    pub(crate) const NOT_JSON: i32 = 16;
+    pub(crate) const SHAPE: i32 = 17;
+    pub(crate) const VERSION: i32 = 18;
+    pub(crate) const CUT: i32 = 19;
+    pub(crate) const LARGE: i32 = 20;
+    pub(crate) const MOVED: i32 = 21;
+    pub(crate) const DEEP: i32 = 22;
+    pub(crate) const APART: i32 = 23;
+    pub(crate) const AGENTS: i32 = 24;
+    pub(crate) const AHEAD: i32 = 25;
+    pub(crate) const OPERAND: i32 = 26;
+    pub(crate) const NO_FORM: i32 = 27;
+    pub(crate) const NO_JOURNAL: i32 = 28;
+    pub(crate) const NO_PUSH: i32 = 29;
+    pub(crate) const NO_AGENT: i32 = 30;
+    pub(crate) const NO_PART: i32 = 31;
+    pub(crate) const NOT_FULL: i32 = 32;
+    pub(crate) const MANY_CALLS: i32 = 33;
+    pub(crate) const LONG_LINE: i32 = 34;
+    pub(crate) const LONG_MOVE: i32 = 35;
+}
+pub(crate) use codes::*;
+// End of what tools/declarations writes.
