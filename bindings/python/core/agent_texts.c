@@ -34,6 +34,7 @@ PyObject *agent_read(Agent *self, PyObject *places)
         return NULL;
     room_begin(&room);
     if (!UNREADY(&self->holder)) {
+        settle_agent(self);
         take_newest_state(self);
         CALL(code, &self->holder, IS_LONG(&text) || agent_is_far(self), read_and_answer(self, &text, &room));
         update_seen(self, code);
@@ -65,6 +66,7 @@ static PyObject *fire(Agent *self, const Offer *its)
     int32_t code;
     if (UNREADY(&self->holder))
         return NULL;
+    settle_agent(self);
     room_begin(&room);
     int is_long = its->len > LONG_TEXT || its->scans_len > LONG_TEXT || agent_is_far(self);
     CALL(code, &self->holder, is_long, fire_and_answer(self, its, &room, &numbers));
@@ -159,6 +161,7 @@ PyObject *agent_follow(Agent *self, PyObject *Py_UNUSED(none))
     int32_t code;
     if (UNREADY(&self->holder))
         return NULL;
+    settle_agent(self);
     take_newest_state(self);
     CALL(code, &self->holder, agent_is_far(self), asm_follow(SLOT(self), &number));
     update_seen(self, code);
@@ -277,6 +280,7 @@ PyObject *agent_stands(Agent *self, PyObject *named)
     room_begin(&room);
     if (!write_list(self->holder.core, &text, "", 0, named, "reads") && !UNREADY(&self->holder)) {
         int is_long = IS_LONG(&text) || agent_is_far(self);
+        settle_agent(self);
         RUN(&self->holder, is_long, WITH_ROOM(code, &room, asm_stands(SLOT(self), BYTES(&text), ROOM(&room))));
         update_seen(self, code);
         if (code == ASM_DONE)

@@ -80,7 +80,7 @@ struct Agent {
     char is_withdrawn;                           /* another thread has returned it */
     unsigned steps;                          /* how many of its steps are open */
     unsigned long thread;                    /* of its last call that polled */
-    Step *last;                              /* the step that it began last, without a reference */
+    Step *last, *adding;                     /* the step that it began last, and one whose additions wait, without references */
     Agent *next, **before;
 };
 /* Whether another agent has taken its state, so that it polls before that is shown. */
@@ -94,6 +94,10 @@ struct Step {
     uint64_t size; /* about how many bytes of text it has read and pushed, and will record */
     char is_fired, is_tried, is_pushed, is_open;
     char is_partial; /* a pushed move may have partial updates */
+    char is_refusing; /* the error of additions that wait is being made */
+    struct asm_move waiting; /* additions in a row that have yet to join the move that was pushed last */
+    int waiting_verb;
+    PyObject *waiting_at, *accepted; /* the text of their location; where an addition was accepted */
 };
 
 typedef struct {
@@ -190,6 +194,7 @@ typedef struct {
 int place_begin(Core *core, Place *its, PyObject *place);
 int32_t prepare_place(Place *its);
 PyObject *refuse_place(Core *core, Place *its, int32_t code);
+const char *text_of_place(Place *its, size_t *len);
 void place_end(Place *its);
 
 typedef struct {
@@ -235,6 +240,13 @@ void change_end(Change *its);
 Storage *storage_next_of(const Storage *behind, PyObject *words, PyObject *named, uint32_t *capacity);
 PyObject *refuse_storage(Storage *self, int32_t code);
 
+/* additions.c */
+int add_to(Step *self, Change *its);
+int settle(Step *self);
+void settle_agent(Agent *agent);
+void drop_waiting(Step *self);
+void forget_accepted(Step *self, const char *at, size_t len);
+
 /* reader.c */
 #define READER(storage) ((struct asm_agent *)&(storage)->reader)
 PyObject *storage_state(Storage *self, PyObject *none);
@@ -267,6 +279,8 @@ PyObject *agent_stands(Agent *self, PyObject *reads);
 PyObject *agent_go_on(Agent *self, PyObject *words, PyObject *named);
 
 /* step.c, and step_values.c */
+void grow_by_push(Step *self, int is_partial);
+PyObject *refuse_push(Step *self, int32_t code, const char *move, size_t len, Room *room);
 PyObject *refuse_step(Step *self, int32_t code);
 PyObject *step_get(Step *self, PyObject *it);
 PyObject *step_at(Step *self, PyObject *it);

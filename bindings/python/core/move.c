@@ -168,6 +168,12 @@ static size_t place_len(Place *its)
     return its->prepared ? (size_t)PyBytes_Size(its->prepared->text) : its->text.len;
 }
 
+const char *text_of_place(Place *its, size_t *len)
+{
+    *len = place_len(its);
+    return its->prepared ? PyBytes_AsString(its->prepared->text) : its->text.at;
+}
+
 int change_begin(Core *core, Change *its, PyObject *const *words, Py_ssize_t count, int verb)
 {
     static const char *const names[] = {"put", "add", "remove", "bag_add", "bag_remove", "inc"};
@@ -218,8 +224,9 @@ PyObject *refuse_change(Core *core, Change *its)
     Place *at = &its->place;
     if (!its->is_placed || its->code == ASM_EMPTY)
         return refuse_place(core, at, its->code);
-    const char *text = at->prepared ? PyBytes_AsString(at->prepared->text) : at->text.at;
-    return refuse(core, its->code, "instruct", "(iy#iiLy#I)", (int)its->code, text, (Py_ssize_t)place_len(at), its->verb, its->kind,
+    size_t len;
+    const char *text = text_of_place(at, &len);
+    return refuse(core, its->code, "instruct", "(iy#iiLy#I)", (int)its->code, text, (Py_ssize_t)len, its->verb, its->kind,
         (long long)its->number, its->at, (Py_ssize_t)its->len, (unsigned)its->amount);
 }
 

@@ -16,6 +16,7 @@ static void count_closed(Step *self)
 
 void step_drop(Step *self)
 {
+    drop_waiting(self);
     asm_free(SLOT(self));
     count_closed(self);
 }
@@ -33,6 +34,7 @@ Step *begin_step(Agent *agent, PyTypeObject *type)
         Py_DECREF((PyObject *)self);
         return NULL;
     }
+    settle_agent(agent);
     take_newest_state(agent);
     CALL(code, &agent->holder, agent_is_far(agent), asm_begin(SLOT(agent), SLOT(self), &self->number));
     if (ODD(code != ASM_DONE)) {
@@ -63,7 +65,12 @@ static void step_dealloc(Step *self)
     if (agent) {
         agent->steps -= self->is_open;
         agent->last = agent->last == self ? NULL : agent->last;
+        agent->adding = agent->adding == self ? NULL : agent->adding;
     }
+    if (self->holder.born == forks)
+        asm_free(&self->waiting.slot);
+    Py_XDECREF(self->waiting_at);
+    Py_XDECREF(self->accepted);
     holder_dealloc(self);
     Py_XDECREF((PyObject *)agent);
 }
@@ -79,7 +86,7 @@ static PyObject *offer(Step *self, int is_text)
 {
     Room room;
     int32_t code;
-    if (UNREADY(&self->agent->holder))
+    if (UNREADY(&self->agent->holder) || settle(self))
         return NULL;
     room_begin(&room);
     WITH_ROOM(code, &room, asm_offer(SLOT(self), ROOM(&room)));
@@ -123,8 +130,9 @@ int64_t fire_step(Step *self, int is_try)
     asm_numbers numbers;
     Room room;
     int32_t code;
-    if (UNREADY(&agent->holder))
+    if (UNREADY(&agent->holder) || settle(self))
         return -1;
+    settle_agent(agent);
     room_begin(&room);
     CALL(code, &agent->holder, agent_is_far(agent), commit_and_answer(self, &numbers, is_try ? NULL : &room));
     agent->seen = asm_seen(SLOT(agent));
@@ -176,13 +184,20 @@ static PyObject *step_end(Step *self, PyObject *fired)
     return step_free(self, NULL);
 }
 
+/* How many moves are pushed, with one of additions that wait. */
+static uint32_t pushed(Step *self)
+{
+    uint32_t depth = asm_depth(SLOT(self));
+    return depth ? depth : self->waiting.slot.full;
+}
+
 static PyObject *step_exit(Step *self, PyObject *const *words, Py_ssize_t count)
 {
     if (self->is_fired)
         return Py_NewRef(Py_None);
     if (UNREADY(&self->agent->holder))
         return NULL;
-    int is_forgotten = count > 0 && words[0] == Py_None && !self->is_tried && self->is_pushed && asm_depth(SLOT(self)) > 0;
+    int is_forgotten = count > 0 && words[0] == Py_None && !self->is_tried && self->is_pushed && pushed(self) > 0;
     step_drop(self);
     if (is_forgotten && PyErr_WarnEx(PyExc_ResourceWarning, "a step ended with moves that were pushed and not fired", 1))
         return NULL;
@@ -206,7 +221,7 @@ static PyObject *step_repr(Step *self)
     if (self->is_fired || !IS_FULL(self))
         return PyUnicode_FromString("<Step, over>");
     return PyUnicode_FromFormat(
-        "<Step at %u of agent %u, %u pushed>", (unsigned)self->number, (unsigned)agent->own, (unsigned)asm_depth(SLOT(self)));
+        "<Step at %u of agent %u, %u pushed>", (unsigned)self->number, (unsigned)agent->own, (unsigned)pushed(self));
 }
 
 static PyObject *step_number(Step *self, void *Py_UNUSED(none))
@@ -221,7 +236,7 @@ static PyObject *step_fired_number(Step *self, void *Py_UNUSED(none))
 
 static PyObject *step_depth(Step *self, void *Py_UNUSED(none))
 {
-    return UNREADY(&self->agent->holder) ? NULL : PyLong_FromUnsignedLong(asm_depth(SLOT(self)));
+    return UNREADY(&self->agent->holder) ? NULL : PyLong_FromUnsignedLong(pushed(self));
 }
 
 static PyObject *step_agent(Step *self, void *Py_UNUSED(none))
@@ -308,7 +323,10 @@ static PyType_Slot slots[] = {
                 "`push` adds a move, which later gets and pushes see. `commit` fires one move that does what the pushed moves do in turn, unless\n"
                 "something that the step depends on was written since. A refused call leaves the step unchanged. The step is over once it is\n"
                 "fired, and at the end of its `with`; calls then raise `OverError`. A step that isn't fired leaves no trace. If its agent has\n"
-                "moved past `number`, a get, a scan or a push raises `MovedError`."},
+                "moved past `number`, a get, a scan or a push raises `MovedError`.\n\n"
+                "Calls of `add` at one location with no other call between them are instructions of one move, and so are those of `bag_add`\n"
+                "and of `inc`: the step doesn't depend on the value there. They join at the next other call, which raises `ClashError` if they\n"
+                "don't fit together."},
     {Py_mp_subscript, step_at}, {Py_mp_ass_subscript, step_assign}, {Py_tp_new, step_new}, {Py_tp_dealloc, step_dealloc}, {Py_tp_traverse, step_traverse}, {Py_tp_methods, methods},
     {Py_tp_members, members}, {Py_tp_getset, gets}, {Py_tp_repr, step_repr}, {0}};
 PyType_Spec step_spec = {"folugben.Step", sizeof(Step), 0, Py_TPFLAGS_DEFAULT | Py_TPFLAGS_BASETYPE | Py_TPFLAGS_HAVE_GC, slots};

@@ -26,7 +26,7 @@ static void grow_by_name(Step *self)
 }
 
 /* Called after a push: if a move before it has partial updates, the fire may name what both write. */
-static void grow_by_push(Step *self, int is_partial)
+void grow_by_push(Step *self, int is_partial)
 {
     self->is_pushed = 1;
     if (self->is_partial)
@@ -44,7 +44,7 @@ static PyObject *values_of(Step *self, TextCall call, PyObject *places)
     if (write_named(core, &text, places, "places"))
         return NULL;
     room_begin(&room);
-    if (!UNREADY(&self->agent->holder)) {
+    if (!UNREADY(&self->agent->holder) && !settle(self)) {
         int32_t code = call_by_text(self, call, BYTES(&text), &room);
         grow_by_read(self, text.len, &room);
         if (code == ASM_DONE)
@@ -68,7 +68,7 @@ PyObject *step_at(Step *self, PyObject *place)
     PyObject *one = NULL;
     if (place_begin(core, &at, place))
         return NULL;
-    if (!UNREADY(&agent->holder) && !PLACE_UNREADY(&at)) {
+    if (!UNREADY(&agent->holder) && !PLACE_UNREADY(&at) && !settle(self)) {
         asm_value value;
         Room room;
         room_begin(&room);
@@ -110,7 +110,7 @@ PyObject *step_scan(Step *self, PyObject *name)
     Py_ssize_t len;
     Room room;
     const uint8_t *text = name_of(self->holder.core, name, 1, &len);
-    if (!text || UNREADY(&self->agent->holder))
+    if (!text || UNREADY(&self->agent->holder) || settle(self))
         return NULL;
     room_begin(&room);
     int32_t code = call_by_text(self, asm_step_scan, text, (size_t)len, &room);
@@ -120,7 +120,7 @@ PyObject *step_scan(Step *self, PyObject *name)
 }
 
 /* Raises why a move isn't pushed. */
-static PyObject *refuse_push(Step *self, int32_t code, const char *move, size_t len, Room *room)
+PyObject *refuse_push(Step *self, int32_t code, const char *move, size_t len, Room *room)
 {
     if (code == ASM_EMPTY || code == ASM_MOVED)
         return refuse_step(self, code);
@@ -137,8 +137,9 @@ static PyObject *grow_by_text(Step *self, TextCall call, PyObject *move)
     if (write_named(self->holder.core, &text, move, "instructions"))
         return NULL;
     room_begin(&room);
-    if (!UNREADY(&self->agent->holder)) {
+    if (!UNREADY(&self->agent->holder) && !settle(self)) {
         int32_t code = call_by_text(self, call, BYTES(&text), &room);
+        forget_accepted(self, NULL, 0);
         self->size += text.len;
         /* A move of no instructions is not reported as missing. */
         if (code == ASM_DONE && text.len > 2)
@@ -162,6 +163,9 @@ static PyObject *grow(Step *self, TextCall text_call, MoveCall call, PyObject *i
         return NULL;
     if (ODD(move->is_freed))
         return refuse(self->holder.core, ASM_EMPTY, "freed_object", "(s)", "move");
+    if (settle(self))
+        return NULL;
+    forget_accepted(self, NULL, 0);
     room_begin(&room);
     /* A slot holds no move of no instructions. */
     if (IS_FULL(move))
@@ -186,44 +190,53 @@ PyObject *step_extend(Step *self, PyObject *move)
     return grow(self, asm_extend, asm_extend_move, move);
 }
 
-/* Makes one instruction join the move that was pushed last. */
+/* Has an instruction that is no addition join the move that was pushed last. Returns non-zero with an exception. */
+static int extend_by(Step *self, Change *its)
+{
+    struct asm_move move = {0};
+    Room room;
+    size_t len;
+    if (settle(self))
+        return -1;
+    const char *at = text_of_place(&its->place, &len);
+    forget_accepted(self, at, len);
+    room_begin(&room);
+    int32_t code = change_put(its, &move);
+    if (code == ASM_DONE)
+        WITH_ROOM(code, &room, asm_extend_move(SLOT(self->agent), SLOT(self), &move, ROOM(&room)));
+    asm_free(&move.slot);
+    self->size += change_size(its);
+    if (code == ASM_DONE)
+        grow_by_push(self, its->verb != ASM_PUT);
+    else if (its->code != ASM_DONE)
+        refuse_change(self->holder.core, its);
+    else
+        refuse_push(self, code, "", 0, &room);
+    room_end(&room);
+    return code == ASM_DONE ? 0 : -1;
+}
+
+/* Makes one instruction join the move that was pushed last, at once or with those that follow it. */
 static PyObject *change(Step *self, PyObject *const *words, Py_ssize_t count, int verb)
 {
-    Core *core = self->holder.core;
-    Agent *agent = self->agent;
-    struct asm_move move = {0};
     Change its;
-    PyObject *result = NULL;
-    if (change_begin(core, &its, words, count, verb))
+    int failed = 1, is_addition = verb == ASM_ADD || verb == ASM_BAGADD || verb == ASM_INC;
+    if (change_begin(self->holder.core, &its, words, count, verb))
         return NULL;
-    if (!UNREADY(&agent->holder) && !PLACE_UNREADY(&its.place)) {
-        Room room;
-        room_begin(&room);
-        int32_t code = change_put(&its, &move);
-        if (code == ASM_DONE)
-            WITH_ROOM(code, &room, asm_extend_move(SLOT(agent), SLOT(self), &move, ROOM(&room)));
-        asm_free(&move.slot);
-        self->size += change_size(&its);
-        if (code == ASM_DONE) {
-            grow_by_push(self, verb != ASM_PUT);
-            result = Py_NewRef(Py_None);
-        } else if (its.code != ASM_DONE)
-            refuse_change(core, &its);
-        else
-            refuse_push(self, code, "", 0, &room);
-        room_end(&room);
-    }
+    if (!UNREADY(&self->agent->holder) && !PLACE_UNREADY(&its.place))
+        failed = is_addition ? add_to(self, &its) : extend_by(self, &its);
     change_end(&its);
-    return result;
+    return failed ? NULL : Py_NewRef(Py_None);
 }
 
 CHANGES(, Step, step, change)
 
 PyObject *step_pop(Step *self, PyObject *Py_UNUSED(none))
 {
-    if (UNREADY(&self->agent->holder))
+    if (UNREADY(&self->agent->holder) || settle(self))
         return NULL;
     int32_t code = asm_pop(SLOT(self));
+    forget_accepted(self, NULL, 0);
     grow_by_name(self);
     self->is_pushed &= asm_depth(SLOT(self)) > 0;
     return code == ASM_DONE ? Py_NewRef(Py_None) : refuse_step(self, code);
@@ -233,11 +246,12 @@ PyObject *step_pop_move(Step *self, PyObject *Py_UNUSED(none))
 {
     Core *core = self->holder.core;
     Move *move = holder_new(core->move, core);
-    if (!move || UNREADY(&self->agent->holder)) {
+    if (!move || UNREADY(&self->agent->holder) || settle(self)) {
         Py_XDECREF((PyObject *)move);
         return NULL;
     }
     int32_t code = asm_pop_move(SLOT(self), SLOT(move));
+    forget_accepted(self, NULL, 0);
     grow_by_name(self);
     self->is_pushed &= asm_depth(SLOT(self)) > 0;
     if (code == ASM_DONE) {

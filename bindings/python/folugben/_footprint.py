@@ -9,7 +9,7 @@ from typing import Any
 
 from ._errors import ClashError, Error, FullError
 from ._texts import encode
-from ._turns import WRITES, Player, TurnProxy, Turns
+from ._turns import ADDITIONS, WRITES, Player, TurnProxy, Turns
 
 # The calls that see what other agents did, or write. All others depend only on what their agent has seen.
 _COMMITS = frozenset({"commit", "try_commit", "fire", "try_fire"})
@@ -182,7 +182,10 @@ class RecordingPlayer(Player):
             self._scanned += [*words, *named.values()]
             self.now.scans.update(self._scanned)
         answer = call(*words, **named)
-        if name in ("push", "extend", *WRITES):
+        if name in ADDITIONS:
+            # An offer would end those that wait.
+            self.now.read(words[:1])
+        elif name in ("push", "extend", *WRITES):
             # A partial update is accepted or refused by the value that it changes.
             self.now.read(at for word, at, *_ in it.own.offer()["fire"] if word != "put")
         return answer

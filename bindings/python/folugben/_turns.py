@@ -14,6 +14,8 @@ _R = TypeVar("_R")
 
 # The calls of a step that write one location, and all calls of agents and of steps that take a turn.
 WRITES = frozenset({"put", "add", "remove", "bag_add", "bag_remove", "inc"})
+# Those that become one move's instructions if they come in a row.
+ADDITIONS = frozenset({"add", "bag_add", "inc"})
 CALLS = WRITES | {
     "step", "read", "fire", "try_fire", "commit", "try_commit", "follow", "stands", "peek", "state", "scan", "learn", "answer", "give", "get", "see",
     "push", "extend", "pop", "pop_move", "offer",

@@ -126,7 +126,7 @@ impl Agent {
     /// [`Error::Memory`]: the call may be made again.
     pub fn step(&mut self) -> Result<Step<'_>, Error> {
         let number = self.begin()?;
-        Ok(Step { agent: Holder::Own(self), number })
+        Ok(Step::new(Holder::Own(self), number))
     }
 
     /// Polls, and begins a step in its slot at the number that it returns.

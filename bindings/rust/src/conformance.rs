@@ -112,7 +112,7 @@ impl Replayer {
     /// Calls the agent's step, which stays open.
     fn step(&mut self, number: u8, call: impl FnOnce(&mut Step<'_>) -> Answer) -> Answer {
         let agent = self.agent(number)?;
-        let mut step = Step { agent: Holder::Own(agent), number: 0 };
+        let mut step = Step::new(Holder::Own(agent), 0);
         let result = call(&mut step);
         mem::forget(step);
         result

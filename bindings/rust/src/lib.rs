@@ -53,6 +53,7 @@
 //! Except the threads that write the files of a run, no thread is begun; a storage ends with its last agent, and nothing is
 //! stored elsewhere. Don't use any of this in the child of a fork of a process with threads.
 
+mod additions;
 mod agent;
 mod audit;
 mod cause;

@@ -1,4 +1,5 @@
 //! Steps.
+use crate::additions::Additions;
 use crate::agent::Reading;
 use crate::error::{Error, answer, done, done_or_refusal, done_with};
 use crate::holder::{Change, Holder, commit, offer_text};
@@ -10,6 +11,7 @@ use crate::play::Outcome;
 use crate::prepared::PreparedMove;
 use crate::sys;
 use crate::value::{Element, Location, Value};
+use std::cell::RefCell;
 use std::fmt;
 
 /// A transaction of an agent: it gets values, pushes moves and commits.
@@ -22,6 +24,13 @@ use std::fmt;
 pub struct Step<'a> {
     pub(crate) agent: Holder<'a>,
     pub(crate) number: u32,
+    pub(crate) additions: RefCell<Additions>,
+}
+
+impl<'a> Step<'a> {
+    pub(crate) fn new(agent: Holder<'a>, number: u32) -> Step<'a> {
+        Step { agent, number, additions: RefCell::default() }
+    }
 }
 
 impl Step<'_> {
@@ -53,7 +62,7 @@ impl Step<'_> {
     fn read_locations(&self, call: ByText, places: &[Location]) -> Result<Vec<Value>, Error> {
         let text = places.json();
         // SAFETY: the slots are of one agent and its step, which this thread alone has, and the texts and numbers outlive the call.
-        let (code, output) = self.text_of_call(|slot, step, out, room, written| unsafe {
+        let (code, output) = self.text_of_settled_call(|slot, step, out, room, written| unsafe {
             call(slot, step, text.as_ptr(), text.len(), out, room, written)
         })?;
         self.agent.count(text.len() + output.len());
@@ -71,6 +80,15 @@ impl Step<'_> {
         })
     }
 
+    /// As `text_of_call`, after the additions that wait.
+    pub(crate) fn text_of_settled_call(
+        &self,
+        call: impl FnMut(*mut sys::Slot, *mut sys::Slot, *mut u8, usize, *mut usize) -> i32,
+    ) -> Result<(i32, Vec<u8>), Error> {
+        self.settle()?;
+        self.text_of_call(call)
+    }
+
     /// Scans a function: returns all its locations, ascending.
     ///
     /// The step then depends on the whole function: a write to any location of it, including one that had no value, makes the
@@ -81,7 +99,7 @@ impl Step<'_> {
     /// [`Error::Many`], [`Error::Memory`].
     pub fn scan(&self, name: &str) -> Result<Vec<(Location, Value)>, Error> {
         // SAFETY: the slots are of one agent and its step, which this thread alone has, and the texts and numbers outlive the call.
-        let (code, text) = self.text_of_call(|slot, step, out, room, written| unsafe {
+        let (code, text) = self.text_of_settled_call(|slot, step, out, room, written| unsafe {
             sys::asm_step_scan(slot, step, name.as_ptr(), name.len(), out, room, written)
         })?;
         done(code)?;
@@ -100,6 +118,7 @@ impl Step<'_> {
     ///   places.
     /// - [`Error::Large`], [`Error::Refused`], [`Error::Memory`].
     pub fn push(&mut self, instructions: &Move) -> Result<(), Error> {
+        self.additions.get_mut().forget();
         self.grow(sys::asm_push, instructions.instructions())
     }
 
@@ -111,13 +130,14 @@ impl Step<'_> {
     ///
     /// Those of [`Step::push`] except [`Error::Deep`].
     pub fn extend(&mut self, instructions: &Move) -> Result<(), Error> {
+        self.additions.get_mut().forget();
         self.grow(sys::asm_extend, instructions.instructions())
     }
 
-    fn grow(&mut self, call: ByText, instructions: &[Instruction]) -> Result<(), Error> {
+    pub(crate) fn grow(&mut self, call: ByText, instructions: &[Instruction]) -> Result<(), Error> {
         let text = instructions.json();
         // SAFETY: the slots are of one agent and its step, which this thread alone has, and the texts and numbers outlive the call.
-        let (code, output) = self.text_of_call(|slot, step, out, room, written| unsafe {
+        let (code, output) = self.text_of_settled_call(|slot, step, out, room, written| unsafe {
             call(slot, step, text.as_ptr(), text.len(), out, room, written)
         })?;
         self.agent.count(text.len());
@@ -154,6 +174,12 @@ impl Step<'_> {
         if instructions.is_empty() {
             return self.grow(by_text, &[]);
         }
+        self.settle()?;
+        self.additions.get_mut().forget();
+        self.grow_by_move(call, instructions)
+    }
+
+    pub(crate) fn grow_by_move(&self, call: ByMove, instructions: &PreparedMove) -> Result<(), Error> {
         // SAFETY: the slots are of one agent and its step, which this thread alone has, and the texts and numbers outlive the call.
         let (code, output) = self.text_of_call(|slot, step, out, room, written| unsafe {
             call(slot, step, instructions.slot.at(), out, room, written)
@@ -169,16 +195,20 @@ impl Step<'_> {
     ///
     /// Those of [`Step::extend`].
     pub fn put(&mut self, at: impl Into<Location>, value: impl Into<Value>) -> Result<(), Error> {
-        self.extend(&Move::new().put(at, value))
+        self.change(Instruction::Put(at.into(), value.into()))
     }
 
     /// Adds the element to the set there, in a move that joins what was pushed last.
+    ///
+    /// Additions in a row to one set, bag or number are instructions of one move: so the step doesn't depend on the value there.
+    /// They join once the step makes another call. If they don't fit together, as counts above their limit don't, that call and
+    /// each further one is refused.
     ///
     /// # Errors
     ///
     /// Those of [`Step::extend`].
     pub fn add(&mut self, at: impl Into<Location>, element: impl Into<Element>) -> Result<(), Error> {
-        self.extend(&Move::new().add(at, element))
+        self.change(Instruction::Add(at.into(), element.into()))
     }
 
     /// Removes the element from the set there, in a move that joins what was pushed last.
@@ -187,16 +217,18 @@ impl Step<'_> {
     ///
     /// Those of [`Step::extend`].
     pub fn remove(&mut self, at: impl Into<Location>, element: impl Into<Element>) -> Result<(), Error> {
-        self.extend(&Move::new().remove(at, element))
+        self.change(Instruction::Remove(at.into(), element.into()))
     }
 
     /// Adds the element to the bag there so many times, in a move that joins what was pushed last.
+    ///
+    /// See [`Step::add`].
     ///
     /// # Errors
     ///
     /// Those of [`Step::extend`].
     pub fn bag_add(&mut self, at: impl Into<Location>, element: impl Into<Element>, amount: u32) -> Result<(), Error> {
-        self.extend(&Move::new().bag_add(at, element, amount))
+        self.change(Instruction::BagAdd(at.into(), element.into(), amount))
     }
 
     /// Removes the element from the bag there so many times, in a move that joins what was pushed last.
@@ -210,16 +242,18 @@ impl Step<'_> {
         element: impl Into<Element>,
         amount: u32,
     ) -> Result<(), Error> {
-        self.extend(&Move::new().bag_remove(at, element, amount))
+        self.change(Instruction::BagRemove(at.into(), element.into(), amount))
     }
 
     /// Adds to the number there, in a move that joins what was pushed last.
+    ///
+    /// See [`Step::add`].
     ///
     /// # Errors
     ///
     /// Those of [`Step::extend`].
     pub fn inc(&mut self, at: impl Into<Location>, by: i64) -> Result<(), Error> {
-        self.extend(&Move::new().inc(at, by))
+        self.change(Instruction::Inc(at.into(), by))
     }
 
     /// Takes the move away that was pushed last, with those that joined it.
@@ -229,6 +263,8 @@ impl Step<'_> {
     /// - [`Error::NoMove`]: none is pushed.
     /// - [`Error::Many`], [`Error::Memory`].
     pub fn pop(&mut self) -> Result<(), Error> {
+        self.settle()?;
+        self.additions.get_mut().forget();
         self.agent.note(&Change::Other);
         // SAFETY: the slots are of one agent and its step, which this thread alone has, and the texts and numbers outlive the call.
         self.agent.with(|agent| match unsafe { sys::asm_pop(agent.slots.step()) } {
@@ -248,13 +284,17 @@ impl Step<'_> {
     /// - [`Error::Many`]: the one move would have more than 4,096 instructions; nothing is popped.
     /// - [`Error::Memory`].
     pub fn pop_move(&mut self) -> Result<PreparedMove, Error> {
+        self.settle()?;
+        self.additions.get_mut().forget();
         self.agent.note(&Change::Other);
-        PreparedMove::put_by(|slot| {
-            // SAFETY: the slots are of one agent and its step, which this thread alone has, and the texts and numbers outlive the call.
-            self.agent.with(|agent| match unsafe { sys::asm_pop_move(agent.slots.step(), slot) } {
-                sys::NO_PUSH => Err(Error::NoMove),
-                code => done(code),
-            })
+        PreparedMove::put_by(|slot| self.pop_into(slot))
+    }
+
+    pub(crate) fn pop_into(&self, slot: *mut sys::Slot) -> Result<(), Error> {
+        // SAFETY: the slots are of one agent and its step, which this thread alone has, and the texts and numbers outlive the call.
+        self.agent.with(|agent| match unsafe { sys::asm_pop_move(agent.slots.step(), slot) } {
+            sys::NO_PUSH => Err(Error::NoMove),
+            code => done(code),
         })
     }
 
@@ -267,6 +307,7 @@ impl Step<'_> {
     ///
     /// [`Error::Many`], [`Error::Memory`].
     pub fn offer(&self) -> Result<(Move, Vec<(Location, MoveNumber)>), Error> {
+        self.settle()?;
         let (instructions, mut reads) = answer(&self.agent.with(offer_text)?, Json::offer)?;
         reads.iter_mut().for_each(|(_, number)| *number = number.behind(self.agent.before()));
         Ok((instructions, reads))
@@ -279,7 +320,8 @@ impl Step<'_> {
 
     pub(crate) fn pushed(&self) -> Result<u32, Error> {
         // SAFETY: the slots are of one agent and its step, which this thread alone has, and the texts and numbers outlive the call.
-        self.agent.with(|agent| Ok(unsafe { sys::asm_depth(agent.slots.step()) }))
+        let depth = self.agent.with(|agent| Ok(unsafe { sys::asm_depth(agent.slots.step()) }))?;
+        Ok(depth.max(u32::from(!self.additions.borrow().is_empty())))
     }
 
     /// Commits the step, unless it is stale, and returns the number of the fired move.
@@ -294,6 +336,7 @@ impl Step<'_> {
     /// - Of a step of a run [`Error::TooLong`]: the line of the move would be longer than an audit reads.
     #[must_use = "a stale step has fired nothing"]
     pub fn commit(self) -> Result<MoveNumber, Error> {
+        self.settle()?;
         let fired = match &self.agent {
             Holder::Own(agent) => commit(agent),
             Holder::Seat(seat_step) => seat_step.commit(),

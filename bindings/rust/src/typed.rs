@@ -55,7 +55,7 @@ impl sealed::Place for Prepared {
     fn get(&self, step: &Step<'_>) -> Result<Value, Error> {
         let mut head = sys::Value::default();
         // SAFETY: the slots are of one agent and its step, which this thread alone has, and the texts and numbers outlive the call.
-        let (code, bytes) = step.text_of_call(|slot, step, out, room, written| unsafe {
+        let (code, bytes) = step.text_of_settled_call(|slot, step, out, room, written| unsafe {
             sys::asm_get_at(slot, step, self.slot.at(), &raw mut head, out, room, written)
         })?;
         step.agent.count(self.size + bytes.len());

@@ -416,3 +416,80 @@ fn values_of_one_type_are_got() {
     other.play(|step| step.put("u", 1)).unwrap();
     assert!(matches!(step.commit(), Err(Error::Conflict(Conflict::Stale(at))) if at == "u".into()));
 }
+
+#[test]
+fn additions_in_a_row_depend_on_nothing() {
+    let set = Value::Set(BTreeSet::from([0.into()]));
+    let bag = Value::Bag(BTreeMap::from([(Element::from(0), 1)]));
+    let storage = open(&[("s".into(), set), ("b".into(), bag), ("n".into(), i64::MAX.into())]);
+    let (mut one, mut other) = (storage.agent(0).unwrap(), storage.agent(1).unwrap());
+    let add = |step: &mut folugben::Step<'_>, element: i64| {
+        step.add("s", element)?;
+        step.add("s", element + 1)?;
+        step.bag_add("b", element, 2)?;
+        step.bag_add("b", element, 1)?;
+        step.inc("n", -2)?;
+        step.inc("n", 2)
+    };
+    // One alone is judged at once.
+    let mut step = one.step().unwrap();
+    assert!(matches!(step.inc("n", 1), Err(Error::Clash { cause: Cause::Large, .. })));
+    assert!(matches!(step.add("n", 1), Err(Error::Clash { cause: Cause::Kind, .. })));
+    step.add("s", 1).unwrap();
+    assert!(matches!(step.bag_add("b", 1, 0), Err(Error::Range(_))));
+    assert_eq!((step.depth(), step.see(&["s".into()]).unwrap()[0].as_set().unwrap().len()), (1, 2));
+    drop(step);
+    // Several are, where the next call is another one.
+    let mut step = one.step().unwrap();
+    step.inc("n", -1).unwrap();
+    step.inc("n", 3).unwrap();
+    for _ in 0..2 {
+        assert!(matches!(step.get("s"), Err(Error::Clash { cause: Cause::Large, .. })));
+    }
+    step.inc("n", -2).unwrap();
+    assert_eq!(step.get_num("n"), Ok(i64::MAX));
+    drop(step);
+    let mut step = one.step().unwrap();
+    add(&mut step, 1).unwrap();
+    let (offered, reads) = step.offer().unwrap();
+    assert_eq!((offered.len(), reads), (6, vec![]));
+    other.play(|step| add(step, 7)).unwrap();
+    assert_eq!(step.commit(), Ok(n(2)));
+    one.follow().unwrap();
+    let values = one.peek(&["s".into(), "b".into(), "n".into()]).unwrap().values;
+    assert_eq!(values[0].as_set().unwrap().len(), 5);
+    assert_eq!(values[1].as_bag().unwrap().values().sum::<u32>(), 7);
+    assert_eq!(values[2], i64::MAX.into());
+}
+
+#[test]
+fn additions_with_another_call_between_are_moves_in_turn() {
+    let storage = open(&[("s".into(), Value::Set(BTreeSet::new()))]);
+    let (mut one, mut other) = (storage.agent(0).unwrap(), storage.agent(1).unwrap());
+    let mut step = one.step().unwrap();
+    step.push(&Move::new().put("x", 1)).unwrap();
+    step.add("s", 1).unwrap();
+    step.add("s", 2).unwrap();
+    assert_eq!(step.depth(), 1);
+    step.add("t", 1).unwrap_err();
+    step.add("s", 3).unwrap();
+    assert_eq!(step.offer().unwrap().1, [("s".into(), n(0)), ("t".into(), n(0))]);
+    assert_eq!(step.get("s").unwrap().as_set().unwrap().len(), 3);
+    step.add("s", 4).unwrap();
+    step.pop().unwrap();
+    assert_eq!((step.depth(), step.get("s").unwrap().as_set().unwrap().len()), (0, 0));
+    for depth in 1..=64 {
+        step.push(&Move::new().put("x", depth)).unwrap();
+    }
+    step.add("s", 5).unwrap();
+    step.add("s", 6).unwrap();
+    assert_eq!((step.depth(), step.get("s").unwrap().as_set().unwrap().len()), (64, 2));
+    other.play(|step| step.add("s", 7)).unwrap();
+    assert!(matches!(step.commit(), Err(Error::Conflict(_))));
+    // A value of another kind was put there meanwhile.
+    let mut step = one.step().unwrap();
+    step.add("s", 8).unwrap();
+    step.put("s", 8).unwrap();
+    assert!(matches!(step.add("s", 9), Err(Error::Clash { cause: Cause::Kind, .. })));
+    assert_eq!(step.get_num("s"), Ok(8));
+}

@@ -59,7 +59,7 @@ impl RunAgent {
             self.core.await_part()?;
         };
         let number = start.number;
-        Ok(RunStep { step: Step { agent: Holder::Seat(SeatStep::new(&self.core, &self.seat, start)), number } })
+        Ok(RunStep { step: Step::new(Holder::Seat(SeatStep::new(&self.core, &self.seat, start)), number) })
     }
 
     /// Plays the rule until it fires, as [`Agent::play`](crate::Agent::play) does.
