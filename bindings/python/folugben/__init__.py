@@ -10,6 +10,8 @@ What the step writes is visible to its later reads, and is fired as one move. On
             step.commit()
         journal = storage.close_journal()
 
+`storage.run(rule, workers=4, times=100)` plays a rule with workers on threads, and `storage["count"]` is the value now.
+
 A location is a tuple ("name", argument, ..). Where one location is expected, the name alone is enough, but not in a list of
 locations, as `read`, `peek` and `get` take. Values are None, truths, integers and texts; a list is a tuple, a set a frozenset,
 and a bag a Counter. Input may also be written as in JSON (docs/FORMATS.md): a location as a list, and {"list": [..]},

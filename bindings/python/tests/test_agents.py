@@ -136,12 +136,6 @@ class Agents(unittest.TestCase):
         agent.give()
         self.assertEqual(check(self.storage.close_journal()), (1, 1))
 
-    def test_true_is_not_1(self):
-        both = {"set": [True, 1]}
-        storage = Storage([[["f", True], "a"], [["f", 1], "b"], [["g"], both]])
-        self.assertEqual(storage.agent(0).read([["f", True], ["f", 1], ["g"]]), (0, ["a", "b", both]))
-        self.assertEqual(len({True, 1}), 1)
-
     def test_texts_longer_than_the_first_buffer(self):
         agent = self.storage.agent(0)
         agent.fire([["put", ["count"], "x" * 5000]])

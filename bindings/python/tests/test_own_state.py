@@ -25,16 +25,6 @@ class OwnState(unittest.TestCase):
             call(*arguments)
         return caught.exception.code
 
-    def test_the_complete_state_and_one_name(self):
-        ascending = [(("count",), 0), (("f", True), {"set": [True, 1]}), (("f", 1), "one"), (("g",), "ü")]
-        number, pairs = self.agent.state()
-        self.assertEqual((number, repr(pairs)), (0, repr(ascending)))
-        self.assertEqual(repr(self.agent.scan("f")), repr((0, ascending[1:3])))
-        self.rival.fire([["put", ["f", 1], None], ["put", ["f", 2], 2**63 - 1]])
-        self.assertEqual(self.agent.follow(), 1)
-        self.assertEqual(repr(self.agent.scan("f")), repr((1, [ascending[1], (("f", 2), 2**63 - 1)])))
-        self.assertEqual(self.agent.state(), (1, [ascending[0], ascending[1], (("f", 2), 2**63 - 1), ascending[3]]))
-
     def test_a_fire_depends_on_the_complete_functions_of_its_scans(self):
         number, found = self.agent.scan("f")
         self.assertEqual(self.agent.fire([["put", ["count"], len(found)]], scans=[("f", number), ("none", number)]), 1)

@@ -8,7 +8,7 @@ from collections import Counter
 
 import folugben
 import own
-from folugben import ClashError, CommitMovedError, ConflictError, DeepError, Error, Location, ManyError, MovedError, OverError
+from folugben import ClashError, CommitMovedError, ConflictError, Error, Location, ManyError, MovedError, OverError
 from folugben import StaleError, Storage, _refusals, check
 
 COUNT = [["count"]]
@@ -159,17 +159,6 @@ class Steps(unittest.TestCase):
             self.assertRaises(MovedError, step.get, COUNT)
         with self.agent.step() as step:
             self.assertRaises(ClashError, step.push, remove)
-
-    def test_64_moves_are_pushed_and_any_number_extends(self):
-        with self.agent.step() as step:
-            for k in range(64):
-                step.push(put(k))
-            self.assertRaises(DeepError, step.push, put(64))
-            for k in range(1000):
-                step.extend([["inc", ["count"], 1]])
-            self.assertEqual((step.depth, step.get(COUNT)), (64, [1063]))
-            self.assertEqual(step.commit(), 1)
-        self.assertEqual(self.rival.read(COUNT), (1, [1063]))
 
     def test_limits(self):
         with self.agent.step() as step:
