@@ -54,6 +54,14 @@ class OwnState(unittest.TestCase):
             self.agent.fire([], [["g"]], [["f"]])
         self.assertEqual((self.agent.seen, self.agent.misses), (0, 0))
 
+    def test_what_is_no_list_is_refused(self):
+        for wrong in ("", "count", b"", {}, {"count": 0}, set(), frozenset()):
+            for call in (self.agent.stands, lambda it: self.agent.fire([], it), lambda it: self.agent.fire([], [], it)):
+                with self.subTest(wrong), self.assertRaisesRegex(Error, "^the (reads|scans) are a list or a tuple, and not ") as caught:
+                    call(wrong)
+                self.assertEqual(caught.exception.code, folugben.Code.SHAPE)
+        self.assertEqual((self.agent.stands(iter([])), self.agent.fire([], (), ())), (None, 1))
+
     def test_a_number_that_is_yet_to_come_is_refused(self):
         message = "read 2: "
         reads = [[["g"], 0], [["f", 1], 1]]
