@@ -1,6 +1,6 @@
-/* The results of moves without an agent: each row of docs/FORMATS.md on the value of a group of
- * updates, and on the composition of two moves in turn. If both fire on a state, they do what
- * the one move does, and so does a step with the two pushed. */
+/* The results of moves without an agent: each row of docs/FORMATS.md on the composition of two moves
+ * in turn. If both fire on a state, they do what the one move does, and so does a step with the two
+ * pushed. The rows on the value of a group of updates are in bindings/conformance/moves.jsonl. */
 #include "tests.h"
 
 #define AT "['l']"
@@ -15,49 +15,6 @@
 #define MOST "9223372036854775807"
 #define LEAST "-9223372036854775808"
 #define COUNTS "4294967295"
-
-/* The value of a move, or the cause of its clash. */
-typedef struct group {
-    const char *old, *move, *value, *cause;
-} group;
-
-static const group groups[] = {
-    {"null", PUT("1") "," PUT("1"), "1", NULL},
-    {"null", PUT("1") "," PUT("2") "," ADD("3"), NULL, "Two"},
-    {SET("1"), ADD("2") "," BAGADD("'e'", "1"), NULL, "Mixed"},
-    {"7", ADD("1"), NULL, "Kind"},
-    {"7", PUT(SET("1,2")) "," ADD("1"), SET("1,2"), NULL},
-    {SET(""), PUT(SET("1,2")) "," REMOVE("2"), NULL, "Against"},
-    {SET(""), PUT(SET("1,2")) "," REMOVE("3"), SET("1,2"), NULL},
-    {SET("1"), REMOVE("1"), SET(""), NULL},
-    {SET("1"), REMOVE("2") "," ADD("2"), NULL, "Both"},
-    {SET("1"), PUT("null") "," ADD("1"), NULL, "Kind"},
-    {BAG(""), PUT(BAG("['e',1]")) "," BAGADD("'e'", "1"), NULL, "Against"},
-    {BAG(""), PUT(SET("")) "," BAGADD("'e'", "1"), NULL, "Kind"},
-    {BAG("['e',2]"), BAGREMOVE("'e'", "2"), BAG(""), NULL},
-    {BAG("['e',2]"), BAGREMOVE("'e'", "1") "," BAGREMOVE("'e'", "2"), NULL, "Short"},
-    {BAG("['e',1],['f'," COUNTS "]"), BAGREMOVE("'e'", "2") "," BAGADD("'f'", "1"), NULL, "Short"},
-    {BAG("['f'," COUNTS "]"), BAGADD("'f'", "1"), NULL, "Large"},
-    {"5", INC("3") "," INC("-1"), "7", NULL},
-    {MOST, INC("1"), NULL, "Large"},
-    {MOST, INC("1") "," INC("-1"), MOST, NULL},
-    {LEAST, INC("-1"), NULL, "Large"},
-    {"null", INC("1"), NULL, "Kind"},
-    {"null", PUT("1") "," INC("1"), NULL, "Against"},
-    {"null", INC("1") "," ADD("1"), NULL, "Mixed"},
-    {"1", PUT("null"), "null", NULL},
-};
-
-static void aggregates(const group *g) {
-    char state[LONGEST], move[LONGEST], text[LONGEST];
-    snprintf(state, sizeof state, "[[" AT ",%s]]", g->old);
-    snprintf(move, sizeof move, "[%s]", g->move);
-    if (g->cause)
-        snprintf(text, sizeof text, "{'clash':[" AT ",'%s']}", g->cause);
-    else
-        snprintf(text, sizeof text, "[[" AT ",%s]]", g->value);
-    WRITES(g->cause ? ASM_CLASH : ASM_DONE, text, asm_aggregate(TEXT(state), TEXT(move), OUT));
-}
 
 /* The composition of two moves, with an old value on which both fire, if there is one. `unchanged`
  * is what a step with both fires there, if that is no composition: what one of them alone does is
@@ -202,8 +159,6 @@ static void refusals(void) {
 }
 
 int main(void) {
-    for (size_t i = 0; i < sizeof groups / sizeof *groups; i++)
-        aggregates(&groups[i]);
     for (size_t i = 0; i < sizeof rows / sizeof *rows; i++) {
         composes(&rows[i]);
         if (rows[i].old)
