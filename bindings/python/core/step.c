@@ -325,8 +325,8 @@ static PyType_Slot slots[] = {
                 "fired, and at the end of its `with`; calls then raise `OverError`. A step that isn't fired leaves no trace. If its agent has\n"
                 "moved past `number`, a get, a scan or a push raises `MovedError`.\n\n"
                 "Calls of `add` at one location with no other call between them are instructions of one move, and so are those of `bag_add`\n"
-                "and of `inc`: the step doesn't depend on the value there. They join at the next other call, which raises `ClashError` if they\n"
-                "don't fit together."},
+                "and of `inc`: the step doesn't depend on the value there. They join at the next other call. If they don't fit together,\n"
+                "that call and each further one raises `ClashError`."},
     {Py_mp_subscript, step_at}, {Py_mp_ass_subscript, step_assign}, {Py_tp_new, step_new}, {Py_tp_dealloc, step_dealloc}, {Py_tp_traverse, step_traverse}, {Py_tp_methods, methods},
     {Py_tp_members, members}, {Py_tp_getset, gets}, {Py_tp_repr, step_repr}, {0}};
 PyType_Spec step_spec = {"folugben.Step", sizeof(Step), 0, Py_TPFLAGS_DEFAULT | Py_TPFLAGS_BASETYPE | Py_TPFLAGS_HAVE_GC, slots};
