@@ -52,15 +52,14 @@
  *
  *  - asm_read and asm_try_fire add a receipt with ASM_DONE, ASM_STALE, ASM_CLASH and ASM_FULL.
  *    So do asm_try_fire_over and asm_commit. Any other code of these four means that no receipt was
- *    added; the agent may have seen more moves. asm_commit_recorded adds the receipt of a read
- *    before that of its fire; with ASM_BUSY and ASM_MEMORY it may have added the first alone. No
- *    other call adds one.
+ *    added; the agent may have seen more moves. asm_commit_recorded may also add the receipt of a
+ *    read before that of its fire, and with ASM_BUSY and ASM_MEMORY the first alone. No other call
+ *    adds one.
  *  - After asm_follow, asm_stands and asm_begin the agent may have seen more moves, with ASM_MEMORY
  *    too. asm_audit takes bytes with each code except ASM_TAKEN. A push or an extension that is
  *    refused (ASM_CLASH, ASM_MANY, ASM_LONG_MOVE, ASM_LARGE, ASM_SMALL) leaves the pushed moves
- *    unchanged, and may track locations. ASM_MANY and ASM_MOVED of asm_commit_recorded leave both
- *    slots unchanged. After any other call, each code except ASM_DONE means that the slots are
- *    unchanged.
+ *    unchanged, and may track locations. ASM_MANY of asm_commit_recorded leaves both slots
+ *    unchanged. After any other call, each code except ASM_DONE means that the slots are unchanged.
  *  - A number that a call writes is 0 unless its code is said to set it. `*written` is set with
  *    ASM_DONE and with each code that is said to come with a text, to the length of the text, and
  *    with ASM_SMALL.
@@ -164,8 +163,7 @@ enum asm_code {
     ASM_VERSION = 18,    /* a journal of another version than 1 and 2 */
     ASM_CUT = 19,        /* the journal ends too early */
     ASM_LARGE = 20,      /* an amount or a sum is too large */
-    ASM_MOVED = 21,      /* the agent's own state isn't at the step's number; or, of
-                            asm_commit_recorded, is behind the agent's receipts */
+    ASM_MOVED = 21,      /* the agent's own state isn't at the step's number */
     ASM_DEEP = 22,       /* 64 moves are pushed already */
     ASM_APART = 23,      /* a part of a run opens with another state than the one before it leaves */
     ASM_AGENTS = 24,     /* an agent's number isn't below 256, or more than 256 agents are asked for:
@@ -401,8 +399,8 @@ FOLUGBEN_NODISCARD int32_t asm_push(struct asm_agent *agent, struct asm_step *st
  * thousand rounds is one move deep, and each round costs by what it does itself. A round of one partial
  * update changes a set or a bag in place: it costs by the logarithm of the size, after
  * the first two in a pushed move, which copy the value. Any other round costs also by the size of a set
- * or a bag that it changes and the earlier updates of it. Without a pushed move it is pushed. Never
- * ASM_DEEP. */
+ * or a bag that it changes and the earlier updates of it. A copy of a set or a bag of more than 32
+ * elements reads none of them. Without a pushed move it is pushed. Never ASM_DEEP. */
 FOLUGBEN_NODISCARD int32_t asm_extend(struct asm_agent *agent, struct asm_step *step,
     const uint8_t *move, size_t len, uint8_t *out, size_t room, size_t *written);
 
@@ -446,15 +444,13 @@ FOLUGBEN_NODISCARD int32_t asm_commit(struct asm_agent *agent, struct asm_step *
     asm_numbers *numbers);
 
 /* Records what the step read, and then commits it as asm_commit does: the journal has a read in
- * front of the fire. That read has the locations that the fire names, in its order, with their
- * values in the agent's own state at the step's number, so asm_check tests these too. It doesn't
- * have the functions that were scanned. The codes are those of asm_commit, and ASM_MOVED: the
- * agent's own state isn't at the step's number, or is behind a receipt of the agent's, such as that
- * of a fire which it hasn't followed; begin the step again. ASM_MANY comes before ASM_MOVED, and
- * with both nothing has changed. With ASM_STALE, ASM_CLASH, ASM_FULL and ASM_BUSY the receipt of
- * the read is there, and with ASM_MEMORY it may be; it is right, and harms nothing. After ASM_BUSY
- * and ASM_MEMORY the agent may have followed further moves: the same call then answers
- * ASM_MOVED. */
+ * front of the fire. The call polls first, and reads the locations that the fire names, in its
+ * order. If none of them was written since the step's number, the read has their values of then,
+ * so asm_check tests these too; it is at the number of moves that the agent has then seen. If one
+ * was written, or the fire names no location, there is no read. The functions that were scanned
+ * aren't in it. Codes and numbers are those of asm_commit. ASM_MANY comes before anything else, and
+ * then nothing has changed. After ASM_BUSY and ASM_MEMORY the receipt of the read may be there; it
+ * is right, and the same call may be made again. */
 FOLUGBEN_NODISCARD int32_t asm_commit_recorded(struct asm_agent *agent, struct asm_step *step,
     asm_numbers *numbers);
 

@@ -129,20 +129,19 @@ class error : public std::runtime_error {
 };
 
 // Reports a commit that met another agent's moves: begin the step again, as `play` does. Its code is code::stale, code::clash or
-// code::busy, or code::moved of an agent that records. It is all that a loop by hand catches.
+// code::busy. It is all that a loop by hand catches.
 class conflict : public error {
   public:
     using error::error;
 };
-// The outcome of a commit: with code::done the number of the move. A conflict is code::stale, code::clash or code::busy, or
-// code::moved of an agent that records: begin the step again.
+// The outcome of a commit: with code::done the number of the move. A conflict is code::stale, code::clash or code::busy: begin the
+// step again.
 struct [[nodiscard]] outcome {
     folugben::code code = folugben::code::done;
     std::uint32_t number = 0;
     explicit operator bool() const noexcept { return code == folugben::code::done; }
     bool is_conflict() const noexcept {
-        return code == folugben::code::stale || code == folugben::code::clash || code == folugben::code::busy ||
-               code == folugben::code::moved;
+        return code == folugben::code::stale || code == folugben::code::clash || code == folugben::code::busy;
     }
 };
 // Reports a push whose updates clash on what the step sees; or a fire of a move without a step, which would clash again.
@@ -1055,11 +1054,11 @@ class agent {
     std::uint32_t won() const noexcept { return asm_won(get()); }
     std::uint64_t misses() const noexcept { return asm_misses(get()); }
 
-    // Has each commit of a step record what the step read, or not, which is the default. A commit that records first adds a
-    // receipt of a read: the locations that its move names, with their values at the step's version. So the journal shows what
-    // the move was computed from, and `check` judges that too. What `scan` found stays out of the journal, and so does what
-    // `see_json` returned. Each commit then takes about twice the receipts. If the agent has moved past the step's version, as by
-    // `follow` within the step, the commit is a conflict (code::moved), and `play` begins again.
+    // Has each commit of a step record what the step read, or not, which is the default. A commit that records first polls, and
+    // adds a receipt of a read: the locations that its move names, which still have their values at the step's version. So the
+    // journal shows what the move was computed from, and `check` judges that too. No read is added if the move names no location,
+    // or if one of them was written since. What `scan` found stays out of the journal, and so does what `see_json` returned. Each
+    // commit then takes up to twice the receipts.
     void record(bool is_recording) noexcept {
         if (seat_) seat_->record(is_recording);
     }

@@ -122,7 +122,7 @@ class replayer {
     void begin_case() {
         steps_.clear();
         agents_.clear();
-        recorded_.clear();
+        read_.clear();
         storage_.reset();
     }
     std::string make(const words &of, folugben::agent it) {
@@ -135,40 +135,28 @@ class replayer {
         steps_.insert_or_assign(number(of[0]), std::move(it));
         return std::to_string(start);
     }
-    // Commits; if the agent has moved on, without recording, as nothing was done then.
     std::string commit(const words &of) {
-        const std::uint32_t before = steps_.at(number(of[0])).number();
-        const bool has_moved = is_recording_ && own_version(of) != before;
-        folugben::outcome it = step(of).try_commit();
-        if (has_moved != (it.code == code::moved) && it.code != code::empty) return "moved on: " + std::to_string(has_moved);
-        if (it.code == code::moved) {
-            agent(of).record(false);
-            it = step(of).try_commit();
-            agent(of).record(true);
-        } else if (is_recording_ && it.code != code::empty && it.code != code::many) {
-            ++recorded_[number(of[0])];
-        }
+        const folugben::outcome it = step(of).try_commit();
         if (it.code == code::stale || it.code == code::clash) return agent(of).answer();
         folugben::detail::done(it.code);
         return member("fired", std::to_string(it.number));
     }
-    // How many reads were recorded by the agents that were returned.
-    std::uint64_t recorded() const {
+    std::string read(const words &of) {
+        std::string reading = agent(of).read_json(of[1]);
+        ++read_[number(of[0])];
+        return reading;
+    }
+    // How many reads of a journal were recorded by commits: those that no agent made by itself.
+    std::uint64_t recorded(const std::string &journal) const {
         std::uint64_t all = 0;
+        for (std::size_t at = 0; (at = journal.find(",\"call\":{\"read\":", at)) != std::string::npos; ++at) ++all;
         for (const auto &[number, agent] : agents_)
-            if (!agent.get()->slot.full && recorded_.contains(number)) all += recorded_.at(number);
+            if (!agent.get()->slot.full && read_.contains(number)) all -= read_.at(number);
         return all;
     }
     static std::string values(const std::string &reading) {
         const auto at = reading.find("\"values\":") + 9;
         return reading.substr(at, reading.size() - at - 1);
-    }
-    // The version of the agent's own state as it is, also if another agent took a newer one.
-    std::uint32_t own_version(const words &of) {
-        std::uint32_t version = 0;
-        std::size_t written = 0;
-        (void)asm_state(agent(of).get(), &version, nullptr, 0, &written);
-        return version;
     }
     std::string audit(const std::string &run) {
         folugben::auditor auditor;
@@ -201,7 +189,7 @@ class replayer {
     std::optional<folugben::storage> storage_;
     std::map<std::uint32_t, folugben::agent> agents_;
     std::map<std::uint32_t, folugben::step> steps_;
-    std::map<std::uint32_t, std::uint64_t> recorded_; // how many reads the commits of each agent recorded
+    std::map<std::uint32_t, std::uint64_t> read_; // how many reads each agent made by itself
     bool is_recording_;
     std::string journal_;
     refusal refused_;
@@ -238,7 +226,7 @@ class replayer {
         {"offer", [this](const words &of) { return step(of).offer_json(); }},
         {"commit", [this](const words &of) { return commit(of); }},
         {"close", [this](const words &) { return journal_ = storage_.value().close(), "null"; }},
-        {"journal", [this](const words &) { return check(journal_, recorded()); }},
+        {"journal", [this](const words &) { return check(journal_, recorded(journal_)); }},
         {"check", [this](const words &of) { return check(text(of[0]), 0); }},
         {"replay", [](const words &of) { return folugben::replay_json(text(of[0])); }},
         {"audit", [this](const words &of) { return audit(text(of[0])); }},

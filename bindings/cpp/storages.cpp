@@ -257,7 +257,8 @@ std::string reading(std::uint32_t number, const std::string &values) {
 const std::vector<std::string> VALUES = {"null", "true", "false", "-7", "9223372036854775807", R"("")", R"("a \"\\ \u0001")",
                                          R"({"list":[1,{"list":[]}]})", R"({"set":[null,1,"a"]})", R"({"bag":[[1,2],["a",4294967295]]})"};
 
-// Commits steps that get some places and put to one; returns the lines that a journal must have of what they got.
+// Commits steps that get some places and put to one; returns the lines that a journal must have of what those got that fired,
+// without their numbers.
 std::vector<std::string> recorded_steps(folugben::agent agent, std::uint64_t number) {
     std::vector<std::string> lines;
     std::uint64_t draw = number + 1;
@@ -279,9 +280,10 @@ std::vector<std::string> recorded_steps(folugben::agent agent, std::uint64_t num
             values.append(values.empty() ? "" : ",").append(value);
         }
         std::string line = within(R"({"agent":)", std::to_string(number), R"(,"call":{"read":[)");
-        lines.push_back(line.append(places).append(R"(]},"reply":)").append(reading(step.number(), values)).append("}"));
+        line.append(places).append(R"(]},"reply":{"values":[)").append(values).append("]}}");
         const folugben::outcome result = step.try_commit();
-        WANTED(result || (result.is_conflict() && result.code != code::moved));
+        WANTED(result || result.is_conflict());
+        if (result && !places.empty()) lines.push_back(line);
     }
     return lines;
 }
@@ -292,6 +294,19 @@ std::vector<std::string> lines_of(const std::string &journal, const std::string 
     for (std::size_t at = 0, end; (end = journal.find('\n', at)) != std::string::npos; at = end + 1)
         if (journal.compare(at, begin.size(), begin) == 0) lines.push_back(journal.substr(at, end - at));
     return lines;
+}
+
+// The reads of an agent that a journal has before its fired moves, without their numbers.
+std::vector<std::string> reads_of_fired(const std::string &journal, std::size_t agent) {
+    std::vector<std::string> reads;
+    std::string last;
+    for (std::string &line : lines_of(journal, within(R"({"agent":)", std::to_string(agent), ","))) {
+        const std::size_t at = line.find(R"("number":)");
+        if (line.find(R"("reply":{"fired":)") != std::string::npos && !last.empty()) reads.push_back(last);
+        last.clear();
+        if (line.find(R"("call":{"read":)") != std::string::npos) last = line.erase(at, line.find(',', at) + 1 - at);
+    }
+    return reads;
 }
 
 void journals_record_what_gets_return() {
@@ -307,38 +322,32 @@ void journals_record_what_gets_return() {
     const std::string journal = storage.close();
     WANTED(folugben::check(journal).is_legal);
     for (std::size_t i = 0; i < expected.size(); ++i)
-        WANTED(lines_of(journal, within(R"({"agent":)", std::to_string(i), R"(,"call":{"read")")) == expected[i]);
+        WANTED(reads_of_fired(journal, i) == expected[i]);
 }
 
-void moved_commits_are_conflicts() {
+// A commit whose agent has moved on within the step reads and fires, unless what it read was written.
+void moved_commits_fire() {
     folugben::storage storage(COUNT, 10);
     folugben::agent rival = storage.make_agent(1);
     storage.record(true);
     folugben::agent agent = storage.make_agent(0);
     const folugben::location count("count");
-    const auto go_on = [&] {
-        rival.fire_json(R"({"fire":[["put",["z"],1]],"reads":[]})");
+    const auto begin = [&](const char *written) {
+        folugben::step step = agent.begin();
+        step.push(folugben::instructions().put(folugben::location("y"), step.get(count)));
+        rival.fire_json(within(R"({"fire":[["put",[)", written, R"(],7]],"reads":[]})"));
         agent.follow();
+        return step;
     };
-    folugben::step step = agent.begin();
-    step.push(folugben::instructions().put(folugben::location("y"), step.get(count)));
-    go_on();
-    const folugben::outcome moved = step.try_commit();
-    WANTED(moved.code == code::moved && moved.is_conflict() && moved.number == 0);
-    WANTED(REFUSED(folugben::conflict, step.commit()).code() == code::moved);
-    agent.record(false);
-    WANTED(step.commit() == 2); // nothing was done
-    agent.record(true);
-    int tries = 0;
-    const auto played = agent.play([&](folugben::step &it) {
-        it.push(folugben::instructions().put(folugben::location("y"), it.get(count)));
-        if (tries++ < 2) go_on();
-    });
-    WANTED(played.number == 5 && played.retries == 2);
+    WANTED(begin(R"("z")").commit() == 2);
+    WANTED(REFUSED(folugben::conflict, begin(R"("count")").commit()).code() == code::stale);
+    folugben::step unread = agent.begin();
+    unread.push(folugben::instructions().put(folugben::location("y"), 5));
+    WANTED(unread.commit() == 4);
     const auto leave = [](folugben::agent released) { (void)released; };
     leave(std::move(agent));
     leave(std::move(rival));
-    const std::string read = R"({"agent":0,"call":{"read":[["count"]]},"reply":{"number":4,"values":[7]}})";
+    const std::string read = R"({"agent":0,"call":{"read":[["count"]]},"reply":{"number":1,"values":[7]}})";
     WANTED(lines_of(storage.close(), R"({"agent":0,"call":{"read")") == std::vector<std::string>{read});
     // Storages that go on do as this one, and agents that are checked out too.
     folugben::storage next = storage.next(1);
@@ -365,6 +374,6 @@ int main() {
     moved_objects_are_empty();
     threads_take_agents();
     journals_record_what_gets_return();
-    moved_commits_are_conflicts();
+    moved_commits_fire();
     std::puts("passed");
 }

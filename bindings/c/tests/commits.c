@@ -114,8 +114,6 @@ static void moved(void) {
     ANSWERS(ASM_MOVED, asm_step_scan(&agents[0], &step, TEXT("x"), OUT));
     ANSWERS(ASM_MOVED, asm_push(&agents[0], &step, TEXT("[]"), OUT));
     ANSWERS(ASM_MOVED, asm_extend(&agents[0], &step, TEXT("[['inc',['c'],1]]"), OUT));
-    asm_numbers numbers;
-    REQUIRE(asm_commit_recorded(&agents[0], &step, &numbers) == ASM_MOVED);
     REQUIRE(is_same(agents[0], was[0]) && is_same(step, was[1]) && asm_depth(&step) == depth);
 }
 
@@ -149,12 +147,12 @@ static void begins_another(void) {
 }
 
 /* An agent whose state has moved on neither gets nor pushes; what doesn't move it leaves the
- * step unchanged. A pop and a commit still work: the commit names everything at the step's
- * number. */
+ * step unchanged. A pop and both commits still work: they name everything at the step's number. */
 static void moved_agents(void) {
     void (*moves[])(void) = {reads_on,    follows_on, polls_agent,
                              fires_stale, fires_on,   begins_another};
-    for (size_t i = 0; i < sizeof moves / sizeof *moves; i++) {
+    enum { MOVES = sizeof moves / sizeof *moves };
+    for (size_t i = 0; i < 2 * MOVES; i++) {
         begin_with(8);
         gets("['x']", 0, "7");
         push("[['inc',['c'],1]]");
@@ -166,11 +164,11 @@ static void moved_agents(void) {
         fire(&agents[1], "[['put',['y'],1]]");
         REQUIRE(asm_learn(&agents[0], &agents[1]) == ASM_DONE && asm_seen(&agents[0]) == 1);
         gets("['c']", 0, "2");
-        moves[i]();
+        moves[i % MOVES]();
         moved();
         pop();
         moved();
-        fired(asm_seen(&agents[0]) + 1);
+        fired_by(i < MOVES ? asm_commit : asm_commit_recorded, asm_seen(&agents[0]) + 1);
         begins_at(asm_seen(&agents[0]));
         gets("['c']", asm_seen(&agents[0]), "1");
         end_all();
@@ -304,14 +302,14 @@ static void steps_of_another_storage(void) {
     end_all();
 }
 
-/* The receipt of the read stays if the fire is refused, and the step may be begun again. */
+/* The receipt of the read stays if the fire is refused. Nothing is read that is stale by then, or
+ * if nothing is named. */
 static void recorded_refusals(void) {
     begin_with(3);
     gets("['x']", 0, "7");
     fire(&agents[1], "[['put',['x'],70]]");
     refused_by(asm_commit_recorded, ASM_STALE, "{'stale':['x']}");
-    /* The commit has followed what made it stale. */
-    records_nothing(ASM_MOVED, "{'stale':['x']}");
+    refused_by(asm_commit_recorded, ASM_STALE, "{'stale':['x']}");
     begins_at(1);
     push("[['add',['s'],2]]");
     fire(&agents[1], "[['put',['s'],0]]");
@@ -321,10 +319,9 @@ static void recorded_refusals(void) {
     gets("['x']", 3, "70");
     refused_by(asm_commit_recorded, ASM_FULL, "'full'");
     refused_by(asm_commit_recorded, ASM_FULL, "'full'");
-    journal_is("{'agent':0,'call':{'read':[['x']]},'reply':{'number':0,'values':[7]}}\n"
-               "{'agent':1,'call':{'fire':[['put',['x'],70]],'reads':[]},'reply':{'fired':1}}\n"
+    journal_is("{'agent':1,'call':{'fire':[['put',['x'],70]],'reads':[]},'reply':{'fired':1}}\n"
                "{'agent':0,'call':{'fire':[],'reads':[[['x'],0]]},'reply':{'stale':['x']}}\n"
-               "{'agent':0,'call':{'read':[]},'reply':{'number':1,'values':[]}}\n"
+               "{'agent':0,'call':{'fire':[],'reads':[[['x'],0]]},'reply':{'stale':['x']}}\n"
                "{'agent':1,'call':{'fire':[['put',['s'],0]],'reads':[]},'reply':{'fired':2}}\n"
                "{'agent':0,'call':{'fire':[['add',['s'],2]],'reads':[]},"
                "'reply':{'clash':[['s'],'Kind']}}\n"
@@ -333,7 +330,7 @@ static void recorded_refusals(void) {
                "{'agent':0,'call':{'fire':[],'reads':[[['x'],3]]},'reply':'full'}\n"
                "{'agent':0,'call':{'read':[['x']]},'reply':{'number':3,'values':[70]}}\n"
                "{'agent':0,'call':{'fire':[],'reads':[[['x'],3]]},'reply':'full'}\n",
-               11, 3);
+               10, 3);
     end_all();
 }
 

@@ -81,20 +81,17 @@ static inline void fired_by(commit_call *commit, uint32_t move) {
 
 static inline void fired(uint32_t move) { fired_by(asm_commit, move); }
 
-/* The recorded commit returns ASM_MOVED or ASM_MANY, and nothing changes: the agent has no
- * further receipt, has seen no more, and its state is unchanged. */
-static inline void records_nothing(int32_t wanted, const char *last_answer) {
+/* The recorded commit returns ASM_MANY, and nothing changes: the agent has no further receipt, and
+ * has seen no more. */
+static inline void records_nothing(void) {
     asm_slot was[2] = {agents[0].slot, step.slot};
     asm_numbers numbers = {9, 9, 9};
     uint32_t depth = asm_depth(&step), won = asm_won(&agents[0]), seen = asm_seen(&agents[0]);
-    REQUIRE(asm_commit_recorded(&agents[0], &step, &numbers) == wanted);
+    REQUIRE(asm_commit_recorded(&agents[0], &step, &numbers) == ASM_MANY);
     REQUIRE(numbers.fired == 0 && numbers.from == 0 && numbers.to == 0);
     REQUIRE(is_same(agents[0], was[0]) && is_same(step, was[1]) && asm_depth(&step) == depth);
     REQUIRE(asm_won(&agents[0]) == won && asm_seen(&agents[0]) == seen);
-    if (last_answer)
-        WRITES(ASM_DONE, last_answer, asm_answer(&agents[0], OUT));
-    else
-        ANSWERS(ASM_NO_ANSWER, asm_answer(&agents[0], OUT));
+    ANSWERS(ASM_NO_ANSWER, asm_answer(&agents[0], OUT));
 }
 
 /* Everything after the header in the journal of both agents. */

@@ -2,7 +2,7 @@
  * bytes: none is refused memory, the answers are right, and no cost grows faster than the size. */
 #include "large.h"
 
-/* What one addition to a large set or bag costs: it copies the value. */
+/* What one addition to a large set or bag costs: it copies the list of the value's chunks. */
 #define ADDITION LINEAR
 
 enum { AGENTS = 2, KINDS = 3 };

@@ -233,7 +233,8 @@ static void no_trace(void) {
 }
 
 /* The journal has the values that the step read before its fire: of its gets, of what its moves
- * depend on, and of what a refusal revealed, and not those of the function that it scanned. */
+ * depend on, and of what a refusal revealed, and not those of the function that it scanned. A step
+ * that names nothing has no read. */
 static void recorded_reads(void) {
     begin_with(8);
     gets("['y']", 0, "9");
@@ -260,10 +261,9 @@ static void recorded_reads(void) {
                "'reads':[[['s'],0],[['x'],0],[['y'],0]]},'reply':{'fired':1}}\n"
                "{'agent':0,'call':{'read':[['none'],['x']]},'reply':{'number':1,'values':[null,9]}}\n"
                "{'agent':0,'call':{'fire':[],'reads':[[['none'],1],[['x'],1]]},'reply':{'fired':2}}\n"
-               "{'agent':0,'call':{'read':[]},'reply':{'number':2,'values':[]}}\n"
                "{'agent':0,'call':{'fire':[['put',['x'],0]],'reads':[]},'reply':{'fired':3}}\n"
                "{'agent':0,'call':{'fire':[],'reads':[[['x'],3]]},'reply':{'fired':4}}\n",
-               7, 4);
+               6, 4);
     end_all();
 }
 
@@ -286,63 +286,76 @@ static void false_records(void) {
     end_all();
 }
 
-/* If the agent's own state has moved on, or another agent's state is there, the step is begun
- * again. */
-static void records_of_other_locations(void) {
+/* An agent that has moved on, gave its state away or learnt more records what its step read, at the
+ * number of what it has then seen; or it reads nothing, as that was written meanwhile. */
+static void records_of_moved_agents(void) {
     uint32_t number;
     begin_with(8);
     gets("['x']", 0, "7");
     push("[['put',['y'],1]]");
     fire(&agents[1], "[['put',['c'],1]]");
     REQUIRE(asm_follow(&agents[0], &number) == ASM_DONE && number == 1);
-    records_nothing(ASM_MOVED, NULL);
-    REQUIRE(asm_read(&agents[0], TEXT("[]")) == ASM_DONE);
-    records_nothing(ASM_MOVED, "{'number':1,'values':[]}");
-    begins_at(1);
-    gets("['x']", 1, "7");
-    push("[['put',['y'],1]]");
     fired_by(asm_commit_recorded, 2);
     begins_at(2);
+    gets("['y']", 2, "1");
     REQUIRE(asm_take_state(&agents[1], &agents[0]) == ASM_DONE);
-    records_nothing(ASM_MOVED, "{'fired':2}");
-    begins_at(2);
     fired_by(asm_commit_recorded, 3);
+    begins_at(3);
+    gets("['x']", 3, "7");
+    fire(&agents[1], "[['put',['c'],2]]");
+    REQUIRE(asm_learn(&agents[0], &agents[1]) == ASM_DONE);
+    fired_by(asm_commit_recorded, 5);
+    begins_at(5);
+    gets("['x']", 5, "7");
+    fire(&agents[1], "[['put',['x'],7]]");
+    REQUIRE(asm_learn(&agents[0], &agents[1]) == ASM_DONE);
+    refused_by(asm_commit_recorded, ASM_STALE, "{'stale':['x']}");
     journal_is("{'agent':1,'call':{'fire':[['put',['c'],1]],'reads':[]},'reply':{'fired':1}}\n"
-               "{'agent':0,'call':{'read':[]},'reply':{'number':1,'values':[]}}\n"
                "{'agent':0,'call':{'read':[['x']]},'reply':{'number':1,'values':[7]}}\n"
-               "{'agent':0,'call':{'fire':[['put',['y'],1]],'reads':[[['x'],1]]},"
+               "{'agent':0,'call':{'fire':[['put',['y'],1]],'reads':[[['x'],0]]},"
                "'reply':{'fired':2}}\n"
-               "{'agent':0,'call':{'read':[]},'reply':{'number':2,'values':[]}}\n"
-               "{'agent':0,'call':{'fire':[],'reads':[]},'reply':{'fired':3}}\n",
-               6, 3);
+               "{'agent':0,'call':{'read':[['y']]},'reply':{'number':2,'values':[1]}}\n"
+               "{'agent':0,'call':{'fire':[],'reads':[[['y'],2]]},'reply':{'fired':3}}\n"
+               "{'agent':1,'call':{'fire':[['put',['c'],2]],'reads':[]},'reply':{'fired':4}}\n"
+               "{'agent':0,'call':{'read':[['x']]},'reply':{'number':4,'values':[7]}}\n"
+               "{'agent':0,'call':{'fire':[],'reads':[[['x'],3]]},'reply':{'fired':5}}\n"
+               "{'agent':1,'call':{'fire':[['put',['x'],7]],'reads':[]},'reply':{'fired':6}}\n"
+               "{'agent':0,'call':{'fire':[],'reads':[[['x'],5]]},'reply':{'stale':['x']}}\n",
+               10, 6);
     end_all();
 }
 
-/* The agent's state is at the step's number, and after a fire of its own. */
-static void records_of_older_versions(void) {
+/* A read comes behind a fire of the agent's own, which its state hasn't followed. */
+static void records_behind_own_fires(void) {
     begin_with(8);
     gets("['x']", 0, "7");
     fire(&agents[0], "[['put',['y'],1]]");
     gets("['x']", 0, "7");
-    records_nothing(ASM_MOVED, "{'fired':1}");
-    fired(2);
+    fired_by(asm_commit_recorded, 2);
     begins_at(2);
     gets("['y']", 2, "1");
     fired_by(asm_commit_recorded, 3);
+    journal_is("{'agent':0,'call':{'fire':[['put',['y'],1]],'reads':[]},'reply':{'fired':1}}\n"
+               "{'agent':0,'call':{'read':[['x']]},'reply':{'number':1,'values':[7]}}\n"
+               "{'agent':0,'call':{'fire':[],'reads':[[['x'],0]]},'reply':{'fired':2}}\n"
+               "{'agent':0,'call':{'read':[['y']]},'reply':{'number':2,'values':[1]}}\n"
+               "{'agent':0,'call':{'fire':[],'reads':[[['y'],2]]},'reply':{'fired':3}}\n",
+               5, 3);
     end_all();
 }
 
-/* One place too many is reported before anything else, also of an agent that has moved. */
+/* One place too many is reported before the agent polls, also of one that has moved. */
 static void recorded_places(void) {
     uint32_t number;
     begin_at_shelf();
     takes_places(256);
     push("[['inc',['c'],1]]");
     ANSWERS(ASM_DONE, asm_extend(&agents[0], &step, TEXT("[['inc',['c'],1]]"), OUT));
-    records_nothing(ASM_MANY, NULL);
+    records_nothing();
     fire(&agents[1], "[]");
+    records_nothing();
     REQUIRE(asm_follow(&agents[0], &number) == ASM_DONE && number == 1);
-    records_nothing(ASM_MANY, NULL);
+    records_nothing();
     refused(ASM_MANY, NULL);
     for (uint32_t scans = 0; scans < 2; scans++) {
         begins_at(1 + scans);
@@ -373,8 +386,8 @@ int main(void) {
     no_trace();
     recorded_reads();
     false_records();
-    records_of_other_locations();
-    records_of_older_versions();
+    records_of_moved_agents();
+    records_behind_own_fires();
     recorded_places();
     puts("passed");
     return 0;

@@ -185,13 +185,12 @@ public sealed interface Actor extends AutoCloseable permits Agent, RunAgent, Sha
          * <ul>
          *   <li>a named location was written since it was read,
          *   <li>64 attempts to append failed,
-         *   <li>the updates of a step clash, as they do only with what was written since it began,
-         *   <li>an agent that records has moved past the version of the step (MOVED), or
+         *   <li>the updates of a step clash, as they do only with what was written since it began, or
          *   <li>the part of a run is full, as another step goes on in the next one.
          * </ul>
          */
         public boolean shouldRetry() {
-            return isStale() || code == Code.BUSY || (isOfStep && (isClash() || code == Code.MOVED))
+            return isStale() || code == Code.BUSY || (isOfStep && isClash())
                     || (isOfRun && code == Code.FULL);
         }
 
@@ -210,9 +209,8 @@ public sealed interface Actor extends AutoCloseable permits Agent, RunAgent, Sha
          *
          * @throws FolugbenException as a {@link StaleException}, {@link ClashException}, {@link
          *         FullException} or {@link BusyException} if it is another reply; of a step as a
-         *         {@link CommitClashException} for a {@link ClashException}, or as a {@link
-         *         CommitMovedException}; of a run as a {@link PastException} for a {@link
-         *         FullException}
+         *         {@link CommitClashException} for a {@link ClashException}; of a run as a {@link
+         *         PastException} for a {@link FullException}
          */
         public long orThrow() {
             if (code != Code.DONE)

@@ -29,12 +29,12 @@ public final class Agent extends AgentCalls implements Actor {
     /**
      * Has each commit of a step record what the step read, or not, which is the default.
      *
-     * <p>A commit that records first adds a receipt of a read: the locations that its move names,
-     * with their values at the step's version. So the journal shows what the move was computed
-     * from, and {@link Storage#check} judges that too. What {@link Step#scan} found stays out of
-     * the journal, and so does what {@link Step#see} returned. Each commit then takes about twice
-     * the receipts. If this agent has moved past the step's version, as by {@link #follow} within
-     * the step, the commit is a conflict ({@link CommitMovedException}), and play begins again.
+     * <p>A commit that records first polls, and adds a receipt of a read: the locations that its
+     * move names, which still have their values at the step's version. So the journal shows what
+     * the move was computed from, and {@link Storage#check} judges that too. No read is added if
+     * the move names no location, or if one of them was written since. What {@link Step#scan}
+     * found stays out of the journal, and so does what {@link Step#see} returned. Each commit then
+     * takes up to twice the receipts.
      *
      * @return this agent
      */

@@ -55,7 +55,7 @@ abstract sealed class AgentCalls permits Agent {
                 answer = lastAnswer();
             }
             case FULL -> unfired++;
-            case BUSY, MOVED -> {}
+            case BUSY -> {}
             default -> expect(code);
         }
         return new Actor.Reply(code, move, from, to, answer, isOfStep, chain != null);
@@ -76,7 +76,7 @@ abstract sealed class AgentCalls permits Agent {
             return Code.of(Calls.asm_commit(slot.at, step, room.numbers()));
         Code code = Code.of(Calls.asm_commit_recorded(slot.at, step, room.numbers()));
         switch (code) {
-            case DONE, STALE, CLASH, FULL, BUSY -> unfired++; // the receipt of the read
+            case DONE, STALE, CLASH, FULL, BUSY -> unfired++; // the receipt of the read, if there is one
             default -> {}
         }
         return code;

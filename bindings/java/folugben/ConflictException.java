@@ -6,8 +6,7 @@ package folugben;
  * <p>It is the one exception that a loop by hand catches.
  */
 public abstract sealed class ConflictException extends FolugbenException
-        permits BusyException, CommitClashException, CommitMovedException, PastException,
-                StaleException {
+        permits BusyException, CommitClashException, PastException, StaleException {
     private static final long serialVersionUID = 1;
 
     ConflictException(Code code, long number, String detail, String where, String answer) {

@@ -52,7 +52,6 @@ public sealed class FolugbenException extends RuntimeException
                                            : new ClashException(reply.answer());
             case FULL -> reply.isOfRun() ? PastException.full() : new FullException();
             case BUSY -> new BusyException(reply.from(), reply.to());
-            case MOVED -> new CommitMovedException();
             default -> of(reply.code(), 0, "", "");
         };
     }

@@ -66,7 +66,7 @@ public final class RunAgent implements Actor {
     /**
      * Has each commit of a step record its reads or not, as {@link Agent#record} does.
      *
-     * <p>A commit then has two receipts, which both count for the end of a part.
+     * <p>A commit then counts as two receipts for the end of a part.
      *
      * @return this agent
      */

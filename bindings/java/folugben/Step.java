@@ -368,8 +368,8 @@ public sealed class Step extends StepCalls implements AutoCloseable permits Shar
      * Commits as tryCommit does, and returns the number of the fired move, from 1 up.
      *
      * @throws ConflictException if the step must be begun again, as {@link Agent#play} does: as a
-     *         {@link StaleException}, {@link BusyException}, {@link CommitClashException}, {@link
-     *         CommitMovedException} or {@link PastException}
+     *         {@link StaleException}, {@link BusyException}, {@link CommitClashException} or {@link
+     *         PastException}
      * @throws FolugbenException as a {@link FullException} or {@link ManyException}
      */
     public long commit() {

@@ -110,7 +110,7 @@ static PyObject *step_offer_text(Step *self, PyObject *Py_UNUSED(none))
     return offer(self, 1);
 }
 
-/* Commits, and writes the answer of a refusal. Only a commit that records can answer that the agent has moved on. */
+/* Commits, and writes the answer of a refusal. */
 static int32_t commit_and_answer(Step *self, asm_numbers *numbers, Room *room)
 {
     Agent *agent = self->agent;
@@ -145,7 +145,7 @@ int64_t fire_step(Step *self, int is_try)
         return (int64_t)(agent->base + numbers.fired);
     }
     self->is_tried |= code != ASM_EMPTY;
-    int is_vain = is_try && (code == ASM_STALE || code == ASM_CLASH || code == ASM_BUSY || code == ASM_MOVED);
+    int is_vain = is_try && (code == ASM_STALE || code == ASM_CLASH || code == ASM_BUSY);
     if (!is_vain && code == ASM_EMPTY)
         refuse_step(self, code);
     else if (!is_vain)
@@ -288,8 +288,8 @@ static PyMethodDef methods[] = {
         "commit($self, /)\n--\n\n"
         "Fire one move that does what the pushed moves do in turn, and return its number. The step is over then.\n\n"
         "Raises:\n"
-        "    ConflictError: begin the step again. It is a `StaleError`, a `BusyError`, a `CommitClashError` if the present values don't\n"
-        "        accept an update, or a `CommitMovedError` if it records and its agent has moved past the step's number.\n"
+        "    ConflictError: begin the step again. It is a `StaleError`, a `BusyError`, or a `CommitClashError` if the present values\n"
+        "        don't accept an update.\n"
         "    FullError: the number of fired moves has reached the capacity.\n"
         "    ManyError: the fire would name more than 256 locations and functions."},
     {"try_commit", (PyCFunction)step_try_commit, METH_NOARGS,

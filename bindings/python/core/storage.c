@@ -319,8 +319,8 @@ static PyType_Slot slots[] = {
                 "If `journal` names a file, the end of the `with` writes the journal there, also after an exception. All agents must be\n"
                 "returned before.\n\n"
                 "With `record` each commit also records the tracked reads of its step, as a read before the fire, and `check` validates them.\n"
-                "The journal never records what scans returned. Such a commit raises `CommitMovedError` if its agent has moved past the step's\n"
-                "number, and `play` begins again. `next` and `go_on` open a storage with the same `record`."},
+                "The journal never records what scans returned, nor what a step read that is stale by then. `next` and `go_on` open a storage\n"
+                "with the same `record`."},
     {Py_tp_new, storage_new}, {Py_tp_init, storage_init}, {Py_tp_dealloc, storage_dealloc}, {Py_tp_methods, methods},
     {Py_mp_subscript, storage_at}, {Py_tp_members, members}, {Py_tp_getset, holder_getters}, {Py_tp_repr, storage_repr}, {0}};
 PyType_Spec storage_spec = {"folugben.Storage", sizeof(Storage), 0, Py_TPFLAGS_DEFAULT | Py_TPFLAGS_BASETYPE, slots};

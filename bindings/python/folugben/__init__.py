@@ -24,8 +24,7 @@ An agent may also read locations and fire moves that name what they depend on. T
 
 Of a step, the journal records only the fire. With `Storage(.., record=True)`, or `Run(.., record=True)`, each commit also
 records the step's tracked reads as a read before the fire, so that `check` and `audit` validate the values that `get`
-returned. The journal never records what scans returned. A commit that records raises `CommitMovedError` if its agent has
-moved on since the step began. It is a `ConflictError`, and `play` begins again.
+returned. The journal never records what scans returned, nor what a step read that is stale by then.
 
 The types `Value`, `Element`, `Place` and `Update` are for annotations: a location as a tuple or a list is a Place.
 
@@ -82,7 +81,7 @@ except ImportError as error:
 
 from ._auditor import Auditor, Counts
 from ._core import Agent, Location, Move, Played, Step, Storage
-from ._errors import BadJournalError, BrokenError, BusyError, ClashError, CommitClashError, CommitMovedError, ConflictError
+from ._errors import BadJournalError, BrokenError, BusyError, ClashError, CommitClashError, ConflictError
 from ._errors import DamagedError, DeepError, Error, FullError, LargeError, ManyError, MismatchError, MissingError, MovedError, OverError
 from ._errors import PastError, StaleError, TooLongError, UnknownError, error_text, explain
 from ._explore import DiffersError, Explored, explore
@@ -101,7 +100,7 @@ from ._types import Element, Place, Update, Value
 __version__ = "0.2.0"
 
 __all__ = [
-    "Agent", "Auditor", "BadJournalError", "BrokenError", "BusyError", "ClashError", "Code", "CommitClashError", "CommitMovedError",
+    "Agent", "Auditor", "BadJournalError", "BrokenError", "BusyError", "ClashError", "Code", "CommitClashError",
     "ConflictError", "Counts", "DamagedError", "DeepError", "DiffersError", "Element", "EndlessError", "Error", "Explored", "ForkedError",
     "FullError", "LargeError", "Location", "ManyError", "MismatchError", "MissingError", "Move", "MovedError", "NestedError", "OverError",
     "PastError", "Place", "Played", "Run", "RunAgent", "SharedAgent", "SharedRun", "StaleError", "Step", "Storage", "TextForm", "TooLongError",

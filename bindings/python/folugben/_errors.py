@@ -150,13 +150,6 @@ class MovedError(Error):
     """The agent has moved past the number of the step: begin another step."""
 
 
-class CommitMovedError(MovedError, ConflictError):
-    """A commit records the tracked reads of its step, and its agent has moved on.
-
-    The agent moved on since the step began; nothing was done.
-    """
-
-
 class PastError(ConflictError):
     """The part of the step or of a declared read has ended: begin again.
 

@@ -9,7 +9,7 @@ import sys
 from typing import TYPE_CHECKING, Any, NoReturn
 
 from . import _core
-from ._errors import BusyError, ClashError, CommitClashError, CommitMovedError, Error, MissingError, OverError
+from ._errors import BusyError, ClashError, CommitClashError, Error, MissingError, OverError
 from ._errors import ahead, expect, explain, refusal
 from ._guards import ForkedError
 from ._library import Code, INC, TEXT, TextForm
@@ -202,7 +202,7 @@ def answer_refused(code: int, answer: bytes, from_: int, to: int, clash: type[Cl
 
 def commit(code: int, answer: bytes, from_: int, to: int) -> None:
     answer_refused(code, answer, from_, to, CommitClashError)
-    expect(code, CommitMovedError if code == Code.MOVED else None)
+    expect(code)
 
 
 def push(code: int, move: bytes, answer: bytes, step: "Step") -> None:

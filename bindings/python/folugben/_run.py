@@ -49,7 +49,7 @@ class Run:
     - `every` seconds have passed after its first move, if `every` is given.
 
     With `record` each commit also records the tracked reads of its step, as for a `Storage`: an audit then validates them too.
-    Such a commit leaves two receipts, so the default of `receipts` is four times the number of moves.
+    Such a commit counts as two receipts, so the default of `receipts` is four times the number of moves.
 
         with Run("count.run", init=[[["count"], 0]]) as run, run.agent(0) as agent:
             agent.play(lambda step: step.push([["inc", ["count"], 1]]))

@@ -70,21 +70,32 @@ class Watch:
     def closed(self, storage, journal):
         """Check the journal of a storage, and return it."""
         if storage.record:
-            header, *events = journal.splitlines(keepends=True)
-            reads = [at for at, line in enumerate(events) if b'"call":{"read"' in line]
-            self._recorded[journal] = len(reads) - self._reads[storage]
-            for at in reads:
-                events[at] = self._with_values_read(storage, json.loads(events[at]))
+            header, *lines = journal.splitlines(keepends=True)
+            self._recorded[journal] = -self._reads[storage]
+            next_of = {}
+            for at, event in reversed([*enumerate(map(json.loads, lines))]):
+                if "read" in event["call"]:
+                    self._recorded[journal] += 1
+                    lines[at] = self._with_values_read(storage, event, next_of.get(event["agent"]))
+                next_of[event["agent"]] = event
             try:
-                self._check(b"".join([header, *events]))
+                self._check(b"".join([header, *lines]))
             except folugben.BadJournalError as bad:
-                self.faults.append(f"{bad}: {events[bad.call or 0]}")
+                self.faults.append(f"{bad}: {lines[bad.call or 0]}")
         return journal
 
-    def _with_values_read(self, storage, event):
-        """Return the line of a read, with what was read."""
+    def _with_values_read(self, storage, event, following):
+        """Return the line of a read, with what was read.
+
+        If the agent's next fire names what the read has, and isn't stale, these were read at the number of its names.
+        """
         reply = event["reply"]
-        values_read = self._values_read.get((storage, reply["number"]), {})
+        number = reply["number"]
+        if following is not None and "fire" in following["call"] and "stale" not in following["reply"]:
+            names = following["call"]["reads"]
+            if names and [at for at, _ in names] == event["call"]["read"]:
+                number = names[0][1]
+        values_read = self._values_read.get((storage, number), {})
         for at, where in enumerate(event["call"]["read"]):
             name = repr(place(where))
             if name in values_read:
@@ -107,9 +118,6 @@ class Recorded(unittest.TestCase):
 
     Calls are counted without the reads that commits record.
     """
-
-    # What another commit of a step raises if its agent has moved on.
-    again = folugben.CommitMovedError
 
     def setUp(self):
         self.watch, self.patches = Watch(), contextlib.ExitStack()

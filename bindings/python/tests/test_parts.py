@@ -18,8 +18,6 @@ from threads import in_threads
 
 
 class Parts(Rooms):
-    again = StaleError
-
     def test_agents_in_threads_pass_from_part_to_part(self):
         agents, times, numbers = 4, 300, [[] for _ in range(4)]
 
@@ -60,15 +58,14 @@ class Parts(Rooms):
                 step.push([["inc", COUNT, 1]])
                 # It is stale too.
                 self.assertEqual((step.get(AT), step.try_commit(), step.fired), (1, 0, 0))
-                self.assertRaises(self.again, step.commit)
+                self.assertRaises(StaleError, step.commit)
             self.assertEqual(slow.play(raised), (13, None))
             with slow.step() as step:
                 step.push([["inc", COUNT, 1]])
                 for _ in range(12):
                     quick.play(raised)
                 self.assertEqual((step.get([["x"]]), step.try_commit(), step.fired), ([None], 0, 0))
-                past = (PastError, "begin another step") if self.again is StaleError else (self.again, "another number of moves")
-                with self.assertRaisesRegex(*past) as caught:
+                with self.assertRaisesRegex(PastError, "begin another step") as caught:
                     step.commit()
                 self.assertIsInstance(caught.exception, ConflictError)
             with slow.step() as step:

@@ -8,7 +8,7 @@ from collections import Counter
 
 import folugben
 import own
-from folugben import ClashError, CommitMovedError, ConflictError, Error, Location, ManyError, MovedError, OverError
+from folugben import ClashError, Error, Location, ManyError, MovedError, OverError
 from folugben import StaleError, Storage, _refusals, check
 
 COUNT = [["count"]]
@@ -24,8 +24,6 @@ def memory():
 
 
 class Steps(unittest.TestCase):
-    again = StaleError
-
     def setUp(self):
         init = [[["count"], 0], [["bag"], {"bag": [["e", 1]]}], [["f", 1], 1], [["f", 2], 2]]
         self.storage = Storage(init, 50)
@@ -101,7 +99,7 @@ class Steps(unittest.TestCase):
         self.assertEqual(self.agent.answer(), {"stale": ("count",)})
         for call, *arguments in [(step.get, COUNT), (step.scan, "f"), (step.push, []), (step.extend, [])]:
             self.assertRaises(MovedError, call, *arguments)
-        self.assertRaises(self.again, step.commit)
+        self.assertRaises(StaleError, step.commit)
         self.assertEqual(step.depth, 1)
         with self.agent.step() as again:
             self.assertEqual((again.number, again.get(COUNT)), (1, [5]))
@@ -290,7 +288,7 @@ class RecordedSteps(own.Recorded, Steps):
         values = [{"bag": [["e", 1]]}, 0, 2, None]
         self.assertEqual([(it["agent"], it["call"].get("read"), it["reply"]) for it in events], [
             (0, places, {"number": 0, "values": values}), (0, None, {"fired": 1}),
-            (0, [["count"]], {"number": 1, "values": [0]}), (1, None, {"fired": 2}), (0, None, {"stale": ["count"]}),
+            (1, None, {"fired": 2}), (0, None, {"stale": ["count"]}),
         ])
         self.assertEqual(events[1]["call"], {"fire": put(7, "g"), "reads": [[at, 0] for at in places]})
         self.assertEqual(folugben.check(journal), (3, 2))
@@ -321,31 +319,33 @@ class RecordedSteps(own.Recorded, Steps):
         self.watch.faults.clear()
         self.assertRegex(fault, "call 4, counted from 0.*true")
 
-    def test_a_commit_whose_agent_has_moved_on_is_begun_again(self):
+    def test_a_commit_whose_agent_has_moved_on_records_and_fires(self):
         for limits in ({}, {"tries": 5}):
             tries = []
 
             def rule(step):
                 tries.append(step["count"])
                 step.put("count", tries[-1] + 1)
-                if len(tries) < 3:
-                    self.rival.fire([])
-                    self.agent.follow()
+                self.rival.fire([["put", ["count"], 7]] if len(tries) < 3 else [])
+                self.agent.follow()
 
             number = self.storage.moves()
             played = self.agent.play(rule, **limits)
-            self.assertEqual((played.number, played.retries), (number + 3, 2))
-        with self.assertRaises(CommitMovedError):
-            self.agent.play(lambda step: (step.put("count", 1), self.rival.fire([]), self.agent.follow()), tries=2)
+            self.assertEqual((played.number, played.retries, tries[1:]), (number + 4, 2, [7, 7]))
         first, second = self.agent.step(), self.agent.step()
         first.push(put(1))
         second.push(put(2))
-        moves = second.commit()
-        with self.assertRaises(ConflictError) as caught:
-            first.commit()
-        self.assertEqual((type(caught.exception), caught.exception.code), (CommitMovedError, folugben.Code.MOVED))
-        self.assertIsInstance(caught.exception, MovedError)
-        self.assertEqual((first.try_commit(), first.depth, self.storage.moves()), (0, 1, moves))
+        self.assertEqual((second.commit() + 1, first.commit()), (self.storage.moves(), self.storage.moves()))
+        with self.agent.step() as step:
+            step["count"]
+            self.rival.fire(put(5))
+            self.agent.follow()
+            self.assertRaises(StaleError, step.commit)
+        self.agent.give()
+        self.rival.give()
+        events = list(map(json.loads, self.storage.close_journal().splitlines()[1:]))
+        reads = [(at, it["reply"]) for at, it in enumerate(events) if "read" in it["call"]]
+        self.assertEqual(reads, [(5, {"number": 3, "values": [7]}), (12, {"number": 7, "values": [7]})])
 
     def test_a_storage_that_continues_records_too(self):
         with Storage({"x": 0}, 2, record=True) as first:

@@ -70,10 +70,11 @@ impl Agent {
 
     /// Has each commit of a step record what the step read, or not, which is the default.
     ///
-    /// A commit that records first adds a receipt of a read: the locations that its move names, with their values at the step's
-    /// version. So the journal shows what the move was computed from, and [`Journal::check`](crate::Journal::check) judges that
-    /// too. What [`Step::scan`] found stays out of the journal, and so does what [`Step::see`] returned. Each commit then takes
-    /// about twice the receipts.
+    /// A commit that records first polls, and adds a receipt of a read: the locations that its move names, which still have their
+    /// values at the step's version. So the journal shows what the move was computed from, and
+    /// [`Journal::check`](crate::Journal::check) judges that too. No read is added if the move names no location, or if one of
+    /// them was written since. What [`Step::scan`] found stays out of the journal, and so does what [`Step::see`] returned. Each
+    /// commit then takes up to twice the receipts.
     ///
     /// ```
     /// use folugben::{Error, Storage};

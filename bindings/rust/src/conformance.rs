@@ -61,9 +61,8 @@ struct Replayer {
     is_recording: bool,
     storage: Option<Storage>,
     agents: BTreeMap<u8, Agent>,
-    /// The number of moves at which each agent's step began, and how many reads its commits recorded.
-    starts: BTreeMap<u8, u64>,
-    recorded: BTreeMap<u8, u64>,
+    /// How many reads each agent made by itself.
+    read: BTreeMap<u8, u64>,
     journal: Option<Journal>,
 }
 
@@ -78,27 +77,11 @@ impl Replayer {
         *self = Replayer { storage: Some(storage), ..Replayer::new(is_recording) };
     }
 
-    /// Commits; if the agent has moved on, without recording, as nothing was done then.
-    fn commit(&mut self, number: u8) -> Answer {
-        let (is_recording, start) = (self.is_recording, self.starts.get(&number).copied());
-        let agent = self.agent(number)?;
-        let has_moved = is_recording && Some(agent.peek(&[])?.number.get()) != start;
-        let mut result = commit(agent);
-        let is_moved = result == Err(Error::Unknown(sys::MOVED));
-        assert!(has_moved == is_moved || result == Err(Error::Unknown(sys::EMPTY)), "{result:?}");
-        if is_moved {
-            agent.set_recording(false);
-            result = commit(agent);
-            agent.set_recording(true);
-        } else if is_recording && !matches!(result, Err(Error::Unknown(sys::EMPTY) | Error::Many(_))) {
-            *self.recorded.entry(number).or_default() += 1;
-        }
-        Ok(fired(result?.into()))
-    }
-
-    /// How many reads were recorded by the agents that were returned.
-    fn recorded(&self) -> u64 {
-        self.recorded.iter().filter(|(number, _)| !self.agents.contains_key(number)).map(|(_, count)| count).sum()
+    /// How many reads of the journal were recorded by commits: those that no agent made by itself.
+    fn recorded(&self, journal: &Journal) -> u64 {
+        let reads = String::from_utf8_lossy(journal.as_bytes()).matches(r#","call":{"read":"#).count() as u64;
+        let own = self.read.iter().filter(|(number, _)| !self.agents.contains_key(number));
+        reads - own.map(|(_, count)| count).sum::<u64>()
     }
 
     fn storage(&self) -> &Storage {
@@ -134,7 +117,10 @@ impl Replayer {
             }
             "moves" => return Ok(self.storage().moves().to_string()),
             "close" => self.journal = Some(self.storage().close()?),
-            "journal" => return checked(self.journal.as_ref().unwrap(), self.recorded()),
+            "journal" => {
+                let journal = self.journal.as_ref().unwrap();
+                return checked(journal, self.recorded(journal));
+            }
             "check" => return checked(&next().text().unwrap().into_bytes().into(), 0),
             "replay" => {
                 let journal = Journal::from(next().text().unwrap().into_bytes());
@@ -167,6 +153,9 @@ impl Replayer {
             "read" | "peek" => {
                 let (places, agent) = (places(next())?, self.agent(number)?);
                 let result = if name == "read" { agent.read(&places)? } else { agent.peek(&places)? };
+                if name == "read" {
+                    *self.read.entry(number).or_default() += 1;
+                }
                 return Ok(format!("{{\"number\":{},\"values\":{}}}", result.number, result.values.as_slice().json()));
             }
             "fire" => {
@@ -200,11 +189,10 @@ impl Replayer {
                 let step = self.agent(number)?.step()?;
                 let start = step.number();
                 mem::forget(step);
-                self.starts.insert(number, start.get());
                 return Ok(start.to_string());
             }
             "end" => self.agent(number)?.slots.end_step(),
-            "commit" => return self.commit(number),
+            "commit" => return Ok(fired(commit(self.agent(number)?)?.into())),
             "get" => return self.step(number, |it| Ok(it.get_each(&places(next())?)?.as_slice().json())),
             "see" => return self.step(number, |it| Ok(it.see(&places(next())?)?.as_slice().json())),
             "get_all" => return self.step(number, |it| Ok(it.scan(&next().text().unwrap())?.as_slice().json())),

@@ -67,8 +67,6 @@ impl Holder<'_> {
 }
 
 /// Fires what the agent's step has pushed, after a receipt of what the step read if the agent is recording.
-///
-/// A commit that records isn't `MOVED`: a step borrows its agent, so the agent's own state is at the step's version.
 pub(crate) fn commit(agent: &Agent) -> Result<u32, Error> {
     let call = if agent.is_recording() { sys::asm_commit_recorded } else { sys::asm_commit };
     let mut numbers = sys::Numbers::default();

@@ -54,8 +54,9 @@ fn threads_continue_from_part_to_part_as_one_run() {
         assert_eq!(counts.moves, fired);
         let bytes = room.bytes();
         let reads = String::from_utf8_lossy(&bytes).matches("\"call\":{\"read\":[[\"count\"]]}").count() as u64;
-        assert_eq!(counts.calls, if is_recording { 2 * reads } else { counts.calls });
+        // Each fired move has a read, and a stale one may have none.
         assert_eq!(reads >= fired, is_recording);
+        assert!(counts.calls >= fired + reads);
         assert!(counts.parts > fired / u64::from(moves));
         assert_eq!(state, [(count(), Value::from(i64::try_from(fired).unwrap()))]);
     }

@@ -58,7 +58,7 @@ pub extern "C" fn asm_push(
 ///
 /// A round of one partial update changes a set or a bag in place: it costs by the logarithm of the size, after the
 /// first two in a pushed move, which copy the value. Any other round costs also by the size of a set or a bag that it
-/// changes and the earlier updates of it.
+/// changes and the earlier updates of it. A copy of a set or a bag of more than 32 elements reads none of them.
 ///
 /// # Errors
 /// The codes are those of `asm_push` except `ASM_DEEP`: the step is no deeper, however often it is extended.

@@ -5,7 +5,7 @@ ghost use Rattle.asm_slots.specs.Codes.{ASM_DONE, Answers};
 ghost use Rattle.asm_slots.specs.OwnState.{Begins, DoesNotBegin};
 ghost use Rattle.asm_slots.specs.Popping.{IsComposedLast, IsNotPoppedIn, IsNotPoppedInto};
 ghost use Rattle.asm_slots.specs.Slots.{ChangesStep, HasRoomForMove, HoldsMove, HoldsNoStep, HoldsStep, IfHoldsStep, content_of};
-ghost use Rattle.asm_slots.specs.StepAnswers.{ShowsBoth, ShowsNeither};
+ghost use Rattle.asm_slots.specs.StepAnswers.{ShowsBoth, ShowsNoText};
 ghost use Rattle.asm_slots.specs.StepCalls.{HasPoppedOver, HasScanned, HasTracked, IsFoundBy, IsNotGot, IsNotScanned, IsNotSeen, IsSeenBy};
 ghost use Rattle.asm_slots.specs.Tracked.{last_partial_places, dependencies_last};
 
@@ -79,7 +79,7 @@ pub extern "C" fn asm_get(
     ensures answers { Answers result
         (ShowsBoth (IsSeenBy locations.now) (content_of agent.old) (content_of step.old) out.new written.new
         × ChangesStep (content_of step.old) (content_of step.new) (HasTracked locations.now))
-        (ShowsNeither (IsSeenBy locations.now) (IsNotGot locations.now) (content_of agent.old) (content_of step.old)
+        (ShowsNoText (IsSeenBy locations.now) (IsNotGot locations.now) (content_of agent.old) (content_of step.old)
         out.old out.new written.new) }
     ensures stays { result ≢ ASM_DONE → content_of step.new ≡ content_of step.old }
     ensures kept { content_of agent.new ≡ content_of agent.old }
@@ -104,7 +104,7 @@ pub extern "C" fn asm_see(
 ) -> i32
     ensures answers { Answers result
         (ShowsBoth (IsSeenBy locations.now) (content_of agent.old) (content_of step.old) out.new written.new)
-        (ShowsNeither (IsSeenBy locations.now) (IsNotSeen locations.now) (content_of agent.old) (content_of step.old)
+        (ShowsNoText (IsSeenBy locations.now) (IsNotSeen locations.now) (content_of agent.old) (content_of step.old)
         out.old out.new written.new) }
     ensures kept { content_of agent.new ≡ content_of agent.old }
     ensures held { content_of step.new ≡ content_of step.old }
@@ -185,7 +185,7 @@ pub extern "C" fn asm_step_scan(
     ensures answers { Answers result
         (ShowsBoth (IsFoundBy name.now) (content_of agent.old) (content_of step.old) out.new written.new
         × ChangesStep (content_of step.old) (content_of step.new) (HasScanned name.now))
-        (ShowsNeither (IsFoundBy name.now) (λ a s c. IsNoName name.now c ⊎ IsNotScanned name.now a s c)
+        (ShowsNoText (IsFoundBy name.now) (λ a s c. IsNoName name.now c ⊎ IsNotScanned name.now a s c)
         (content_of agent.old) (content_of step.old) out.old out.new written.new) }
     ensures stays { result ≢ ASM_DONE → content_of step.new ≡ content_of step.old }
     ensures kept { content_of agent.new ≡ content_of agent.old }

@@ -31,10 +31,14 @@ digits gives t None reads read numeral small = absurd (reads (Err read.0) read.1
 
 pub capacity_asked : {E : Type 0} (gives : Text → Result ℕ E → Type 0) (f : Found) (found : Option ℕ)
     → ((t : Text) (r : Result ℕ E) → gives t r → ParsesUnsigned 32 10 t r)
+    → (one_text f (codes "capacity") ≡ None → found ≡ None)
     → ((t : Text) → one_text f (codes "capacity") ≡ Some t → ReadsOne gives t found)
     → AsksCapacity (rows_of f) (unwrap_or found default_capacity)
-capacity_asked gives f found reads number = λ t e numeral small.
-    digits gives t found (reads t) (number t (one_text-rows f (codes "capacity") ∙ e)) numeral small
+capacity_asked gives f found reads none number = (
+  λ t e numeral small.
+      digits gives t found (reads t) (number t (one_text-rows f (codes "capacity") ∙ e)) numeral small,
+  λ e. ap (λ (o : Option ℕ). unwrap_or o default_capacity) (none (one_text-rows f (codes "capacity") ∙ e)),
+)
 
 pub flag_asked : (f : Found) (name : Text) (asked wanted : Bool) →
     (one_text f name ≡ Some (codes "true") → asked ≡ true) → (one_text f name ≡ Some (codes "false") → asked ≡ false) →

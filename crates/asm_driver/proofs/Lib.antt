@@ -1,4 +1,5 @@
 mod Lines
+mod TermLines
 mod TextPieces
 mod Refusing
 mod Asking

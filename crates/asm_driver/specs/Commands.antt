@@ -12,12 +12,13 @@ use Rattle.asm_journal.specs.declared.checking.Legality.TheVariants.{Legal, Ille
 use Rattle.asm_journal.specs.declared.error.JournalError.TheVariants as journal_error
 use Rattle.asm_script.specs.Plan.{Plan}
 use Rattle.asm_row.specs.Limits.{IsNoCapacity}
-use Rattle.asm_play.specs.Play.{IsPlayOf}
+use Rattle.asm_play.specs.Play.{IsPlayOf, IsPlayWithTerms}
 use Rattle.asm_driver.specs.Explained.{IsExplained}
-use Rattle.asm_driver.specs.Report.{line, report_of}
+use Rattle.asm_driver.specs.Report.{AreAgentsTermLines, line, report_of}
 use Rattle.asm_script.specs.Script.{IsScriptOf, IsRefusedScript}
 use Rattle.asm_aggregate.specs.Standard.{standard_part}
 use Rattle.asm_play.specs.declared.outcome.Played.{Played}
+use Rattle.asm_play.specs.declared.outcome.PlayedWithTerms.{PlayedWithTerms}
 use Rattle.asm_trace.specs.Text.{IsTrace}
 use Rattle.asm_driver.specs.declared.program.refusal.Refusal.{Refusal}
 use Rattle.asm_driver.specs.declared.program.refusal.Refusal.TheVariants as refusal
@@ -49,10 +50,16 @@ abbrev pub IsRunText : List ℕ → ℕ → Bool → List ℕ → Type 0
 IsRunText bytes capacity asked text =
     (p : Played) × IsPlayed bytes capacity p × (text ≡ text_of_played asked p)
 
--- the report of the script of these bytes, played with this capacity, and behind it a text on terms without a value
+-- this is a play of the script of these bytes, with this capacity, and the terms without a value that ended its steps
+abbrev pub IsPlayedWithTerms : List ℕ → ℕ → PlayedWithTerms → Type 0
+IsPlayedWithTerms bytes capacity p = (plan : Plan) × IsScriptOf bytes plan × IsPlayWithTerms plan capacity p
+
+-- the report of the script of these bytes, played with this capacity, and behind it a line for each step that a term
+-- without a value ended
 abbrev pub IsTermsText : List ℕ → ℕ → List ℕ → Type 0
 IsTermsText bytes capacity text =
-    (p : Played) × (reported : List ℕ) × IsPlayed bytes capacity p × (text ≡ report_of standard_part p ++ reported)
+    (p : PlayedWithTerms) × (lines : List ℕ) × IsPlayedWithTerms bytes capacity p × AreAgentsTermLines 0 p.terms lines
+    × (text ≡ report_of standard_part p.played ++ lines)
 
 -- why nothing is written of a played script: the journal is asked for, and the history is beyond a journal's limits;
 -- nothing is claimed of an allocation failure

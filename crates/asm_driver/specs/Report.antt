@@ -1,5 +1,5 @@
 -- The report of a played script: its lines, and their order.
-use Rattle.std.specs.Prelude.{◌≡◌, ℕ, List, [], ◌∷◌, ◌++◌, length, min, codes}
+use Rattle.std.specs.Prelude.{◌≡◌, ◌+◌, ℕ, List, [], ◌∷◌, ◌++◌, length, min, codes}
 use Rattle.std.specs.List.{flat_map, enumerate_from}
 use Rattle.std.specs.Fmt.{decimal}
 use Rattle.std.specs.FinMap as finite
@@ -68,9 +68,20 @@ report_of part p =
     ++ moves_line (min (length (fired_moves p.history.events)) 4294967295)
     ++ outcome_lines p.outcomes
 
--- a line was appended, which says that a step of the agent ended because a term of this instruction had no value, and
--- why
-abbrev pub IsTermLine : ℕ → StepTerm → List ℕ → List ℕ → Type 0
-IsTermLine agent t old new =
-    (why : List ℕ) × (new ≡ old ++ (step_name agent t.step ++ codes " block " ++ decimal t.term.block
-    ++ codes " instruction " ++ decimal t.term.instruction ++ codes ": ") ++ line why)
+-- the line of a step that a term without a value ended: which instruction has the term, and why it has no value
+abbrev pub term_line : ℕ → StepTerm → List ℕ → List ℕ
+term_line agent t why =
+    line (step_name agent t.step ++ codes " block " ++ decimal t.term.block ++ codes " instruction "
+    ++ decimal t.term.instruction ++ codes ": " ++ why)
+
+-- the text is one line for each of these steps of an agent, in order
+abbrev pub AreTermLines : ℕ → List StepTerm → List ℕ → Type 0
+AreTermLines agent [] text = text ≡ []
+AreTermLines agent (t ∷ ts) text =
+    (why rest : List ℕ) × (text ≡ term_line agent t why ++ rest) × AreTermLines agent ts rest
+
+-- the text is the lines of these agents, from this number on
+abbrev pub AreAgentsTermLines : ℕ → List (List StepTerm) → List ℕ → Type 0
+AreAgentsTermLines agent [] text = text ≡ []
+AreAgentsTermLines agent (ts ∷ tss) text =
+    (mine rest : List ℕ) × (text ≡ mine ++ rest) × AreTermLines agent ts mine × AreAgentsTermLines (agent + 1) tss rest

@@ -13,6 +13,7 @@ use Rattle.clap.specs.declared.builder.value_parser.ValueParser.TheVariants.{Sig
 use Rattle.clap.specs.declared.error.kind.ErrorKind.{ErrorKind}
 use Rattle.clap.specs.declared.error.kind.ErrorKind.TheVariants as kind
 use Rattle.asm_row.specs.Limits.{capacity_limit}
+use Rattle.asm_driver.specs.Limits.{default_capacity}
 use Rattle.asm_driver.specs.declared.program.words.Request.{Request}
 use Rattle.asm_driver.specs.declared.program.words.Request.TheVariants.{Run, Terms, Check, Rewrite, Trace, Show, Audit, Explain}
 use Rattle.asm_driver.specs.declared.program.words.Window.{Window}
@@ -121,11 +122,12 @@ Words = List Text
 unfoldable pub faults : Words → Kinds
 faults words = fault_of program words
 
--- the number is the value of the option
+-- the number is the value of the option, or 4,096 if the option has none
 abbrev pub AsksCapacity : List Row → ℕ → Type 0
-AsksCapacity rows number = (t : Text) → one_of (codes "capacity") rows ≡ Some t →
-    IsNumeral 10 (without_leading_plus t) → digits_value 10 (without_leading_plus t) < 2 ^ 32 →
-    number ≡ digits_value 10 (without_leading_plus t)
+AsksCapacity rows number =
+    ((t : Text) → one_of (codes "capacity") rows ≡ Some t → IsNumeral 10 (without_leading_plus t) →
+    digits_value 10 (without_leading_plus t) < 2 ^ 32 → number ≡ digits_value 10 (without_leading_plus t))
+    × (one_of (codes "capacity") rows ≡ None → number ≡ default_capacity)
 
 -- true if the option with this name is given, and else false
 abbrev pub AsksFlag : Text → List Row → Bool → Type 0

@@ -143,11 +143,7 @@ pub(crate) fn report_of_owned(alloc: Global, played: Played) -> Result<String, A
     ensures { IfOk result (λ text. string_bytes text ≡ report_of standard_part played) }
 {
     let moves = played.history.moves();
-    let Played {
-        history,
-        outcomes,
-        ..
-    } = played;
+    let Played { history, outcomes } = played;
     let History { init, events, .. } = history;
     let state = replay_over(alloc, &script_aggregator(), init, events.as_slice())?;
     lines_of(alloc, &state, moves, outcomes.as_slice())

@@ -1,6 +1,6 @@
 //! The lines for steps that ended because a term had no value: where this was, and why.
-ghost use Rattle.std.specs.Prelude.{◌≡◌, ◌++◌, OnOk, string_bytes};
-ghost use Rattle.asm_driver.specs.Report.{IsTermLine};
+ghost use Rattle.std.specs.Prelude.{◌≡◌, ◌++◌, ℕ, List, IfOk, OnOk, string_bytes};
+ghost use Rattle.asm_driver.specs.Report.{term_line, AreTermLines, AreAgentsTermLines};
 
 use crate::shown::shown_text;
 use asm_element::Items;
@@ -49,7 +49,8 @@ fn push_line(
     agent: usize,
     reported: &StepTerm,
 ) -> Result<(), AllocError>
-    ensures { OnOk result (IsTermLine agent reported.now (string_bytes text.old) (string_bytes text.new)) }
+    ensures { OnOk result ((why : List ℕ) ×
+        (string_bytes text.new ≡ string_bytes text.old ++ term_line agent reported.now why)) }
 {
     let (step, block, instruction) = (
         reported.step,
@@ -66,6 +67,22 @@ fn push_line(
     Ok(())
 }
 
+// Append the lines of the steps of one agent.
+fn push_agent(
+    alloc: Global,
+    text: &mut String,
+    agent: usize,
+    steps: &[StepTerm],
+) -> Result<(), AllocError>
+    ensures { OnOk result ((added : List ℕ) × AreTermLines agent steps.now added
+        × (string_bytes text.new ≡ string_bytes text.old ++ added)) }
+{
+    for reported in steps {
+        push_line(alloc, text, agent, reported)?;
+    }
+    Ok(())
+}
+
 /// Return a line for each step that ended because a term had no value.
 ///
 /// The line says where in the step this was, and why. Agents, steps, blocks and instructions count from 0.
@@ -73,12 +90,12 @@ fn push_line(
 /// # Errors
 ///
 /// - `AllocError` only if memory is refused.
-pub(crate) fn terms_text(alloc: Global, terms: &[Items<StepTerm>]) -> Result<String, AllocError> {
+pub(crate) fn terms_text(alloc: Global, terms: &[Items<StepTerm>]) -> Result<String, AllocError>
+    ensures { IfOk result (λ text. AreAgentsTermLines 0 terms.now (string_bytes text)) }
+{
     let mut text = String::new(alloc);
     for (agent, steps) in terms.iter().enumerate() {
-        for reported in steps.as_slice() {
-            push_line(alloc, &mut text, agent, reported)?;
-        }
+        push_agent(alloc, &mut text, agent, steps.as_slice())?;
     }
     Ok(text)
 }

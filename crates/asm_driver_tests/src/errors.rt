@@ -2,8 +2,8 @@
 use asm_play::RunError;
 use asm_script::{FaultyTerm, NoValue, ScriptCause, ScriptError, StepFault};
 use asm_step::StepError;
-use asm_test_support::{are_distinct, location};
-use asm_update::{Cause, Clash};
+use asm_test_support::{are_distinct, clash_at, has_text, location};
+use asm_update::Cause;
 use std::alloc::Global;
 use std::test::Fail;
 
@@ -18,7 +18,7 @@ fn errors_have_their_texts(rt: HostRuntime) -> Result<(), Fail> {
         (RunError::Missing(3), "missing move 3"),
         (RunError::Memory, "out of memory"),
     ] {
-        assert!(rt; error.to_string(rt.alloc())?.as_str() == want, "{want}");
+        assert!(rt; has_text(rt.alloc(), &error, want)?, "{want}");
     }
     Ok(())
 }
@@ -38,18 +38,17 @@ fn errors_are_distinct(rt: HostRuntime) {
 
 #[test]
 fn errors_of_scripts_have_their_texts(rt: HostRuntime) -> Result<(), Fail> {
-    let cause = ScriptError::BadScript(ScriptCause::Blocks).to_string(rt.alloc())?;
-    assert!(rt; cause.as_str() == "bad script: Blocks");
-    let memory = ScriptError::Memory.to_string(rt.alloc())?;
-    assert!(rt; memory.as_str() == "out of memory");
-    let many = StepFault::Many.to_string(rt.alloc())?;
-    assert!(rt; many.as_str() == "more than 4,096 instructions");
+    let alloc = rt.alloc();
+    let blocks = ScriptError::BadScript(ScriptCause::Blocks);
+    assert!(rt; has_text(alloc, &blocks, "bad script: Blocks")?);
+    assert!(rt; has_text(alloc, &ScriptError::Memory, "out of memory")?);
+    assert!(rt; has_text(alloc, &StepFault::Many, "more than 4,096 instructions")?);
     let term = StepFault::Term(FaultyTerm {
         block: 0,
         instruction: 0,
         why: NoValue::OutOfRange(1, i64::MAX),
     });
-    assert!(rt; term.to_string(rt.alloc())?.as_str() == "a faulty term");
+    assert!(rt; has_text(alloc, &term, "a faulty term")?);
     Ok(())
 }
 
@@ -71,8 +70,7 @@ fn causes_of_scripts_are_distinct(rt: HostRuntime) {
 fn step_errors(alloc: Global) -> Result<Vec<StepError>, Fail> {
     let mut errors = Vec::new(alloc);
     for (name, cause) in [("x", Cause::Two), ("x", Cause::Kind), ("y", Cause::Two)] {
-        let at = location(alloc, name)?;
-        errors.push(StepError::Clash(Clash { at, cause }))?;
+        errors.push(StepError::Clash(clash_at(alloc, name, cause)?))?;
     }
     for name in ["x", "y"] {
         errors.push(StepError::Large(location(alloc, name)?))?;
@@ -96,7 +94,7 @@ static TEXTS: [&str; 8] = [
 
 fn have_texts(alloc: Global, errors: &[StepError]) -> Result<bool, Fail> {
     for (error, text) in errors.iter().zip(TEXTS) {
-        if error.to_string(alloc)?.as_str() != text {
+        if !has_text(alloc, error, text)? {
             return Ok(false);
         }
     }

@@ -1,11 +1,13 @@
-//! Tests of `asm_driver` and of what it uses, `asm_play`, `asm_script` and `asm_step`. They see public items alone, and
-//! test what no case of the program shows.
+//! Tests of `asm_driver` and of what it uses, `asm_play`, `asm_script` and `asm_step`, of what no case of the program
+//! shows; and the examples of the pages. They see public items alone.
 #![tactic(auto)]
 
 #[cfg(test)]
 mod busy_steps;
 #[cfg(test)]
 mod errors;
+#[cfg(test)]
+mod examples;
 #[cfg(test)]
 mod failing_outputs;
 #[cfg(test)]

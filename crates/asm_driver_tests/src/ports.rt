@@ -1,7 +1,7 @@
 //! The program over inputs and outputs that are slow, long or failing.
 use crate::running::{ONE_PUT, words_of};
 use asm_driver::run_main;
-use asm_port_support::ERROR_KINDS;
+use asm_test_support::ERROR_KINDS;
 use std::alloc::{AllocError, Global};
 use std::io;
 use std::io::{ErrorKind, Read, Write};

@@ -18,7 +18,7 @@ use Rattle.asm_play.proofs.Later.{are_reported_later}
 use Rattle.asm_play.proofs.ProperMoves.{proper_prefix}
 use Rattle.asm_script.specs.Plan.{Plan}
 use Rattle.asm_play.specs.Play as play
-use Rattle.asm_play.specs.Play.{AreAgentsEvents, IsPlayOf}
+use Rattle.asm_play.specs.Play.{AreAgentsEvents, IsPlayWithTerms}
 use Rattle.asm_play.specs.AgentPlay.{AreProper, Plays}
 use Rattle.asm_aggregate.specs.Standard.{standard_meaning, standard_part}
 use Rattle.asm_play.specs.Ends.{outcome_in, terms_in}
@@ -26,7 +26,7 @@ use Rattle.asm_play.specs.StepEvents.{AreStepsEvents}
 use Rattle.asm_play.specs.PlayedAgents.{run_error_of_close, ArePlayed, IsNotClosed}
 use Rattle.asm_script.specs.declared.step.Step.{Step}
 use Rattle.asm_play.specs.declared.step_end.StepEnd.{StepEnd}
-use Rattle.asm_play.specs.declared.outcome.Played.{Played}
+use Rattle.asm_play.specs.declared.outcome.PlayedWithTerms.{PlayedWithTerms}
 use Rattle.asm_play.specs.declared.outcome.RunError.{RunError}
 use Rattle.asm_play.specs.declared.outcome.RunError.TheVariants as run_error
 
@@ -136,33 +136,35 @@ reported_later close_error.Memory r reported bad =
 
 -- the history that the agents of a script close to is a play of it
 pub closes : {A : Type 0} (meaning : A → Meaning) (s : StorageView A) (plan : Plan) (lent agents : List (AgentAt A))
-    (oss : List (List StepEnd)) (p : Played) → lent ≡ agents → (meaning s.agg).part ≡ standard_part →
+    (oss : List (List StepEnd)) (p : PlayedWithTerms) → lent ≡ agents → (meaning s.agg).part ≡ standard_part →
     s.init ≡ plan.init →
     ArePlayed meaning standard_meaning s 0 plan.agents agents oss →
-    IsHistoryOf (storage.machine_of meaning s) (accounts lent) p.history.events →
-    p.history.init ≡ s.init → p.history.capacity ≡ length s.row → p.history.agents ≡ id_bound (accounts lent) →
-    p.outcomes ≡ map (map outcome_in) oss → p.terms ≡ map terms_in oss →
-    AreProper p.history.init (fired_moves p.history.events) → IsPlayOf plan (length s.row) p
+    IsHistoryOf (storage.machine_of meaning s) (accounts lent) p.played.history.events →
+    p.played.history.init ≡ s.init → p.played.history.capacity ≡ length s.row → p.played.history.agents ≡ id_bound (accounts lent) →
+    p.played.outcomes ≡ map (map outcome_in) oss → p.terms ≡ map terms_in oss →
+    AreProper p.played.history.init (fired_moves p.played.history.events) → IsPlayWithTerms plan (length s.row) p
 closes meaning s plan lent agents oss p same part init played closed_lent opened capacity bound_lent outcomes terms proper_h =
     let m = storage.machine_of meaning s in
-    let closed = subst (λ q. IsHistoryOf m (accounts q) p.history.events) same closed_lent in
+    let closed = subst (λ q. IsHistoryOf m (accounts q) p.played.history.events) same closed_lent in
     let bound = bound_lent ∙ ap (λ q. id_bound (accounts q)) same in
-    let h = p.history.events in
+    let h = p.played.history.events in
     let capacity_of = length s.row in
     let machine : storage.machine_of meaning s ≡ play.machine_of plan capacity_of =
     λ i. record { part = part i; init = init i; capacity = capacity_of } in
     let proper = subst (λ A. AreProper A (fired_moves h)) opened proper_h in
     let reported = agents_reported meaning s 0 plan.agents agents oss h part proper played closed.own_receipts
     closed.seen_first in
-    let all = bound_is meaning s 0 plan.agents agents oss played in record {
-      opened = opened ∙ init;
-      capacity_is = capacity;
-      agents = omega (arith, bound, all);
-      legal = subst (λ m. IsLegal m h) machine closed.legal;
-      ends = oss;
-      reported = subst (λ m. AreAgentsEvents m h 0 plan.agents oss) machine reported;
-      outcomes = outcomes;
-      terms = terms;
-      others = λ i le. closed.no_others i
-          (none_beyond meaning s 0 plan.agents agents oss i played (omega (arith, le)));
-    }
+    let all = bound_is meaning s 0 plan.agents agents oss played in (
+      record {
+        opened = opened ∙ init;
+        capacity_is = capacity;
+        agents = omega (arith, bound, all);
+        legal = subst (λ m. IsLegal m h) machine closed.legal;
+        ends = oss;
+        reported = subst (λ m. AreAgentsEvents m h 0 plan.agents oss) machine reported;
+        outcomes = outcomes;
+        others = λ i le. closed.no_others i
+            (none_beyond meaning s 0 plan.agents agents oss i played (omega (arith, le)));
+      },
+      terms,
+    )

@@ -10,6 +10,7 @@ use Rattle.asm_play.specs.StepEvents.{AreStepsEvents}
 use Rattle.asm_script.specs.declared.step.Step.{Step}
 use Rattle.asm_play.specs.declared.step_end.StepEnd.{StepEnd}
 use Rattle.asm_play.specs.declared.outcome.Played.{Played}
+use Rattle.asm_play.specs.declared.outcome.PlayedWithTerms.{PlayedWithTerms}
 
 -- the storage of one thread that the script opens
 abbrev pub machine_of : Plan → ℕ → Machine
@@ -26,7 +27,7 @@ AreAgentsEvents m h id (ss ∷ sss) (os ∷ oss) =
 -- What a script's playing leaves: a legal history from the script's opening state and with the given capacity, with
 -- one end for each step of each agent, which determines the events of that step, and no event of another agent. The
 -- move of a step that fired leaves what the step's blocks in turn leave on the state before it. The outcomes are
--- those of the ends, and beside them are the terms without a value that ended steps.
+-- those of the ends.
 pub record IsPlayOf (plan : Plan) (capacity : ℕ) (p : Played) : Type 0 where
   pub opened : p.history.init ≡ plan.init
   pub capacity_is : p.history.capacity ≡ capacity
@@ -35,5 +36,9 @@ pub record IsPlayOf (plan : Plan) (capacity : ℕ) (p : Played) : Type 0 where
   pub ends : List (List StepEnd)
   pub reported : AreAgentsEvents (machine_of plan capacity) p.history.events 0 plan.agents ends
   pub outcomes : p.outcomes ≡ map (map outcome_in) ends
-  pub terms : p.terms ≡ map terms_in ends
   pub others : (i : ℕ) → length plan.agents ≤ i → events_of p.history.events i ≡ []
+
+-- what a script's playing leaves, and beside it, for each agent, the terms without a value that ended its steps
+abbrev pub IsPlayWithTerms : Plan → ℕ → PlayedWithTerms → Type 0
+IsPlayWithTerms plan capacity p =
+    (play : IsPlayOf plan capacity p.played) × (p.terms ≡ map terms_in play.ends)

@@ -11,7 +11,7 @@ mod step_end;
 mod workers;
 
 pub use gate::{Gate, Open, Passage};
-pub use outcome::{Outcome, Played, RunError, StepTerm};
-pub use play::run_script;
+pub use outcome::{Outcome, Played, PlayedWithTerms, RunError, StepTerm};
+pub use play::{run_script, run_script_with_terms};
 pub use player::{PlayedAgent, Player};
 pub use step_end::StepEnd;

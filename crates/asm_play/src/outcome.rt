@@ -47,6 +47,13 @@ pub struct Played {
     pub history: History,
     /// For each agent the outcomes of its steps, in order.
     pub outcomes: Items<Items<Outcome>>,
+}
+
+/// The result of playing a script, and why terms had no value.
+#[derive(Debug, Drop)]
+pub struct PlayedWithTerms {
+    /// The history and the outcomes.
+    pub played: Played,
     /// For each agent those of its steps whose outcome is `Term`, in order.
     pub terms: Items<Items<StepTerm>>,
 }

@@ -6,7 +6,7 @@ ghost use Rattle.asm_storage.specs.Limits.{agents_limit};
 ghost use Rattle.asm_storage.specs.Storage.{accounts, at_start};
 ghost use Rattle.asm_row.specs.Limits.{IsNoCapacity};
 ghost use Rattle.asm_play.specs.Ends.{outcome_in, terms_in};
-ghost use Rattle.asm_play.specs.Play.{IsPlayOf};
+ghost use Rattle.asm_play.specs.Play.{IsPlayOf, IsPlayWithTerms};
 ghost use Rattle.asm_play.specs.declared.step_end.StepEnd.{StepEnd};
 ghost use Rattle.asm_play.specs.AgentPlay.{Plays};
 ghost use Rattle.asm_aggregate.specs.Standard.{standard_meaning};
@@ -16,7 +16,7 @@ ghost use Rattle.asm_play.specs.declared.outcome.RunError.TheVariants as run_err
 
 use crate::aggregator::script_aggregator;
 use crate::gate::{Gate, GatePassage, Passage};
-use crate::outcome::{Outcome, Played, RunError, StepTerm};
+use crate::outcome::{Outcome, Played, PlayedWithTerms, RunError, StepTerm};
 use crate::player::{PlayedAgent, Player};
 use crate::step_end::agent_ends;
 use crate::workers;
@@ -205,13 +205,13 @@ fn closed<'s>(
     storage: &Storage<Standard>,
     script: &Script,
     ended: Ended<'s>,
-) -> Result<Played, RunError>
+) -> Result<PlayedWithTerms, RunError>
     requires meaning { ⟦<Standard as Aggregator>⟧.meaning storage.now.agg ≡ standard_meaning }
     requires init { storage.now.init ≡ script.now.init }
     requires agents { (ends : List (List StepEnd)) × ArePlayed (⟦<Standard as Aggregator>⟧.meaning) standard_meaning
         storage.now 0 script.now.agents ended.agents.items ends × (ended.outcomes.items ≡ map (map outcome_in) ends)
         × (ended.terms.items ≡ map terms_in ends) }
-    ensures played { IfOk result (IsPlayOf script.now (length storage.now.row)) }
+    ensures played { IfOk result (IsPlayWithTerms script.now (length storage.now.row)) }
     ensures later { IfErr result (λ e. e ≢ RunError.BadCapacity) }
     ensures missing { IfErr result (IsNotClosed (accounts ended.entry.agents.items)) }
 {
@@ -224,9 +224,11 @@ fn closed<'s>(
         Ok(history) => {
             // Proof: for the clause `played`, which is proved of what a program can hold.
             history.proper();
-            Ok(Played {
-                history,
-                outcomes: Items::new(outcomes),
+            Ok(PlayedWithTerms {
+                played: Played {
+                    history,
+                    outcomes: Items::new(outcomes),
+                },
                 terms: Items::new(terms),
             })
         }
@@ -241,10 +243,10 @@ fn play_on<R: Threads + Wait + Sync, G: Gate>(
     storage: &Storage<Standard>,
     script: &Script,
     gate: &G,
-) -> Result<Played, RunError>
+) -> Result<PlayedWithTerms, RunError>
     requires meaning { ⟦<Standard as Aggregator>⟧.meaning storage.now.agg ≡ standard_meaning }
     requires init { storage.now.init ≡ script.now.init }
-    ensures played { IfOk result (IsPlayOf script.now (length storage.now.row)) }
+    ensures played { IfOk result (IsPlayWithTerms script.now (length storage.now.row)) }
     ensures later { IfErr result (λ e. e ≢ RunError.BadCapacity) }
     ensures threads { IsErrOf result RunError.NoThread → 2 ≤ length script.now.agents }
 {
@@ -293,6 +295,28 @@ pub fn run_script<R: Threads + Wait + Sync, G: Gate>(
     ensures capacity { IsErrOf result RunError.BadCapacity ↔ IsNoCapacity capacity }
     ensures played { IfOk result (IsPlayOf script.now capacity) }
     ensures agents { IfOk result (λ p. All (λ e. e.agent < length script.now.agents) p.history.events) }
+    ensures threads { IsErrOf result RunError.NoThread → 2 ≤ length script.now.agents }
+{
+    match run_script_with_terms(rt, alloc, script, capacity, gate) {
+        Ok(PlayedWithTerms { played, terms: _ }) => Ok(played),
+        Err(error) => Err(error),
+    }
+}
+
+/// Play the script as `run_script` does, and report the terms that had no value.
+///
+/// # Errors
+///
+/// - As `run_script`.
+pub fn run_script_with_terms<R: Threads + Wait + Sync, G: Gate>(
+    rt: &R,
+    alloc: Global,
+    script: &Script,
+    capacity: u32,
+    gate: &G,
+) -> Result<PlayedWithTerms, RunError>
+    ensures capacity { IsErrOf result RunError.BadCapacity ↔ IsNoCapacity capacity }
+    ensures played { IfOk result (IsPlayWithTerms script.now capacity) }
     ensures threads { IsErrOf result RunError.NoThread → 2 ≤ length script.now.agents }
 {
     let storage = opened(alloc, script, capacity)?;

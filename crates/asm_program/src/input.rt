@@ -140,12 +140,14 @@ fn number_of(path: &str) -> Option<usize> {
     number.parse::<usize>().ok()
 }
 
-// Return whether they are the segments from the first up to the last, each once.
+// Return whether they are the segments from the last down to the first, each once.
 fn are_complete(paths: &[String]) -> bool {
-    match paths.first().and_then(|last| number_of(last.as_str())) {
-        Some(number) => number < paths.len() && paths.len() - number == 1,
-        None => false,
+    for (index, path) in paths.iter().rev().enumerate() {
+        if number_of(path.as_str()) != Some(index) {
+            return false;
+        }
     }
+    !paths.is_empty()
 }
 
 /// Open a file, or all segments of a run's folder.

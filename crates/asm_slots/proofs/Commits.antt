@@ -39,8 +39,7 @@ use Rattle.asm_storage.specs.Limits.{reads_limit}
 use Rattle.asm_storage.specs.declared.entry.Entry.{Entry}
 use Rattle.asm_storage.specs.Scans.{with_found, IsKept}
 use Rattle.asm_slots.specs.AgentCalls.{HasAnswered, IsRepliedOver}
-use Rattle.asm_slots.specs.Commit.{AreWhole, FiresAll, SeenIsLeft, HasFiredStep, HasMoved, HasRecorded, HasRecordedStep}
-use Rattle.asm_slots.specs.Commit.{NamesAll, NamesMany, OneDoesAll, ScansAll, IsMoveOf}
+use Rattle.asm_slots.specs.Commit.{AreWhole, FiresAll, SeenIsLeft, HasFiredStep, NamesAll, OneDoesAll, ScansAll, IsMoveOf}
 use Rattle.asm_slots.specs.OwnState.{state_at}
 use Rattle.asm_slots.specs.Standard.{Standard, meaning, part, standard}
 use Rattle.asm_slots.specs.StepView.{StepView, names_of}
@@ -227,30 +226,3 @@ step_fired s a new reads scans M answer names scanned one fires many replied ans
 -- the step's one move does what its moves do in turn
 pub does_all : (a : AgentAt Standard) (s : StepView) → OneDoesAll a s
 does_all a s groups is = one_does part (below a s) s.layers groups (unwrap_or (one_move s.layers) []) is.1 refl
-
--- the agent with the receipt of the read has the step on the same groups of moves
-step_between : (s : StepView) (reads : List Named) (old between : AgentAt Standard) → HasRecorded s reads old between →
-    (groups : List (List Move)) → IsStepOn old s groups → IsStepOn between s groups
-step_between s reads old between recorded groups on =
-    subst (λ (a : AgentAt Standard). IsStepOn a s groups) (sym recorded.1.agent) on
-
--- a fire of the agent with the receipt of the read, of the same reads
-pub recorded_step : (s : StepView) (answer : Result Reply FireError) (old between new : AgentAt Standard) (lent reads : List Named) →
-    lent ≡ reads → ¬ NamesMany s lent → ¬ HasMoved old s → HasRecorded s lent old between →
-    HasFiredStep s reads answer between new → HasRecordedStep s answer old new
-recorded_step s answer old between new lent reads same few there recorded fired =
-    let recorded : HasRecorded s reads old between = subst (λ (r : List Named). HasRecorded s r old between) same recorded in
-    let answered = subst (λ (a : AgentAt Standard). HasAnswered answer a new) recorded.1.agent fired.answered in
-    record {
-      reads = reads;
-      few = subst (λ (r : List Named). ¬ NamesMany s r) same few;
-      there = there;
-      between = between;
-      recorded = recorded;
-      step = step_between s reads old between recorded;
-      fired = fired;
-      same = record { storage = answered.same.storage; id = answered.same.id };
-      seen = answered.seen;
-      missed_few = answered.few;
-      missed_one = answered.missed;
-    }

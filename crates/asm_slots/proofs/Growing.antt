@@ -12,16 +12,13 @@ use Rattle.asm_step.specs.Layers.{Layer, all_moves, top_of, IsStepOf}
 use Rattle.asm_step.specs.declared.error.StepError.{StepError}
 use Rattle.asm_step.specs.declared.error.StepError.TheVariants.{Deep}
 use Rattle.asm_storage.specs.Storage.{AgentAt}
-use Rattle.asm_element.specs.Place.{Place}
-use Rattle.asm_step.specs.Places.{AreEach}
-use Rattle.asm_storage.specs.Limits.{reads_limit}
 use Rattle.asm_slots.specs.OwnState.{state_at}
 use Rattle.asm_slots.specs.Bytes.{ReadAsMove}
 use Rattle.asm_slots.specs.Slots.{HoldBoth, HoldsStep}
 use Rattle.asm_slots.specs.Standard.{Standard, standard, part}
 use Rattle.asm_slots.specs.StepAnswers.{DoesNotGrow, Grows}
 use Rattle.asm_slots.specs.StepView.{StepView}
-use Rattle.asm_slots.specs.StepCalls.{AreLastOf, HasGrown, HasTrackedEach, HasPopped, HasReached, IsPushAnswerBelow, IsGrown, IsLayered, IsNotGrown, IsPushError, below, from_below, grown}
+use Rattle.asm_slots.specs.StepCalls.{AreLastOf, HasGrown, HasPopped, HasReached, IsPushAnswerBelow, IsGrown, IsLayered, IsNotGrown, IsPushError, below, grown}
 use Rattle.asm_slots.specs.WrittenText.{IsUnwritten}
 use Rattle.asm_slots.specs.declared.codes.Code.{Code}
 use Rattle.asm_slots.specs.declared.content.Content.{Content}
@@ -137,13 +134,6 @@ grown_of way bytes M agent step after a s t out out_after n (Ok u) e f g reads g
 grown_of way bytes M agent step after a s t out out_after n (Err c) e f g reads grown unwritten none =
     inr (hold_three agent step after a s t (λ b x y. (N : Move) × ReadAsMove bytes N × IsNotGrown way N b x y out out_after n c) e f g
     (M, reads, none))
-
--- the locations are tracked, in a step whose contents were these
-pub tracked_with : (locations : List Place) (inside old : StepView) (tracked : List Place) → inside ≡ old →
-    AreEach (old.tracked ++ from_below old locations) tracked → length tracked + length old.scanned ≤ reads_limit →
-    HasTrackedEach locations old (record inside { tracked = tracked })
-tracked_with locations inside old tracked view each few =
-    subst (λ (x : StepView). HasTrackedEach locations old (record x { tracked = tracked })) (sym view) (refl, each, few)
 
 -- the topmost layer is removed, and the step has the groups before the last one
 pub is_popped : (popped : Option (List Move)) (old : StepView) (ls : List Layer) →

@@ -12,6 +12,7 @@ pub mod Growing
 pub mod WholeScans
 pub mod Commits
 pub mod Noting
+pub mod RecordedReads
 pub mod Meanings
 pub mod Scans
 pub mod Refused

@@ -8,10 +8,9 @@ use Rattle.asm_update.specs.Action as action
 use Rattle.asm_update.specs.declared.action.Action.{Action}
 use Rattle.asm_update.specs.declared.action.Action.TheVariants.{Regular, SetAdd, SetRemove, BagAdd, BagRemove, Increment}
 use Rattle.asm_journal.specs.Value.{IsValueForm}
-use Rattle.asm_journal.proofs.Values.{value_once}
-use Rattle.asm_explain.specs.Bytes.{IsOtherJson, ReadAs}
+use Rattle.asm_explain.specs.Bytes.{ReadAs}
 use Rattle.asm_slots.specs.Kinds.{ASM_KIND_BAG, ASM_KIND_BOOL, ASM_KIND_NUM, ASM_KIND_SET, ASM_KIND_TEXT, ASM_KIND_UNDEF}
-use Rattle.asm_slots.specs.Kinds.{IsAction, IsAmount, IsByJson, IsKindForm, IsNoAction, IsOperand, IsTextOrPlain, kind_of, verb_of}
+use Rattle.asm_slots.specs.Kinds.{IsAction, IsAmount, IsByJson, IsNoAction, IsOperand, IsTextOrPlain, kind_of, verb_of}
 use Rattle.asm_slots.specs.Kinds.{CannotTake, IsActionOn, IsVerb}
 use Rattle.asm_slots.specs.declared.operands.Verb.{Verb}
 use Rattle.asm_slots.specs.declared.operands.Verb.TheVariants as verbs
@@ -88,15 +87,6 @@ none_numbered k n bs by other (Plain (Text s)) h = (distinct k by).3 h.0
 none_numbered k n bs by other (Plain (Inner ds)) h = other h.0
 none_numbered k n bs by other (Set s) h = other h.0
 none_numbered k n bs by other (Bag b) h = other h.0
-
--- JSON of no value is JSON of none of the kind
-pub no_kind : (k : ℤ) (bs : List ℕ) → IsOtherJson IsValueForm bs → IsOtherJson (IsKindForm k) bs
-no_kind k bs (d, json, none) = (d, json, λ v h. none v h.1)
-
--- so is that of a value of another kind
-pub other_kind : (k : ℤ) (bs : List ℕ) (v : Value) → k ≢ kind_of v → ReadAs IsValueForm bs v → IsOtherJson (IsKindForm k) bs
-other_kind k bs v differs (d, json, form) =
-    (d, json, λ w h. differs (h.0 ∙ ap kind_of (value_once w v d h.1 form)))
 
 -- ---- actions
 

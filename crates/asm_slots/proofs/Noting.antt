@@ -1,5 +1,5 @@
 -- A location that is tracked besides others.
-use Rattle.std.proofs.Common.{◌≡◌, ◌≤◌, ◌<◌, ◌∙◌, ℕ, Bool, true, false, cond, filter, append-nil, List, [], ◌∷◌, ◌++◌, Contains, Option, length, get_or, arith, ⊎_elim, subst, sym, ap}
+use Rattle.std.proofs.Common.{◌≡◌, ◌≤◌, ◌<◌, ◌∙◌, ℕ, Bool, true, false, cond, filter, List, [], ◌∷◌, ◌++◌, Contains, Option, length, get_or, arith, ⊎_elim, subst, sym, ap}
 use Rattle.std.specs.List.{HoldsAt, AllWithin}
 use Rattle.std.specs.List.Retain.{IsFiltered, DiffersFromLast}
 use Rattle.std.specs.List.Sorted.{IsPermutation, IsSorted, IsStrictlySortedBy}
@@ -65,9 +65,3 @@ noted_in limit old mid new l copy less same is each few =
 pub kept_one : (t : Place → Bool) (old new : List Place) (l : Place) → t l ≡ true → AreEach (old ++ l ∷ []) new →
     AreEach (old ++ filter t (l ∷ [])) new
 kept_one t old new l is each = subst (λ b. AreEach (old ++ cond b (l ∷ []) []) new) (sym is) each
-
-pub kept_none : (t : Place → Bool) (old : List Place) (l : Place) → t l ≡ false → IsStrictlySortedBy location_cmp old →
-    AreEach (old ++ filter t (l ∷ [])) old
-kept_none t old l is ascending =
-    subst (λ b. AreEach (old ++ cond b (l ∷ []) []) old) (sym is)
-    (subst (λ ls. AreEach ls old) (sym (append-nil old)) (record { ascending = ascending; same = λ k. (λ h. h, λ h. h) }))

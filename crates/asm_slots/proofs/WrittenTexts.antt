@@ -4,7 +4,7 @@ use Rattle.std.specs.Prelude.{MatchResult}
 use Rattle.asm_storage.specs.Storage.{AgentAt}
 use Rattle.asm_slots.specs.Slots.{ChangesStep, HoldBoth, HoldsStep}
 use Rattle.asm_slots.specs.Standard.{Standard}
-use Rattle.asm_slots.specs.StepAnswers.{ShowsBoth, ShowsNeither}
+use Rattle.asm_slots.specs.StepAnswers.{ShowsBoth, ShowsNoText}
 use Rattle.asm_slots.specs.StepView.{StepView}
 use Rattle.asm_slots.specs.WrittenText.{IsCopied, IsWritten}
 use Rattle.asm_slots.specs.declared.codes.Code.{Code}
@@ -37,7 +37,7 @@ pub shows : (P : AgentAt Standard → StepView → List ℕ → Type 0) (N : Age
     (Q : StepView → StepView → Type 0) (agent step step_after : Option Content) (a : AgentAt Standard) (s t : StepView)
     (out after : List ℕ) (n : ℕ) (r : Result (Unit {0}) Code) → agent ≡ Some (content.Agent a) → step ≡ Some (content.Step s) →
     step_after ≡ Some (content.Step t) → IsWritten (P a s) (N a s) out after n r → OnOk r (Q s t) →
-    MatchResult r (λ done. ShowsBoth P agent step after n × ChangesStep step step_after Q) (ShowsNeither P N agent step out after n)
+    MatchResult r (λ done. ShowsBoth P agent step after n × ChangesStep step step_after Q) (ShowsNoText P N agent step out after n)
 shows P N Q agent step step_after a s t out after n (Ok u) e f g (text, is, copied) changed = (
   (text, hold_both agent step a s (λ b x. P b x text) e f is, copied),
   subst (λ (x : Option Content). ChangesStep x step_after Q) (sym f) (subst (λ (x : Option Content). HoldsStep x (Q s)) (sym g) changed),

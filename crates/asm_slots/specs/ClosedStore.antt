@@ -42,10 +42,10 @@ IsUnclosed s all unclosed.Memory = Unit {0}
 
 -- why the history of these agents isn't written: there is a move that none of them has seen, it is beyond a journal's limits,
 -- or memory was refused
-abbrev pub IsUnwritten : StorageView Standard → List (AgentAt Standard) → History → Unclosed → Type 0
-IsUnwritten s all history (unclosed.Missing number) = IsUnseen s all number
-IsUnwritten s all history unclosed.Large = ¬ Fits history
-IsUnwritten s all history unclosed.Memory = Unit {0}
+abbrev pub HasNoJournal : StorageView Standard → List (AgentAt Standard) → History → Unclosed → Type 0
+HasNoJournal s all history (unclosed.Missing number) = IsUnseen s all number
+HasNoJournal s all history unclosed.Large = ¬ Fits history
+HasNoJournal s all history unclosed.Memory = Unit {0}
 
 -- the storage of the slot isn't closed, for want of one, of a receipt of the move with this number, or of room in a
 -- journal; without a move, the number is 0

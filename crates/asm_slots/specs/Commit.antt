@@ -1,5 +1,5 @@
 -- What the commit of a step does.
-use Rattle.std.specs.Prelude.{◌≡◌, ◌↔◌, ◌⊎◌, ◌-◌, ◌+◌, ◌≤◌, ◌<◌, ℕ, List, [], ◌++◌, All, map, Option}
+use Rattle.std.specs.Prelude.{◌≡◌, ◌≢◌, ◌↔◌, ◌⊎◌, ◌-◌, ◌+◌, ◌≤◌, ◌<◌, ℕ, List, [], ◌++◌, All, map, Option}
 use Rattle.std.specs.Prelude.{Result, Ok, Err, IfOk, IsErrOf, unwrap_or, Contains, true, length}
 use Rattle.asm_update.specs.Aggregator.{AggregatorLaws, Meaning}
 use Rattle.asm_update.specs.Fire.{Old, fire}
@@ -8,24 +8,28 @@ use Rattle.asm_update.specs.State.{State, IsProper, val}
 use Rattle.asm_element.specs.Place.{Place}
 use Rattle.asm_state.specs.declared.named.Named.{Named}
 use Rattle.asm_state.specs.declared.scanned.Scanned.{Scanned}
-use Rattle.asm_storage.specs.Calls.{IsBehind, IsRecall, ReadingView}
-use Rattle.asm_storage.specs.Limits.{reads_limit}
-use Rattle.asm_storage.specs.Storage.{AgentAt, IsSameAgent}
+use Rattle.asm_storage.specs.Limits.{offers_limit, reads_limit}
+use Rattle.asm_storage.specs.NamedRead.{IsNamedRead}
+use Rattle.asm_storage.specs.Storage.{AgentAt, IsSameAgent, Missed, last_poll}
+use Rattle.asm_storage.specs.declared.reading.NamedReading.{NamedReading}
+use Rattle.asm_storage.specs.declared.reading.NamedReading.TheVariants.{Read, Stale}
 use Rattle.asm_storage.specs.declared.call.Reply.{Reply}
 use Rattle.asm_storage.specs.declared.call.Reply.TheVariants.{Fired}
 use Rattle.asm_storage.specs.declared.error.FireError.{FireError}
 use Rattle.asm_storage.specs.declared.error.FireError.TheVariants.{ManyReads}
+use Rattle.asm_storage.specs.declared.error.ReadError.{ReadError}
+use Rattle.asm_storage.specs.declared.error.ReadError.TheVariants.{ManyLocations, Memory}
 use Rattle.asm_step.specs.InTurn.{DoesAll, fire_all}
 use Rattle.asm_step.specs.Layers.{IsStepOf, Layer, all_moves, one_move, dependencies_of, shows_below}
 use Rattle.asm_step.specs.Places.{AreEach}
 use Rattle.asm_step.specs.Dependencies.{AgreesAtDependencies, left_by}
-use Rattle.asm_slots.specs.AgentCalls.{HasAnswered, IsRepliedOver, MissedFew, MissedOne, ReportsFire, SeesOn, no_numbers}
+use Rattle.asm_slots.specs.AgentCalls.{HasAnswered, HasPolled, IsRepliedOver, MayHavePolled, MissedOne, ReportsFire, SeesOn, no_numbers}
 use Rattle.asm_slots.specs.Answers.{IsMemory}
 use Rattle.asm_slots.specs.OwnState.{state_at}
 use Rattle.asm_slots.specs.Slots.{HoldBoth, Holds, LacksOne}
 use Rattle.asm_slots.specs.Standard.{Standard, meaning, part}
 use Rattle.asm_slots.specs.StepView.{StepView, names_of}
-use Rattle.asm_slots.specs.StepCalls.{IsElsewhere, IsOfScanned, IsStepOn, below, seen}
+use Rattle.asm_slots.specs.StepCalls.{HasReached, IsOfScanned, IsStepOn, below, seen}
 use Rattle.asm_slots.specs.declared.codes.Code.{Code}
 use Rattle.asm_slots.specs.declared.codes.Code.TheVariants as code
 use Rattle.asm_slots.specs.declared.content.Content.{Content}
@@ -106,48 +110,66 @@ Commits HasDone agent after step n r =
 
 -- ---- a commit that records what the step read
 
--- the agent has one more receipt: of a read of these locations, from its own state at the step's version
+-- the values that were read are those below the step, if the agent has reached it
+abbrev pub AreBelow : AgentAt Standard → StepView → NamedReading → Type 0
+AreBelow a s (Read r) = HasReached a s → r.values ≡ map (below a s) r.places
+AreBelow a s (Stale l) = Unit {0}
+
+-- nothing is declared, and nothing was done; or the agent has polled and validated the declared reads. Either none is
+-- stale, and it has one more receipt: of a read of their locations, with the values below the step. Or one is stale, and
+-- it has no further receipt
 abbrev pub HasRecorded : StepView → List Named → AgentAt Standard → AgentAt Standard → Type 0
 HasRecorded s reads old new =
-    (r : ReadingView) × IsRecall meaning old new (map (λ x. x.at) reads) r × (r.number ≡ s.number)
+    ((reads ≡ []) × (new ≡ old))
+    ⊎ ((reads ≢ [])
+    × ((r : NamedReading) × IsNamedRead meaning old new reads r × AreBelow old s r × Missed old (last_poll new) new))
 
 -- the locations that a commit declares and the scanned functions are more than 256 together
 abbrev pub NamesMany : StepView → List Named → Type 0
 NamesMany s reads = reads_limit < length reads + length s.scanned
 
--- the agent's own state isn't at the step's version, or is behind the agent's receipts
-abbrev pub HasMoved : AgentAt Standard → StepView → Type 0
-HasMoved a s = IsElsewhere a s ⊎ IsBehind a
+-- it has polled at most, for a read that was refused memory
+pub record HasOnlyPolled (old new : AgentAt Standard) : Type 0 where
+  pub same : IsSameAgent old new
+  pub seen : SeesOn old new
+  pub polled : HasPolled old new
+  pub missed : MayHavePolled old new
 
--- why no read is recorded: there are too many locations and functions, or else the agent has moved
-abbrev pub ReportsUnrecorded : AgentAt Standard → StepView → List Named → Code → Type 0
-ReportsUnrecorded a s reads c =
-    ((c ≡ code.Many) × NamesMany s reads) ⊎ ((c ≡ code.Moved) × ¬ NamesMany s reads × HasMoved a s)
+-- why no read is recorded: there are too many locations and functions, and nothing has changed; or memory was refused
+abbrev pub IsUnrecorded : StepView → List Named → AgentAt Standard → AgentAt Standard → Code → Type 0
+IsUnrecorded s reads old new c =
+    ((c ≡ code.Many) × NamesMany s reads × (new ≡ old)) ⊎ (IsMemory c × HasOnlyPolled old new)
 
--- nothing was done, since memory was refused or no read is recorded
-abbrev pub HasRecordedNothing : StepView → AgentAt Standard → Code → Type 0
-HasRecordedNothing s a c = IsMemory c ⊎ ((reads : List Named) × NamesAll s reads × ReportsUnrecorded a s reads c)
+-- what a commit answers if it does no more than this read
+abbrev pub recorded_as : Result NamedReading ReadError → Result (Unit {0}) Code
+recorded_as (Ok r) = Ok tt
+recorded_as (Err ManyLocations) = Err code.Many
+recorded_as (Err Memory) = Err code.Memory
 
--- the read was recorded, which was possible; then the agent with its receipt fired the step's move, and for that
--- agent the step has the same groups of moves
+-- no read is recorded, and nothing was fired
+abbrev pub HasRecordedNothing : StepView → AgentAt Standard → AgentAt Standard → Code → Type 0
+HasRecordedNothing s old new c = (IsMemory c × (new ≡ old)) ⊎ ((reads : List Named) × NamesAll s reads × IsUnrecorded s reads old new c)
+
+-- the read was recorded, or a declared location was stale; then the agent fired the step's move, at the step's version,
+-- and for that agent the step has the same groups of moves
 pub record HasRecordedStep (s : StepView) (answer : Result Reply FireError) (old new : AgentAt Standard) : Type 0 where
   pub reads : List Named
   pub few : ¬ NamesMany s reads
-  pub there : ¬ HasMoved old s
   pub between : AgentAt Standard
   pub recorded : HasRecorded s reads old between
   pub step : (groups : List (List Move)) → IsStepOn old s groups → IsStepOn between s groups
   pub fired : HasFiredStep s reads answer between new
   pub same : IsSameAgent old new
   pub seen : SeesOn old new
-  pub missed_few : MissedFew old new
+  -- at most 65 more polls found nothing, the one of the read included
+  pub missed_few : new.misses ≤ old.misses + (offers_limit + 1)
   pub missed_one : (k : ℕ) → answer ≡ Ok (Fired k) → MissedOne old new
 
--- the read was recorded and the step's move was fired, and the call reports the answer; or nothing was done
+-- the read was recorded and the step's move was fired, and the call reports the answer; or nothing was fired
 abbrev pub HasCommittedRecorded : StepView → AgentAt Standard → AgentAt Standard → Numbers → Result (Unit {0}) Code → Type 0
 HasCommittedRecorded s old new n r =
     ((answer : Result Reply FireError) × HasRecordedStep s answer old new × ReportsFire answer n r)
-    ⊎ ((new ≡ old) × (n ≡ no_numbers) × ((c : Code) × (r ≡ Err c) × HasRecordedNothing s old c))
+    ⊎ ((n ≡ no_numbers) × ((c : Code) × (r ≡ Err c) × HasRecordedNothing s old new c))
 
 -- the step's one move with all reads that its commit declares
 abbrev pub IsOffer : StepView → Call → Type 0

@@ -26,9 +26,9 @@ abbrev pub ShowsBoth : (AgentAt Standard → StepView → List ℕ → Type 0) �
 ShowsBoth IsText agent step = HasText (λ text. HoldBoth agent step (λ a s. IsText a s text))
 
 -- none is: a slot lacks its agent or its step, or it is too long, or there is none for this reason
-abbrev pub ShowsNeither : (AgentAt Standard → StepView → List ℕ → Type 0) → (AgentAt Standard → StepView → Code → Type 0) →
+abbrev pub ShowsNoText : (AgentAt Standard → StepView → List ℕ → Type 0) → (AgentAt Standard → StepView → Code → Type 0) →
     Option Content → Option Content → List ℕ → List ℕ → ℕ → Code → Type 0
-ShowsNeither IsText IsNone agent step =
+ShowsNoText IsText IsNone agent step =
     HasNoText (λ text. HoldBoth agent step (λ a s. IsText a s text))
     (EmptyOr (LacksOne agent step) (λ c. HoldBoth agent step (λ a s. IsNone a s c)))
 

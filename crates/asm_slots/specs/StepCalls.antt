@@ -53,10 +53,10 @@ abbrev pub HasReached : AgentAt Standard → StepView → Type 0
 HasReached a s = s.number ≤ length a.account.seen
 
 -- the agent's own state is at another version than the step
-abbrev pub IsOff : AgentAt Standard → StepView → Code → Type 0
-IsOff a s code.Memory = Unit {0}
-IsOff a s code.Moved = IsElsewhere a s
-IsOff a s _ = ⊥
+abbrev pub IsUnreachable : AgentAt Standard → StepView → Code → Type 0
+IsUnreachable a s code.Memory = Unit {0}
+IsUnreachable a s code.Moved = IsElsewhere a s
+IsUnreachable a s _ = ⊥
 
 -- ---- reading
 
@@ -71,7 +71,7 @@ IsSeenBy bytes a s text = HasReached a s × IsSeenText bytes a s text
 
 -- the bytes are no locations, or the agent's own state is at another version
 abbrev pub IsNotSeen : List ℕ → AgentAt Standard → StepView → Code → Type 0
-IsNotSeen bytes a s c = IsUnreadAs AreLocations bytes c ⊎ IsOff a s c
+IsNotSeen bytes a s c = IsUnreadAs AreLocations bytes c ⊎ IsUnreachable a s c
 
 -- those of the locations at which what is seen through the pushed moves is made from the state below them
 abbrev pub from_below : StepView → List Place → List Place
@@ -109,7 +109,7 @@ IsNoCopyFor limit tracked l c = IsMemory c ⊎ ((c ≡ code.Many) × (limit ≤ 
 
 -- the agent's own state is at another version; or it has reached the step, and the location would take one place more
 abbrev pub IsNotGotAt : Place → AgentAt Standard → StepView → Code → Type 0
-IsNotGotAt l a s c = IsOff a s c ⊎ ((c ≡ code.Many) × HasReached a s × WouldTrackOneMore l s)
+IsNotGotAt l a s c = IsUnreachable a s c ⊎ ((c ≡ code.Many) × HasReached a s × WouldTrackOneMore l s)
 
 -- with the locations, more than 256 places would be taken
 abbrev pub WouldTakeMany : List Place → StepView → Type 0
@@ -160,7 +160,7 @@ WouldScanMany name s = (reads_limit ≤ places_of s) × ¬ IsScanned name s
 
 -- the agent's own state is at another version; or it has reached the step, and the scan would take one place more
 abbrev pub IsNotScanned : List ℕ → AgentAt Standard → StepView → Code → Type 0
-IsNotScanned name a s c = IsOff a s c ⊎ ((c ≡ code.Many) × HasReached a s × WouldScanMany name s)
+IsNotScanned name a s c = IsUnreachable a s c ⊎ ((c ≡ code.Many) × HasReached a s × WouldScanMany name s)
 
 -- whether one of the scans is of the function with this name
 abbrev pub has_scan : List ℕ → List Scanned → Bool
@@ -235,7 +235,7 @@ IsRefused way M a old new c text =
 -- the agent's own state is at another version; or the move is refused, and these locations would take too many places
 abbrev pub IsNotAccepted : PushMode → Move → AgentAt Standard → StepView → Code → Type 0
 IsNotAccepted way M a s c =
-    IsOff a s c ⊎ ((e : StepError) × IsPushError way M a s e × IsNotTracked (refusal_places M e) s c)
+    IsUnreachable a s c ⊎ ((e : StepError) × IsPushError way M a s e × IsNotTracked (refusal_places M e) s c)
 
 -- the refusal is reported, or its text is too long; or the step and the buffer are unchanged
 abbrev pub IsNotGrown : PushMode → Move → AgentAt Standard → StepView → StepView → List ℕ → List ℕ → ℕ → Code → Type 0

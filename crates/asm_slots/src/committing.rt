@@ -3,8 +3,8 @@ ghost use Rattle.std.specs.Prelude.{◌≡◌, ◌⊎◌, [], map, unwrap_or, If
 ghost use Rattle.asm_step.specs.Layers.{one_move};
 ghost use Rattle.asm_slots.specs.AgentCalls.{no_numbers};
 ghost use Rattle.asm_slots.specs.Answers.{EmptyOr, IsMemory};
-ghost use Rattle.asm_slots.specs.Commit.{Commits, HasCommitted, HasCommittedRecorded, HasFiredStep, HasMoved, HasRecorded, IsMoveOf};
-ghost use Rattle.asm_slots.specs.Commit.{IsOffer, IsOfferText, NamesAll, NamesMany, OneDoesAll, ReportsUnrecorded};
+ghost use Rattle.asm_slots.specs.Commit.{Commits, HasCommitted, HasCommittedRecorded, HasFiredStep, HasRecorded, IsMoveOf};
+ghost use Rattle.asm_slots.specs.Commit.{IsOffer, IsOfferText, IsUnrecorded, NamesAll, NamesMany, OneDoesAll, recorded_as};
 ghost use Rattle.asm_slots.specs.Slots.{HoldsNoStep, HoldsStep, content_of};
 ghost use Rattle.serde_json.specs.Written.{compact_text};
 ghost use Rattle.asm_journal.specs.Event.{call_json_of};
@@ -16,10 +16,10 @@ use crate::owned_agent::OwnedAgent;
 use crate::owned_step::OwnedStep;
 use crate::read_and_fire::{Numbers, report};
 use crate::slot::Slot;
-use asm_element::{Items, Location};
+use asm_element::Items;
 use asm_journal::ToJson;
 use asm_state::Named;
-use asm_storage::{Call, FireError, READS_LIMIT, RecallError, Reply};
+use asm_storage::{Call, FireError, NamedReading, READS_LIMIT, ReadError, Reply};
 use asm_update::Instructions;
 use std::alloc::{AllocError, Global};
 
@@ -66,46 +66,53 @@ fn fire_step(
     report(fire_prepared(alloc, agent, step, &instrs, &reads), numbers)
 }
 
-// Return the locations of the declared reads.
-fn locations_of(alloc: Global, reads: &[Named]) -> Result<Vec<Location>, AllocError>
-    ensures { IfOk result (λ locations. locations.items ≡ map (λ x. x.at) reads.now) }
+// Return what a commit answers if it reads no more than this.
+fn recorded(read: Result<NamedReading, ReadError>) -> Result<(), Code>
+    ensures { result ≡ recorded_as read }
 {
-    let mut locations = Vec::with_capacity(alloc, reads.len())?;
-    for read in reads {
-        locations.push(read.at.copy(alloc)?)?;
+    match read {
+        Ok(_) => Ok(()),
+        Err(ReadError::ManyLocations) => Err(Code::Many),
+        Err(ReadError::Memory) => Err(Code::Memory),
     }
-    Ok(locations)
 }
 
-// Add a receipt of a read of the declared locations, from the agent's own state at the step's version.
+// Validate the declared reads, if there are any, and read their locations with a receipt if none is stale.
+fn record_few(
+    alloc: Global,
+    agent: &mut OwnedAgent,
+    step: &OwnedStep,
+    reads: &[Named],
+) -> Result<(), Code>
+    requires { ¬ NamesMany step.now reads.now }
+    ensures recorded { NamesAll step.now reads.now → OnOk result (HasRecorded step.now reads.now agent.old agent.new) }
+    ensures few { OnOk result (¬ NamesMany step.now reads.now) }
+    ensures why { IfErr result (IsUnrecorded step.now reads.now agent.old agent.new) }
+{
+    if reads.is_empty() {
+        return Ok(());
+    }
+    recorded(agent.read_named(alloc, reads))
+}
+
+// Do so, unless there are too many locations and functions.
 fn record_reads(
     alloc: Global,
     agent: &mut OwnedAgent,
     step: &OwnedStep,
     reads: &[Named],
 ) -> Result<(), Code>
-    ensures recorded { OnOk result (HasRecorded step.now reads.now agent.old agent.new) }
+    ensures recorded { NamesAll step.now reads.now → OnOk result (HasRecorded step.now reads.now agent.old agent.new) }
     ensures few { OnOk result (¬ NamesMany step.now reads.now) }
-    ensures there { OnOk result (¬ HasMoved agent.old step.now) }
-    ensures kept { OnErr result (agent.new ≡ agent.old) }
-    ensures why { IfErr result (λ c. IsMemory c ⊎ ReportsUnrecorded agent.old step.now reads.now c) }
+    ensures why { IfErr result (IsUnrecorded step.now reads.now agent.old agent.new) }
 {
     if reads.len() > READS_LIMIT - step.scanned.len() {
         return Err(Code::Many);
     }
-    if agent.state().number() != step.number {
-        return Err(Code::Moved);
-    }
-    let locations = locations_of(alloc, reads)?;
-    match agent.recall(alloc, &locations) {
-        Ok(_) => Ok(()),
-        Err(RecallError::ManyLocations) => Err(Code::Many),
-        Err(RecallError::Behind) => Err(Code::Moved),
-        Err(RecallError::Memory) => Err(Code::Memory),
-    }
+    record_few(alloc, agent, step, reads)
 }
 
-// Add a receipt of a read of all locations on which the step's one move depends, then fire the move.
+// Record a read of all locations on which the step's one move depends, then fire the move.
 #[tactic(auto, using(crate::proofs::Commits::does_all))]
 fn fire_recorded(
     alloc: Global,

@@ -4,9 +4,9 @@ ghost use Rattle.std.specs.Prelude.{IfErr, IfOk, IfNone, IfSome, IsSome, MatchRe
 ghost use Rattle.std.specs.Vec.{vec_capacity};
 ghost use Rattle.asm_slots.specs.Answers.{IsNoName};
 ghost use Rattle.asm_slots.specs.Slots.{ChangesStep, content_of};
-ghost use Rattle.asm_slots.specs.StepAnswers.{ShowsBoth, ShowsNeither};
+ghost use Rattle.asm_slots.specs.StepAnswers.{ShowsBoth, ShowsNoText};
 ghost use Rattle.asm_slots.specs.StepCalls.{HasScanned, HasReached, IsFound, IsFoundBy, IsFoundText, IsNoScanFor, IsNotScanned};
-ghost use Rattle.asm_slots.specs.StepCalls.{IsOff, IsScanFor, has_scan};
+ghost use Rattle.asm_slots.specs.StepCalls.{IsUnreachable, IsScanFor, has_scan};
 ghost use Rattle.asm_slots.specs.WrittenText.{IsWritten};
 
 use crate::codes::{Code, write};
@@ -30,7 +30,7 @@ fn found_in(
 ) -> Result<PlainState, Code>
     ensures found { IfOk result (IsFound name.now agent.now step.now) }
     ensures reached { OnOk result (HasReached agent.now step.now) }
-    ensures err { IfErr result (IsOff agent.now step.now) }
+    ensures err { IfErr result (IsUnreachable agent.now step.now) }
 {
     let state = agent.state();
     if state.number() != step.number {
@@ -52,7 +52,7 @@ fn found_text(
 ) -> Result<String, Code>
     ensures text { IfOk result (λ text. IsFoundText name.now agent.now step.now (string_bytes text)) }
     ensures reached { OnOk result (HasReached agent.now step.now) }
-    ensures err { IfErr result (IsOff agent.now step.now) }
+    ensures err { IfErr result (IsUnreachable agent.now step.now) }
 {
     let found = found_in(alloc, agent, step, name)?;
     Ok(state_text(alloc, &found)?)
@@ -156,7 +156,7 @@ pub fn step_scan(
     ensures answers { MatchResult result
         (λ done. ShowsBoth (IsFoundBy name.now) (content_of agent.old) (content_of step.old) out.new written.new
         × ChangesStep (content_of step.old) (content_of step.new) (HasScanned name.now))
-        (ShowsNeither (IsFoundBy name.now) (λ a s c. IsNoName name.now c ⊎ IsNotScanned name.now a s c)
+        (ShowsNoText (IsFoundBy name.now) (λ a s c. IsNoName name.now c ⊎ IsNotScanned name.now a s c)
         (content_of agent.old) (content_of step.old) out.old out.new written.new) }
     ensures stays { OnErr result (content_of step.new ≡ content_of step.old) }
     ensures kept { content_of agent.new ≡ content_of agent.old }

@@ -126,6 +126,8 @@ fn unite_first(alloc: Global, instrs: &mut Slot, other: &mut Slot) -> Result<(),
 {
     let mut gathered = Instructions::new(alloc);
     append_all(&mut gathered, other)?;
+    // Proof: the limit is known once the length is read.
+    let _ = gathered.len();
     let was_full = other.is_full();
     hold(alloc, instrs, gathered)?;
     // If C passes one empty slot twice, it is full now.

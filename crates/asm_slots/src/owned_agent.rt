@@ -8,11 +8,11 @@ ghost use Rattle.std_alloc.specs.Arc.{arc_value};
 ghost use Rattle.asm_storage.specs.Limits.{agents_limit, reads_limit};
 ghost use Rattle.asm_storage.specs.declared.error.FireError.TheVariants.{ManyReads};
 ghost use Rattle.asm_storage.specs.declared.error.ReadError.TheVariants.{ManyLocations};
-ghost use Rattle.asm_storage.specs.declared.error.RecallError.TheVariants as recall_error;
 ghost use Rattle.asm_storage.specs.Part.{IsFollowing};
 ghost use Rattle.asm_storage.specs.Storage.{at_start, last_poll, machine_of, IsSameAgent, Missed};
 ghost use Rattle.asm_storage.specs.Calls.{HasPolledFor, IsReplied, IsCoherentReply, IsRead};
-ghost use Rattle.asm_storage.specs.Calls.{IsBehind, IsRecall, IsStaleRead};
+ghost use Rattle.asm_storage.specs.Calls.{IsStaleRead};
+ghost use Rattle.asm_storage.specs.NamedRead.{IsNamedRead};
 ghost use Rattle.asm_storage.specs.Taken.{HasTaken};
 ghost use Rattle.asm_slots.specs.Standard.{meaning};
 ghost use Rattle.asm_slots.specs.AgentAnswers.{is_any_over, is_any_above};
@@ -24,7 +24,7 @@ use asm_aggregate::Standard;
 use asm_element::{Items, Location};
 use asm_journal::answer_text;
 use asm_state::{Named, Scanned, State};
-use asm_storage::{Agent, AgentPart, FireError, Mark, ReadError, Reading, RecallError, Reply};
+use asm_storage::{Agent, AgentPart, FireError, Mark, NamedReading, ReadError, Reading, Reply};
 use asm_update::Instructions;
 use std::alloc::{AllocError, Global};
 use std::marker::Model;
@@ -150,20 +150,22 @@ impl OwnedAgent {
         )
     }
 
-    /// Read the locations from its own state, and add a receipt; don't poll.
+    /// Read the locations of the declared reads, unless one of them is stale.
     ///
-    /// The receipt is at the version of that state.
-    pub(crate) fn recall(
+    /// It polls. If one is stale, it returns the smallest of these locations, and adds no receipt.
+    pub(crate) fn read_named(
         &mut self,
         alloc: Global,
-        locations: &[Location],
-    ) -> Result<Reading, RecallError>
-        ensures recalled { IfOk result (IsRecall meaning self.old self.new locations.now) }
-        ensures refused { OnErr result (self.new ≡ self.old) }
-        ensures many { IsErrOf result recall_error.ManyLocations ↔ (reads_limit < length locations.now) }
-        ensures behind { IsErrOf result recall_error.Behind ↔ ((length locations.now ≤ reads_limit) × IsBehind self.old) }
+        reads: &[Named],
+    ) -> Result<NamedReading, ReadError>
+        ensures answered { IfOk result (IsNamedRead meaning self.old self.new reads.now) }
+        ensures polled { OnOk result (Missed self.old (last_poll self.new) self.new) }
+        ensures seen { SeesOn self.old self.new }
+        ensures refused { OnErr result (HasPolled self.old self.new) }
+        ensures unread { IfErr result (HasPolledFor self.old self.new) }
+        ensures many { IsErrOf result ManyLocations ↔ (reads_limit < length reads.now) }
     {
-        self.part.recall(alloc, &self.shared.storage, locations)
+        self.part.read_named(alloc, &self.shared.storage, reads)
     }
 
     /// Return its own state.

@@ -7,12 +7,12 @@ ghost use Rattle.asm_step.specs.Places.{AreEach};
 ghost use Rattle.asm_slots.specs.Kinds.{IsValueBy, bytes_of};
 ghost use Rattle.asm_slots.specs.OwnState.{Begins, DoesNotBegin, values_text};
 ghost use Rattle.asm_slots.specs.Slots.{ChangesStep, HasRoomForStep, content_of};
-ghost use Rattle.asm_slots.specs.StepCalls.{HasReached, HasTracked, HasTrackedOne, IsCopyFor, IsNoCopyFor, IsNotGot, IsNotGotAt, IsNotSeen, IsOff};
+ghost use Rattle.asm_slots.specs.StepCalls.{HasReached, HasTracked, HasTrackedOne, IsCopyFor, IsNoCopyFor, IsNotGot, IsNotGotAt, IsNotSeen, IsUnreachable};
 ghost use Rattle.asm_slots.specs.StepCalls.{IsSeenBy, seen};
 ghost use Rattle.asm_slots.specs.WrittenText.{HasNoText, HasText, IsWritten};
 ghost use Rattle.std.specs.Vec.{vec_capacity};
 ghost use Rattle.std.specs.List.Sorted.{IsStrictlySortedBy};
-ghost use Rattle.asm_slots.specs.StepAnswers.{DoesNotGetAt, GetsAt, IsNoValue, ShowsBoth, ShowsNeither};
+ghost use Rattle.asm_slots.specs.StepAnswers.{DoesNotGetAt, GetsAt, IsNoValue, ShowsBoth, ShowsNoText};
 
 use crate::codes::{Code, write};
 use crate::content::Content;
@@ -71,7 +71,7 @@ fn seen_text(
     ensures text { IfOk result (λ text. string_bytes text
         ≡ values_text step.now.number (seen agent.now step.now) locations.now) }
     ensures reached { OnOk result (HasReached agent.now step.now) }
-    ensures err { IfErr result (IsOff agent.now step.now) }
+    ensures err { IfErr result (IsUnreachable agent.now step.now) }
 {
     let state = agent.state();
     if state.number() != step.number {
@@ -91,7 +91,7 @@ pub fn see(
 ) -> Result<(), Code>
     ensures answers { MatchResult result
         (λ done. ShowsBoth (IsSeenBy locations.now) (content_of agent.old) (content_of step.old) out.new written.new)
-        (ShowsNeither (IsSeenBy locations.now) (IsNotSeen locations.now) (content_of agent.old) (content_of step.old)
+        (ShowsNoText (IsSeenBy locations.now) (IsNotSeen locations.now) (content_of agent.old) (content_of step.old)
         out.old out.new written.new) }
     ensures kept { content_of agent.new ≡ content_of agent.old }
     ensures held { content_of step.new ≡ content_of step.old }
@@ -138,7 +138,7 @@ pub fn get(
     ensures answers { MatchResult result
         (λ done. ShowsBoth (IsSeenBy locations.now) (content_of agent.old) (content_of step.old) out.new written.new
         × ChangesStep (content_of step.old) (content_of step.new) (HasTracked locations.now))
-        (ShowsNeither (IsSeenBy locations.now) (IsNotGot locations.now) (content_of agent.old) (content_of step.old)
+        (ShowsNoText (IsSeenBy locations.now) (IsNotGot locations.now) (content_of agent.old) (content_of step.old)
         out.old out.new written.new) }
     ensures stays { OnErr result (content_of step.new ≡ content_of step.old) }
     ensures kept { content_of agent.new ≡ content_of agent.old }

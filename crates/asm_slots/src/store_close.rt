@@ -9,7 +9,7 @@ ghost use Rattle.asm_storage.specs.Part.{agent_of, IsPartOf};
 ghost use Rattle.asm_storage.specs.Storage.{IsOf, accounts};
 ghost use Rattle.asm_journal.specs.Text.{text_of};
 ghost use Rattle.asm_slots.specs.AgentCalls.{HasClosed};
-ghost use Rattle.asm_slots.specs.ClosedStore.{IsJournalOf, IsUnseen, IsUnclosed, IsUnwritten};
+ghost use Rattle.asm_slots.specs.ClosedStore.{IsJournalOf, IsUnseen, IsUnclosed, HasNoJournal};
 ghost use Rattle.asm_slots.specs.Standard.{meaning};
 
 use crate::closed_journal::ClosedJournal;
@@ -92,7 +92,7 @@ fn written(
     closing: &Closing<'_>,
 ) -> Result<ClosedJournal, Unclosed>
     ensures ok { IfOk result (λ journal. Fits closing.now × (journal ≡ text_of closing.now)) }
-    ensures err { IfErr result (IsUnwritten storage.now agents.now closing.now) }
+    ensures err { IfErr result (HasNoJournal storage.now agents.now closing.now) }
 {
     if let Some(number) = unseen_move(storage, agents) {
         return Err(Unclosed::Missing(number));

@@ -1,7 +1,7 @@
 -- A state that followed a move stands for one move more.
 use Rattle.std.proofs.Common.{◌≡◌, ℕ, ◌+◌, cond, ◌&&◌, List, [], ◌∷◌, ◌++◌, length, Option, Some, None, Ok, Err, Result, is_ok, is_some, unwrap_or, length-append, refl, sym, ap, ◌∙◌, subst, arith}
 use Rattle.std.specs.FinMap as map
-use Rattle.asm_element.specs.Place.{Place}
+use Rattle.asm_element.specs.Place.{Place, location_cmp_total, location_cmp-IsAntisymmetric}
 use Rattle.asm_element.specs.declared.value.Value.{Value}
 use Rattle.asm_update.specs.Move.{Move, writes}
 use Rattle.asm_update.specs.State.{State, Updates, val, overwrite}
@@ -105,3 +105,21 @@ module _ (part : Part) (old new : StateView) (M : Move) where
         fired = λ V e. absurd (let no : Ok V ≡ Err c = sym e ∙ has in cc);
         clashed = λ d e. same;
       }
+
+  -- it pins the state: a move that is followed in another way leaves the same one
+  pub followed_alike : (other : StateView) → IsFollowed part old M new → IsFollowed part old M other → new ≡ other
+  followed_alike other one two = by_answer (aggregated part (value_at old) M) refl where
+    number : new.number ≡ other.number
+    number = one.number ∙ sym two.number
+
+    base : new.base ≡ other.base
+    base = one.base ∙ sym two.base
+
+    whole : new.entries ≡ other.entries → new ≡ other
+    whole entries i = record { number = number i; base = base i; entries = entries i }
+
+    by_answer : (r : Result Updates Clash) → aggregated part (value_at old) M ≡ r → new ≡ other
+    by_answer (Ok U) e =
+        whole (map.same_map location_cmp_total location_cmp-IsAntisymmetric new.entries other.entries
+        (λ l. one.fired U e l ∙ sym (two.fired U e l)))
+    by_answer (Err c) e = whole (one.clashed c e ∙ sym (two.clashed c e))

@@ -3,6 +3,7 @@ pub mod Insertions
 pub mod Followed
 mod ChangedInPlace
 pub mod InPlace
+mod InTree
 pub mod Judged
 pub mod LeastFound
 pub mod Onward

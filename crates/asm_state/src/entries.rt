@@ -1,5 +1,5 @@
-//! What a state keeps of the locations that moves wrote, and how the updates of a move come in.
-ghost use Rattle.std.specs.Prelude.{◌≡◌, IfOk, IfErr, OnOk, OnErr, Some, Err};
+//! What a state keeps of the locations that moves wrote.
+ghost use Rattle.std.specs.Prelude.{◌≡◌, IfOk, IfErr, IsTrue, OnOk, OnErr, Some, Err, false};
 ghost use Rattle.asm_update.specs.Aggregator.{IsOutcome};
 ghost use Rattle.asm_state.specs.Change.{IsChanged};
 ghost use Rattle.asm_state.specs.declared.entries.WrittenValue.{WrittenValue};
@@ -7,24 +7,20 @@ ghost use Rattle.std.specs.Option.{option_copied};
 ghost use Rattle.std.specs.BTreeMap.Range.{entries_between};
 ghost use Rattle.std.specs.declared.ops.Bound.TheVariants.{Included, Unbounded};
 ghost use Rattle.std.specs.FinMap as map;
-ghost use Rattle.asm_element.specs.Place.{Place, location_cmp};
+ghost use Rattle.asm_element.specs.Place.{location_cmp};
 ghost use Rattle.asm_update.specs.State.{val};
 ghost use Rattle.asm_state.specs.View.{value_of, value_over};
-ghost use Rattle.asm_state.specs.Follow.{written_by, entry_after};
-ghost use Rattle.asm_state.specs.Replaced.{AreReplaced};
-ghost use Rattle.asm_state.specs.View as view;
-ghost use Rattle.asm_aggregate.specs.Bundle.{by_place};
+ghost use Rattle.asm_state.specs.Follow.{written_by};
 
 pub(crate) mod scanning;
+mod writing;
 
-use asm_aggregate::Results;
-use asm_element::{Location, Value};
+use asm_element::{Element, Location, Value};
 use asm_update::{Aggregator, Group, PlainState, ResultError};
 use std::alloc::{AllocError, Global};
 use std::collections::BTreeMap;
 use std::collections::btree_map::{Iter, Range};
 use std::marker::Model;
-use std::mem;
 
 /// What a location holds, and the number of the move that wrote it last.
 #[derive(Debug, Drop)]
@@ -32,6 +28,23 @@ pub(crate) struct WrittenValue {
     /// None where it is undef, whatever the opening state has there.
     pub(crate) value: Option<Value>,
     pub(crate) writer: u32,
+}
+
+/// Give a number the place of another one, without memory; return false if either is no number.
+fn replace_number(held: &mut Option<Value>, value: &Value) -> bool
+    ensures replaced { IsTrue result → held.new ≡ Some value.now }
+    ensures kept { result ≡ false → held.new ≡ held.old }
+{
+    let Value::Plain(Element::Num(next)) = value else {
+        return false;
+    };
+    match held {
+        Some(Value::Plain(Element::Num(number))) => {
+            *number = *next;
+            true
+        }
+        _ => false,
+    }
 }
 
 impl WrittenValue {
@@ -84,6 +97,20 @@ impl WrittenValue {
         match &mut self.value {
             Some(value) => aggregator.change(alloc, value, group)?,
             None => self.value = Some(aggregator.result(alloc, None, group)?),
+        }
+        self.settle(writer);
+        Ok(())
+    }
+
+    /// Change the value to a copy of this one, in the move with this number.
+    ///
+    /// On error, nothing changes.
+    fn put(&mut self, alloc: Global, writer: u32, value: &Value) -> Result<(), AllocError>
+        ensures ok { OnOk result (self.new ≡ written_by writer value.now) }
+        ensures err { OnErr result (self.new ≡ self.old) }
+    {
+        if !replace_number(&mut self.value, value) {
+            self.value = Some(value.copy(alloc)?);
         }
         self.settle(writer);
         Ok(())
@@ -230,140 +257,6 @@ impl Entries {
         match self.tree.get_mut(at) {
             Some(written) => written.change(alloc, aggregator, writer, group),
             None => self.open_at(alloc, aggregator, base, at, writer, group),
-        }
-    }
-
-    /// Replace the entry of the location, and return the old one.
-    ///
-    /// If there is none, return this one.
-    fn exchange(
-        &mut self,
-        at: &Location,
-        written: WrittenValue,
-    ) -> Result<WrittenValue, WrittenValue>
-        ensures there { IfOk result (λ old. map.get self.old at.now ≡ Some old) }
-        ensures ok { OnOk result (self.new ≡ map.insert self.old at.now written) }
-        ensures absent { OnErr result (map.get self.old at.now ≡ None) }
-        ensures back { IfErr result (λ back. back ≡ written) }
-        ensures err { OnErr result (self.new ≡ self.old) }
-    {
-        let Some(now) = self.tree.get_mut(at) else {
-            return Err(written);
-        };
-        Ok(mem::replace(now, written))
-    }
-
-    /// Write an entry, and return what the location held before.
-    ///
-    /// On error, nothing changes.
-    fn write_at(
-        &mut self,
-        alloc: Global,
-        at: &Location,
-        written: WrittenValue,
-    ) -> Result<Option<WrittenValue>, AllocError>
-        ensures before { IfOk result (λ before. before ≡ map.get self.old at.now) }
-        ensures ok { OnOk result (self.new ≡ map.insert self.old at.now written) }
-        ensures err { OnErr result (self.new ≡ self.old) }
-    {
-        match self.exchange(at, written) {
-            Ok(old) => Ok(Some(old)),
-            Err(written) => {
-                self.put(at.copy(alloc)?, written)?;
-                Ok(None)
-            }
-        }
-    }
-
-    /// Write a copy of the value at the location in the move with this number.
-    ///
-    /// On error, nothing changes.
-    pub(crate) fn put_value(
-        &mut self,
-        alloc: Global,
-        at: &Location,
-        writer: u32,
-        value: &Value,
-    ) -> Result<(), AllocError>
-        ensures ok { OnOk result (self.new ≡ map.insert self.old at.now (written_by writer value.now)) }
-        ensures err { OnErr result (self.new ≡ self.old) }
-    {
-        let written = WrittenValue::by(writer, value.copy(alloc)?);
-        self.write_at(alloc, at, written)?;
-        Ok(())
-    }
-
-    /// Take the last write of a location back, which takes no memory.
-    fn take_back(&mut self, at: &Location, before: Option<WrittenValue>)
-        ensures { (old : view.Entries) (w : WrittenValue) → before ≡ map.get old at.now →
-            self.old ≡ map.insert old at.now w → self.new ≡ old }
-    {
-        match before {
-            Some(written) => {
-                let _ = self.exchange(at, written);
-            }
-            None => self.take_out(at),
-        }
-    }
-
-    /// Take writes back by what they replaced, the last one first.
-    fn take_all_back(&mut self, mut replaced: Vec<(&Location, Option<WrittenValue>)>)
-        ensures { (old : view.Entries) → AreReplaced (by_place replaced.entry.items) old self.old → self.new ≡ old }
-    {
-        while let Some((at, before)) = replaced.pop() {
-            self.take_back(at, before);
-        }
-    }
-
-    /// Write the results of the move with this number, one by one.
-    ///
-    /// Until all are written it holds what they replace.
-    fn write_each(
-        &mut self,
-        alloc: Global,
-        writer: u32,
-        results: Results<'_>,
-    ) -> Result<(), AllocError>
-        ensures ok { OnOk result ((q : Place) →
-            map.get self.new q ≡ entry_after writer (map.get results.entry q) (map.get self.old q)) }
-        ensures err { OnErr result (self.new ≡ self.old) }
-    {
-        let mut replaced = Vec::with_capacity(alloc, results.len())?;
-        for (at, value) in results.into_vec() {
-            match self.write_at(alloc, at, WrittenValue::by(writer, value)) {
-                Ok(before) => replaced.push_reserved((at, before)),
-                Err(error) => {
-                    self.take_all_back(replaced);
-                    return Err(error);
-                }
-            }
-        }
-        Ok(())
-    }
-
-    /// Write the results of the move with this number.
-    ///
-    /// The values move in, and only new locations are copied. On error, nothing changes.
-    pub(crate) fn write(
-        &mut self,
-        alloc: Global,
-        writer: u32,
-        results: Results<'_>,
-    ) -> Result<(), AllocError>
-        ensures ok { OnOk result ((q : Place) →
-            map.get self.new q ≡ entry_after writer (map.get results.entry q) (map.get self.old q)) }
-        ensures err { OnErr result (self.new ≡ self.old) }
-    {
-        if results.len() > 1 {
-            return self.write_each(alloc, writer, results);
-        }
-        // A write works or changes nothing, so what one result replaces needn't be held.
-        match results.into_vec().into_iter().next() {
-            Some((at, value)) => {
-                self.write_at(alloc, at, WrittenValue::by(writer, value))?;
-                Ok(())
-            }
-            None => Ok(()),
         }
     }
 }

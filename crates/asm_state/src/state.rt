@@ -275,13 +275,13 @@ impl State {
         ensures number { OnOk result (self.new.number ≡ self.old.number + 1) }
         ensures err { OnErr result (self.new ≡ self.old) }
     {
-        match one_change(alloc, instructions)? {
-            Some((at, group)) => self.follow_at(alloc, aggregator, at, &group),
+        match only_put(instructions) {
+            Some((at, value)) => self.follow_put(alloc, at, value),
             None => self.follow_rest(alloc, aggregator, instructions),
         }
     }
 
-    // Follows a move in any way but as a change of one location.
+    // Follows a move that isn't one put.
     fn follow_rest<A: Aggregator>(
         &mut self,
         alloc: Global,
@@ -293,8 +293,8 @@ impl State {
             IsFollowed (A.meaning aggregator.now).part self.old instructions.now self.new) }
         ensures err { OnErr result (self.new ≡ self.old) }
     {
-        match only_put(instructions) {
-            Some((at, value)) => self.follow_put(alloc, at, value),
+        match one_change(alloc, instructions)? {
+            Some((at, group)) => self.follow_at(alloc, aggregator, at, &group),
             None => self.follow_all(alloc, aggregator, instructions),
         }
     }

@@ -1,13 +1,9 @@
-//! Tests of `asm_state` and `asm_overlay`, which see their public items alone.
+//! Tests of the crates from `asm_element` to `asm_state`, which see their public items alone.
 #![tactic(auto)]
 
 #[cfg(test)]
-mod equality;
+mod aggregate;
 #[cfg(test)]
-mod frames;
+mod state;
 #[cfg(test)]
-mod in_place;
-#[cfg(test)]
-mod judging;
-#[cfg(test)]
-mod layers;
+mod update;

@@ -43,12 +43,6 @@ next-push : (from : ℕ) (rs : List Receipt) (r : Receipt) → next_stood from (
 next-push from [] r = refl
 next-push from (s ∷ rs) r = next-push (next_after s) rs r
 
--- the last receipt says from where on the next one may stand
-pub next_of_last : (from : ℕ) (rs : List Receipt) (r : Receipt) → slice_get rs (length rs - 1) ≡ Some r → next_stood from rs ≡ next_after r
-next_of_last from rs r last =
-    let k = length rs - 1 in
-    ap (next_stood from) (sym (take_all (suc k) rs (omega arith)) ∙ take-slice_get rs k r last) ∙ next-push from (take k rs) r
-
 replied_more : (m : Machine) (seen more : List Entry) → IsPrefix seen more → (rs : List Receipt) → AllByRecursion (λ r. r.stood ≤ length seen) rs → AllByRecursion (λ r. r.answer ≡ reply_to m (take r.stood (moves_seen seen)) r.call) rs → AllByRecursion (λ r. r.answer ≡ reply_to m (take r.stood (moves_seen more)) r.call) rs
 replied_more m seen more prefix [] within each = tt
 replied_more m seen more prefix (r ∷ rs) within each = (subst (λ q. r.answer ≡ reply_to m q r.call) (take-moves_seen r.stood seen more prefix within.0) each.0, replied_more m seen more prefix rs within.1 each.1)

@@ -315,6 +315,16 @@ module _ {A : Type 0} (meaning : A → Meaning) (s : StorageView A) (old mid new
       subst (λ (a : AgentAt A). HasOffered (agent_of s old) a 0 (last_poll a)) (sym err)
       (record { longer = omega (arith, longer); missed = missed })
 
+  -- nor does a turn that was refused memory before it
+  pub none_offered : (r : Result (Option Reply) AllocError) (e : AllocError) → r ≡ Err e →
+      Missed (agent_of s old) (last_poll (agent_of s mid)) (agent_of s mid) → agent_of s new ≡ agent_of s mid →
+      HasOffered (agent_of s old) (agent_of s new) (offers_in r) (misses_in (agent_of s new) r)
+  none_offered r e is missed same =
+      subst (λ (q : Result (Option Reply) AllocError). HasOffered (agent_of s old) (agent_of s new) (offers_in q) (misses_in (agent_of s new) q))
+      (sym is)
+      (subst (λ (a : AgentAt A). HasOffered (agent_of s old) a 0 (last_poll a)) (sym same)
+      (record { longer = omega (arith, longer); missed = missed }))
+
 module _ {A : Type 0} (old mid new : AgentAt A) (n : ℕ) (lost : HasOffered old mid n n) where
   pub offered_then : (k j : ℕ) → HasOffered mid new k j → HasOffered old new (n + k) (n + j)
   offered_then k j more = record {

@@ -9,7 +9,7 @@ use Rattle.asm_storage.specs.declared.part.AgentPart.{AgentPart}
 use Rattle.asm_storage.specs.declared.receipt.Receipt.{Receipt}
 use Rattle.asm_storage.specs.declared.reading.NamedReading.TheVariants.{Read}
 use Rattle.asm_storage.specs.Agents.{moves_seen}
-use Rattle.asm_storage.specs.Calls.{receipt_at, read_answer, IsRead, IsRecall, IsStaleRead, ReadingView}
+use Rattle.asm_storage.specs.Calls.{receipt_at, read_answer, IsOwnRead, IsRead, IsStaleRead, ReadingView}
 use Rattle.asm_storage.specs.Machine.{Machine, reply_to}
 use Rattle.asm_storage.specs.NamedRead.{IsNamedRead}
 use Rattle.asm_storage.specs.Part.{agent_of, HasPolledRow}
@@ -20,7 +20,7 @@ use Rattle.asm_storage.proofs.AgentInvariant.{take_seen}
 pub read_fresh : {A : Type 0} (meaning : A → Meaning) (s : StorageView A) (old mid new : AgentPart) (reads : List Named)
     (r : ReadingView) → HasPolledRow meaning s old mid → mid.state.number ≡ length mid.progress.seen →
     IsStaleRead meaning (agent_of s mid) reads None →
-    IsRecall meaning (agent_of s mid) (agent_of s new) (map (λ (x : Named). x.at) reads) r →
+    IsOwnRead meaning (agent_of s mid) (agent_of s new) (map (λ (x : Named). x.at) reads) r →
     IsNamedRead meaning (agent_of s old) (agent_of s new) reads (Read r)
 read_fresh {A} meaning s old mid new reads r polls level fresh recall =
     let m : Machine = machine_of meaning s in

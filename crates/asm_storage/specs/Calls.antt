@@ -25,7 +25,7 @@ use Rattle.asm_storage.specs.declared.entry.Entry.{Entry}
 use Rattle.asm_storage.specs.declared.receipt.Receipt.{Receipt}
 use Rattle.asm_storage.specs.Machine.{reply_to}
 use Rattle.asm_storage.specs.History.{IsCoherentAt}
-use Rattle.asm_storage.specs.Agents.{moves_seen, next_stood}
+use Rattle.asm_storage.specs.Agents.{moves_seen}
 use Rattle.asm_storage.specs.Scans.{with_found, DependsOn}
 use Rattle.asm_storage.specs.Storage.{AgentAt, FollowsOn, IsUpToDate, IsSameAgent, machine_of, has_polled, with_receipt, with_fired, last_poll, Missed}
 
@@ -102,14 +102,9 @@ pub record IsPeek {A : Type 0} (meaning : A → Meaning) (a : AgentAt A) (places
         reply_to (machine_of meaning a.storage) (take r.number (moves_seen a.account.seen)) (call.Read places)
     pub locations : r.places ≡ places
 
--- its own state hasn't followed all moves on which its receipts depend, so the next receipt can't have the state's
--- version
-abbrev pub IsBehind : {A : Type 0} → AgentAt A → Type 0
-IsBehind a = a.number < next_stood 0 a.account.receipts
-
 -- a read was answered by the agent's own state, as a peek is: the agent has a receipt of it at the state's number, and
 -- nothing else of it has changed
-pub record IsRecall {A : Type 0} (meaning : A → Meaning) (old new : AgentAt A) (places : List Place) (r : ReadingView)
+pub record IsOwnRead {A : Type 0} (meaning : A → Meaning) (old new : AgentAt A) (places : List Place) (r : ReadingView)
     : Type 0 where
   pub peek : IsPeek meaning old places r
   pub agent : new ≡ with_receipt old (receipt_at r.number (call.Read places) (read_answer r))

@@ -1,10 +1,8 @@
 ghost use Rattle.std.specs.Prelude.{filter, ◌≡◌, ◌↔◌, ◌<◌, ◌≤◌, ℕ, length, max, IfOk, IfErr, OnOk, OnErr, IsOk, IsErrOf};
 ghost use mathlib.Core.List.{IsPrefix};
 ghost use Rattle.asm_storage.specs.declared.error.ReadError.TheVariants.{ManyLocations};
-ghost use Rattle.asm_storage.specs.declared.error.RecallError.TheVariants as recall_error;
 ghost use Rattle.asm_storage.specs.Agents.{IsAgent, is_fired};
-ghost use Rattle.asm_storage.specs.Calls.{HasPolledFor, IsBehind, IsFire, IsFireOver, IsPeek, IsRead, IsRecall, IsStaleRead};
-ghost use Rattle.asm_storage.specs.Calls.{MadeOffers, Ran};
+ghost use Rattle.asm_storage.specs.Calls.{HasPolledFor, IsFire, IsFireOver, IsPeek, IsRead, IsStaleRead, MadeOffers, Ran};
 ghost use Rattle.asm_storage.specs.Limits.{agents_limit, reads_limit};
 ghost use Rattle.asm_storage.specs.NamedRead.{IsNamedRead};
 ghost use Rattle.asm_storage.specs.Part.{agent_of, IsFollowing, IsPartOf};
@@ -14,7 +12,7 @@ ghost use Rattle.asm_storage.specs.Taken.{HasTaken};
 
 use crate::call::Reply;
 use crate::entry::Entry;
-use crate::error::{FireError, ReadError, RecallError};
+use crate::error::{FireError, ReadError};
 use crate::limits::READS_LIMIT;
 use crate::part::AgentPart;
 use crate::reading::{NamedReading, Reading};
@@ -36,8 +34,7 @@ pub type Mark = asm_row::Mark<Entry>;
 /// see its storage, its number, the entries of the row that it has seen, how many of its attempts to append won, how
 /// many of its polls found an empty cell, the version of its own state, and its receipts. Each answer is the one that a
 /// sequential storage gives after the moves that the agent has then seen. It may be moved into any thread. No call
-/// waits, and each returns: it follows at most as many entries as the capacity. `try_fire_with` returns if the calls of
-/// its closure do.
+/// waits, and each returns (`try_fire_with` if its closure does): it follows at most as many entries as the capacity.
 #[derive(Drop)]
 pub struct Agent<'s, A: Aggregator + Sync + Drop> {
     storage: &'s Storage<A>,
@@ -256,24 +253,6 @@ impl<'s, A: Aggregator + Sync + Drop> Agent<'s, A> {
         self.part.follow_row(alloc, storage)?;
         let reading = self.part.read_own(alloc, storage, places)?;
         Ok(reading)
-    }
-
-    /// Read at most 256 locations from its own state, and add a receipt; don't poll.
-    /// The receipt is at the state's version. On error, nothing changes.
-    ///
-    /// # Errors
-    /// - `RecallError::ManyLocations` exactly for more locations, before anything else.
-    /// - `Behind` exactly if the state hasn't followed all moves on which the agent's receipts depend, such as one that
-    ///   it fired itself.
-    /// - `Memory` only if memory is refused.
-    pub fn recall(&mut self, alloc: Global, places: &[Location]) -> Result<Reading, RecallError>
-        ensures recalled { IfOk result (IsRecall A.meaning self.old self.new places.now) }
-        ensures refused { OnErr result (self.new ≡ self.old) }
-        ensures many { IsErrOf result recall_error.ManyLocations ↔ (reads_limit < length places.now) }
-        ensures behind { IsErrOf result recall_error.Behind ↔ ((length places.now ≤ reads_limit) × IsBehind self.old) }
-    {
-        let storage = self.storage;
-        self.part.recall(alloc, storage, places)
     }
 
     /// Validate at most 256 declared reads, and read their locations if none is stale.

@@ -2,7 +2,6 @@ ghost use Rattle.std.specs.Prelude.{◌≡◌};
 ghost use Rattle.asm_storage.specs.declared.error.FireError.TheVariants as fire_error;
 ghost use Rattle.asm_storage.specs.declared.error.CloseError.TheVariants as close_error;
 ghost use Rattle.asm_storage.specs.declared.error.ReadError.TheVariants as read_error;
-ghost use Rattle.asm_storage.specs.declared.error.RecallError.TheVariants as recall_error;
 ghost use Rattle.asm_storage.specs.declared.error.AgentsError.TheVariants as agents_error;
 
 use std::alloc::{AllocError, AllocFailed};
@@ -16,25 +15,6 @@ pub enum ReadError {
     /// This is found before anything else.
     #[error("more than 256 locations")]
     ManyLocations,
-    /// The memory that the call asked for was refused.
-    #[error("out of memory")]
-    Memory,
-}
-
-/// Why an agent recalled nothing.
-#[derive(Debug, Drop, PartialEq, Eq, Error)]
-pub enum RecallError {
-    /// More than 256 locations.
-    ///
-    /// This is found before anything else.
-    #[error("more than 256 locations")]
-    ManyLocations,
-    /// The agent's own state is behind its receipts.
-    ///
-    /// It hasn't followed a move that the agent fired, or a later one on which an answer was judged. This is found
-    /// before any memory is asked for.
-    #[error("the agent's own state is behind its receipts")]
-    Behind,
     /// The memory that the call asked for was refused.
     #[error("out of memory")]
     Memory,
@@ -66,14 +46,6 @@ impl From<AllocError> for ReadError {
 
     fn from(_error: AllocError) -> ReadError {
         ReadError::Memory
-    }
-}
-
-impl From<AllocError> for RecallError {
-    ghost from_gives = { λ _ e. e ≡ recall_error.Memory };
-
-    fn from(_error: AllocError) -> RecallError {
-        RecallError::Memory
     }
 }
 

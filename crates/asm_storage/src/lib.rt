@@ -29,7 +29,7 @@ pub use agent::{Agent, Mark};
 pub use call::{Answer, Call, Reply};
 pub use close::Closing;
 pub use entry::Entry;
-pub use error::{AgentsError, CloseError, FireError, ReadError, RecallError, StorageError};
+pub use error::{AgentsError, CloseError, FireError, ReadError, StorageError};
 pub use held_values::{has_value, have_values};
 pub use history::{Event, History};
 pub use limits::{AGENTS_LIMIT, EVENTS_LIMIT, OFFERS_LIMIT, READS_LIMIT};

@@ -1,5 +1,5 @@
-ghost use Rattle.std.specs.Prelude.{◌≡◌, ◌↔◌, ◌<◌, IfOk, IsTrue};
-ghost use Rattle.asm_storage.specs.Agents.{event_of, is_fired, next_after};
+ghost use Rattle.std.specs.Prelude.{◌≡◌, IfOk};
+ghost use Rattle.asm_storage.specs.Agents.{event_of, is_fired};
 
 use crate::call::{Answer, Call, Reply};
 use crate::history::Event;
@@ -28,16 +28,6 @@ impl Receipt {
             (Call::Fire { .. }, Answer::Fire(Reply::Fired(_))) => true,
             _ => false,
         }
-    }
-
-    /// Return whether this receipt allows none after it at the number.
-    pub(crate) fn is_beyond(&self, number: u32) -> bool
-        ensures { IsTrue result ↔ number < next_after self.now }
-    {
-        if self.is_fired() {
-            return number <= self.stood;
-        }
-        number < self.stood
     }
 
     /// Return the locations and the values of a read, for a later one to share.

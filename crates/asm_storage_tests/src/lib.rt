@@ -1,31 +1,9 @@
-//! Tests of `asm_storage`, which see its public items alone.
+//! Tests of `asm_row`, `asm_storage`, `asm_journal` and `asm_audit`, which see their public items alone.
 #![tactic(auto)]
 
 #[cfg(test)]
-mod asked;
+mod journal;
 #[cfg(test)]
-mod closings;
+mod row;
 #[cfg(test)]
-mod contests;
-#[cfg(test)]
-mod equality;
-#[cfg(test)]
-mod errors;
-#[cfg(test)]
-mod fires_on_threads;
-#[cfg(test)]
-mod limits;
-#[cfg(test)]
-mod named_reads;
-#[cfg(test)]
-mod performing;
-#[cfg(test)]
-mod reads_on_threads;
-#[cfg(test)]
-mod rows;
-#[cfg(test)]
-mod taken_states;
-#[cfg(test)]
-mod two_agents;
-#[cfg(test)]
-mod workers;
+mod storage;

@@ -1,11 +1,12 @@
--- Lists that are shared until one of their owners changes.
-use Rattle.std.specs.Prelude.{List, [], Option, Some, None}
+-- The owners of a move's instructions.
+use Rattle.std.specs.Prelude.{List, [], ◌∷◌}
 use Rattle.std.specs.Arc.{arc_value}
-use Rattle.std.specs.declared.sync.Arc.{Arc}
-use Rattle.std.specs.declared.vec.Vec.{Vec}
-use Rattle.std.specs.declared.alloc.Global.{Global}
+use Rattle.asm_update.specs.declared.action.Instruction.{Instruction}
+use Rattle.asm_update.specs.declared.instructions.Held.{Held}
+use Rattle.asm_update.specs.declared.instructions.Held.TheVariants.{Nothing, One, Many}
 
--- the items of a shared list; none where there is no list
-abbrev pub shared_items : {X : Type 0} → Option (Arc (Vec X Global) Global) → List X
-shared_items None = []
-shared_items (Some list) = (arc_value list).items
+-- the instructions that are held, with any owner
+abbrev pub held_items : Held → List Instruction
+held_items Nothing = []
+held_items (One instruction) = arc_value instruction ∷ []
+held_items (Many list) = (arc_value list).items

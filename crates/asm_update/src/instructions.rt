@@ -6,6 +6,7 @@ ghost use Rattle.std.specs.Cmp.{partial_equiv_from_equiv};
 ghost use Rattle.asm_update.specs.Action.{IsProperInstruction};
 ghost use Rattle.asm_update.specs.Limits.{instructions_limit};
 ghost use Rattle.asm_update.specs.Move as move_spec;
+ghost use Rattle.asm_update.specs.Shared.{held_items};
 ghost use Rattle.asm_update.specs.Equal.{move_eq, move_eq-equiv};
 ghost use Rattle.asm_update.specs.declared.instructions.InstructionsError.TheVariants as instructions_error;
 
@@ -53,17 +54,32 @@ impl<T: Drop> From<AllocFailed<T>> for InstructionsError {
 ///
 /// Contracts see them as their list. Source: the multiset of update instructions that a rule yields, in CoreASM; the
 /// limit is of this project's profile.
-#[derive(Debug, Drop)]
+#[derive(Debug)]
 pub struct Instructions {
-    // None where there is none, which takes no memory. Copies share one list until one of them grows.
-    items: Option<Arc<Vec<Instruction>>>,
+    // Copies share it until one of them grows.
+    held: Held,
     alloc: Global,
+}
+
+/// No instruction, which takes no memory; one, which takes one block of it; or a list.
+#[derive(Debug, Drop)]
+enum Held {
+    Nothing,
+    One(Arc<Instruction>),
+    Many(Arc<Vec<Instruction>>),
+}
+
+// Written by hand, so that code that drops a move has one call, independent of how its instructions are held.
+impl Drop for Instructions {
+    fn drop(self) {
+        let Instructions { held: _, alloc: _ } = self;
+    }
 }
 
 impl Model for Instructions {
     ghost use Rattle.std.specs.Prelude.{List, length, ◌≤◌, All};
     ghost use Rattle.asm_update.specs.Limits.{instructions_limit};
-    ghost use Rattle.asm_update.specs.Shared.{shared_items};
+    ghost use Rattle.asm_update.specs.Shared.{held_items};
     ghost use Rattle.asm_update.specs.Action.{IsProperInstruction};
     ghost use Rattle.asm_update.specs.declared.action.Instruction.{Instruction};
     ghost use Rattle.std.specs.Coded.{coded_list};
@@ -73,9 +89,9 @@ impl Model for Instructions {
 
     ghost coded = { coded_list instruction_row.coded };
 
-    ghost view = { λ m. shared_items m.items };
+    ghost view = { λ m. held_items m.held };
 
-    ghost invariant = { λ m. (length (shared_items m.items) ≤ instructions_limit) × All IsProperInstruction (shared_items m.items) };
+    ghost invariant = { λ m. (length (held_items m.held) ≤ instructions_limit) × All IsProperInstruction (held_items m.held) };
 }
 
 // Puts the instruction behind a list, which is copied first where it has another owner.
@@ -98,12 +114,57 @@ fn append_to(list: &mut Arc<Vec<Instruction>>, more: &[Instruction]) -> Result<(
     Ok(())
 }
 
+// Returns a list that begins with a copy of the instruction and has room for this many.
+fn begin_list(
+    alloc: Global,
+    first: &Instruction,
+    room: usize,
+) -> Result<Vec<Instruction>, AllocError>
+    ensures { IfOk result (λ list. list.items ≡ first.now ∷ []) }
+{
+    let mut list = Vec::with_capacity(alloc, room)?;
+    list.push(first.clone()?)?;
+    Ok(list)
+}
+
+// Returns the shared list of a copy of the first instruction and the second.
+fn pair(alloc: Global, first: &Instruction, second: Instruction) -> Result<Held, AllocError>
+    ensures { IfOk result (λ held. held_items held ≡ first.now ∷ second ∷ []) }
+{
+    let mut list = begin_list(alloc, first, 2)?;
+    list.push(second)?;
+    Ok(Held::Many(Arc::new(alloc, list)?))
+}
+
+// Returns the shared list of copies of the first instruction and the others.
+fn join(alloc: Global, first: &Instruction, others: &Instructions) -> Result<Held, AllocError>
+    ensures { IfOk result (λ held. held_items held ≡ first.now ∷ others.now) }
+{
+    let mut list = begin_list(alloc, first, 1 + others.len())?;
+    list.extend_with_clones(others.as_slice())?;
+    Ok(Held::Many(Arc::new(alloc, list)?))
+}
+
 impl Instructions {
     /// Return the empty list of instructions.
     pub fn new(alloc: Global) -> Self
         ensures { result ≡ [] }
     {
-        Instructions { items: None, alloc }
+        let held = Held::Nothing;
+        Instructions { held, alloc }
+    }
+
+    /// Return the list of one instruction.
+    ///
+    /// # Errors
+    ///
+    /// - `AllocError` only if memory is refused.
+    pub fn one(alloc: Global, instruction: Instruction) -> Result<Instructions, AllocError>
+        ensures { IfOk result (λ list. list ≡ instruction ∷ []) }
+    {
+        proper_instruction(&instruction);
+        let held = Held::One(Arc::new(alloc, instruction)?);
+        Ok(Instructions { held, alloc })
     }
 
     /// Return the instructions of a list, in its order.
@@ -123,8 +184,8 @@ impl Instructions {
             return Err(InstructionsError::ManyInstructions);
         }
         proper_instructions(items.as_slice());
-        let items = Some(Arc::new(alloc, items)?);
-        Ok(Instructions { items, alloc })
+        let held = Held::Many(Arc::new(alloc, items)?);
+        Ok(Instructions { held, alloc })
     }
 
     /// Return how many instructions there are, at most 4,096.
@@ -133,7 +194,7 @@ impl Instructions {
         ensures few { length self.now ≤ instructions_limit }
     {
         // Proof: the invariant is known once a field is read.
-        let _ = &self.items;
+        let _ = &self.held;
         self.as_slice().len()
     }
 
@@ -161,13 +222,10 @@ impl Instructions {
             return Err(InstructionsError::ManyInstructions);
         }
         proper_instruction(&instruction);
-        match &mut self.items {
-            Some(items) => push_to(items, instruction)?,
-            None => {
-                let mut items = Vec::with_capacity(self.alloc, 1)?;
-                items.push(instruction)?;
-                self.items = Some(Arc::new(self.alloc, items)?);
-            }
+        match &mut self.held {
+            Held::Nothing => self.held = Held::One(Arc::new(self.alloc, instruction)?),
+            Held::One(first) => self.held = pair(self.alloc, first, instruction)?,
+            Held::Many(list) => push_to(list, instruction)?,
         }
         Ok(())
     }
@@ -193,9 +251,10 @@ impl Instructions {
             return Err(InstructionsError::ManyInstructions);
         }
         other.proper();
-        match &mut self.items {
-            Some(items) => append_to(items, other.as_slice())?,
-            None => *self = other.clone()?,
+        match &mut self.held {
+            Held::Nothing => *self = other.clone()?,
+            Held::One(first) => self.held = join(self.alloc, first, other)?,
+            Held::Many(list) => append_to(list, other.as_slice())?,
         }
         Ok(())
     }
@@ -226,7 +285,7 @@ impl Instructions {
     pub fn proper(&self)
         ensures { All IsProperInstruction self.now }
     {
-        let _ = &self.items;
+        let _ = &self.held;
     }
 
     /// Return the same instructions, which both share until one of them grows.
@@ -246,9 +305,10 @@ impl Instructions {
     pub fn as_slice(&self) -> &[Instruction]
         ensures { result.now ≡ self.now }
     {
-        match &self.items {
-            Some(items) => items.as_slice(),
-            None => &[],
+        match &self.held {
+            Held::Nothing => &[],
+            Held::One(instruction) => slice::from_ref(instruction),
+            Held::Many(list) => list.as_slice(),
         }
     }
 }
@@ -257,12 +317,13 @@ impl Clone for Instructions {
     ghost is_clone = { λ instructions copy. copy ≡ instructions };
 
     fn clone(&self) -> Result<Instructions, AllocError> {
-        let items = match &self.items {
-            Some(items) => Some(Arc::try_clone(items)?),
-            None => None,
+        let held = match &self.held {
+            Held::Nothing => Held::Nothing,
+            Held::One(instruction) => Held::One(Arc::try_clone(instruction)?),
+            Held::Many(list) => Held::Many(Arc::try_clone(list)?),
         };
         Ok(Instructions {
-            items,
+            held,
             alloc: self.alloc,
         })
     }

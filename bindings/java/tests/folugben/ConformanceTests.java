@@ -15,8 +15,8 @@ import java.util.Map;
  */
 final class ConformanceTests {
     private final boolean isRecording;
-    /** How many reads the commits of each agent recorded. */
-    private final Map<String, Integer> recorded = new HashMap<>();
+    /** How many reads each agent made by itself. */
+    private final Map<String, Integer> read = new HashMap<>();
     private Storage storage;
     private final Map<String, Agent> agents = new HashMap<>();
     private final Map<String, Step> steps = new HashMap<>();
@@ -62,7 +62,7 @@ final class ConformanceTests {
         agents.values().forEach(Agent::close);
         steps.clear();
         agents.clear();
-        recorded.clear();
+        read.clear();
         if (storage != null)
             storage.close();
         storage = null;
@@ -108,7 +108,7 @@ final class ConformanceTests {
             }
             case "next" -> {
                 storage = storage.next(Integer.parseInt(own));
-                recorded.clear();
+                read.clear();
                 yield "null";
             }
             case "agent", "take" -> {
@@ -121,7 +121,7 @@ final class ConformanceTests {
                 journal = storage.closeJournal();
                 yield "null";
             }
-            case "journal" -> checked(journal, recorded());
+            case "journal" -> checked(journal, recorded(journal));
             case "check" -> checked(string(own), 0);
             case "replay" -> Storage.replay(string(own));
             case "aggregate" -> Moves.aggregate(own, words.get(1));
@@ -130,6 +130,7 @@ final class ConformanceTests {
             case "explain" -> quoted(Storage.explain(Storage.Form.valueOf(string(own)), string(words.get(1))));
             case "begin", "end", "get", "see", "get_all", "push", "extend", "pop", "depth", "offer", "commit" ->
                     ofStep(name, own, words.subList(1, words.size()));
+            case "read" -> read(own, agents.get(own), words.get(1));
             default -> ofAgent(name, agents.get(own), words.subList(1, words.size()));
         };
     }
@@ -139,30 +140,20 @@ final class ConformanceTests {
         return "[" + (checked.calls() - recorded) + "," + checked.moves() + "]";
     }
 
-    /** How many reads were recorded by the agents that were returned. */
-    private int recorded() {
-        return agents.entrySet()
+    /** How many reads of a journal were recorded by commits: those that no agent made by itself. */
+    private int recorded(String journal) {
+        long reads = journal.lines().filter(it -> it.contains(",\"call\":{\"read\":")).count();
+        return (int) reads - agents.entrySet()
                 .stream()
                 .filter(it -> !it.getValue().isCheckedOut())
-                .mapToInt(it -> recorded.getOrDefault(it.getKey(), 0))
+                .mapToInt(it -> read.getOrDefault(it.getKey(), 0))
                 .sum();
     }
 
-    /** Commits; if the agent has moved on, without recording, as nothing was done then. */
-    private long committed(String own, Step step) {
-        Agent agent = agents.get(own);
-        boolean hasMoved = isRecording && agent.peek(List.of()).number() != step.number();
-        Agent.Reply reply = step.tryCommit();
-        if (isRecording)
-            Test.Checks.equal(reply.code() == Code.MOVED, hasMoved);
-        if (reply.code() == Code.MOVED) {
-            agent.record(false);
-            reply = step.tryCommit();
-            agent.record(true);
-        } else if (isRecording) {
-            recorded.merge(own, 1, Integer::sum);
-        }
-        return reply.orThrow();
+    private String read(String own, Agent agent, String locations) {
+        String reading = agent.read(locations);
+        read.merge(own, 1, Integer::sum);
+        return reading;
     }
 
     private static String audited(String text) {
@@ -189,7 +180,7 @@ final class ConformanceTests {
             case "pop" -> nothing(step::pop);
             case "depth" -> "" + step.depth();
             case "offer" -> step.offerText();
-            case "commit" -> "{\"fired\":" + committed(own, step) + "}";
+            case "commit" -> "{\"fired\":" + step.commit() + "}";
             default -> nothing(step::close);
         };
     }
@@ -209,7 +200,6 @@ final class ConformanceTests {
         return switch (name) {
             case "give" -> nothing(agent::give);
             case "learn" -> nothing(() -> agent.learn(agents.get(words.get(0))));
-            case "read" -> agent.read(words.get(0));
             case "peek" -> agent.peek(words.get(0));
             case "fire" -> "{\"fired\":" + agent.fire(words.get(0), words.get(1), words.get(2)) + "}";
             case "follow" -> "" + agent.follow();

@@ -162,22 +162,44 @@ final class ScopeTests {
                 "\\{\"agent\":(\\d+),\"call\":\\{\"read\":(.*)\\},\"reply\":\\{\"number\":\\d+,\"values\":(.*)\\}\\}",
                 Pattern.DOTALL);
 
+        private static final Pattern FIRED =
+                Pattern.compile("\\{\"agent\":.*,\"reply\":\\{\"fired\":\\d+\\}\\}", Pattern.DOTALL);
+
         private static final Location X = Location.of("x");
         private static final Location Y = Location.of("y", 1);
 
         private RecordTests() {}
 
-        /** The reads of each agent in a journal, in order: the texts of locations and values. */
+        /** The texts of locations and values of a read. */
+        private static Map<String, String> read(Matcher it) {
+            List<String> places = ConformanceTests.items(it.group(2));
+            List<String> values = ConformanceTests.items(it.group(3));
+            Map<String, String> read = new HashMap<>();
+            for (int i = 0; i < values.size(); i++) read.put(places.get(i), values.get(i));
+            return read;
+        }
+
+        /** The reads of each agent in a journal, in order. */
         private static Map<Integer, List<Map<String, String>>> reads(String journal) {
             Map<Integer, List<Map<String, String>>> reads = new HashMap<>();
-            journal.lines().map(READ::matcher).filter(Matcher::matches).forEach(it -> {
-                List<String> places = ConformanceTests.items(it.group(2));
-                List<String> values = ConformanceTests.items(it.group(3));
-                Map<String, String> read = new HashMap<>();
-                for (int i = 0; i < values.size(); i++) read.put(places.get(i), values.get(i));
-                reads.computeIfAbsent(Integer.valueOf(it.group(1)), own -> new ArrayList<>()).add(read);
-            });
+            journal.lines().map(READ::matcher).filter(Matcher::matches).forEach(it ->
+                    reads.computeIfAbsent(Integer.valueOf(it.group(1)), own -> new ArrayList<>()).add(read(it)));
             return reads;
+        }
+
+        /** What an agent's read has in front of each of its fired moves, in order; nothing if that has no read. */
+        private static List<Map<String, String>> readsOfFired(String journal, int agent) {
+            List<Map<String, String>> all = new ArrayList<>();
+            Map<String, String> last = Map.of();
+            for (String line : journal.lines().toList()) {
+                Matcher read = READ.matcher(line);
+                if (!line.startsWith("{\"agent\":" + agent + ","))
+                    continue;
+                if (FIRED.matcher(line).matches())
+                    all.add(last);
+                last = read.matches() ? read(read) : Map.of();
+            }
+            return all;
         }
 
         private static Value readBy(Step step, Location at, int way) {
@@ -199,7 +221,7 @@ final class ScopeTests {
             }
         }
 
-        /** Commits a random step: what its gets returned if the agent was answered; else null. */
+        /** Commits a random step: what its gets returned if it fired; else null. */
         private static Map<Location, Value> step(Agent agent, List<Location> places, Randoms random) {
             try (Step step = agent.step()) {
                 Map<Location, Value> values = new HashMap<>();
@@ -213,7 +235,7 @@ final class ScopeTests {
                     } catch (ClashException | LargeException refused) {
                         // The step depends on what was refused.
                     }
-                return step.tryCommit().code() == Code.MOVED ? null : values;
+                return step.tryCommit().isFired() ? values : null;
             }
         }
 
@@ -232,7 +254,11 @@ final class ScopeTests {
                         List<Map<Location, Value>> values = new ArrayList<>();
                         all.add(values);
                         threads.add(new Thread(() -> {
-                            for (int i = 0; i < 100; i++) values.add(step(agent, places, random));
+                            for (int i = 0; i < 100; i++) {
+                                Map<Location, Value> fired = step(agent, places, random);
+                                if (fired != null)
+                                    values.add(fired);
+                            }
                             agent.close();
                         }));
                     }
@@ -240,45 +266,37 @@ final class ScopeTests {
                     for (Thread thread : threads) thread.join();
                     String journal = storage.closeJournal();
                     Storage.check(journal);
-                    Map<Integer, List<Map<String, String>>> reads = reads(journal);
                     for (int number = 0; number < 4; number++) {
-                        equal(reads.get(number).size(), 100);
-                        for (int i = 0; i < 100; i++)
+                        List<Map<String, String>> reads = readsOfFired(journal, number);
+                        equal(reads.size(), all.get(number).size());
+                        for (int i = 0; i < reads.size(); i++)
                             for (Map.Entry<Location, Value> it : all.get(number).get(i).entrySet())
-                                equal(reads.get(number).get(i).get(it.getKey().json()), it.getValue().json());
+                                equal(reads.get(i).get(it.getKey().json()), it.getValue().json());
                     }
                 }
             }
         }
 
-        /** A commit whose agent has moved on does nothing, and a play begins again. */
-        private static void movedCommitsAreConflicts() {
+        /** A commit whose agent has moved on within the step reads and fires, unless what it read was written. */
+        private static void movedCommitsFire() {
             try (Storage storage = Storage.open(Map.of(X, 3), 10); Agent rival = storage.agent(1);
                     Agent agent = storage.agent(0).record(true)) {
-                List<Instruction> other = List.of(Instruction.put(Location.of("z"), 1));
                 try (Step step = agent.step()) {
                     step.push(Instruction.put(Y, step.get(X)));
-                    rival.fire(other, List.of());
+                    rival.fire(List.of(Instruction.put(Location.of("z"), 1)), List.of());
                     agent.follow();
-                    Actor.Reply moved = step.tryCommit();
-                    equal(moved.code(), Code.MOVED);
-                    equal(moved.shouldRetry() && !moved.isFired(), true);
-                    ConflictException error = (ConflictException) refused(Code.MOVED, moved::orThrow);
-                    equal(error.getClass(), CommitMovedException.class);
-                    equal(refused(Code.MOVED, step::commit).getClass(), CommitMovedException.class);
-                    agent.record(false);
                     equal(step.commit(), 2L);
-                    agent.record(true);
                 }
-                int[] tries = new int[1];
-                equal(agent.play(step -> {
+                try (Step step = agent.step()) {
                     step.push(Instruction.put(Y, step.get(X)));
-                    if (tries[0]++ < 2) {
-                        rival.fire(other, List.of());
-                        agent.follow();
-                    }
-                    return null;
-                }), new Actor.Played<>(5, null, 2));
+                    rival.fire(List.of(Instruction.put(X, 3)), List.of());
+                    agent.follow();
+                    equal(refused(Code.STALE, step::commit).getClass(), StaleException.class);
+                }
+                try (Step step = agent.step()) {
+                    step.push(Instruction.put(Y, 5));
+                    equal(step.commit(), 4L);
+                }
                 agent.give();
                 rival.give();
                 equal(reads(storage.closeJournal()), Map.of(0, List.of(Map.of("[\"x\"]", "3"))));
@@ -322,7 +340,7 @@ final class ScopeTests {
 
         static void all() throws InterruptedException {
             getsAreRecorded();
-            movedCommitsAreConflicts();
+            movedCommitsFire();
             storagesHandItOn();
             System.out.println("recorded reads");
         }

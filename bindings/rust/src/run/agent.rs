@@ -30,7 +30,7 @@ impl RunAgent {
 
     /// Has each commit of a step record what the step read, or not, as [`Agent::set_recording`] does.
     ///
-    /// A commit then has two receipts, which count for the end of a part ([`RunOptions::receipts`](crate::RunOptions::receipts)).
+    /// A commit then counts as two receipts for the end of a part ([`RunOptions::receipts`](crate::RunOptions::receipts)).
     pub fn set_recording(&mut self, is_recording: bool) {
         self.seat.set_recording(is_recording);
     }

@@ -13,7 +13,7 @@ use crate::reporting::report_of_owned;
 use crate::terms::terms_text;
 use asm_journal::{Legality, check, from_text, to_text};
 use asm_play::aggregator::script_aggregator;
-use asm_play::{Open, Played, run_script};
+use asm_play::{Open, Played, PlayedWithTerms, run_script, run_script_with_terms};
 use asm_script::parse_script;
 use std::alloc::{AllocError, Global};
 use std::sync::Wait;
@@ -69,8 +69,9 @@ fn run_with_terms<T: Threads + Wait + Sync>(
     ensures err { IfErr result (IsNoRun bytes.now capacity false) }
 {
     let script = parse_script(alloc, bytes)?;
-    let played = run_script(rt, alloc, &script, capacity, &Open)?;
-    let reported = terms_text(alloc, played.terms.as_slice())?;
+    let play = run_script_with_terms(rt, alloc, &script, capacity, &Open)?;
+    let PlayedWithTerms { played, terms } = play;
+    let reported = terms_text(alloc, terms.as_slice())?;
     let mut text = report_of_owned(alloc, played)?;
     text.push_str(reported.as_str())?;
     Ok(text)

@@ -1,19 +1,18 @@
-ghost use Rattle.std.specs.Prelude.{◌≡◌, ◌↔◌, ◌<◌, ◌≤◌, map, length, take, IfOk, IfErr, OnOk, OnErr, IsErrOf, IsTrue};
+ghost use Rattle.std.specs.Prelude.{◌≡◌, ◌↔◌, ◌<◌, ◌≤◌, map, length, take, IfOk, IfErr, OnOk, OnErr, IsErrOf};
 ghost use mathlib.Core.List.{IsPrefix};
 ghost use Rattle.asm_update.specs.State.{val};
 ghost use Rattle.asm_storage.specs.declared.call.Call.TheVariants as call;
-ghost use Rattle.asm_storage.specs.declared.error.ReadError.TheVariants as read_error;
-ghost use Rattle.asm_storage.specs.declared.error.RecallError.TheVariants.{Behind, ManyLocations};
+ghost use Rattle.asm_storage.specs.declared.error.ReadError.TheVariants.{ManyLocations};
 ghost use Rattle.asm_storage.specs.Machine.{machine_state};
 ghost use Rattle.asm_storage.specs.Agents.{moves_seen, next_stood};
 ghost use Rattle.asm_storage.specs.Limits.{reads_limit};
 ghost use Rattle.asm_storage.specs.NamedRead.{IsNamedRead};
 ghost use Rattle.asm_storage.specs.Storage.{has_polled, last_poll, machine_of, with_receipt, Missed};
-ghost use Rattle.asm_storage.specs.Calls.{receipt_at, read_answer, HasPolledFor, IsBehind, IsPeek, IsRecall, IsStaleRead};
+ghost use Rattle.asm_storage.specs.Calls.{receipt_at, read_answer, HasPolledFor, IsOwnRead, IsPeek, IsStaleRead};
 ghost use Rattle.asm_storage.specs.Part.{agent_of, IsPartOf};
 
 use crate::call::{Answer, Call};
-use crate::error::{ReadError, RecallError};
+use crate::error::ReadError;
 use crate::held_values::have_values;
 use crate::limits::READS_LIMIT;
 use crate::part::AgentPart;
@@ -144,54 +143,12 @@ impl AgentPart {
         requires part { IsPartOf A.meaning storage.now self.old }
         requires later { next_stood 0 self.old.receipts.items ≤ self.old.state.number }
         ensures part { IsPartOf A.meaning storage.now self.new }
-        ensures recalled { IfOk result (
-            IsRecall A.meaning (agent_of storage.now self.old) (agent_of storage.now self.new) places.now) }
+        ensures read { IfOk result (
+            IsOwnRead A.meaning (agent_of storage.now self.old) (agent_of storage.now self.new) places.now) }
         ensures refused { OnErr result (agent_of storage.now self.new ≡ agent_of storage.now self.old) }
     {
         let reading = self.peek(alloc, storage, places)?;
         self.keep_reading(alloc, storage, &reading)?;
-        Ok(reading)
-    }
-
-    // Whether the state is behind the receipts, so that no further one may be at its version.
-    fn is_behind(&self) -> bool
-        ensures { IsTrue result ↔ self.now.state.number < next_stood 0 self.now.receipts.items }
-    {
-        match self.receipts.last() {
-            Some(last) => last.is_beyond(self.state.number()),
-            None => false,
-        }
-    }
-
-    /// Read at most 256 locations from its own state, as `Agent::recall` does.
-    ///
-    /// The part came from this storage. The call adds a receipt.
-    ///
-    /// # Errors
-    ///
-    /// - Those of `Agent::recall`.
-    pub fn recall<A: Aggregator + Sync + Drop>(
-        &mut self,
-        alloc: Global,
-        storage: &Storage<A>,
-        places: &[Location],
-    ) -> Result<Reading, RecallError>
-        requires { IsPartOf A.meaning storage.now self.old }
-        ensures part { IsPartOf A.meaning storage.now self.new }
-        ensures recalled { IfOk result (
-            IsRecall A.meaning (agent_of storage.now self.old) (agent_of storage.now self.new) places.now) }
-        ensures refused { OnErr result (agent_of storage.now self.new ≡ agent_of storage.now self.old) }
-        ensures many { IsErrOf result ManyLocations ↔ (reads_limit < length places.now) }
-        ensures behind { IsErrOf result Behind ↔
-            ((length places.now ≤ reads_limit) × IsBehind (agent_of storage.now self.old)) }
-    {
-        if places.len() > READS_LIMIT {
-            return Err(RecallError::ManyLocations);
-        }
-        if self.is_behind() {
-            return Err(RecallError::Behind);
-        }
-        let reading = self.read_own(alloc, storage, places)?;
         Ok(reading)
     }
 
@@ -227,7 +184,7 @@ impl AgentPart {
         requires part { IsPartOf A.meaning storage.now self.old }
         requires later { next_stood 0 self.old.receipts.items ≤ self.old.state.number }
         ensures part { IsPartOf A.meaning storage.now self.new }
-        ensures read { IfOk result (IsRecall A.meaning (agent_of storage.now self.old) (agent_of storage.now self.new)
+        ensures read { IfOk result (IsOwnRead A.meaning (agent_of storage.now self.old) (agent_of storage.now self.new)
             (map (λ x. x.at) reads.now)) }
         ensures refused { OnErr result (agent_of storage.now self.new ≡ agent_of storage.now self.old) }
     {
@@ -259,7 +216,7 @@ impl AgentPart {
         ensures refused { OnErr result (agent_of storage.now self.new ≡
             has_polled (agent_of storage.now self.old) self.new.progress.seen self.new.progress.misses self.new.state.number) }
         ensures unread { IfErr result (HasPolledFor (agent_of storage.now self.old) (agent_of storage.now self.new)) }
-        ensures many { IsErrOf result read_error.ManyLocations ↔ (reads_limit < length reads.now) }
+        ensures many { IsErrOf result ManyLocations ↔ (reads_limit < length reads.now) }
     {
         if reads.len() > READS_LIMIT {
             return Err(ReadError::ManyLocations);

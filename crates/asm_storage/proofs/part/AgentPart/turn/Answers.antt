@@ -1,4 +1,5 @@
 use Rattle.std.proofs.Common.{◌≡◌, false, List, Option, ap, sym, ◌∙◌, subst}
+use Rattle.std.proofs.lemmas.Result.{err_from_is_err_and}
 use Rattle.asm_state.specs.declared.named.Named.{Named}
 use Rattle.asm_storage.specs.declared.call.Call.TheVariants as call
 use Rattle.asm_storage.specs.declared.call.Reply.{Reply}
@@ -7,7 +8,7 @@ use Rattle.asm_storage.specs.Machine.{reply_to}
 use Rattle.asm_storage.specs.Part.{agent_of, IsJudged}
 use Rattle.asm_storage.specs.Calls.{is_plain, is_plain_over}
 use Rattle.asm_storage.specs.Storage.{AgentAt, machine_of}
-use Rattle.asm_storage.proofs.FireTurns.{answered_quiet, attempt_counted, attempt_ran, attempt_seen, attempted, polled_id, same_offering}
+use Rattle.asm_storage.proofs.FireTurns.{answered_quiet, attempt_counted, attempt_ran, attempt_seen, attempted, none_offered, polled_id, same_offering}
 use Rattle.asm_storage.proofs.Scanning.{unfound_over, names_reads, plain_named, scans_level, turn_offered, turn_quiet}
 use Rattle.asm_storage.proofs.part.AgentPart.turn.Goals as goal
 
@@ -95,6 +96,14 @@ returns-clause-counted g c =
     attempt_counted g.A.Aggregator.meaning s c.args.self.now mid c.attempt.new.self c.args.reads.now c.args.instrs.now
     c.make_ready.ensures.polls c.attempt.result judged.1 c.make_ready.ensures.missed c.attempt.ensures.won
     c.attempt.ensures.lost c.attempt.ensures.err
+
+pub returns-in_err-keep_reply-in-Some-clause-counted : goal.returns-in_err-keep_reply-in-Some-clause-counted
+returns-in_err-keep_reply-in-Some-clause-counted g c =
+    let refused = err_from_is_err_and c.from_residual-in_err-keep_reply-in-Some.result
+    c.from_residual-in_err-keep_reply-in-Some.ensures.1 in
+    none_offered g.A.Aggregator.meaning c.args.storage.now c.args.self.now c.make_ready.new.self c.keep_reply.new.self
+    c.args.reads.now c.args.instrs.now c.make_ready.ensures.polls c.from_residual-in_err-keep_reply-in-Some.result
+    refused.0 refused.1 c.make_ready.ensures.missed c.in_err-keep_reply-in-Some.ensures.err
 
 pub returns-clause-calls : goal.returns-clause-calls
 returns-clause-calls g c =

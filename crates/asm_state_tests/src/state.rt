@@ -1,0 +1,6 @@
+//! Tests of `asm_state` and `asm_overlay`.
+mod equality;
+mod frames;
+mod in_place;
+mod judging;
+mod layers;
