@@ -1,16 +1,16 @@
-/* folugben.h: the abstract storage of a CoreASM engine, for C.
+/* folugben.h: abstract state storage for simulators of abstract state machines, for C.
  *
- * A storage holds the state of an abstract state machine. Its agents read that state and fire moves
- * on it, each in a thread of its own and without locks: a move fires only if no location that it
- * names was written since the number of moves at which it is named. So no update is lost if an
- * agent names what its move depends on, as it read it itself or as an agent did whose moves it has
- * learnt. asm_close makes the journal of the returned agents: each call with its answer, which can
- * be checked again.
+ * A storage holds a state. Its agents read that state and fire (commit) moves on it, each in a
+ * thread of its own: a move fires only if no location that it names was written since the number of
+ * moves (the version) at which it is named. So no update is lost if an agent names what its move
+ * depends on, as it read it itself or as an agent did whose moves it has learnt. asm_close makes
+ * the journal of the returned agents: each recorded call with its answer, which can be checked.
  *
- * An engine's agent works in steps: asm_begin; asm_get and asm_push in any order, all of which see
- * one state; and asm_commit, which fires one move that does what the pushed ones do in turn, unless
- * something was written since that the step depends on (its read set). The commit names that by
- * itself. If a step is stale by then, or clashes with what was written since, begin it again.
+ * An engine's agent works in steps, which are transactions: asm_begin; asm_get and asm_push in any
+ * order, all of which see one state; and asm_commit, which fires one move that does what the pushed
+ * ones do in turn, unless something was written since that the step depends on (its read set). The
+ * commit names that by itself. If a step is stale by then (a conflict), or clashes with what was
+ * written since, begin it again.
  *
  * REQUIREMENTS ON THE CALLER
  *
@@ -154,7 +154,7 @@ enum asm_code {
     ASM_MANY = 9,        /* more than 256 locations, or locations and scanned functions */
     ASM_NO_ANSWER = 10,  /* no call was answered yet: asm_answer */
     ASM_TAKEN = 11,      /* a slot that was to be filled holds something else */
-    ASM_NUMBER = 12,     /* an agent of the storage with this number was made before */
+    ASM_NUMBER = 12,     /* the storage has, or had, another agent with this number */
     ASM_MISSING = 13,    /* a move has no receipt among the returned agents: asm_close */
     ASM_OTHER = 14,      /* the two slots are of two storages */
     ASM_ILLEGAL = 15,    /* the journal isn't legal */
@@ -340,10 +340,10 @@ FOLUGBEN_NODISCARD int32_t asm_stands(struct asm_agent *agent, const uint8_t *re
  *    has too many instructions, each at which it has partial updates.
  *  - of moves that asm_pop takes away, each location at which they have partial updates: that they
  *    were accepted shows that these fit.
- *  - of moves that asm_pop_move takes away, each location where the first of them that writes has
- *    partial updates alone and another of them writes too: their one move may come to less there.
- *    Else it reports nothing that isn't judged again once the move is pushed. A popped move which
- *    is neither pushed again nor judged by the caller's own gets leaves no trace.
+ *  - of moves that asm_pop_move takes away, each location that two of them write, if the first of
+ *    these has partial updates alone there: their one move may do less there than they did in turn.
+ *    Anything else that the pop reports is judged again if that move is pushed. If it isn't pushed
+ *    again, the step doesn't depend on it.
  * A step depends on what is tracked, and on each location where the first of its moves that writes
  * has partial updates alone and another one writes too; asm_commit names these, and no others. So
  * steps that each add to one set don't make each other stale; what one move alone adds, removes or
@@ -434,10 +434,10 @@ FOLUGBEN_NODISCARD int32_t asm_offer(struct asm_step *step, uint8_t *out, size_t
 /* Fires one move that does what the pushed moves do in turn, naming each location on which the step
  * depends, at the step's number. Codes, numbers and receipt are as of asm_try_fire, and asm_answer
  * writes the reply in full. With ASM_DONE the step is over, and its slot is empty; with any other
- * code it stays, until asm_begin or asm_free_step. ASM_CLASH: each push was accepted, and something
- * was written since that one of the moves doesn't fit, such as a bag out of which another agent
- * took what it removes; begin again, as after ASM_STALE. ASM_STALE comes too if a location of a
- * function that was scanned was written since: the receipt names the smallest of these too.
+ * code it stays, until asm_begin or asm_free_step. ASM_CLASH: each push was accepted, but another
+ * agent has since written a value that one of the moves doesn't fit, such as a bag from which it
+ * took what the move removes; begin the step again, as after ASM_STALE. ASM_STALE comes too if a
+ * location of a scanned function was written since: the receipt names the smallest of these too.
  * ASM_MANY: the locations that would be named and the functions that were scanned are more than
  * 256. It polls, so it answers neither ASM_MOVED nor ASM_AHEAD. */
 FOLUGBEN_NODISCARD int32_t asm_commit(struct asm_agent *agent, struct asm_step *step,
@@ -588,7 +588,7 @@ FOLUGBEN_NODISCARD static inline int32_t asm_get_text(struct asm_agent *agent,
 }
 
 /* Append to a move that the location gets the number, the truth value or the text, that it is left
- * empty, and that the number there grows by so much. */
+ * empty, and that the number there grows by `by`. */
 FOLUGBEN_NODISCARD static inline int32_t asm_put_num(struct asm_move *move, struct asm_location *at,
     int64_t number) {
     return asm_instruct(move, at, ASM_PUT, ASM_KIND_NUM, number, NULL, 0, 0);
@@ -622,8 +622,8 @@ FOLUGBEN_NODISCARD int32_t asm_moves(struct asm_storage *storage, uint32_t *move
 
 /* Returns an agent to its storage, in any order; its slot is then empty, and the journal of an
  * earlier asm_close is discarded. ASM_EMPTY (one of the slots), ASM_OTHER, ASM_MEMORY, and
- * ASM_NUMBER for an agent of another storage, if ASM_OTHER didn't detect it: of one storage no two
- * agents have the same number. */
+ * ASM_NUMBER if an agent with this number was returned before. That agent is then one of another
+ * storage, which ASM_OTHER didn't detect: no two agents of one storage have the same number. */
 FOLUGBEN_NODISCARD int32_t asm_give(struct asm_storage *storage, struct asm_agent *agent);
 
 /* Checks a returned agent out of its storage again, into an empty slot: it continues with its
@@ -739,8 +739,8 @@ FOLUGBEN_NODISCARD int32_t asm_audit_state(struct asm_audit *audit, uint8_t *out
 FOLUGBEN_NODISCARD int32_t asm_replay(const uint8_t *journal, size_t len, uint8_t *out, size_t room,
     size_t *written, uint64_t *line);
 
-/* Writes the trace of a journal, legal or not: what each of its calls did, in the form that the page on
- * formats has, for a viewer or a debugger. ASM_NOT_JSON, ASM_SHAPE: `*line` is the number of the line,
+/* Writes the trace of a journal, legal or not: what each of its calls did, in the form of docs/FORMATS.md,
+ * for a viewer or a debugger. ASM_NOT_JSON, ASM_SHAPE: `*line` is the number of the line,
  * else 0. ASM_VERSION, ASM_CUT, ASM_SMALL, ASM_MEMORY. */
 FOLUGBEN_NODISCARD int32_t asm_trace(const uint8_t *journal, size_t len, uint8_t *out, size_t room,
     size_t *written, uint64_t *line);

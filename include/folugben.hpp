@@ -1,4 +1,4 @@
-// folugben.hpp: the abstract storage of a CoreASM engine, for C++20, over folugben.h.
+// folugben.hpp: abstract state storage for simulators of abstract state machines, for C++20, over folugben.h.
 //
 // An element, a set, a bag and a value are values of their own. Each other class owns a slot on the heap, which is released with
 // it; it can be moved, and not copied. What was moved from is empty: a call on it throws code::empty, and a `try_` call returns

@@ -2,7 +2,6 @@
 
 No deposit is lost.
 """
-from concurrent.futures import ThreadPoolExecutor
 from folugben import Storage, check
 
 
@@ -10,15 +9,8 @@ def deposit(step):
     step.put("balance", step["balance"] + 10)
 
 
-def teller(agent):
-    for _ in range(100):
-        agent.play(deposit)                     # again on conflict
-
-
-with Storage({"balance": 0}, 1000) as storage:
-    with storage.agent(0) as anna, storage.agent(1) as ben, ThreadPoolExecutor() as pool:
-        list(pool.map(teller, [anna, ben]))
-        anna.follow()
-        number, (balance,) = anna.peek([("balance",)])
-    check(storage.close_journal())              # raises if an answer was wrong
-    print(f"{number} moves, balance {balance}")
+with Storage({"balance": 0}, 1000, record=True) as storage:
+    moves = storage.run(deposit, workers=2, times=100)  # on two threads; begins again on a conflict
+    balance = storage["balance"]
+    check(storage.close_journal())                      # raises if a recorded answer is wrong
+    print(f"{moves} moves, balance {balance}")

@@ -27,7 +27,7 @@ public final class Agent extends AgentCalls implements Actor {
     }
 
     /**
-     * Has each commit of a step record what the step read, or not, which is the default.
+     * Sets whether each commit of a step records what the step read. By default it doesn't.
      *
      * <p>A commit that records first polls, and adds a receipt of a read: the locations that its
      * move names, which still have their values at the step's version. So the journal shows what

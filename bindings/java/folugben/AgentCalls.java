@@ -60,7 +60,7 @@ abstract sealed class AgentCalls permits Agent {
         }
         return new Actor.Reply(code, move, from, to, answer, isOfStep, chain != null);
     }
-    /** Has commits record what their step read, or not. */
+    /** Sets whether commits record what their step read. */
     final void setRecording(boolean isRecording) {
         synchronized (slot) {
             this.isRecording = isRecording;
@@ -85,7 +85,7 @@ abstract sealed class AgentCalls permits Agent {
     boolean isOfRun() {
         return chain != null;
     }
-    /** Has the agent be one of this part of a run. */
+    /** Makes the agent one of this part of a run. */
     void setPart(Run.RunPart chain) {
         this.chain = chain;
     }

@@ -73,7 +73,7 @@ public final class Auditor implements AutoCloseable {
         return feed(Objects.requireNonNull(bytes, "bytes"), 0, bytes.length);
     }
 
-    /** The same of so many bytes of the array, from an offset on. */
+    /** The same of the given number of bytes of the array, from an offset on. */
     public Counts feed(byte[] bytes, int offset, int length) {
         Objects.checkFromIndexSize(offset, length, Objects.requireNonNull(bytes, "bytes").length);
         synchronized (slot) {

@@ -272,7 +272,7 @@ final class Calls {
     }
 
     /**
-     * Has the calls of a step bypass JNA, which takes longer than the call itself.
+     * Lets the calls of a step bypass JNA, which takes longer than the call itself.
      *
      * <p>They go through a further library, bindings/java/quick.c, if JNA finds it.
      */

@@ -28,7 +28,7 @@ public enum Code {
     NO_ANSWER(10),
     /** A slot is in use already, which no call here returns. */
     TAKEN(11),
-    /** The storage made an agent with this number before. */
+    /** The storage or the run has, or had, another agent with this number. */
     NUMBER(12),
     /** A move has no receipt among the agents that were returned. */
     MISSING(13),

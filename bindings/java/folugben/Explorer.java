@@ -77,17 +77,17 @@ public final class Explorer {
         return new Explorer(make, works, other, schedules, time, turns);
     }
 
-    /** Returns such a search with at most so many schedules, 10,000 by default. */
+    /** Returns such a search with at most the given number of schedules, 10,000 by default. */
     public Explorer schedules(int most) {
         return new Explorer(make, works, invariants, most, time, turns);
     }
 
-    /** Returns such a search with at most so much time, 20 seconds by default. */
+    /** Returns such a search with at most the given time, 20 seconds by default. */
     public Explorer time(Duration most) {
         return new Explorer(make, works, invariants, schedules, Objects.requireNonNull(most, "most"), turns);
     }
 
-    /** Returns such a search with so many turns a schedule at most, 10,000 by default. */
+    /** Returns such a search with at most this number of turns a schedule, 10,000 by default. */
     public Explorer turns(int most) {
         return new Explorer(make, works, invariants, schedules, time, most);
     }
@@ -148,7 +148,7 @@ public final class Explorer {
     /**
      * Searches up to the first finding, to a bound, or until all schedules were tried.
      *
-     * @throws EndlessException if a schedule hasn't ended after so many turns, as if agents wait
+     * @throws EndlessException if a schedule hasn't ended after its turns, as if agents wait
      *         for each other. The search makes one that polls again and again wait for others, but
      *         then there is no end of schedules.
      * @throws DiffersException if the works acted differently in the same schedule

@@ -128,7 +128,7 @@ public sealed interface Instruction {
     }
 
     /**
-     * Returns one that adds an element to a bag so many times.
+     * Returns one that adds an element to a bag the given number of times.
      *
      * <p>The element is as {@link Element#of} takes it.
      *
@@ -139,7 +139,7 @@ public sealed interface Instruction {
     }
 
     /**
-     * Returns one that removes an element from a bag so many times.
+     * Returns one that removes an element from a bag the given number of times.
      *
      * <p>The element is as {@link Element#of} takes it.
      *

@@ -14,7 +14,8 @@ import java.util.Random;
  * <p>The same seed makes the same journal, byte for byte, if the works themselves draw nothing
  * else; threads make another order each time. So a test tries many seeds, and a schedule that
  * breaks an invariant is kept as its seed. A work must not wait for what another one does in a
- * later turn of its own: the play then ends with an {@link EndlessException} after so many turns.
+ * later turn of its own: the play then ends with an {@link EndlessException} after its number of
+ * turns.
  * If the thread that plays is interrupted, each work ends at its next call, and a
  * CancellationException is thrown.
  */
@@ -74,7 +75,7 @@ public final class Interleave {
     }
 
     /**
-     * Plays the agents by a list with at most so many turns.
+     * Plays the agents by a list with at most the given number of turns.
      *
      * @throws EndlessException if works are still under way after them, such as one that waits for
      *         another one

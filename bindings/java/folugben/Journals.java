@@ -25,7 +25,7 @@ public final class Journals {
 
     private Journals() {}
 
-    /** The values of the locations that have one, after so many moves. */
+    /** The values of the locations that have one, after the given number of moves. */
     public record Moment(long number, SortedMap<Location, Value> values) {
         /** Makes the values unmodifiable. */
         public Moment {

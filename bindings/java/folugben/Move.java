@@ -161,7 +161,7 @@ public final class Move implements AutoCloseable {
     }
 
     /**
-     * Adds a number to a bag so many times.
+     * Adds a number to a bag the given number of times.
      *
      * @throws IllegalArgumentException for an amount that isn't 1 to 4294967295, as of all of these
      */
@@ -169,37 +169,37 @@ public final class Move implements AutoCloseable {
         return number(at, BAG_ADD, number, Value.BagOf.inRange(amount));
     }
 
-    /** Adds a truth to a bag so many times. */
+    /** Adds a truth to a bag the given number of times. */
     public Move bagAdd(PreparedLocation at, boolean truth, long amount) {
         return truth(at, BAG_ADD, truth, Value.BagOf.inRange(amount));
     }
 
-    /** Adds a text to a bag so many times. */
+    /** Adds a text to a bag the given number of times. */
     public Move bagAdd(PreparedLocation at, String text, long amount) {
         return text(at, BAG_ADD, text, Value.BagOf.inRange(amount));
     }
 
-    /** Adds an element to a bag so many times. */
+    /** Adds an element to a bag the given number of times. */
     public Move bagAdd(PreparedLocation at, Element element, long amount) {
         return element(at, BAG_ADD, element, Value.BagOf.inRange(amount));
     }
 
-    /** Removes a number from a bag so many times. */
+    /** Removes a number from a bag the given number of times. */
     public Move bagRemove(PreparedLocation at, long number, long amount) {
         return number(at, BAG_REMOVE, number, Value.BagOf.inRange(amount));
     }
 
-    /** Removes a truth from a bag so many times. */
+    /** Removes a truth from a bag the given number of times. */
     public Move bagRemove(PreparedLocation at, boolean truth, long amount) {
         return truth(at, BAG_REMOVE, truth, Value.BagOf.inRange(amount));
     }
 
-    /** Removes a text from a bag so many times. */
+    /** Removes a text from a bag the given number of times. */
     public Move bagRemove(PreparedLocation at, String text, long amount) {
         return text(at, BAG_REMOVE, text, Value.BagOf.inRange(amount));
     }
 
-    /** Removes an element from a bag so many times. */
+    /** Removes an element from a bag the given number of times. */
     public Move bagRemove(PreparedLocation at, Element element, long amount) {
         return element(at, BAG_REMOVE, element, Value.BagOf.inRange(amount));
     }

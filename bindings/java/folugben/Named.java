@@ -15,7 +15,7 @@ public record Named(Location location, long number) {
             throw new IllegalArgumentException("a number of moves is 0 or more, and not " + number);
     }
 
-    /** Returns the same at a number that counts so many moves more. */
+    /** Returns the same at a number that counts the given number of moves more. */
     Named plus(long before) {
         return before == 0 ? this : new Named(location, number + before);
     }

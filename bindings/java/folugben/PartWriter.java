@@ -103,13 +103,13 @@ final class PartWriter {
             Thread.currentThread().interrupt();
     }
 
-    /** Has a part end at rest so long after its first move. */
+    /** Saves each part this long after its first move, also if the agents rest. */
     void every(Duration time) {
         every = time.toNanos();
         wake();
     }
 
-    /** Has all fired moves be written, and waits for that. */
+    /** Saves all fired moves, and waits until they are on the disk. */
     synchronized void close() {
         isClosing = true;
         wake();

@@ -2,7 +2,7 @@ package folugben;
 
 import java.util.List;
 
-/** The values of locations, in the order in which these were passed, after so many moves. */
+/** The values of locations, in the order in which these were passed, at a version. */
 public record Reading(long number, List<Location> locations, List<Value> values) {
     /** Copies of both, which are of one length. */
     public Reading {
@@ -25,7 +25,7 @@ public record Reading(long number, List<Location> locations, List<Value> values)
         return values.get(at);
     }
 
-    /** The same at a number that counts so many moves more. */
+    /** The same at a number that counts the given number of moves more. */
     Reading plus(long before) {
         return before == 0 ? this : new Reading(number + before, locations, values);
     }

@@ -86,7 +86,7 @@ public final class Run implements AutoCloseable {
         return open(init, path, MOVES);
     }
 
-    /** Opens such a run with so many moves in a part, 1 to 1,048,576. */
+    /** Opens such a run with the given number of moves in a part, 1 to 1,048,576. */
     public static Run open(Map<Location, ?> init, Path path, int moves) {
         return open(init, path, moves, UNSAID);
     }
@@ -127,8 +127,7 @@ public final class Run implements AutoCloseable {
      * @throws DamagedException if a segment is missing, or isn't the one that was saved
      * @throws AuditException if a segment isn't legal
      * @throws UncheckedIOException if there is no run, if it can't be read or written, if another
-     *         run of this or another process is at work there, or if it is one file, as version 0.2
-     *         wrote
+     *         run of this or another process is at work there, or if it is a run in one file
      */
     public static Run resume(Path path) {
         return resume(path, MOVES);
@@ -139,7 +138,7 @@ public final class Run implements AutoCloseable {
         return resume(path, MOVES, UNSAID, check);
     }
 
-    /** Resumes such a run with so many moves in each further part. */
+    /** Resumes such a run with the given number of moves in each further part. */
     public static Run resume(Path path, int moves) {
         return resume(path, moves, UNSAID, Check.ALL);
     }
@@ -197,7 +196,7 @@ public final class Run implements AutoCloseable {
     }
 
     /**
-     * Has agents made from now on record or not, as {@link Agent#record} does.
+     * Sets whether agents made from now on record, as {@link Agent#record} does.
      *
      * @return this run
      */
@@ -207,7 +206,7 @@ public final class Run implements AutoCloseable {
     }
 
     /**
-     * Has each part end at rest so long after its first move, from now on.
+     * Saves each part this long after its first move, also if the agents rest.
      *
      * @return this run
      * @throws IllegalArgumentException if the time isn't above 0
@@ -284,7 +283,7 @@ public final class Run implements AutoCloseable {
         return (isRecording ? 2L : 1L) * RECEIPTS * newest.capacity;
     }
 
-    /** Has agents begin in this part from now on; with the lock of the part before. */
+    /** Makes agents begin in this part from now on; with the lock of the part before. */
     void goOn(Part next) {
         newest = next;
         writer.wake();

@@ -64,7 +64,7 @@ public final class RunAgent implements Actor {
     }
 
     /**
-     * Has each commit of a step record its reads or not, as {@link Agent#record} does.
+     * Sets whether each commit of a step records its reads, as {@link Agent#record} does.
      *
      * <p>A commit then counts as two receipts for the end of a part.
      *

@@ -101,7 +101,7 @@ final class RunFolder implements AutoCloseable {
     private static Path real(Path path) throws IOException {
         if (Files.isRegularFile(path))
             throw new FileSystemException(path.toString(), null,
-                    "a run is a folder; a run of version 0.2, one file, is imported by: folugben import");
+                    "a run is a folder; a run in one file is imported by: folugben import");
         if (Files.isSymbolicLink(path))
             throw new FileSystemException(
                     path.toString(), null, "a link leads to the folder: name the folder itself");

@@ -262,7 +262,7 @@ final class Schedule {
         before.set(at);
     }
 
-    /** Has an event, with what follows it and doesn't depend on it, tried before another one. */
+    /** Tries an event before another one, with what follows it and doesn't depend on it. */
     private void reverse(int at, int now) {
         BitSet window = new BitSet();
         Map<Integer, Integer> firsts = new LinkedHashMap<>();

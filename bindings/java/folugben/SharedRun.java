@@ -58,7 +58,7 @@ public final class SharedRun implements AutoCloseable {
     }
 
     /**
-     * Opens the run with so many moves in a segment, or joins it if it is there.
+     * Opens the run with the given number of moves in a segment, or joins it if it is there.
      *
      * <p>The number is 1 to 1,048,576; it has no effect on a run that is there.
      */

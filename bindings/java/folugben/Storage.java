@@ -103,7 +103,7 @@ public final class Storage implements AutoCloseable {
     }
 
     /**
-     * Has agents that are made or checked out from now on record, or not.
+     * Sets whether agents that are made or checked out from now on record.
      *
      * <p>See {@link Agent#record}. The storages of {@link #next} and {@link Agent#goOn} do so too.
      *
@@ -364,7 +364,7 @@ public final class Storage implements AutoCloseable {
     /**
      * Returns what each call of a journal did, legal or not: the lines of its trace.
      *
-     * <p>Each is a JSON object, the header first. The page on formats has them.
+     * <p>Each is a JSON object, the header first, in the forms of docs/FORMATS.md.
      */
     public static List<String> trace(String journal) {
         return Calls.ofJournal(journal, 2, Calls::asm_trace).lines().toList();

@@ -166,7 +166,7 @@ final class Turns {
         return PLAYS.get() != 0 && HERE.get() != null;
     }
 
-    /** Has others go on, until this number is chosen again. */
+    /** Lets others go on, until this number is chosen again. */
     void await(int number) {
         lock.lock();
         try {

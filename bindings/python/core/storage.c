@@ -286,7 +286,7 @@ static PyMethodDef methods[] = {
         "greatest number that isn't in use, until `agent` is asked for that number."},
     {"run", METHOD(storage_run), METH_VARARGS | METH_KEYWORDS,
         "run($self, rule, /, workers=1, times=1)\n--\n\n"
-        "Play a rule with so many workers, each `times` times on a thread of its own. Return how many moves were fired meanwhile.\n\n"
+        "Play a rule `times` times on each of `workers` threads. Return how many moves were fired meanwhile.\n\n"
         "The workers' agents have the smallest numbers that nobody has, and are returned at the end.\n\n"
         "Raises:\n"
         "    the first error of a rule, once all workers have ended."},

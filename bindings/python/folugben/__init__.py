@@ -1,7 +1,8 @@
-"""The abstract storage of a CoreASM engine, for Python.
+"""Abstract state storage for simulators of abstract state machines, for Python.
 
-A Storage is opened with a state. Each Agent of it works in steps, in its own thread. All reads of a step are of one state.
-What the step writes is visible to its later reads, and is fired as one move. Only that move is recorded in the journal:
+A Storage is opened with a state. Each Agent of it works in steps (transactions), in its own thread. All reads of a step are
+of one state. What the step writes is visible to its later reads, and is fired (committed) as one move. Only that move is
+recorded in the journal:
 
     with Storage({"count": 0}, 1000) as storage:
         with storage.agent(0) as agent, agent.step() as step:

@@ -170,7 +170,7 @@ def _words() -> argparse.ArgumentParser:
             command.add_argument("--from", type=int, metavar="N", dest="first", default=0, help="the first state, counted from 0")
             command.add_argument("--to", type=int, metavar="N", dest="last", help="the last state")
         command.add_argument("-o", "--output", type=Path, metavar="FILE", help="write this file, once all is done, in place of standard output")
-    text = "import a run of version 0.2, which is one file, into a new folder"
+    text = "import a run that is one file into a new folder"
     command = commands.add_parser("import", help=text, description=text[0].upper() + text[1:] + ".")
     command.add_argument("file", metavar="FILE")
     command.add_argument("folder", metavar="FOLDER")

@@ -283,7 +283,7 @@ def _open_folder(path: pathlib.Path) -> int:
     try:
         return os.open(path, os.O_RDONLY | os.O_DIRECTORY | os.O_CLOEXEC)
     except NotADirectoryError as error:
-        detail = "a run is a folder; a run of version 0.2, one file, is imported by: folugben import"
+        detail = "a run is a folder; a run in one file is imported by: folugben import"
         raise NotADirectoryError(error.errno, detail, str(path)) from None
 
 

@@ -1,4 +1,4 @@
-"""Runs of version 0.2, which are one file, and their import into a folder."""
+"""Runs in one file, and their import into a folder."""
 import errno
 import io
 import json
@@ -19,7 +19,7 @@ from ._reading import HEADER
 
 
 def import_run(file: str | os.PathLike[str], folder: str | os.PathLike[str]) -> tuple[Counts, int]:
-    """Import a run of version 0.2, which is one file, into a new folder.
+    """Import a run that is one file into a new folder.
 
     Return the counts of its complete parts, and how many bytes of an incomplete last part were left out. The file isn't
     changed. The import creates the complete folder or nothing.

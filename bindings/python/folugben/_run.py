@@ -94,7 +94,7 @@ class Run:
             BlockingIOError: another run uses the folder.
             DamagedError: a segment is missing, or isn't the one that was saved.
             BadJournalError: a segment isn't legal.
-            NotADirectoryError: it is a file, as version 0.2 wrote runs, which `import_run` imports.
+            NotADirectoryError: it is a run in one file, which `import_run` imports.
         """
         if check not in ("all", "last"):
             raise ValueError(f"check is 'all' or 'last', and not {check!r}")

@@ -1,4 +1,23 @@
-"""The tables of a shared run, and what a row of each may hold."""
+"""The tables of a shared run, and what a row of each may hold.
+
+run      one row: the format, 1; how many moves a segment has at most; how often a process has joined
+call     place; token; the segment in which the step began; agent; {"fire":[..],"reads":[..]}; [[name, number], ..] of scans, with
+         versions of the segment
+segment  the saved segments, with their digests
+piece    their texts, in pieces of at most 1,048,576 bytes, by zlib
+
+Appends hold one lock (`begin immediate`; `lock table run`), so places become visible in their order; some may stay empty. Each
+process applies the calls in that order:
+
+1. A call with another segment than the current one is answered `PastError`.
+2. One agent fires the other calls. Those that are fired, stale or clash are events of the segment's journal, with the agent of the
+   call.
+3. A segment ends with its last move, or after twice as many events. The next one opens with the state at that place. The first
+   process to get there saves the journal, with its digest in the chain of docs/FORMATS.md, and drops the calls of the segment two
+   before.
+
+A process that joins takes the state from the last segment, whose digest it checks, and applies the calls after it.
+"""
 import re
 from collections.abc import Iterable, Sequence
 from typing import Any

@@ -12,7 +12,7 @@ _GRACE = 5.0
 
 
 def _agents(storage: Storage, count: int) -> list[Agent]:
-    """Check out so many agents, or make them, with the smallest numbers that nobody has."""
+    """Check out this number of agents, or make them, with the smallest numbers that nobody has."""
     agents: list[Agent] = []
     for number in range(256):
         if len(agents) == count:
@@ -50,7 +50,7 @@ class _Works:
 
 
 def run(storage: Storage, rule: Callable[[Step], Any], /, workers: int = 1, times: int = 1) -> int:
-    """Play a rule with so many workers, as `Storage.run` does."""
+    """Play a rule on several threads, as `Storage.run` does."""
     if workers < 1 or times < 0:
         raise ValueError(f"{workers} workers, {times} times: at least 1 and at least 0")
     before, works = storage.moves(), _Works(rule, times)

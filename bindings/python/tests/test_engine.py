@@ -221,8 +221,8 @@ class Endless(Rooms):
 
 class Page(unittest.TestCase):
     def test_the_page_shows_the_code(self):
-        page = (ROOT / "docs" / "ENGINE.md").read_text()
-        first, *blocks = re.findall(r"```python\n(.*?)\n```", page, re.DOTALL)
+        first, *blocks = (block for name in ("PYTHON", "ENGINE") for block in
+                          re.findall(r"```python\n(.*?)\n```", (ROOT / "docs" / f"{name}.md").read_text(), re.DOTALL))
         code = [file.read_text() for file in pathlib.Path(folugben_engine.__file__).parent.glob("*.py")]
         for part in "\n\n\n".join(blocks).split("\n\n\n"):
             self.assertEqual(sum(part in file for file in code), 1, part)

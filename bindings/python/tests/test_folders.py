@@ -206,11 +206,8 @@ class Pages(Rooms):
             self.assertEqual((ran.returncode, ran.stderr), (0, ""), command)
         return count, out.getvalue()
 
-    def test_the_page_of_runs_does_what_it_shows(self):
-        self.assertEqual(self.samples("RUNS.md"), (5, "20000 moves on the disk\n20001\n"))
-
-    def test_the_page_of_shared_runs_does_what_it_shows(self):
-        self.assertEqual(self.samples("SHARED.md"), (4, "1 bank.db\n"))
+    def test_the_page_does_what_it_shows(self):
+        self.assertEqual(self.samples("DURABILITY.md"), (9, "20000 moves on the disk\n20001\n1 bank.db\n"))
 
 
 if __name__ == "__main__":

@@ -326,7 +326,7 @@ class Commands(Rooms):
 
 
 class Imports(Rooms):
-    """Runs of version 0.2, which are one file."""
+    """Runs that are one file."""
 
     def setUp(self):
         super().setUp()

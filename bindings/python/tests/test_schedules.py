@@ -24,10 +24,9 @@ from rooms import Rooms, environment
 COUNT = ["count"]
 # A machine that is busy with other things is slow.
 explore = functools.partial(_explore.explore, seconds=600)
-PRINTS = """
+CALLS = """
 test_a_blind_transfer_is_found()
 test_a_transfer_keeps_the_sum()
-print(explore(make, [blind] * 3, sum_stays))
 """
 # Each customer needs what two of these have.
 INIT = dict(list(bank.INIT.items())[:5])
@@ -267,20 +266,22 @@ def raising(at, times):
 
 
 class Page(Rooms):
+    def setUp(self):
+        super().setUp()
+        self.page = (ROOT / "docs" / "TUTORIAL.md").read_text()
+        (self.code,) = (it for it in re.findall(r"```python\n([\s\S]*?)```", self.page) if "import Storage, explore" in it)
+
     def test_the_page_does_what_it_shows(self):
-        page = (ROOT / "docs" / "SCHEDULES.md").read_text()
-        (code,) = re.findall(r"```python\n([\s\S]*?)```", page)
-        (self.room / "test_bank.py").write_text(code.replace("sum_stays)\n", "sum_stays, seconds=600)\n") + PRINTS)
+        (self.room / "test_bank.py").write_text(self.code.replace("sum_stays)\n", "sum_stays, seconds=600)\n") + CALLS)
         command = [sys.executable, "test_bank.py"]
         ran = subprocess.run(command, cwd=self.room, env=environment(), capture_output=True, text=True)
         self.assertEqual((ran.returncode, ran.stderr), (0, ""))
-        self.assertIn(f"    {ran.stdout}", page)
+        self.assertIn(f"    {ran.stdout}", self.page)
         self.assertTrue(any(sum(values.values()) != 150 for _, values in states((self.room / "broken.journal").read_bytes())))
 
     @unittest.skipIf(importlib.util.find_spec("pytest") is None, "there is no pytest")
     def test_pytest_shows_the_turns(self):
-        code = re.findall(r"```python\n([\s\S]*?)```", (ROOT / "docs" / "SCHEDULES.md").read_text())[0]
-        (self.room / "test_bank.py").write_text(code.replace("[guarded]", "[blind]"))
+        (self.room / "test_bank.py").write_text(self.code.replace("[guarded]", "[blind]"))
         command = [sys.executable, "-m", "pytest", "-q", "-p", "no:cacheprovider", "test_bank.py"]
         ran = subprocess.run(command, cwd=self.room, env=environment(), capture_output=True, text=True).stdout
         self.assertIn("1 failed, 1 passed", ran)

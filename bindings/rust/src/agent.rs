@@ -68,7 +68,7 @@ impl Agent {
         self.number
     }
 
-    /// Has each commit of a step record what the step read, or not, which is the default.
+    /// Sets whether each commit of a step records what the step read. By default it doesn't.
     ///
     /// A commit that records first polls, and adds a receipt of a read: the locations that its move names, which still have their
     /// values at the step's version. So the journal shows what the move was computed from, and

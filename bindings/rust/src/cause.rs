@@ -77,7 +77,7 @@ impl fmt::Display for Conflict {
         match self {
             Conflict::Stale(at) => write!(f, "{at} was written since"),
             Conflict::Clash { at, cause } => write!(f, "the updates clash at {at} by now: {cause}"),
-            Conflict::Busy => f.write_str("64 offers in a row were lost to other agents"),
+            Conflict::Busy => f.write_str("64 attempts to append in a row were lost to other agents"),
             Conflict::Past => f.write_str("the part of the run has ended, so begin another step"),
         }
     }

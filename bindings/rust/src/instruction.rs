@@ -13,11 +13,11 @@ pub enum Instruction {
     Add(Location, Element),
     /// The set there loses the element.
     Remove(Location, Element),
-    /// The bag there gets the element so many times, at least once.
+    /// The bag there gets the element the given number of times, at least once.
     BagAdd(Location, Element, u32),
-    /// The bag there loses the element so many times, at least once.
+    /// The bag there loses the element the given number of times, at least once.
     BagRemove(Location, Element, u32),
-    /// The number there grows by so much.
+    /// The number there grows by the given amount.
     Inc(Location, i64),
 }
 
@@ -88,19 +88,19 @@ impl Move {
         self.with(Instruction::Remove(at.into(), element.into()))
     }
 
-    /// The same, and the bag there gets the element so many times.
+    /// The same, and the bag there gets the element the given number of times.
     #[must_use]
     pub fn bag_add(self, at: impl Into<Location>, element: impl Into<Element>, amount: u32) -> Move {
         self.with(Instruction::BagAdd(at.into(), element.into(), amount))
     }
 
-    /// The same, and the bag there loses the element so many times.
+    /// The same, and the bag there loses the element the given number of times.
     #[must_use]
     pub fn bag_remove(self, at: impl Into<Location>, element: impl Into<Element>, amount: u32) -> Move {
         self.with(Instruction::BagRemove(at.into(), element.into(), amount))
     }
 
-    /// The same, and the number there grows by so much.
+    /// The same, and the number there grows by the given amount.
     #[must_use]
     pub fn inc(self, at: impl Into<Location>, by: i64) -> Move {
         self.with(Instruction::Inc(at.into(), by))

@@ -11,7 +11,7 @@ use std::io;
 /// Whether each answer in a journal is that of a sequential storage.
 #[derive(Clone, Copy, Debug, PartialEq, Eq)]
 pub enum Legality {
-    /// Each is.
+    /// Each answer is that of a sequential storage.
     Legal {
         /// How many calls were answered.
         calls: u64,

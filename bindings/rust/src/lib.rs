@@ -1,12 +1,12 @@
-//! The abstract storage of a `CoreASM` engine: a state in memory that the agents of many threads read, and fire moves on, at
-//! once and without locks. A fire that depends on an old read is refused, so no update is lost; all answered calls are one
-//! history, which can be checked again.
+//! Abstract state storage for simulators of abstract state machines: a state in memory that the agents of many threads read,
+//! and fire (commit) moves on, at once. A fire that depends on an old read is refused as stale, a conflict, so no update is
+//! lost. All recorded calls are one history, which can be checked.
 //!
-//! This is a safe crate over the library for C, in which every function is proved to meet its contract; what this crate adds
-//! isn't proved, only tested.
+//! This is a safe crate over the library for C. The core of that library is proved: docs/PROVED.md says what, and what is
+//! trusted. This crate isn't proved, only tested.
 //!
-//! An agent works in steps. All that a step gets is of one state; its later calls see what it pushes, which is fired as one
-//! move. [`Agent::play`] begins again if another agent wrote first:
+//! An agent works in steps, which are transactions. All that a step gets is of one state; its later calls see what it pushes,
+//! which is fired as one move. [`Agent::play`] begins again if another agent wrote first:
 //!
 //! ```
 //! use folugben::{Error, Location, MoveNumber, Storage, Value};
@@ -33,8 +33,8 @@
 //! }
 //! ```
 //!
-//! A storage has room for so many moves, and its history is in memory. [`Run`] goes on from one to the next by itself, and
-//! saves the history in a folder, of which [`audit_run`] checks whether it is legal, however long it is.
+//! A storage has room for the number of moves that it is opened with, and its history is in memory. [`Run`] passes from one to
+//! the next by itself, and saves the history in a folder, which [`audit_run`] checks at any length.
 //!
 //! A step that is moved, an empty slot and a foreign agent's step can't be written: a [`Step`] borrows its [`Agent`].
 //!

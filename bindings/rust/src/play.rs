@@ -71,13 +71,13 @@ impl Patience {
         Patience { tries: Some(tries), ..self }
     }
 
-    /// Has the rule not be played again once that time has passed.
+    /// Plays the rule no further time once that time has passed.
     #[must_use]
     pub fn timeout(self, timeout: Duration) -> Patience {
         Patience { timeout: Some(timeout), ..self }
     }
 
-    /// Has the call try until it fires or refuses: returns the number of the move, and what the rule returned.
+    /// Tries until the call fires or refuses: returns the number of the move, and what the rule returned.
     pub(crate) fn play<T, E: From<Error>>(
         self,
         mut attempt: impl FnMut() -> Result<Attempt<T>, E>,

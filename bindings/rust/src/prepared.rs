@@ -165,7 +165,7 @@ impl PreparedMove {
         self.instruct(2, at, Element::into(element.into()), 0)
     }
 
-    /// The bag there gets the element so many times.
+    /// The bag there gets the element the given number of times.
     ///
     /// # Errors
     ///
@@ -179,7 +179,7 @@ impl PreparedMove {
         self.instruct(3, at, Element::into(element.into()), amount)
     }
 
-    /// The bag there loses the element so many times.
+    /// The bag there loses the element the given number of times.
     ///
     /// # Errors
     ///
@@ -224,7 +224,7 @@ impl PreparedMove {
         Ok(self)
     }
 
-    /// The number there grows by so much.
+    /// The number there grows by the given amount.
     ///
     /// # Errors
     ///

@@ -92,12 +92,12 @@ impl RunOptions {
         RunOptions { moves: MOVES, receipts: None, every: None, is_recording: false }
     }
 
-    /// Has a part end after so many moves, 1 to 1,048,576.
+    /// Ends each part after this number of moves, 1 to 1,048,576.
     pub fn moves(self, moves: u32) -> RunOptions {
         RunOptions { moves, ..self }
     }
 
-    /// Has a part end if its agents have more receipts than that.
+    /// Ends a part if its agents have more receipts than that.
     ///
     /// There is one of each fire, also in vain, and one of each read that a commit records. By default the limit is twice the
     /// number of moves, or four times that of a run that records.
@@ -105,12 +105,12 @@ impl RunOptions {
         RunOptions { receipts: Some(receipts), ..self }
     }
 
-    /// Has a part end so long after its first move.
+    /// Ends each part this long after its first move.
     pub fn every(self, every: Duration) -> RunOptions {
         RunOptions { every: Some(every), ..self }
     }
 
-    /// Has the run's agents record what their steps read, or not.
+    /// Sets whether the run's agents record what their steps read.
     ///
     /// See [`Agent::set_recording`](crate::Agent::set_recording).
     pub fn record(self, is_recording: bool) -> RunOptions {
@@ -235,7 +235,7 @@ pub struct Run {
 }
 
 impl Run {
-    /// Opens a run with parts of so many moves, as [`RunOptions::open`] does.
+    /// Opens a run with parts of the given number of moves, as [`RunOptions::open`] does.
     ///
     /// # Errors
     ///

@@ -220,7 +220,7 @@ impl Step<'_> {
         self.change(Instruction::Remove(at.into(), element.into()))
     }
 
-    /// Adds the element to the bag there so many times, in a move that joins what was pushed last.
+    /// Adds the element to the bag there the given number of times, in a move that joins what was pushed last.
     ///
     /// See [`Step::add`].
     ///
@@ -231,7 +231,7 @@ impl Step<'_> {
         self.change(Instruction::BagAdd(at.into(), element.into(), amount))
     }
 
-    /// Removes the element from the bag there so many times, in a move that joins what was pushed last.
+    /// Removes the element from the bag there the given number of times, in a move that joins what was pushed last.
     ///
     /// # Errors
     ///

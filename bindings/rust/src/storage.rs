@@ -151,7 +151,7 @@ impl Storage {
         })
     }
 
-    /// Has agents that are made or checked out from now on record, or not.
+    /// Sets whether agents that are made or checked out from now on record.
     ///
     /// See [`Agent::set_recording`]. The storages of [`Storage::next`] and [`Agent::go_on`] do as this one.
     pub fn set_recording(&self, is_recording: bool) {

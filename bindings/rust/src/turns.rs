@@ -159,7 +159,7 @@ impl AgentSlots {
         &self.lent.0[usize::from(self.number)]
     }
 
-    /// Has this be the last agent of its storage in this thread: the one before, if that is another.
+    /// Makes this the last agent of its storage in this thread: returns the one before, if that is another.
     fn replace_last(self: &Arc<AgentSlots>) -> Option<Weak<AgentSlots>> {
         let replace = |last: &RefCell<Vec<Last>>| {
             let mut last = last.borrow_mut();

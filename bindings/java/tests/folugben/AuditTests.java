@@ -267,25 +267,9 @@ final class AuditTests {
                     """);
         }
 
-        /** The page's test with JUnit is part of the file that is run. */
-        private static void thePageHasTheExample() throws IOException {
-            String root = System.getProperty("folugben.root");
-            if (root == null)
-                return;
-            String file = Files.readString(Path.of(root, "bindings/java/tests/BankTest.java"));
-            String page = Files.readString(Path.of(root, "docs/SCHEDULES.md"));
-            String shown = page.substring(page.indexOf("```java\n") + "```java\n".length());
-            equal(file.contains(shown.substring(0, shown.indexOf("```"))), true);
-        }
-
         static void all() {
             statesAreListed();
             aTableIsWritten();
-            try {
-                thePageHasTheExample();
-            } catch (IOException fault) {
-                throw new IllegalStateException(fault);
-            }
             System.out.println("journals");
         }
 

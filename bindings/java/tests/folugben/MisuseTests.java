@@ -310,7 +310,7 @@ final class MisuseTests {
         equal(isSo.call(), true);
     }
 
-    /** If JNA is in a parent of the class loader, that is freed as the page on Java says. */
+    /** If JNA is in a parent of the class loader, that is freed as the package says. */
     static void classLoadersAreCollected() throws Exception {
         WeakReference<ClassLoader> own = loaded();
         collectUntil(() -> own.get() == null);

@@ -303,7 +303,7 @@ final class ResumeTests {
         System.out.println("folders of runs");
     }
 
-    /** Tests of when a run is saved, and of runs of version 0.2, which are imported. */
+    /** Tests of when a run is saved, and of runs in one file, which are imported. */
     static final class SavingTests {
         private SavingTests() {}
 

@@ -28,7 +28,7 @@ impl RunAgent {
         self.seat.number()
     }
 
-    /// Has each commit of a step record what the step read, or not, as [`Agent::set_recording`] does.
+    /// Sets whether each commit of a step records what the step read, as [`Agent::set_recording`] does.
     ///
     /// A commit then counts as two receipts for the end of a part ([`RunOptions::receipts`](crate::RunOptions::receipts)).
     pub fn set_recording(&mut self, is_recording: bool) {

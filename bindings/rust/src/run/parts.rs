@@ -60,7 +60,7 @@ impl State {
         self.parts.push_back(Unsaved { part, out: 0, ended: None, is_full: false, is_long: false });
     }
 
-    /// Has no further step begin in the newest part.
+    /// Lets no further step begin in the newest part.
     fn end_newest(&mut self) {
         if let Some(last) = self.parts.back_mut() {
             last.part.set_ended(true);
@@ -174,7 +174,7 @@ impl Core {
         self.changed.notify_all();
     }
 
-    /// Has the part end if it has too many receipts.
+    /// Ends the part if it has too many receipts.
     pub(crate) fn end_heavy(&self, part: &Part) {
         if !part.is_heavy(self.limits.receipts) {
             return;
@@ -253,7 +253,7 @@ impl Core {
         }
     }
 
-    /// Has all be saved, and waits for that.
+    /// Saves all fired moves, and waits until they are on the disk.
     pub(crate) fn close(&self) -> Result<Counts, Error> {
         let mut state = self.lock();
         state.is_closing = true;

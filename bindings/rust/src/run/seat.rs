@@ -48,7 +48,7 @@ impl Seat {
         self.number
     }
 
-    /// Has its commits record what their steps read, or not.
+    /// Sets whether its commits record what their steps read.
     pub(crate) fn set_recording(&self, is_recording: bool) {
         let mut place = self.lock();
         place.is_recording = is_recording;
