@@ -1,0 +1,9 @@
+pub mod TrackedLists
+pub mod Shown
+pub mod Growing
+pub mod Committed
+pub mod Recorded
+pub mod Keeping
+pub mod PoppedGroups
+pub mod Scans
+pub mod PoppedMoves
