@@ -140,7 +140,7 @@ fn has_1_once(mut set: ElemSet) -> Result<bool, AllocError> {
     let is_in = contains(&set, 1) && set.len() == 1 && !set.is_empty();
     let was_in = set.remove(&Element::Num(1));
     let was_in_again = set.remove(&Element::Num(1));
-    let is_out = !was_in_again && set.iter().count() == 0;
+    let is_out = !was_in_again && set.iter().next().is_none();
     Ok(was_empty && is_new && !is_new_again && is_in && was_in && is_out)
 }
 
@@ -148,6 +148,12 @@ fn has_1_once(mut set: ElemSet) -> Result<bool, AllocError> {
 fn a_set_has_an_element_once(rt: HostRuntime) -> Result<(), Fail> {
     assert!(rt; has_1_once(ElemSet::new(rt.alloc()))?);
     Ok(())
+}
+
+/// Return whether the bag has one element, however often.
+fn has_one(bag: &ElemBag) -> bool {
+    let mut entries = bag.iter();
+    entries.next().is_some() && entries.next().is_none()
 }
 
 /// Return whether the bag, which is empty, has two of an element that were put in.
@@ -158,12 +164,12 @@ fn has_2_until_taken(mut bag: ElemBag, element: &Element) -> Result<bool, AllocE
         return Ok(false);
     }
     bag.put(element.clone()?, 2)?;
-    let is_in = bag.count(element) == 2 && bag.iter().count() == 1;
+    let is_in = bag.count(element) == 2 && has_one(&bag);
     if !is_in {
         return Ok(false);
     }
     bag.take(element, 2);
-    Ok(bag.count(element) == 0 && bag.iter().count() == 0)
+    Ok(bag.count(element) == 0 && bag.iter().next().is_none())
 }
 
 #[test]

@@ -1,5 +1,5 @@
 //! Moves: their instructions, and what firing one leaves.
-ghost use Rattle.std.specs.Prelude.{◌≤◌, IsTrue};
+ghost use Rattle.std.specs.Prelude.{◌≤ℤ◌, IsTrue, pos};
 ghost use Rattle.asm_update.specs.Move.{all_regular};
 
 use asm_element::Element;
@@ -243,7 +243,7 @@ fn puts(alloc: Global, first: i64, last: i64) -> Result<Instructions, Fail> {
 
 /// Return whether this many puts and three more make a move in their order.
 fn is_appended(alloc: Global, count: i64) -> Result<bool, Fail>
-    requires { count ≤ 2 }
+    requires { count ≤ℤ pos 2 }
 {
     let mut list = puts(alloc, 0, count)?;
     let more = puts(alloc, count, count + 3)?;
