@@ -201,7 +201,7 @@ class replayer {
         {"take", [this](const words &of) { return make(of, storage_.value().take(number(of[0]))); }},
         {"give", [this](const words &of) { { folugben::agent moved = std::move(agent(of)); } return "null"; }},
         {"learn", [this](const words &of) { return agent(of).learn(agents_.at(number(of[1]))), "null"; }},
-        {"read", [this](const words &of) { return agent(of).read_json(of[1]); }},
+        {"read", [this](const words &of) { return read(of); }},
         {"peek", [this](const words &of) { return agent(of).peek_json(of[1]); }},
         {"fire", [this](const words &of) {
              return member("fired", std::to_string(agent(of).fire_json("{\"fire\":" + of[1] + ",\"reads\":" + of[2] + "}", of[3])));
