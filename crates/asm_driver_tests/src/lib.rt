@@ -21,8 +21,6 @@ mod refusals;
 #[cfg(test)]
 mod running;
 #[cfg(test)]
-mod transactions;
-#[cfg(test)]
 mod watches;
 #[cfg(test)]
 mod windows;
