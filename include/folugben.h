@@ -159,7 +159,8 @@ enum asm_code {
     ASM_OTHER = 14,      /* the two slots are of two storages */
     ASM_ILLEGAL = 15,    /* the journal isn't legal */
     ASM_NOT_JSON = 16,   /* the bytes, or a line of the journal, are not JSON */
-    ASM_SHAPE = 17,      /* they are JSON of another shape, or beyond a limit */
+    ASM_SHAPE = 17,      /* they are JSON of another shape, or beyond a limit; or the value is no set
+                            and no bag: asm_count_of, asm_size */
     ASM_VERSION = 18,    /* a journal of another version than 1 and 2 */
     ASM_CUT = 19,        /* the journal ends too early */
     ASM_LARGE = 20,      /* an amount or a sum is too large */
@@ -171,7 +172,7 @@ enum asm_code {
     ASM_AHEAD = 25,      /* a location or a function is named at a number above that of the moves that
                             the agent has seen: asm_try_fire, asm_try_fire_over, asm_stands */
     ASM_OPERAND = 26,    /* the verb, the kind, the number, the bytes and the amount make no
-                            instruction: asm_instruct */
+                            instruction: asm_instruct; or no element: asm_count_of */
     ASM_NO_FORM = 27,    /* there is no such form: asm_explain */
     ASM_NO_JOURNAL = 28, /* no journal was made since an agent was returned or taken: asm_journal,
                             asm_next */
@@ -504,6 +505,34 @@ FOLUGBEN_NODISCARD int32_t asm_peek_at(struct asm_agent *agent, struct asm_locat
  * ASM_MEMORY. */
 FOLUGBEN_NODISCARD int32_t asm_get_at(struct asm_agent *agent, struct asm_step *step,
     struct asm_location *at, asm_value *value, uint8_t *out, size_t room, size_t *written);
+
+/* Returns how often the set or the bag at a prepared location has an element: 0 or 1 of a set, the
+ * count of a bag, and 0 where nothing is. The value is that of asm_get_at, and isn't copied. The
+ * element is given as to asm_instruct. The location is tracked as by asm_get_at. `*count` is 0 with
+ * each code except ASM_DONE. ASM_SHAPE: the location has another value, and is tracked too; or, with
+ * nothing tracked, as of asm_instruct. ASM_OPERAND (also for a set or a bag), ASM_NOT_JSON: as of
+ * asm_instruct. ASM_MANY, ASM_MOVED, ASM_EMPTY (one of the slots), ASM_MEMORY. */
+FOLUGBEN_NODISCARD int32_t asm_count_of(struct asm_agent *agent, struct asm_step *step,
+    struct asm_location *at, int32_t kind, int64_t number, const uint8_t *bytes, size_t len,
+    uint32_t *count);
+
+/* The same, but returns whether it has the element at all. */
+FOLUGBEN_NODISCARD static inline int32_t asm_has(struct asm_agent *agent, struct asm_step *step,
+    struct asm_location *at, int32_t kind, int64_t number, const uint8_t *bytes, size_t len,
+    bool *has) {
+    uint32_t count;
+    int32_t code = asm_count_of(agent, step, at, kind, number, bytes, len, &count);
+    *has = count > 0;
+    return code;
+}
+
+/* Returns how many elements the set or the bag at a prepared location has, each of a bag as often as
+ * it is there: at most UINT64_MAX, and 0 where nothing is. A set answers at once, a bag in time that
+ * grows with its different elements. The value isn't copied, and the location is tracked as by
+ * asm_get_at. `*size` is 0 with each code except ASM_DONE. ASM_SHAPE: the location has another value,
+ * and is tracked too. ASM_MANY, ASM_MOVED, ASM_EMPTY (one of the slots), ASM_MEMORY. */
+FOLUGBEN_NODISCARD int32_t asm_size(struct asm_agent *agent, struct asm_step *step,
+    struct asm_location *at, uint64_t *size);
 
 /* Appends an instruction at a prepared location to the move in a slot; an empty slot holds the move
  * of this instruction then. The operand is given by its kind, its number (as in asm_value) and its

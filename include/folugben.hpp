@@ -699,6 +699,9 @@ class operand {
     code into(struct asm_move *move, const location &at, asm_verb verb, std::uint32_t amount) const noexcept {
         return code{asm_instruct(move, at.get(), verb, kind_, number_, detail::bytes(text()), text().size(), amount)};
     }
+    code count_in(struct asm_agent *agent, struct asm_step *step, const location &at, std::uint32_t &count) const noexcept {
+        return code{asm_count_of(agent, step, at.get(), kind_, number_, detail::bytes(text()), text().size(), &count)};
+    }
 
   private:
     operand() noexcept = default;
@@ -953,6 +956,19 @@ class step {
     std::string get_json(std::string_view locations);
     // Returns the same, and tracks nothing: a commit fires even if another agent has written there since.
     std::string see_json(std::string_view locations);
+    // Returns whether the set or the bag has the element, and makes no value of it; the location is tracked as by get. Where
+    // nothing is, there is no element. Any other value is code::shape, and is tracked too.
+    bool has(const location &at, const operand &element) { return count_of(at, element) > 0; }
+    // Returns how often the set or the bag has the element: 0 or 1 of a set.
+    std::uint32_t count_of(const location &at, const operand &element);
+    [[nodiscard]] code try_count_of(const location &at, const operand &element, std::uint32_t &count) noexcept {
+        return element.count_in(get_agent(), slot_.get(), at, count);
+    }
+    // Returns how many elements the set or the bag has, each of a bag as often as it is there; at most UINT64_MAX.
+    std::uint64_t size(const location &at);
+    [[nodiscard]] code try_size(const location &at, std::uint64_t &size) noexcept {
+        return code{asm_size(get_agent(), slot_.get(), at.get(), &size)};
+    }
     // Returns all locations of a function with their values, ascending. The step depends on the complete function.
     std::vector<entry> scan(std::string_view name) { return detail::entries(scan_json(name)); }
     // Returns the same as [PAIR, ..].
@@ -1272,6 +1288,21 @@ inline value step::get(const location &at) {
     const code it = try_get(at, what);
     detail::done(it);
     return what;
+}
+
+inline std::uint32_t step::count_of(const location &at, const operand &element) {
+    std::uint32_t count = 0;
+    const code it = try_count_of(at, element, count);
+    if (detail::is_refused(it) || it == code::operand) instructions().add(at, element); // which throws if the element is refused
+    detail::done(it, it == code::shape ? "the value is no set and no bag" : std::string());
+    return count;
+}
+
+inline std::uint64_t step::size(const location &at) {
+    std::uint64_t size = 0;
+    const code it = try_size(at, size);
+    detail::done(it, it == code::shape ? "the value is no set and no bag" : std::string());
+    return size;
 }
 
 template <class Call> std::string step::read_json_by(Call call, std::string_view locations) {

@@ -2,7 +2,7 @@
 ghost use Rattle.std.specs.Prelude.{◌≡◌, MatchResult, None};
 ghost use Rattle.asm_slots.specs.Answers.{EmptyOr, IsMemory};
 ghost use Rattle.asm_slots.specs.Codes.{Replies};
-ghost use Rattle.asm_slots.specs.Commit.{Commits, HasCommitted, HasCommittedRecorded, IsOfferText};
+ghost use Rattle.asm_slots.specs.Commit.{CommitsIn, HasCommitted, HasCommittedRecorded, HasFiredOnce, IsOfferText};
 ghost use Rattle.asm_slots.specs.Slots.{HoldsNoStep, HoldsStep, content_of};
 ghost use Rattle.asm_slots.specs.WrittenText.{WritesText};
 
@@ -34,28 +34,29 @@ pub extern "C" fn asm_commit(
     step: &mut Slot,
     numbers: &mut Numbers,
 ) -> i32
-    ensures { Replies result (λ r.
-        Commits HasCommitted (content_of agent.old) (content_of agent.new) (content_of step.old) numbers.new r
+    ensures commits { Replies result (λ r.
+        CommitsIn HasCommitted (content_of agent.old) (content_of agent.new) (content_of step.old) numbers.new r
         × MatchResult r (λ done. content_of step.new ≡ None) (λ c. content_of step.new ≡ content_of step.old)) }
+    ensures once { Replies result (
+        CommitsIn HasFiredOnce (content_of agent.old) (content_of agent.new) (content_of step.old) numbers.new) }
 {
     answer(commit(alloc, agent, step, numbers))
 }
 
 /// Record what the step read, and then commit it as `asm_commit` does.
-/// The journal then has a read in front of the fire. That read has the locations that the fire names, in its order,
-/// with their values in the agent's own state at the step's number. It has none of the scanned functions. The numbers,
-/// and what becomes of the step, are as of `asm_commit`.
+/// The call polls. If a location that the fire names was written since the step's number, it reads nothing, and the fire
+/// is stale. Else the journal has a read in front of the fire. That read has the locations that the fire names, in its
+/// order, with their values at the step's number. It has none of the scanned functions, and there is no read if the fire
+/// names no location. The numbers, and what becomes of the step, are as of `asm_commit`.
 ///
 /// # Errors
-/// - `ASM_MANY`: as of `asm_commit`, and nothing changes. It comes before `ASM_MOVED`.
-/// - `ASM_MOVED`: the agent's own state isn't at the step's number, or is behind a receipt of the agent's, such as that
-///   of a fire which it hasn't followed; nothing changes. Begin the step again.
+/// - `ASM_MANY`: as of `asm_commit`, and nothing changes.
 /// - `ASM_EMPTY`: as of `asm_commit`.
 /// - `ASM_STALE`, `ASM_CLASH`, `ASM_FULL`, `ASM_BUSY`: as of `asm_commit`. The receipt of the read stays: it is a legal
 ///   read.
 /// - `ASM_MEMORY`: nothing was fired. The agent may have the receipt of the read.
 ///
-/// After `ASM_BUSY` and `ASM_MEMORY` the agent may have followed further moves: the same call then returns `ASM_MOVED`.
+/// After `ASM_BUSY` and `ASM_MEMORY` the same call may be made again.
 #[unsafe(no_mangle)]
 pub extern "C" fn asm_commit_recorded(
     alloc: Global,
@@ -64,7 +65,7 @@ pub extern "C" fn asm_commit_recorded(
     numbers: &mut Numbers,
 ) -> i32
     ensures { Replies result (λ r.
-        Commits HasCommittedRecorded (content_of agent.old) (content_of agent.new) (content_of step.old) numbers.new r
+        CommitsIn HasCommittedRecorded (content_of agent.old) (content_of agent.new) (content_of step.old) numbers.new r
         × MatchResult r (λ done. content_of step.new ≡ None) (λ c. content_of step.new ≡ content_of step.old)) }
 {
     answer(commit_recorded(alloc, agent, step, numbers))

@@ -94,7 +94,7 @@ pub extern "C" fn asm_aggregate(
     out: &mut [u8],
     written: &mut usize,
 ) -> i32
-    ensures { Answers result (Aggregates state.now instrs.now out.new written.new)
+    ensures { Answers result (Aggregates state.now instrs.now out.old out.new written.new)
         (DoesNotAggregate state.now instrs.now out.old out.new written.new) }
 {
     answer(aggregate(alloc, state, instrs, out, written))
@@ -119,7 +119,7 @@ pub extern "C" fn asm_compose(
     out: &mut [u8],
     written: &mut usize,
 ) -> i32
-    ensures { Answers result (Composes first.now second.now out.new written.new)
+    ensures { Answers result (Composes first.now second.now out.old out.new written.new)
         (DoesNotCompose first.now second.now out.old out.new written.new) }
 {
     answer(compose(alloc, first, second, out, written))

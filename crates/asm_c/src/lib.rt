@@ -15,6 +15,8 @@ mod instructing;
 #[tactic(auto, using(asm_slots::proofs::Answered::answers))]
 mod journals;
 #[tactic(auto, using(asm_slots::proofs::Answered::answers))]
+mod members;
+#[tactic(auto, using(asm_slots::proofs::Answered::answers))]
 mod opening;
 #[tactic(auto, using(asm_slots::proofs::Answered::answers))]
 mod own_state;

@@ -160,7 +160,7 @@ pub extern "C" fn asm_peek_at(
     written: &mut usize,
 ) -> i32
     ensures answers { Answers result
-        (PeeksAt (content_of at.old) (content_of agent.old) number.new value.new out.new written.new)
+        (PeeksAt (content_of at.old) (content_of agent.old) number.new value.new out.old out.new written.new)
         (DoesNotPeekAt (content_of at.old) (content_of agent.old) out.old out.new written.new) }
     ensures none { result ≢ ASM_DONE → (number.new ≡ 0) × IsNoValue value.new }
     ensures kept { content_of agent.new ≡ content_of agent.old }
@@ -192,7 +192,7 @@ pub extern "C" fn asm_get_at(
     written: &mut usize,
 ) -> i32
     ensures answers { Answers result
-        (GetsAt (content_of at.old) (content_of agent.old) (content_of step.old) (content_of step.new) value.new out.new written.new)
+        (GetsAt (content_of at.old) (content_of agent.old) (content_of step.old) (content_of step.new) value.new out.old out.new written.new)
         (DoesNotGetAt (content_of at.old) (content_of agent.old) (content_of step.old) out.old out.new written.new) }
     ensures none { result ≢ ASM_DONE → IsNoValue value.new }
     ensures stays { result ≢ ASM_DONE → content_of step.new ≡ content_of step.old }

@@ -3,7 +3,7 @@ ghost use Rattle.std.specs.Prelude.{◌≡◌};
 ghost use Rattle.asm_slots.specs.Codes.{Answers};
 ghost use Rattle.asm_slots.specs.Slots.{content_of};
 ghost use Rattle.asm_slots.specs.StepAnswers.{DoesNotGrow, DoesNotGrowBy, Grows, GrowsBy};
-ghost use Rattle.asm_slots.specs.declared.owned_step.PushMode.TheVariants as ways;
+ghost use Rattle.asm_slots.specs.declared.pushing.PushMode.TheVariants as ways;
 
 use asm_slots::pushing::{grow_from, grow_of};
 use asm_slots::{PushMode, Slot, answer};

@@ -1,13 +1,15 @@
 //! Beginning a step, what is seen through its pushed moves, and popping the last of them.
-ghost use Rattle.std.specs.Prelude.{◌≡◌, ◌≢◌, ◌⊎◌, Ok, length};
+ghost use Rattle.std.specs.Prelude.{◌≡◌, ◌≢◌, ◌⊎◌, length};
 ghost use Rattle.asm_slots.specs.Answers.{IsNoName};
 ghost use Rattle.asm_slots.specs.Codes.{ASM_DONE, Answers};
 ghost use Rattle.asm_slots.specs.OwnState.{Begins, DoesNotBegin};
-ghost use Rattle.asm_slots.specs.Popping.{IsComposedLast, IsNotPoppedIn, IsNotPoppedInto};
-ghost use Rattle.asm_slots.specs.Slots.{ChangesStep, HasRoomForMove, HoldsMove, HoldsNoStep, HoldsStep, IfHoldsStep, content_of};
+ghost use Rattle.asm_slots.specs.Popping.{HasPoppedLast, IsNotPoppedIn, IsNotPoppedInto};
+ghost use Rattle.asm_slots.specs.Slots.{ChangesStep, HasRoomForMove, HoldsMove, HoldsNoStep, IfHoldsStep, content_of};
 ghost use Rattle.asm_slots.specs.StepAnswers.{ShowsBoth, ShowsNoText};
-ghost use Rattle.asm_slots.specs.StepCalls.{HasPoppedOver, HasScanned, HasTracked, IsFoundBy, IsNotGot, IsNotScanned, IsNotSeen, IsSeenBy};
-ghost use Rattle.asm_slots.specs.Tracked.{last_partial_places, dependencies_last};
+ghost use Rattle.asm_slots.specs.StepCalls.{HasTrackedBy, IsFoundBy, IsNotGot, IsNotScanned, IsNotSeen, IsSeenBy};
+ghost use Rattle.asm_slots.specs.Standard.{standard};
+ghost use Rattle.asm_transaction.specs.Popping.{HasPoppedMove};
+ghost use Rattle.asm_transaction.specs.Scanning.{HasScanned};
 
 use asm_slots::getting_all::step_scan;
 use asm_slots::popping::{pop, pop_move};
@@ -77,8 +79,8 @@ pub extern "C" fn asm_get(
     written: &mut usize,
 ) -> i32
     ensures answers { Answers result
-        (ShowsBoth (IsSeenBy locations.now) (content_of agent.old) (content_of step.old) out.new written.new
-        × ChangesStep (content_of step.old) (content_of step.new) (HasTracked locations.now))
+        (ShowsBoth (IsSeenBy locations.now) (content_of agent.old) (content_of step.old) out.old out.new written.new
+        × ChangesStep (content_of step.old) (content_of step.new) (HasTrackedBy locations.now))
         (ShowsNoText (IsSeenBy locations.now) (IsNotGot locations.now) (content_of agent.old) (content_of step.old)
         out.old out.new written.new) }
     ensures stays { result ≢ ASM_DONE → content_of step.new ≡ content_of step.old }
@@ -103,7 +105,7 @@ pub extern "C" fn asm_see(
     written: &mut usize,
 ) -> i32
     ensures answers { Answers result
-        (ShowsBoth (IsSeenBy locations.now) (content_of agent.old) (content_of step.old) out.new written.new)
+        (ShowsBoth (IsSeenBy locations.now) (content_of agent.old) (content_of step.old) out.old out.new written.new)
         (ShowsNoText (IsSeenBy locations.now) (IsNotSeen locations.now) (content_of agent.old) (content_of step.old)
         out.old out.new written.new) }
     ensures kept { content_of agent.new ≡ content_of agent.old }
@@ -124,7 +126,7 @@ pub extern "C" fn asm_see(
 #[unsafe(no_mangle)]
 pub extern "C" fn asm_pop(alloc: Global, step: &mut Slot) -> i32
     ensures answers { Answers result
-        (ChangesStep (content_of step.old) (content_of step.new) (λ s. HasPoppedOver (last_partial_places s) s))
+        (ChangesStep (content_of step.old) (content_of step.new) HasPoppedLast)
         (IsNotPoppedIn (content_of step.old)) }
     ensures kept { result ≢ ASM_DONE → content_of step.new ≡ content_of step.old }
 {
@@ -151,8 +153,8 @@ pub extern "C" fn asm_pop(alloc: Global, step: &mut Slot) -> i32
 #[unsafe(no_mangle)]
 pub extern "C" fn asm_pop_move(alloc: Global, step: &mut Slot, instrs: &mut Slot) -> i32
     ensures answers { Answers result (HasRoomForMove (content_of instrs.old)
-        × ChangesStep (content_of step.old) (content_of step.new) (λ s. HasPoppedOver (dependencies_last s) s)
-        × HoldsStep (content_of step.old) (λ s. HoldsMove (content_of instrs.new) (λ M. IsComposedLast s (Ok M))))
+        × ChangesStep (content_of step.old) (content_of step.new) (λ s t. HoldsMove (content_of instrs.new)
+        (HasPoppedMove standard s t)))
         (IsNotPoppedInto (content_of step.old) (content_of instrs.old)) }
     ensures kept { result ≢ ASM_DONE → content_of step.new ≡ content_of step.old }
     ensures held { result ≢ ASM_DONE → content_of instrs.new ≡ content_of instrs.old }
@@ -183,7 +185,7 @@ pub extern "C" fn asm_step_scan(
     written: &mut usize,
 ) -> i32
     ensures answers { Answers result
-        (ShowsBoth (IsFoundBy name.now) (content_of agent.old) (content_of step.old) out.new written.new
+        (ShowsBoth (IsFoundBy name.now) (content_of agent.old) (content_of step.old) out.old out.new written.new
         × ChangesStep (content_of step.old) (content_of step.new) (HasScanned name.now))
         (ShowsNoText (IsFoundBy name.now) (λ a s c. IsNoName name.now c ⊎ IsNotScanned name.now a s c)
         (content_of agent.old) (content_of step.old) out.old out.new written.new) }

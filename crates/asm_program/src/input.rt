@@ -88,7 +88,7 @@ impl<R: Files> Read for Segments<'_, R> {
             let Some(path) = self.paths.pop() else {
                 return Ok(0);
             };
-            self.file = fs::open(self.rt, path.as_str())?;
+            self.file = open_regular(self.rt, path.as_str())?;
         }
         self.file.read(buf)
     }
@@ -114,6 +114,14 @@ pub(crate) enum Opened<'r, R: Files> {
     Folder(Option<String>),
 }
 
+// Open a regular file. Another one isn't opened, as a pipe would wait for its writer.
+fn open_regular<R: Files>(rt: &R, path: &str) -> io::Result<R::File> {
+    if !fs::metadata(rt, path)?.is_file() {
+        return Err(io::Error::from(ErrorKind::InvalidInput));
+    }
+    fs::open(rt, path)
+}
+
 // Return the journals in the folder, the last one first.
 fn segments_in<R: Runtime + AllocGlobal>(
     rt: &R,
@@ -122,7 +130,12 @@ fn segments_in<R: Runtime + AllocGlobal>(
 ) -> io::Result<Vec<String>> {
     let mut paths = Vec::new(alloc);
     for entry in fs::read_dir(rt, folder)? {
-        let entry = entry?;
+        let entry = match entry {
+            Ok(entry) => entry,
+            // A name that is no text is no segment's.
+            Err(error) if error.kind() == ErrorKind::InvalidFilename => continue,
+            Err(error) => return Err(error),
+        };
         let path = entry.path();
         if path.as_str().ends_with(".journal") {
             paths.push(String::from_str(alloc, path.as_str())?)?;
@@ -159,14 +172,14 @@ pub(crate) fn open<'r, R: Runtime + AllocGlobal>(
     is_run: bool,
 ) -> io::Result<Opened<'r, R>> {
     if !fs::metadata(rt, path)?.is_dir() {
-        return Ok(Opened::File(fs::open(rt, path)?));
+        return Ok(Opened::File(open_regular(rt, path)?));
     }
     let mut paths = segments_in(rt, alloc, path)?;
     let is_read = is_run && are_complete(paths.as_slice());
     match paths.pop() {
         Some(first) if is_read => Ok(Opened::Run(Segments {
             rt,
-            file: fs::open(rt, first.as_str())?,
+            file: open_regular(rt, first.as_str())?,
             paths,
         })),
         first => Ok(Opened::Folder(first)),

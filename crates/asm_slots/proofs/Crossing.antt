@@ -20,8 +20,7 @@ use Rattle.asm_audit.specs.contracts.part_auditor.PartAuditor as PartAuditor
 use Rattle.asm_audit.specs.contracts.progress.Progress as Progress
 use Rattle.asm_element.proofs.Crossing.{location_is_sent}
 use Rattle.asm_state.proofs.Crossing as states
-use Rattle.asm_state.specs.contracts.scanned.Scanned as Scanned
-use Rattle.asm_step.proofs.Crossing.{step_is_sent}
+use Rattle.asm_transaction.proofs.Crossing.{transaction_is_sent}
 use Rattle.asm_slots.specs.contracts.audit.Audit as Audit
 use Rattle.asm_slots.specs.contracts.audit.Audit.TheInside as InsideAudit
 use Rattle.asm_slots.specs.contracts.content.Content as Content
@@ -29,8 +28,6 @@ use Rattle.asm_slots.specs.contracts.closed_journal.ClosedJournal as ClosedJourn
 use Rattle.asm_slots.specs.contracts.closed_journal.ClosedJournal.TheInside as InsideJournal
 use Rattle.asm_slots.specs.contracts.owned_agent.OwnedAgent as OwnedAgent
 use Rattle.asm_slots.specs.contracts.owned_agent.OwnedAgent.TheInside as InsideAgent
-use Rattle.asm_slots.specs.contracts.owned_step.OwnedStep as OwnedStep
-use Rattle.asm_slots.specs.contracts.owned_step.OwnedStep.TheInside as InsideStep
 use Rattle.asm_slots.specs.contracts.shared.Shared as Shared
 use Rattle.asm_slots.specs.contracts.store.Store as Store
 use Rattle.asm_slots.specs.contracts.store.Store.TheInside as InsideStore
@@ -78,15 +75,6 @@ inside_store_is_sent = search (sendable, Arc-send, Vec-send, shared_is_sent, sha
 store_is_sent : IsSend Store.the_row
 store_is_sent = search (sendable, inside_store_is_sent) depth 20
 
-scanned_is_sent : IsSend Scanned.the_row
-scanned_is_sent = search (sendable, Vec-send) depth 20
-
-inside_step_is_sent : IsSend InsideStep.the_row
-inside_step_is_sent = search (sendable, Vec-send, step_is_sent, location_is_sent, scanned_is_sent) depth 20
-
-owned_step_is_sent : IsSend OwnedStep.the_row
-owned_step_is_sent = search (sendable, inside_step_is_sent) depth 20
-
 part_auditor_is_sent : IsSend PartAuditor.the_row
 part_auditor_is_sent = search (sendable, states.state_is_sent) depth 20
 
@@ -110,4 +98,4 @@ audit_is_sent : IsSend Audit.the_row
 audit_is_sent = search (sendable, inside_audit_is_sent) depth 20
 
 pub content_is_sent : IsSend Content.the_row
-content_is_sent = search (sendable, agent_is_sent, store_is_sent, owned_step_is_sent, location_is_sent, instructions_is_sent, audit_is_sent) depth 20
+content_is_sent = search (sendable, agent_is_sent, store_is_sent, transaction_is_sent, location_is_sent, instructions_is_sent, audit_is_sent) depth 20

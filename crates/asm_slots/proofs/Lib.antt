@@ -10,11 +10,9 @@ pub mod OwnStates
 pub mod NextStorages
 pub mod Growing
 pub mod WholeScans
-pub mod Commits
-pub mod Noting
-pub mod RecordedReads
 pub mod Meanings
-pub mod Scans
 pub mod Refused
 pub mod Answered
 pub mod WrittenTexts
+pub mod Commits
+pub mod MembersOfSteps

@@ -1,5 +1,5 @@
 -- What kind, number and bytes mean, and which actions they make.
-use Rattle.std.proofs.Common.{◌≡◌, ◌≢◌, ◌∙◌, inl, inr, ℕ, ℤ, List, ap, pos, refl, sym, subst, w32, of_z}
+use Rattle.std.proofs.Common.{◌≡◌, ◌≢◌, inl, inr, ℕ, ℤ, List, ap, pos, refl, sym, subst, w32, of_z}
 use Rattle.asm_element.specs.declared.element.Element.{Element}
 use Rattle.asm_element.specs.declared.element.Element.TheVariants.{Undef, Bool as Truth, Num, Text, List as Inner}
 use Rattle.asm_element.specs.declared.value.Value.{Value}

@@ -29,20 +29,20 @@ lent_other x y z mine theirs a b same is_mine is_theirs one is =
     subst (λ (s : StorageView Standard). IsPartOf meaning s theirs)
     (ap storage is_theirs ∙ one ∙ sym (ap storage is_mine) ∙ ap (λ (v : Shared). v.storage) (sym same)) is
 
--- a fire of the part, on the storage of which its owner has a share
-pub part_fires_over : (s t : StorageView Standard) (old new : AgentPart) (a : AgentAt Standard) (reads : List Named)
-    (scans : List Scanned) (M : Move) (r : Result Reply FireError) → t ≡ s → agent_of s old ≡ a →
-    IsFireOver meaning (agent_of t old) (agent_of t new) reads scans M r → IsFireOver meaning a (agent_of s new) reads scans M r
-part_fires_over s t old new a reads scans M r same is over =
-    subst (λ (x : AgentAt Standard). IsFireOver meaning x (agent_of s new) reads scans M r) is
-    (subst (λ (x : StorageView Standard). IsFireOver meaning (agent_of x old) (agent_of x new) reads scans M r) same over)
+-- what a call does with a part, on the storage of which its owner has a share, it does with the owner's agent
+pub of_part : (R : AgentAt Standard → AgentAt Standard → Type 0) (s t : StorageView Standard) (old new : AgentPart)
+    (a : AgentAt Standard) → t ≡ s → agent_of s old ≡ a → R (agent_of t old) (agent_of t new) → R a (agent_of s new)
+of_part R s t old new a same is over =
+    subst (λ (x : AgentAt Standard). R x (agent_of s new)) is
+    (subst (λ (x : StorageView Standard). R (agent_of x old) (agent_of x new)) same over)
 
--- and one that depends on no scan
+-- a fire that depends on no scan
 pub part_fires : (s t : StorageView Standard) (old new : AgentPart) (a : AgentAt Standard) (reads : List Named) (M : Move)
     (r : Result Reply FireError) → t ≡ s → agent_of s old ≡ a →
     IsFireOver meaning (agent_of t old) (agent_of t new) reads [] M r → IsFire meaning a (agent_of s new) reads M r
 part_fires s t old new a reads M r same is over =
-    no_scans meaning a (agent_of s new) reads M r (part_fires_over s t old new a reads [] M r same is over)
+    no_scans meaning a (agent_of s new) reads M r
+    (of_part (λ x y. IsFireOver meaning x y reads [] M r) s t old new a same is over)
 
 -- what it was answered
 pub replied_over : (a new : AgentAt Standard) (reads : List Named) (scans : List Scanned) (M : Move)

@@ -4,11 +4,9 @@ use Rattle.serde_json.specs.Written.{compact_text}
 use Rattle.asm_element.specs.Place.{Place}
 use Rattle.asm_update.specs.Fire.{Old}
 use Rattle.asm_update.specs.State.{State, IsProper, val}
-use Rattle.asm_overlay.specs.Frames.{OverView, seen_through}
 use Rattle.asm_state.proofs.Judged.{same_old}
 use Rattle.asm_state.specs.Plain.{value_of_name}
 use Rattle.asm_state.specs.View.{StateView, value_at}
-use Rattle.asm_step.specs.Layers.{frames_of}
 use Rattle.asm_storage.specs.Agents.{moves_seen}
 use Rattle.asm_storage.specs.Part.{IsFollowing}
 use Rattle.asm_storage.specs.Storage.{AgentAt, machine_of}
@@ -17,10 +15,8 @@ use Rattle.asm_slots.specs.Answers.{IsMemory}
 use Rattle.asm_slots.specs.Kinds.{bytes_of}
 use Rattle.asm_slots.specs.OwnState.{HasBytesAt, IsOwnOfName, IsOwnState, IsPeek, of_name, state_at, values_text}
 use Rattle.asm_slots.specs.Standard.{Standard, meaning, part}
-use Rattle.asm_slots.specs.StepView.{StepView}
 use Rattle.asm_slots.specs.Slots.{Holds, HoldsLocation}
 use Rattle.asm_slots.specs.StepAnswers.{DoesNotPeekAt}
-use Rattle.asm_slots.specs.StepCalls.{below, seen}
 use Rattle.asm_slots.specs.WrittenText.{HasNoText}
 use Rattle.asm_slots.specs.declared.codes.Code.{Code}
 use Rattle.asm_slots.specs.declared.content.Content.{Content}
@@ -74,24 +70,3 @@ pub own_of_name : (a : AgentAt Standard) (s : StateView) (S : State) (name : Lis
 own_of_name a s S name n text own stands same proper values is =
     subst (λ (k : ℕ). IsOwnOfName name a k text) (sym same)
     ((stands, own.within), (S, proper, (λ l. values l ∙ ap (λ (o : Old). of_name name o l) (own_values a s own)), is))
-
--- the state is at the step's version, so what is below the step is what it has
-pub below_is : (a : AgentAt Standard) (s : StateView) (t : StepView) → IsOwn a s → s.number ≡ t.number →
-    value_at s ≡ below a t
-below_is a s t own same = own_values a s own ∙ ap (λ n. val (state_at a n)) same
-
-pub seen_is : (a : AgentAt Standard) (s : StateView) (t : StepView) → IsOwn a s → s.number ≡ t.number →
-    seen_through (frames_of t.layers) (value_at s) ≡ seen a t
-seen_is a s t own same = ap (λ (o : Old). seen_through (frames_of t.layers) o) (below_is a s t own same)
-
--- what is seen through a step, whose contents are these, over the state at its version
-pub own_seen : (a : AgentAt Standard) (s : StateView) (t inside : StepView) (n : ℕ) (o : OverView StateView)
-    (locations : List Place) (text : List ℕ) → inside ≡ t → IsOwn a s → n ≡ s.number → n ≡ inside.number →
-    o ≡ record { frames = frames_of inside.layers; below = s } →
-    text ≡ values_text inside.number (seen_through o.frames (value_at o.below)) locations →
-    text ≡ values_text t.number (seen a t) locations
-own_seen a s t inside n o locations text view own number at over is =
-    is ∙ ap (λ (x : OverView StateView). values_text inside.number (seen_through x.frames (value_at x.below)) locations) over
-    ∙ ap (λ (x : StepView). values_text x.number (seen_through (frames_of x.layers) (value_at s)) locations) view
-    ∙ ap (λ (f : Old). values_text t.number f locations)
-    (seen_is a s t own (sym number ∙ at ∙ ap (λ (x : StepView). x.number) view))

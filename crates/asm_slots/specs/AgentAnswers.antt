@@ -175,6 +175,6 @@ IsNotJudged reads a b c = (b ≡ a) × IsUnreadAs AreReads reads c
 -- a stale one is reported, or they aren't judged
 abbrev pub DoesNotValidate : List ℕ → Option Content → Option Content → List ℕ → List ℕ → ℕ → Code → Type 0
 DoesNotValidate reads agent after out out_after written c =
-    ((c ≡ refusal.Stale) × HasText (FindsStale reads agent after) out_after written)
+    ((c ≡ refusal.Stale) × HasText (FindsStale reads agent after) out out_after written)
     ⊎ HasNoText (FindsStale reads agent after) (EmptyOr (HoldsNoAgent agent × (after ≡ agent))
     (λ k. Changes agent after (λ a b. IsNotJudged reads a b k))) out out_after written c

@@ -8,6 +8,10 @@ use Rattle.asm_aggregate.specs.declared.composition.ComposeError.{ComposeError}
 use Rattle.asm_aggregate.specs.declared.composition.ComposeError.TheVariants as compose_error
 use Rattle.asm_storage.specs.declared.error.StorageError.{StorageError}
 use Rattle.asm_storage.specs.declared.error.StorageError.TheVariants as storage_error
+use Rattle.asm_transaction.specs.declared.error.PopError.{PopError}
+use Rattle.asm_transaction.specs.declared.error.PopError.TheVariants as pop_error
+use Rattle.asm_transaction.specs.declared.error.TransactionError.{TransactionError}
+use Rattle.asm_transaction.specs.declared.error.TransactionError.TheVariants as transaction_error
 use Rattle.asm_slots.specs.declared.codes.Code.{Code}
 use Rattle.asm_slots.specs.declared.codes.Code.TheVariants as code
 use Rattle.serde_json.specs.Data.{Data}
@@ -43,6 +47,18 @@ code_of_compose (compose_error.Clash c) = code.Clash
 code_of_compose (compose_error.Large l) = code.Large
 code_of_compose compose_error.ManyInstructions = code.LongMove
 code_of_compose compose_error.Memory = code.Memory
+
+-- the code of an error of a transaction
+abbrev pub code_of_transaction : TransactionError → Code
+code_of_transaction transaction_error.Moved = code.Moved
+code_of_transaction transaction_error.ManyReads = code.Many
+code_of_transaction transaction_error.Memory = code.Memory
+
+-- the code of moves that aren't popped as one
+abbrev pub code_of_pop : PopError → Code
+code_of_pop (pop_error.Composition e) = code_of_compose e
+code_of_pop pop_error.ManyReads = code.Many
+code_of_pop pop_error.Memory = code.Memory
 
 -- memory was refused
 abbrev pub IsMemory : Code → Type 0

@@ -69,11 +69,11 @@ first_texts =
     codes "a slot holds nothing of this kind, or is passed twice" ∷
     codes "the capacity is not 1 to 1,048,576" ∷
     codes "the buffer is too small" ∷
-    codes "64 offers were lost" ∷
+    codes "64 attempts to append were lost to other agents" ∷
     codes "more than 256 locations, or locations and scanned functions" ∷
     codes "no call was answered yet" ∷
     codes "the slot that was to be filled holds something else" ∷
-    codes "an agent with this number was made before" ∷
+    codes "the storage has, or had, another agent with this number" ∷
     codes "a move has no receipt among the agents that were returned" ∷
     codes "the two slots are of two storages" ∷
     codes "the journal is not legal" ∷

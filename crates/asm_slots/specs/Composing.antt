@@ -49,13 +49,13 @@ abbrev pub IsClashOf : List ℕ → List ℕ → List ℕ → Type 0
 IsClashOf state instrs text = (k : Clash) × HasAggregate state instrs (Err (agg_error.Clash k)) × (text ≡ clash_text k)
 
 -- the updates are written
-abbrev pub Aggregates : List ℕ → List ℕ → List ℕ → ℕ → Type 0
+abbrev pub Aggregates : List ℕ → List ℕ → List ℕ → List ℕ → ℕ → Type 0
 Aggregates state instrs = HasText (IsUpdatesOf state instrs)
 
 -- the clash is written, or is too long; or the updates are too long, or one of the bytes is none of what it should be
 abbrev pub DoesNotAggregate : List ℕ → List ℕ → List ℕ → List ℕ → ℕ → Code → Type 0
 DoesNotAggregate state instrs out after written c =
-    ((c ≡ code.Clash) × HasText (IsClashOf state instrs) after written)
+    ((c ≡ code.Clash) × HasText (IsClashOf state instrs) out after written)
     ⊎ ((after ≡ out) × LacksRoom (IsClashOf state instrs) out written c)
     ⊎ HasNoText (IsUpdatesOf state instrs) (AreMisread IsStateForm IsMoveForm state instrs) out after written c
 
@@ -89,12 +89,12 @@ IsUncomposed first second c =
     ⊎ AreMisread IsMoveForm IsMoveForm first second c
 
 -- one move that does what the two moves do in turn is written
-abbrev pub Composes : List ℕ → List ℕ → List ℕ → ℕ → Type 0
+abbrev pub Composes : List ℕ → List ℕ → List ℕ → List ℕ → ℕ → Type 0
 Composes first second = HasText (IsOneMoveOf first second)
 
 -- why there is none is written, or is too long; or the move's text is too long, or there is none
 abbrev pub DoesNotCompose : List ℕ → List ℕ → List ℕ → List ℕ → ℕ → Code → Type 0
 DoesNotCompose first second out after written c =
-    HasText (IsWhyNot first second c) after written
+    HasText (IsWhyNot first second c) out after written
     ⊎ ((after ≡ out) × ((k : Code) × LacksRoom (IsWhyNot first second k) out written c))
     ⊎ HasNoText (IsOneMoveOf first second) (IsUncomposed first second) out after written c

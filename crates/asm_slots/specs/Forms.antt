@@ -55,7 +55,7 @@ IsSentence form bytes text = LacksForm form bytes × (text ≢ [])
 -- the bytes are of the form, and nothing is written; or a sentence is
 abbrev pub Explains : ℤ → List ℕ → List ℕ → List ℕ → ℕ → Type 0
 Explains form bytes out after written =
-    (HasForm form bytes × IsUnwritten out after written) ⊎ HasText (IsSentence form bytes) after written
+    (HasForm form bytes × IsUnwritten out after written) ⊎ HasText (IsSentence form bytes) out after written
 
 -- there is no such form, or the sentence is too long
 abbrev pub DoesNotExplain : ℤ → List ℕ → List ℕ → List ℕ → ℕ → Code → Type 0

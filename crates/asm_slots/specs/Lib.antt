@@ -10,7 +10,6 @@ pub mod Store
 pub mod MadeAgents
 pub mod InsertPoint
 pub mod ClosedStore
-pub mod StepView
 pub mod AuditView
 pub mod Slots
 pub mod AgentCalls
@@ -21,9 +20,9 @@ pub mod ClosedJournal
 pub mod NextStore
 pub mod Audits
 pub mod AgentAnswers
-pub mod Tracked
 pub mod StepCalls
 pub mod StepAnswers
 pub mod Commit
 pub mod Kinds
 pub mod Popping
+pub mod Members

@@ -15,12 +15,13 @@ use Rattle.asm_storage.specs.declared.call.Answer.TheVariants as answer
 use Rattle.asm_storage.specs.declared.call.Reply.TheVariants as reply
 use Rattle.asm_journal.specs.Event.{answer_json_of, reply_json_of}
 use Rattle.asm_journal.specs.Text.{state_json_of}
+use Rattle.asm_transaction.specs.Reading.{IsOf}
+use Rattle.asm_transaction.specs.View.{new_transaction}
 use Rattle.asm_slots.specs.Bytes.{ReadAsLocations, ReadAsReads}
 use Rattle.asm_slots.specs.AgentCalls.{HasPolled, SeesOn}
 use Rattle.asm_slots.specs.Kinds.{IsValueBy, bytes_of}
-use Rattle.asm_slots.specs.Slots.{Changes, HasRoomForStep, Holds, HoldsNoAgent, HoldsStep}
+use Rattle.asm_slots.specs.Slots.{Changes, HasRoomForStep, HoldBoth, Holds, HoldsNoAgent}
 use Rattle.asm_slots.specs.Standard.{Standard, meaning, part}
-use Rattle.asm_slots.specs.StepView.{new_step}
 use Rattle.asm_slots.specs.declared.codes.Code.{Code}
 use Rattle.asm_slots.specs.declared.codes.Code.TheVariants as code
 use Rattle.asm_slots.specs.declared.content.Content.{Content}
@@ -89,10 +90,10 @@ DoesNotFollow agent after code.Empty = HoldsNoAgent agent × (after ≡ agent)
 DoesNotFollow agent after code.Memory = Changes agent after (λ a b. HasPolledOn a b × IsSameAgent a b × SeesOn a b)
 DoesNotFollow agent after _ = ⊥
 
--- it has followed, and the other slot, which was empty or held a step, holds a new one at this version
+-- it has followed, and the other slot, which was empty or held a step, holds a new one of the agent at this version
 abbrev pub Begins : ℕ → Option Content → Option Content → Option Content → Option Content → Type 0
 Begins number agent after step step_after =
-    HasRoomForStep step × Follows number agent after × HoldsStep step_after (λ s. s ≡ new_step number)
+    HasRoomForStep step × Follows number agent after × HoldBoth after step_after (λ a t. (t ≡ new_transaction number) × IsOf meaning a t)
 
 -- the other slot holds something else; or the agent doesn't follow, or memory was refused once it had
 abbrev pub DoesNotBegin : Option Content → Option Content → Option Content → Code → Type 0

@@ -3,9 +3,9 @@ use Rattle.std.specs.Prelude.{◌≡◌, ◌<◌, ◌⊎◌, slice_index_or, ℕ
 use Rattle.asm_element.specs.Place.{Place}
 use Rattle.asm_update.specs.Move.{Move}
 use Rattle.asm_storage.specs.Storage.{AgentAt, StorageView, at_start}
+use Rattle.asm_transaction.specs.View.{TransactionView}
 use Rattle.asm_slots.specs.AuditView.{AuditView, WasFed}
 use Rattle.asm_slots.specs.Standard.{Standard}
-use Rattle.asm_slots.specs.StepView.{StepView}
 use Rattle.asm_slots.specs.Store.{StoreView}
 use Rattle.asm_slots.specs.declared.slot.Slot.{Slot}
 use Rattle.asm_slots.specs.declared.content.Content.{Content}
@@ -46,12 +46,12 @@ HoldsNoStore (Some (content.Store s)) = ⊥
 HoldsNoStore _ = Unit {0}
 
 -- the slot holds a step with this property
-abbrev pub HoldsStep : Option Content → (StepView → Type 0) → Type 0
+abbrev pub HoldsStep : Option Content → (TransactionView → Type 0) → Type 0
 HoldsStep (Some (content.Step s)) P = P s
 HoldsStep _ P = ⊥
 
 -- if the slot holds a step, it has this property
-abbrev pub IfHoldsStep : Option Content → (StepView → Type 0) → Type 0
+abbrev pub IfHoldsStep : Option Content → (TransactionView → Type 0) → Type 0
 IfHoldsStep (Some (content.Step s)) P = P s
 IfHoldsStep _ P = Unit {0}
 
@@ -67,12 +67,12 @@ HoldsNoStep (Some (content.Step s)) = ⊥
 HoldsNoStep _ = Unit {0}
 
 -- the slot holds a step before and after, and this relation holds between the two
-abbrev pub ChangesStep : Option Content → Option Content → (StepView → StepView → Type 0) → Type 0
+abbrev pub ChangesStep : Option Content → Option Content → (TransactionView → TransactionView → Type 0) → Type 0
 ChangesStep (Some (content.Step s)) new P = HoldsStep new (P s)
 ChangesStep _ new P = ⊥
 
 -- the one slot holds an agent and the other a step, and this relation holds between the two
-abbrev pub HoldBoth : Option Content → Option Content → (AgentAt Standard → StepView → Type 0) → Type 0
+abbrev pub HoldBoth : Option Content → Option Content → (AgentAt Standard → TransactionView → Type 0) → Type 0
 HoldBoth (Some (content.Agent a)) step P = HoldsStep step (P a)
 HoldBoth _ step P = ⊥
 

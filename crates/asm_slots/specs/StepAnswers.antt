@@ -1,32 +1,32 @@
 -- The effects of the calls that read through the step of a slot, push onto it or extend it.
-use Rattle.std.specs.Prelude.{◌≡◌, ◌⊎◌, ℕ, List, Option, pos}
+use Rattle.std.specs.Prelude.{◌≡◌, ◌⊎◌, ℕ, List, [], ◌∷◌, Option, pos}
 use Rattle.asm_update.specs.Move.{Move}
 use Rattle.asm_storage.specs.Storage.{AgentAt}
 use Rattle.asm_journal.specs.Event.{IsMoveForm}
+use Rattle.asm_transaction.specs.Reading.{HasTracked, IsUnread}
+use Rattle.asm_transaction.specs.View.{TransactionView}
 use Rattle.asm_slots.specs.Answers.{EmptyOr, IsMemory, IsUnreadAs}
 use Rattle.asm_slots.specs.Bytes.{ReadAsMove}
-use Rattle.asm_slots.specs.Kinds.{IsValueBy, bytes_of}
 use Rattle.asm_slots.specs.OwnState.{HasBytesAt, IsValueAt}
 use Rattle.asm_slots.specs.Slots.{ChangesStep, HoldBoth, Holds, HoldsLocation, HoldsMove, HoldsNoAgent, HoldsNoLocation, HoldsNoMove}
 use Rattle.asm_slots.specs.Slots.{HoldsStep, LacksOne}
 use Rattle.asm_slots.specs.Standard.{Standard}
-use Rattle.asm_slots.specs.StepCalls.{HasGrown, HasReached, HasTrackedOne, IsGrown, IsNotGotAt, IsNotGrown, seen}
-use Rattle.asm_slots.specs.StepView.{StepView}
+use Rattle.asm_slots.specs.StepCalls.{Errs, HasGrown, IsBytesSeen, IsGrown, IsNotGrown, IsValueSeen}
 use Rattle.asm_slots.specs.WrittenText.{HasNoText, HasText, IsUnwritten}
 use Rattle.asm_slots.specs.declared.codes.Code.{Code}
 use Rattle.asm_slots.specs.declared.codes.Code.TheVariants as code
 use Rattle.asm_slots.specs.declared.content.Content.{Content}
-use Rattle.asm_slots.specs.declared.owned_step.PushMode.{PushMode}
+use Rattle.asm_slots.specs.declared.pushing.PushMode.{PushMode}
 use Rattle.asm_slots.specs.declared.value_head.ValueHead.{ValueHead}
 
 -- ---- reading
 
 -- a text of this kind is written of an agent and a step
-abbrev pub ShowsBoth : (AgentAt Standard → StepView → List ℕ → Type 0) → Option Content → Option Content → List ℕ → ℕ → Type 0
+abbrev pub ShowsBoth : (AgentAt Standard → TransactionView → List ℕ → Type 0) → Option Content → Option Content → List ℕ → List ℕ → ℕ → Type 0
 ShowsBoth IsText agent step = HasText (λ text. HoldBoth agent step (λ a s. IsText a s text))
 
 -- none is: a slot lacks its agent or its step, or it is too long, or there is none for this reason
-abbrev pub ShowsNoText : (AgentAt Standard → StepView → List ℕ → Type 0) → (AgentAt Standard → StepView → Code → Type 0) →
+abbrev pub ShowsNoText : (AgentAt Standard → TransactionView → List ℕ → Type 0) → (AgentAt Standard → TransactionView → Code → Type 0) →
     Option Content → Option Content → List ℕ → List ℕ → ℕ → Code → Type 0
 ShowsNoText IsText IsNone agent step =
     HasNoText (λ text. HoldBoth agent step (λ a s. IsText a s text))
@@ -37,7 +37,7 @@ abbrev pub IsNoValue : ValueHead → Type 0
 IsNoValue value = (value.kind ≡ pos 0) × (value.number ≡ pos 0)
 
 -- the value at the location in the agent's own state is reported, with the version of that state
-abbrev pub PeeksAt : Option Content → Option Content → ℕ → ValueHead → List ℕ → ℕ → Type 0
+abbrev pub PeeksAt : Option Content → Option Content → ℕ → ValueHead → List ℕ → List ℕ → ℕ → Type 0
 PeeksAt at agent number value =
     HasText (λ bytes. HoldsLocation at (λ l. Holds agent (λ a. IsValueAt l a number value.kind value.number bytes)))
 
@@ -47,17 +47,18 @@ DoesNotPeekAt at agent =
     HasNoText (λ bytes. HoldsLocation at (λ l. Holds agent (λ a. HasBytesAt l a bytes)))
     (EmptyOr (HoldsNoLocation at ⊎ HoldsNoAgent agent) IsMemory)
 
--- what is seen at the location through the pushed moves is reported, and the location is tracked
-abbrev pub GetsAt : Option Content → Option Content → Option Content → Option Content → ValueHead → List ℕ → ℕ → Type 0
-GetsAt at agent step step_after value after written = HoldsLocation at (λ l.
-    ShowsBoth (λ a s bytes. HasReached a s × IsValueBy (seen a s l) value.kind value.number bytes) agent step after written
-    × ChangesStep step step_after (HasTrackedOne l))
+-- what the step shows at the location is reported, and the location is tracked
+abbrev pub GetsAt : Option Content → Option Content → Option Content → Option Content → ValueHead → List ℕ → List ℕ → ℕ → Type 0
+GetsAt at agent step step_after value out after written = HoldsLocation at (λ l.
+    ShowsBoth (λ a t. IsValueSeen l a t value.kind value.number) agent step out after written
+    × ChangesStep step step_after (HasTracked (l ∷ [])))
 
--- a slot lacks what the call needs, or the bytes of the value are too long, or nothing is seen at the location
+-- a slot lacks what the call needs, or the bytes of the value are too long, or the location isn't read
 abbrev pub DoesNotGetAt : Option Content → Option Content → Option Content → List ℕ → List ℕ → ℕ → Code → Type 0
 DoesNotGetAt at agent step =
-    HasNoText (λ bytes. HoldsLocation at (λ l. HoldBoth agent step (λ a s. HasReached a s × (bytes ≡ bytes_of (seen a s l)))))
-    (EmptyOr (HoldsNoLocation at ⊎ LacksOne agent step) (λ c. HoldsLocation at (λ l. HoldBoth agent step (λ a s. IsNotGotAt l a s c))))
+    HasNoText (λ bytes. HoldsLocation at (λ l. HoldBoth agent step (λ a t. IsBytesSeen l a t bytes)))
+    (EmptyOr (HoldsNoLocation at ⊎ LacksOne agent step)
+    (λ c. HoldsLocation at (λ l. HoldBoth agent step (λ a t. Errs (IsUnread l a.number t) c))))
 
 -- ---- pushing
 

@@ -1,20 +1,21 @@
 -- Texts that are written into a buffer.
-use Rattle.std.specs.Prelude.{◌≡◌, ◌⊎◌, ◌<◌, ◌≤◌, ℕ, ℤ, List, length, slice_range, MatchResult, Result}
+use Rattle.std.specs.Prelude.{◌≡◌, ◌⊎◌, ◌<◌, ◌≤◌, ℕ, ℤ, List, drop, length, slice_range, MatchResult, Result}
 use Rattle.asm_slots.specs.Codes.{Answers}
 use Rattle.asm_slots.specs.declared.codes.Code.{Code}
 use Rattle.asm_slots.specs.declared.codes.Code.TheVariants as variant
 
--- the first `written` bytes of the buffer are this text
-abbrev pub IsCopied : List ℕ → List ℕ → ℕ → Type 0
-IsCopied text after written = (slice_range after 0 written ≡ text) × (written ≤ length after)
+-- the first `written` bytes of the buffer are this text, and those behind it are unchanged
+abbrev pub IsCopied : List ℕ → List ℕ → List ℕ → ℕ → Type 0
+IsCopied text out after written =
+    (slice_range after 0 written ≡ text) × (written ≤ length after) × (drop written after ≡ drop written out)
 
 -- the text has `written` bytes, which are more than the room
 abbrev pub IsTooLong : List ℕ → ℕ → ℕ → Type 0
 IsTooLong text room written = (written ≡ length text) × (room < length text)
 
 -- a text of this kind is written
-abbrev pub HasText : (List ℕ → Type 0) → List ℕ → ℕ → Type 0
-HasText IsText after written = (text : List ℕ) × IsText text × IsCopied text after written
+abbrev pub HasText : (List ℕ → Type 0) → List ℕ → List ℕ → ℕ → Type 0
+HasText IsText out after written = (text : List ℕ) × IsText text × IsCopied text out after written
 
 -- the buffer is unchanged, and no length is reported
 abbrev pub IsUnwritten : List ℕ → List ℕ → ℕ → Type 0
@@ -32,9 +33,9 @@ HasNoText IsText IsNone out after written c =
 -- a text of this kind is written, or none is
 abbrev pub IsWritten : (List ℕ → Type 0) → (Code → Type 0) → List ℕ → List ℕ → ℕ → Result (Unit {0}) Code → Type 0
 IsWritten IsText IsNone out after written r =
-    MatchResult r (λ done. HasText IsText after written) (HasNoText IsText IsNone out after written)
+    MatchResult r (λ done. HasText IsText out after written) (HasNoText IsText IsNone out after written)
 
 -- the same, by the number that C gets
 abbrev pub WritesText : (List ℕ → Type 0) → (Code → Type 0) → List ℕ → List ℕ → ℕ → ℤ → Type 0
 WritesText IsText IsNone out after written answer =
-    Answers answer (HasText IsText after written) (HasNoText IsText IsNone out after written)
+    Answers answer (HasText IsText out after written) (HasNoText IsText IsNone out after written)

@@ -1,13 +1,14 @@
 //! The codes that calls return, and their texts.
-ghost use Rattle.std.specs.Prelude.{◌≡◌, ◌<◌, false, int_lt, length, IfErr, OnErr, OnOk};
+ghost use Rattle.std.specs.Prelude.{◌≡◌, ◌≤◌, ◌<◌, false, int_lt, length, IfErr, OnErr, OnOk};
 ghost use Rattle.asm_slots.specs.Codes.{answer_of, first_texts, further, further_texts, number_of, text_among, text_of_code};
-ghost use Rattle.asm_slots.specs.WrittenText.{IsCopied};
+ghost use Rattle.asm_slots.specs.WrittenText.{IsCopied, IsTooLong};
 ghost use Rattle.asm_slots.specs.Answers.{code_of_text};
 ghost use Rattle.asm_slots.specs.declared.codes.Code.TheVariants as variant;
 
 use asm_aggregate::ComposeError;
 use asm_explain::TextError;
 use asm_storage::StorageError;
+use asm_transaction::{PopError, TransactionError};
 use asm_update::InstructionsError;
 use std::alloc::{AllocError, AllocFailed};
 
@@ -51,6 +52,30 @@ pub enum Code {
     LongMove = 35,
 }
 
+/// Set `written` to how many bytes there are, and return `Small`, if the buffer has no room for them.
+pub(crate) fn fit(bytes: &[u8], out: &[u8], written: &mut usize) -> Result<(), Code>
+    ensures room { OnOk result (length bytes.now ≤ length out.now) }
+    ensures kept { OnOk result (written.new ≡ written.old) }
+    ensures small { IfErr result (λ c. c ≡ variant.Small) }
+    ensures long { OnErr result (IsTooLong bytes.now (length out.now) written.new) }
+{
+    if out.len() < bytes.len() {
+        *written = bytes.len();
+        return Err(Code::Small);
+    }
+    Ok(())
+}
+
+/// Copy the bytes to the start of the buffer, which has room for them.
+pub(crate) fn copy_into(bytes: &[u8], out: &mut [u8], written: &mut usize)
+    requires { length bytes.now ≤ length out.old }
+    ensures written { written.new ≡ length bytes.now }
+    ensures copied { IsCopied bytes.now out.old out.new written.new }
+{
+    *written = bytes.len();
+    out[..bytes.len()].copy_from_slice(bytes);
+}
+
 /// Copy the bytes to the start of the buffer, if they fit.
 ///
 /// `written` is how many bytes there are, in any case.
@@ -60,16 +85,13 @@ pub enum Code {
 /// - `Small`: there are more bytes than the buffer has, which is unchanged.
 pub fn write(bytes: &[u8], out: &mut [u8], written: &mut usize) -> Result<(), Code>
     ensures written { written.new ≡ length bytes.now }
-    ensures copied { OnOk result (IsCopied bytes.now out.new written.new) }
+    ensures copied { OnOk result (IsCopied bytes.now out.old out.new written.new) }
     ensures small { IfErr result (λ c. c ≡ variant.Small) }
     ensures room { OnErr result (length out.old < written.new) }
     ensures unwritten { OnErr result (out.new ≡ out.old) }
 {
-    *written = bytes.len();
-    if out.len() < bytes.len() {
-        return Err(Code::Small);
-    }
-    out[..bytes.len()].copy_from_slice(bytes);
+    fit(bytes, out, written)?;
+    copy_into(bytes, out, written);
     Ok(())
 }
 
@@ -98,11 +120,11 @@ fn first_text(code: i32) -> &'static str
         5 => "a slot holds nothing of this kind, or is passed twice",
         6 => "the capacity is not 1 to 1,048,576",
         7 => "the buffer is too small",
-        8 => "64 offers were lost",
+        8 => "64 attempts to append were lost to other agents",
         9 => "more than 256 locations, or locations and scanned functions",
         10 => "no call was answered yet",
         11 => "the slot that was to be filled holds something else",
-        12 => "an agent with this number was made before",
+        12 => "the storage has, or had, another agent with this number",
         13 => "a move has no receipt among the agents that were returned",
         14 => "the two slots are of two storages",
         15 => "the journal is not legal",
@@ -215,6 +237,34 @@ impl From<ComposeError> for Code {
             ComposeError::Large(_) => Code::Large,
             ComposeError::ManyInstructions => Code::LongMove,
             ComposeError::Memory => Code::Memory,
+        }
+    }
+}
+
+impl From<TransactionError> for Code {
+    ghost use Rattle.asm_slots.specs.Answers.{code_of_transaction};
+
+    ghost from_gives = { λ e c. c ≡ code_of_transaction e };
+
+    fn from(error: TransactionError) -> Code {
+        match error {
+            TransactionError::Moved => Code::Moved,
+            TransactionError::ManyReads => Code::Many,
+            TransactionError::Memory => Code::Memory,
+        }
+    }
+}
+
+impl From<PopError> for Code {
+    ghost use Rattle.asm_slots.specs.Answers.{code_of_pop};
+
+    ghost from_gives = { λ e c. c ≡ code_of_pop e };
+
+    fn from(error: PopError) -> Code {
+        match error {
+            PopError::Composition(cause) => Code::from(cause),
+            PopError::ManyReads => Code::Many,
+            PopError::Memory => Code::Memory,
         }
     }
 }

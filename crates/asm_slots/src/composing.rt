@@ -5,7 +5,7 @@ ghost use Rattle.asm_journal.specs.Element.{location_json_of};
 ghost use Rattle.asm_journal.specs.Event.{IsMoveForm};
 ghost use Rattle.asm_journal.specs.Shape.{one_of};
 ghost use Rattle.asm_journal.specs.Value.{IsStateForm};
-ghost use Rattle.asm_slots.specs.Bytes.{IsEitherMisread};
+ghost use Rattle.asm_slots.specs.Bytes.{AreMisread};
 ghost use Rattle.asm_slots.specs.Composing.{Aggregates, Composes, DoesNotAggregate, DoesNotCompose, HasAggregate, HasComposition};
 ghost use Rattle.asm_slots.specs.Composing.{ReportsUncomposed};
 ghost use Rattle.asm_slots.specs.Composing.{clash_text, large_text};
@@ -15,7 +15,6 @@ use crate::codes::{Code, write};
 use crate::parsing::read_both;
 use asm_aggregate::{ComposeError, standard};
 use asm_element::Location;
-use asm_explain::TextError;
 use asm_journal::{answer_text, location_json, move_text, updates_text};
 use asm_storage::{Answer, Reply};
 use asm_update::{AggError, Clash, Instructions, PlainState, UpdateSet};
@@ -50,9 +49,9 @@ fn aggregation(
     alloc: Global,
     state: &[u8],
     instrs: &[u8],
-) -> Result<Result<UpdateSet, AggError>, TextError>
+) -> Result<Result<UpdateSet, AggError>, Code>
     ensures ok { IfOk result (HasAggregate state.now instrs.now) }
-    ensures err { IfErr result (IsEitherMisread IsStateForm IsMoveForm state.now instrs.now) }
+    ensures err { IfErr result (AreMisread IsStateForm IsMoveForm state.now instrs.now) }
 {
     let (old, step) = read_both::<PlainState, Instructions>(alloc, state, instrs)?;
     Ok(asm_aggregate::aggregate(alloc, &standard(), &old, &step))
@@ -66,7 +65,7 @@ pub fn aggregate(
     out: &mut [u8],
     written: &mut usize,
 ) -> Result<(), Code>
-    ensures { MatchResult result (λ done. Aggregates state.now instrs.now out.new written.new)
+    ensures { MatchResult result (λ done. Aggregates state.now instrs.now out.old out.new written.new)
         (DoesNotAggregate state.now instrs.now out.old out.new written.new) }
 {
     *written = 0;
@@ -115,9 +114,9 @@ fn composition(
     alloc: Global,
     first: &[u8],
     second: &[u8],
-) -> Result<Result<Instructions, ComposeError>, TextError>
+) -> Result<Result<Instructions, ComposeError>, Code>
     ensures ok { IfOk result (HasComposition first.now second.now) }
-    ensures err { IfErr result (IsEitherMisread IsMoveForm IsMoveForm first.now second.now) }
+    ensures err { IfErr result (AreMisread IsMoveForm IsMoveForm first.now second.now) }
 {
     let (one, two) = read_both::<Instructions, Instructions>(alloc, first, second)?;
     Ok(asm_aggregate::compose(alloc, &standard(), &one, &two))
@@ -131,7 +130,7 @@ pub fn compose(
     out: &mut [u8],
     written: &mut usize,
 ) -> Result<(), Code>
-    ensures { MatchResult result (λ done. Composes first.now second.now out.new written.new)
+    ensures { MatchResult result (λ done. Composes first.now second.now out.old out.new written.new)
         (DoesNotCompose first.now second.now out.old out.new written.new) }
 {
     *written = 0;

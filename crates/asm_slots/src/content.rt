@@ -1,9 +1,9 @@
 //! The content of a slot, in the box behind its handle.
 use crate::audit::Audit;
 use crate::owned_agent::OwnedAgent;
-use crate::owned_step::OwnedStep;
 use crate::store::Store;
 use asm_element::Location;
+use asm_transaction::Transaction;
 use asm_update::Instructions;
 
 /// The content of a slot's box.
@@ -14,7 +14,7 @@ pub enum Content {
     Nothing,
     Store(Store),
     Agent(OwnedAgent),
-    Step(OwnedStep),
+    Step(Transaction),
     Location(Location),
     Move(Instructions),
     Audit(Audit),

@@ -104,7 +104,7 @@ fn read_value(alloc: Global, kind: i32, number: i64, bytes: &[u8]) -> Result<Val
 }
 
 // Return the value of this kind, with this number and these bytes.
-fn value_of(alloc: Global, kind: i32, number: i64, bytes: &[u8]) -> Result<Value, Code>
+pub(crate) fn value_of(alloc: Global, kind: i32, number: i64, bytes: &[u8]) -> Result<Value, Code>
     ensures ok { IfOk result (IsOperand kind number bytes.now) }
     ensures err { IfErr result (IsNoOperandFor kind number bytes.now) }
 {

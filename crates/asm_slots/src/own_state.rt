@@ -134,7 +134,7 @@ pub fn peek_at(
     written: &mut usize,
 ) -> Result<(), Code>
     ensures answers { MatchResult result
-        (λ done. PeeksAt (content_of at.old) (content_of agent.old) number.new value.new out.new written.new)
+        (λ done. PeeksAt (content_of at.old) (content_of agent.old) number.new value.new out.old out.new written.new)
         (DoesNotPeekAt (content_of at.old) (content_of agent.old) out.old out.new written.new) }
     ensures none { OnErr result ((number.new ≡ 0) × IsNoValue value.new) }
     ensures kept { content_of agent.new ≡ content_of agent.old }
@@ -151,7 +151,11 @@ pub fn peek_at(
     Ok(())
 }
 
-fn value_at<L: Lookup>(alloc: Global, seen: &L, at: &Location) -> Result<Value, AllocError>
+pub(crate) fn value_at<L: Lookup>(
+    alloc: Global,
+    seen: &L,
+    at: &Location,
+) -> Result<Value, AllocError>
     ensures { IfOk result (λ value. value ≡ L.value_at seen.now at.now) }
 {
     Value::copy_or_undef(alloc, seen.get(at))

@@ -12,19 +12,23 @@ ghost use Rattle.asm_storage.specs.Part.{IsFollowing};
 ghost use Rattle.asm_storage.specs.Storage.{at_start, last_poll, machine_of, IsSameAgent, Missed};
 ghost use Rattle.asm_storage.specs.Calls.{HasPolledFor, IsReplied, IsCoherentReply, IsRead};
 ghost use Rattle.asm_storage.specs.Calls.{IsStaleRead};
-ghost use Rattle.asm_storage.specs.NamedRead.{IsNamedRead};
 ghost use Rattle.asm_storage.specs.Taken.{HasTaken};
 ghost use Rattle.asm_slots.specs.Standard.{meaning};
 ghost use Rattle.asm_slots.specs.AgentAnswers.{is_any_over, is_any_above};
 ghost use Rattle.asm_slots.specs.OwnState.{HasPolledOn};
 ghost use Rattle.asm_slots.specs.AgentCalls.{HasAnswered, HasLearnt, HasPolled, IsLastText, IsRepliedOver, SeesOn};
+ghost use Rattle.asm_transaction.specs.Commit.{Commits, IsOneFire};
+ghost use Rattle.asm_transaction.specs.Reading.{IsOf};
+ghost use Rattle.asm_transaction.specs.Record.{Records};
+ghost use Rattle.asm_transaction.specs.View.{new_transaction};
 
 use crate::shared::Shared;
 use asm_aggregate::Standard;
 use asm_element::{Items, Location};
 use asm_journal::answer_text;
 use asm_state::{Named, Scanned, State};
-use asm_storage::{Agent, AgentPart, FireError, Mark, NamedReading, ReadError, Reading, Reply};
+use asm_storage::{Agent, AgentPart, FireError, Mark, ReadError, Reading, Reply};
+use asm_transaction::Transaction;
 use asm_update::Instructions;
 use std::alloc::{AllocError, Global};
 use std::marker::Model;
@@ -150,22 +154,46 @@ impl OwnedAgent {
         )
     }
 
-    /// Read the locations of the declared reads, unless one of them is stale.
-    ///
-    /// It polls. If one is stale, it returns the smallest of these locations, and adds no receipt.
-    pub(crate) fn read_named(
+    /// Begin a transaction, after a poll until no move is left.
+    pub(crate) fn begin(&mut self, alloc: Global) -> Result<Transaction, AllocError>
+        ensures same { IsSameAgent self.old self.new }
+        ensures polled { HasPolledOn self.old self.new }
+        ensures seen { SeesOn self.old self.new }
+        ensures begun { IfOk result (λ t. t ≡ new_transaction (length self.new.account.seen)) }
+        ensures stands { OnOk result (length self.new.account.seen ≡ self.new.number) }
+        ensures of { IfOk result (IsOf meaning self.new) }
+    {
+        Transaction::begin_in(alloc, &self.shared.storage, &mut self.part)
+    }
+
+    /// Commit the transaction.
+    pub(crate) fn commit(
         &mut self,
         alloc: Global,
-        reads: &[Named],
-    ) -> Result<NamedReading, ReadError>
-        ensures answered { IfOk result (IsNamedRead meaning self.old self.new reads.now) }
-        ensures polled { OnOk result (Missed self.old (last_poll self.new) self.new) }
-        ensures seen { SeesOn self.old self.new }
-        ensures refused { OnErr result (HasPolled self.old self.new) }
-        ensures unread { IfErr result (HasPolledFor self.old self.new) }
-        ensures many { IsErrOf result ManyLocations ↔ (reads_limit < length reads.now) }
+        transaction: &Transaction,
+    ) -> Result<Reply, FireError>
+        ensures commits { IsOf meaning self.old transaction.now → Commits meaning self.old self.new transaction.now result }
+        ensures once { IsOneFire meaning self.old self.new transaction.now result }
     {
-        self.part.read_named(alloc, &self.shared.storage, reads)
+        transaction.commit_in(alloc, &self.shared.storage, &mut self.part)
+    }
+
+    /// Record what the transaction has read, and commit it.
+    pub(crate) fn commit_recorded(
+        &mut self,
+        alloc: Global,
+        transaction: &Transaction,
+    ) -> Result<Reply, FireError>
+        ensures { Records meaning self.old self.new transaction.now result }
+    {
+        transaction.commit_recorded_in(alloc, &self.shared.storage, &mut self.part)
+    }
+
+    /// Return its storage's aggregator.
+    pub(crate) fn aggregator(&self) -> &Standard
+        ensures { result.now ≡ self.now.storage.agg }
+    {
+        self.shared.storage.aggregator()
     }
 
     /// Return its own state.

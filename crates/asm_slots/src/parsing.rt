@@ -2,7 +2,7 @@
 ghost use Rattle.std.specs.Prelude.{IfOk, IfErr};
 ghost use Rattle.asm_journal.specs.Value.{IsStateForm};
 ghost use Rattle.asm_explain.specs.Bytes.{AreLocations, IsMisread, ReadAs};
-ghost use Rattle.asm_slots.specs.Bytes.{AreReads, IsEitherMisread, ReadAsMove, ReadAsReads};
+ghost use Rattle.asm_slots.specs.Bytes.{AreMisread, AreReads, ReadAsMove, ReadAsReads};
 ghost use Rattle.asm_journal.specs.Event.{IsMoveForm};
 ghost use Rattle.asm_slots.specs.Answers.{IsUnreadAs};
 ghost use Rattle.asm_slots.specs.Bytes.{ReadAsLocations, ReadAsState};
@@ -50,19 +50,14 @@ pub(crate) fn read_both<T: FromJson, U: FromJson>(
     alloc: Global,
     first: &[u8],
     second: &[u8],
-) -> Result<(T, U), TextError>
+) -> Result<(T, U), Code>
     ensures first { IfOk result (λ p. ReadAs T.is_form first.now p.0) }
     ensures second { IfOk result (λ p. ReadAs U.is_form second.now p.1) }
-    ensures err { IfErr result (IsEitherMisread T.is_form U.is_form first.now second.now) }
+    ensures err { IfErr result (AreMisread T.is_form U.is_form first.now second.now) }
 {
-    let one = match read_as::<T>(alloc, first) {
-        Ok(one) => one,
-        Err(error) => return Err(error),
-    };
-    match read_as::<U>(alloc, second) {
-        Ok(two) => Ok((one, two)),
-        Err(error) => Err(error),
-    }
+    let one = read_as::<T>(alloc, first)?;
+    let two = read_as::<U>(alloc, second)?;
+    Ok((one, two))
 }
 
 /// Read the opening state of `[PAIR, ..]`.

@@ -1,22 +1,31 @@
 //! Pushing moves onto a step, and extending the one that was pushed last.
+#![tactic(auto, unfolding(asm_aggregate::specs::Standard::standard_meaning))]
+
 ghost use Rattle.std.specs.Prelude.{◌≡◌, string_bytes, IfErr, IfOk, MatchResult, OnErr, OnOk};
 ghost use Rattle.asm_slots.specs.StepAnswers.{DoesNotGrow, DoesNotGrowBy, Grows, GrowsBy};
 ghost use Rattle.asm_slots.specs.Slots.{content_of};
-ghost use Rattle.asm_slots.specs.StepCalls.{HasTrackedEach, IsGrown, IsNotGrown, IsNotTracked, IsPushError, ReportsRefusal};
-ghost use Rattle.asm_slots.specs.Tracked.{refusal_places};
+ghost use Rattle.asm_slots.specs.StepCalls.{Errs, IsGrown, IsNotGrown, IsPushError, ReportsRefusal};
 ghost use Rattle.asm_slots.specs.WrittenText.{IsUnwritten};
+ghost use Rattle.asm_transaction.specs.Reading.{HasTracked, IsUntracked};
+ghost use Rattle.asm_transaction.specs.Tracked.{refusal_places};
 
 use crate::codes::{Code, write};
 use crate::composing::{Refusal, clash_text, large_text};
 use crate::lend;
 use crate::owned_agent::OwnedAgent;
-use crate::owned_step::{OwnedStep, PushMode, grow};
 use crate::parsing::move_of;
 use crate::slot::Slot;
-use crate::tracking::{refusal_places, track};
 use asm_step::StepError;
+use asm_transaction::{Transaction, refusal_places};
 use asm_update::Instructions;
 use std::alloc::{AllocError, Global};
+
+/// How a move is put onto a step.
+#[derive(Clone, Copy, Drop)]
+pub enum PushMode {
+    Push,
+    Extend,
+}
 
 fn refusal_of(alloc: Global, error: StepError) -> Result<Refusal, AllocError>
     ensures { IfOk result (λ r. ReportsRefusal error r.code (string_bytes r.text)) }
@@ -43,28 +52,29 @@ fn refusal_of(alloc: Global, error: StepError) -> Result<Refusal, AllocError>
 }
 
 // Return why the move isn't accepted, and track the locations on which that depends.
+#[tactic(auto, using(crate::proofs::Refused::untracked_as))]
 fn refuse(
     alloc: Global,
-    step: &mut OwnedStep,
+    step: &mut Transaction,
     instrs: &Instructions,
     error: StepError,
 ) -> Result<Refusal, Code>
     ensures reported { IfOk result (λ r. ReportsRefusal error r.code (string_bytes r.text)) }
-    ensures tracked { OnOk result (HasTrackedEach (refusal_places instrs.now error) step.old step.new) }
-    ensures err { IfErr result (IsNotTracked (refusal_places instrs.now error) step.old) }
+    ensures tracked { OnOk result (HasTracked (refusal_places instrs.now error) step.old step.new) }
+    ensures err { IfErr result (Errs (IsUntracked (refusal_places instrs.now error) step.old)) }
     ensures stays { OnErr result (step.new ≡ step.old) }
 {
-    let tracked = track(alloc, step, refusal_places(alloc, instrs, &error)?)?;
+    let places = refusal_places(alloc, instrs, &error)?;
     let refusal = refusal_of(alloc, error)?;
-    step.tracked = tracked;
+    step.track(alloc, places)?;
     Ok(refusal)
 }
 
 // Put the move onto the step, at whose version the agent's own state is.
-fn grow_on(
+fn grow(
     alloc: Global,
     agent: &OwnedAgent,
-    step: &mut OwnedStep,
+    step: &mut Transaction,
     way: PushMode,
     instrs: &Instructions,
 ) -> Result<(), StepError>
@@ -73,14 +83,18 @@ fn grow_on(
     ensures err { IfErr result (IsPushError way instrs.now agent.now step.old) }
     ensures stays { OnErr result (step.new ≡ step.old) }
 {
-    grow(alloc, &mut step.step, agent.state(), way, instrs)
+    let state = agent.state();
+    match way {
+        PushMode::Push => step.push_move(alloc, agent.aggregator(), state, instrs),
+        PushMode::Extend => step.extend_last(alloc, agent.aggregator(), state, instrs),
+    }
 }
 
 // Put the move onto the step, or report why it isn't accepted.
 fn grow_by(
     alloc: Global,
     agent: &OwnedAgent,
-    step: &mut OwnedStep,
+    step: &mut Transaction,
     way: PushMode,
     instrs: &Instructions,
     out: &mut [u8],
@@ -91,10 +105,10 @@ fn grow_by(
     ensures unwritten { OnOk result (IsUnwritten out.old out.new written.new) }
     ensures err { IfErr result (IsNotGrown way instrs.now agent.now step.old step.new out.old out.new written.new) }
 {
-    if agent.state().number() != step.number {
+    if agent.state().number() != step.number() {
         return Err(Code::Moved);
     }
-    let Err(error) = grow_on(alloc, agent, step, way, instrs) else {
+    let Err(error) = grow(alloc, agent, step, way, instrs) else {
         return Ok(());
     };
     let refusal = refuse(alloc, step, instrs, error)?;

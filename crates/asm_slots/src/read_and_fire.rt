@@ -3,7 +3,7 @@ ghost use Rattle.std.specs.Prelude.{◌≡◌, ◌⊎◌, [], IfOk, IfErr, Match
 ghost use Rattle.asm_slots.specs.AgentAnswers.{AreScans, Fires, FiresOver, IsNotRead, ReadAsFireOver, Reads, TriesIn};
 ghost use Rattle.asm_slots.specs.AgentCalls.{IsLastAnswer, ReportsFire, no_numbers};
 ghost use Rattle.asm_slots.specs.Answers.{EmptyOr, IsMemory};
-ghost use Rattle.asm_slots.specs.Bytes.{IsEitherMisread, IsFireForm};
+ghost use Rattle.asm_slots.specs.Bytes.{AreMisread, IsFireForm};
 ghost use Rattle.asm_slots.specs.Slots.{Holds, HoldsNoAgent, content_of};
 ghost use Rattle.asm_slots.specs.WrittenText.{IsWritten};
 
@@ -14,7 +14,7 @@ use crate::parsing::locations_of;
 use crate::reading_scans::scans_of;
 use crate::slot::Slot;
 use crate::take_and_put::{put_agent, take_agent};
-use asm_explain::{Fire, TextError, fire_of};
+use asm_explain::{Fire, fire_of};
 use asm_state::Scanned;
 use asm_storage::{FireError, ReadError, Reply};
 use std::alloc::Global;
@@ -142,18 +142,13 @@ pub fn fire(alloc: Global, agent: &mut Slot, call: &[u8], numbers: &mut Numbers)
 }
 
 // Read the move of the one text, and the scans of the other.
-fn fire_over_of(alloc: Global, call: &[u8], scans: &[u8]) -> Result<(Fire, Vec<Scanned>), TextError>
+fn fire_over_of(alloc: Global, call: &[u8], scans: &[u8]) -> Result<(Fire, Vec<Scanned>), Code>
     ensures ok { IfOk result (λ p. ReadAsFireOver call.now scans.now p.0.reads p.1.items p.0.instrs) }
-    ensures err { IfErr result (IsEitherMisread IsFireForm AreScans call.now scans.now) }
+    ensures err { IfErr result (AreMisread IsFireForm AreScans call.now scans.now) }
 {
-    let fire = match fire_of(alloc, call) {
-        Ok(fire) => fire,
-        Err(error) => return Err(error),
-    };
-    match scans_of(alloc, scans) {
-        Ok(scans) => Ok((fire, scans)),
-        Err(error) => Err(error),
-    }
+    let fire = fire_of(alloc, call)?;
+    let scans = scans_of(alloc, scans)?;
+    Ok((fire, scans))
 }
 
 fn fire_over_in(

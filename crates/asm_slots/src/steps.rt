@@ -1,31 +1,26 @@
 //! Beginning a step, and reading through its pushed moves.
-ghost use Rattle.std.specs.Prelude.{◌≡◌, ◌≤◌, ◌<◌, ◌++◌, ◌∷◌, [], length, string_bytes, MatchResult, OnOk, OnErr};
-ghost use Rattle.std.specs.Prelude.{IfOk, IfErr, ℕ, IsSome, vec_len};
-ghost use Rattle.std.specs.Bool.{OnTrue, OnFalse};
-ghost use Rattle.asm_element.specs.Place.{Place, location_cmp};
-ghost use Rattle.asm_step.specs.Places.{AreEach};
-ghost use Rattle.asm_slots.specs.Kinds.{IsValueBy, bytes_of};
-ghost use Rattle.asm_slots.specs.OwnState.{Begins, DoesNotBegin, values_text};
+ghost use Rattle.std.specs.Prelude.{◌≡◌, ◌∷◌, [], string_bytes, IfErr, IfOk, MatchResult, OnErr, OnOk};
+ghost use Rattle.std.specs.Bool.{OnFalse, OnTrue};
+ghost use Rattle.asm_slots.specs.Kinds.{bytes_of};
+ghost use Rattle.asm_slots.specs.OwnState.{Begins, DoesNotBegin};
 ghost use Rattle.asm_slots.specs.Slots.{ChangesStep, HasRoomForStep, content_of};
-ghost use Rattle.asm_slots.specs.StepCalls.{HasReached, HasTracked, HasTrackedOne, IsCopyFor, IsNoCopyFor, IsNotGot, IsNotGotAt, IsNotSeen, IsUnreachable};
-ghost use Rattle.asm_slots.specs.StepCalls.{IsSeenBy, seen};
-ghost use Rattle.asm_slots.specs.WrittenText.{HasNoText, HasText, IsWritten};
-ghost use Rattle.std.specs.Vec.{vec_capacity};
-ghost use Rattle.std.specs.List.Sorted.{IsStrictlySortedBy};
+ghost use Rattle.asm_slots.specs.Standard.{meaning};
 ghost use Rattle.asm_slots.specs.StepAnswers.{DoesNotGetAt, GetsAt, IsNoValue, ShowsBoth, ShowsNoText};
+ghost use Rattle.asm_slots.specs.StepCalls.{AreSeen, Errs, HasReached, HasTrackedBy, IsBytesSeen, IsNotGot, IsNotSeen, IsSeenBy, IsValueSeen};
+ghost use Rattle.asm_slots.specs.WrittenText.{HasNoText, HasText, IsCopied, IsWritten};
+ghost use Rattle.asm_transaction.specs.Reading.{HasTracked, IsOf, IsShown, IsUnread, IsUnseen, IsUntracked};
 
-use crate::codes::{Code, write};
+use crate::codes::{Code, copy_into, fit, write};
 use crate::content::Content;
 use crate::lend;
-use crate::own_state::text_of_values;
+use crate::own_state::{text_of_values, value_at};
 use crate::owned_agent::OwnedAgent;
-use crate::owned_step::OwnedStep;
 use crate::parsing::locations_of;
 use crate::slot::Slot;
-use crate::tracking::track;
-use crate::value_head::{ValueHead, write_value_at};
-use asm_element::Location;
-use asm_storage::READS_LIMIT;
+use crate::value_head::{ValueHead, bytes_in, json_text};
+use asm_aggregate::Standard;
+use asm_element::{Location, Value};
+use asm_transaction::Transaction;
 use std::alloc::Global;
 
 // Return whether the slot is empty or holds a step.
@@ -53,31 +48,28 @@ pub fn begin(alloc: Global, agent: &mut Slot, step: &mut Slot, number: &mut u32)
         return Err(Code::Taken);
     }
     lend!(inner: Agent = agent, Err(Code::Empty));
-    let seen = inner.follow(alloc)?;
-    let made = Box::new(alloc, Content::Step(OwnedStep::at(alloc, seen)))?;
+    let begun = inner.begin(alloc)?;
+    let seen = begun.number();
+    let made = Box::new(alloc, Content::Step(begun))?;
     *step = Slot::holding(made);
     *number = seen;
     Ok(())
 }
 
-// Return the text of what is seen at the locations through the pushed moves, if the agent's own state is at the step's
-// version.
+// Return the text of what the transaction shows at the locations.
+#[tactic(auto, using(crate::proofs::Refused::unseen_as))]
 fn seen_text(
     alloc: Global,
     agent: &OwnedAgent,
-    step: &OwnedStep,
+    step: &Transaction,
     locations: &[Location],
 ) -> Result<String, Code>
-    ensures text { IfOk result (λ text. string_bytes text
-        ≡ values_text step.now.number (seen agent.now step.now) locations.now) }
+    ensures text { IfOk result (λ text. AreSeen locations.now agent.now step.now (string_bytes text)) }
     ensures reached { OnOk result (HasReached agent.now step.now) }
-    ensures err { IfErr result (IsUnreachable agent.now step.now) }
+    ensures err { IfErr result (Errs (IsUnseen agent.now.number step.now)) }
 {
-    let state = agent.state();
-    if state.number() != step.number {
-        return Err(Code::Moved);
-    }
-    Ok(text_of_values(alloc, step.number, &step.step.over(state), locations)?)
+    let seen = step.shows::<Standard>(agent.state())?;
+    Ok(text_of_values(alloc, step.number(), &seen, locations)?)
 }
 
 /// Do what `asm_see` does.
@@ -90,7 +82,7 @@ pub fn see(
     written: &mut usize,
 ) -> Result<(), Code>
     ensures answers { MatchResult result
-        (λ done. ShowsBoth (IsSeenBy locations.now) (content_of agent.old) (content_of step.old) out.new written.new)
+        (λ done. ShowsBoth (IsSeenBy locations.now) (content_of agent.old) (content_of step.old) out.old out.new written.new)
         (ShowsNoText (IsSeenBy locations.now) (IsNotSeen locations.now) (content_of agent.old) (content_of step.old)
         out.old out.new written.new) }
     ensures kept { content_of agent.new ≡ content_of agent.old }
@@ -107,7 +99,7 @@ pub fn see(
 fn get_in(
     alloc: Global,
     agent: &OwnedAgent,
-    step: &mut OwnedStep,
+    step: &mut Transaction,
     locations: &[u8],
     out: &mut [u8],
     written: &mut usize,
@@ -115,14 +107,14 @@ fn get_in(
     requires { written.old ≡ 0 }
     ensures text { IsWritten (IsSeenBy locations.now agent.now step.old) (IsNotGot locations.now agent.now step.old)
         out.old out.new written.new result }
-    ensures tracked { OnOk result (HasTracked locations.now step.old step.new) }
+    ensures tracked { OnOk result (HasTrackedBy locations.now step.old step.new) }
     ensures stays { OnErr result (step.new ≡ step.old) }
 {
     let locations = locations_of(alloc, locations)?;
     let text = seen_text(alloc, agent, step, &locations)?;
-    let tracked = track(alloc, step, locations)?;
-    write(text.as_bytes(), out, written)?;
-    step.tracked = tracked;
+    fit(text.as_bytes(), out, written)?;
+    step.track(alloc, locations)?;
+    copy_into(text.as_bytes(), out, written);
     Ok(())
 }
 
@@ -136,8 +128,8 @@ pub fn get(
     written: &mut usize,
 ) -> Result<(), Code>
     ensures answers { MatchResult result
-        (λ done. ShowsBoth (IsSeenBy locations.now) (content_of agent.old) (content_of step.old) out.new written.new
-        × ChangesStep (content_of step.old) (content_of step.new) (HasTracked locations.now))
+        (λ done. ShowsBoth (IsSeenBy locations.now) (content_of agent.old) (content_of step.old) out.old out.new written.new
+        × ChangesStep (content_of step.old) (content_of step.new) (HasTrackedBy locations.now))
         (ShowsNoText (IsSeenBy locations.now) (IsNotGot locations.now) (content_of agent.old) (content_of step.old)
         out.old out.new written.new) }
     ensures stays { OnErr result (content_of step.new ≡ content_of step.old) }
@@ -149,75 +141,87 @@ pub fn get(
     get_in(alloc, agent, step, locations, out, written)
 }
 
-// Return a copy of the location and make room for it among the others, unless it is one of them.
-fn copy_for(
+// Return what the transaction shows at the location.
+#[tactic(auto, using(crate::proofs::Refused::unseen_as))]
+fn see_one(
     alloc: Global,
-    limit: usize,
-    tracked: &mut Vec<Location>,
+    agent: &OwnedAgent,
+    step: &Transaction,
     at: &Location,
-) -> Result<Option<Location>, Code>
-    ensures kept { tracked.new.items ≡ tracked.old.items }
-    ensures copy { IfOk result (IsCopyFor limit tracked.old.items at.now) }
-    ensures room { IfOk result (λ copy. IsSome copy → vec_len tracked.new < vec_capacity tracked.new) }
-    ensures err { IfErr result (IsNoCopyFor limit tracked.old.items at.now) }
+) -> Result<Value, Code>
+    ensures value { IfOk result (λ v. IsOf meaning agent.now step.now → IsShown meaning agent.now step.now at.now v) }
+    ensures reached { OnOk result (HasReached agent.now step.now) }
+    ensures err { IfErr result (Errs (IsUnseen agent.now.number step.now)) }
 {
-    if tracked.contains(at) {
-        return Ok(None);
-    }
-    if tracked.len() >= limit {
-        return Err(Code::Many);
-    }
-    let copy = at.copy(alloc)?;
-    // At most twice as many places, and one for the first.
-    tracked.reserve_exact(tracked.len().max(1))?;
-    Ok(Some(copy))
+    let seen = step.shows::<Standard>(agent.state())?;
+    Ok(value_at(alloc, &seen, at)?)
 }
 
-// Insert the copy, if there is one, in its place among the others.
-fn note(tracked: &mut Vec<Location>, copy: Option<Location>)
-    requires ascending { IsStrictlySortedBy location_cmp tracked.old.items }
-    requires room { IsSome copy → vec_len tracked.old < vec_capacity tracked.old }
-    ensures noted { (limit : ℕ) (l : Place) → IsCopyFor limit tracked.old.items l copy →
-        AreEach (tracked.old.items ++ l ∷ []) tracked.new.items }
-    ensures few { (limit : ℕ) (l : Place) → length tracked.old.items ≤ limit → IsCopyFor limit tracked.old.items l copy →
-        length tracked.new.items ≤ limit }
+// Track the location, and write the bytes of its value.
+#[tactic(auto, using(crate::proofs::Refused::untracked_as))]
+fn get_bytes(
+    alloc: Global,
+    step: &mut Transaction,
+    at: &Location,
+    bytes: &[u8],
+    out: &mut [u8],
+    written: &mut usize,
+) -> Result<(), Code>
+    requires { written.old ≡ 0 }
+    ensures copied { OnOk result (IsCopied bytes.now out.old out.new written.new) }
+    ensures tracked { OnOk result (HasTracked (at.now ∷ []) step.old step.new) }
+    ensures err { IfErr result (HasNoText (λ text. text ≡ bytes.now) (Errs (IsUntracked (at.now ∷ []) step.old))
+        out.old out.new written.new) }
+    ensures stays { OnErr result (step.new ≡ step.old) }
 {
-    let Some(copy) = copy else {
-        return;
-    };
-    tracked.push(copy).unwrap();
-    tracked.sort_unstable();
-    tracked.dedup();
+    fit(bytes, out, written)?;
+    step.track_one(alloc, at)?;
+    copy_into(bytes, out, written);
+    Ok(())
 }
 
+// Track the location, and write its value.
+fn get_value(
+    alloc: Global,
+    step: &mut Transaction,
+    at: &Location,
+    value: &Value,
+    out: &mut [u8],
+    written: &mut usize,
+) -> Result<(), Code>
+    requires { written.old ≡ 0 }
+    ensures copied { OnOk result (IsCopied (bytes_of value.now) out.old out.new written.new) }
+    ensures tracked { OnOk result (HasTracked (at.now ∷ []) step.old step.new) }
+    ensures err { IfErr result (HasNoText (λ text. text ≡ bytes_of value.now) (Errs (IsUntracked (at.now ∷ []) step.old))
+        out.old out.new written.new) }
+    ensures stays { OnErr result (step.new ≡ step.old) }
+{
+    if let Some(bytes) = bytes_in(value) {
+        return get_bytes(alloc, step, at, bytes, out, written);
+    }
+    let text = json_text(alloc, value)?;
+    get_bytes(alloc, step, at, text.as_bytes(), out, written)
+}
+
+#[tactic(auto, using(crate::proofs::Refused::unread_unseen, crate::proofs::Refused::unread_untracked))]
 fn get_one(
     alloc: Global,
     agent: &OwnedAgent,
-    step: &mut OwnedStep,
+    step: &mut Transaction,
     at: &Location,
     out: &mut [u8],
     written: &mut usize,
 ) -> Result<ValueHead, Code>
     requires { written.old ≡ 0 }
-    ensures ok { IfOk result (λ value. HasText (IsValueBy (seen agent.now step.old at.now) value.kind value.number) out.new written.new) }
-    ensures err { IfErr result (HasNoText (λ bytes. HasReached agent.now step.old × (bytes ≡ bytes_of (seen agent.now step.old at.now)))
-        (IsNotGotAt at.now agent.now step.old) out.old out.new written.new) }
-    ensures tracked { OnOk result (HasTrackedOne at.now step.old step.new) }
-    ensures reached { OnOk result (HasReached agent.now step.old) }
+    ensures ok { IfOk result (λ value. HasText (IsValueSeen at.now agent.now step.old value.kind value.number) out.old out.new written.new) }
+    ensures err { IfErr result (HasNoText (IsBytesSeen at.now agent.now step.old)
+        (Errs (IsUnread at.now agent.now.number step.old)) out.old out.new written.new) }
+    ensures tracked { OnOk result (HasTracked (at.now ∷ []) step.old step.new) }
     ensures stays { OnErr result (step.new ≡ step.old) }
 {
-    let own = agent.state();
-    if own.number() != step.number {
-        return Err(Code::Moved);
-    }
-    if !step.step.sees_below(at) {
-        return write_value_at(alloc, &step.step.over(own), at, out, written);
-    }
-    let limit = READS_LIMIT - step.scanned.len();
-    let copy = copy_for(alloc, limit, &mut step.tracked, at)?;
-    let value = write_value_at(alloc, &step.step.over(own), at, out, written)?;
-    note(&mut step.tracked, copy);
-    Ok(value)
+    let value = see_one(alloc, agent, step, at)?;
+    get_value(alloc, step, at, &value, out, written)?;
+    Ok(ValueHead::of(&value))
 }
 
 /// Do what `asm_get_at` does.
@@ -231,7 +235,7 @@ pub fn get_at(
     written: &mut usize,
 ) -> Result<(), Code>
     ensures answers { MatchResult result
-        (λ done. GetsAt (content_of at.old) (content_of agent.old) (content_of step.old) (content_of step.new) value.new out.new written.new)
+        (λ done. GetsAt (content_of at.old) (content_of agent.old) (content_of step.old) (content_of step.new) value.new out.old out.new written.new)
         (DoesNotGetAt (content_of at.old) (content_of agent.old) (content_of step.old) out.old out.new written.new) }
     ensures none { OnErr result (IsNoValue value.new) }
     ensures stays { OnErr result (content_of step.new ≡ content_of step.old) }

@@ -1,7 +1,7 @@
 //! Closing the returned agents into one journal.
 #![tactic(auto, unfolding(asm_aggregate::specs::Standard::standard_meaning))]
 
-ghost use Rattle.std.specs.Prelude.{◌≡◌, ◌≤◌, [], All, length, map, vec_capacity, IfErr, IfOk, IfSome, OnOk, OnErr};
+ghost use Rattle.std.specs.Prelude.{◌≡◌, ◌≤◌, ◌+◌, [], All, length, map, vec_capacity, IfErr, IfOk, IfSome, IsNone, OnOk, OnErr};
 ghost use Rattle.std.specs.List.Sorted.{IsStrictlyIncreasing};
 ghost use Rattle.asm_storage.specs.Agents.{ids, most_seen};
 ghost use Rattle.asm_storage.specs.History.{Fits};
@@ -9,7 +9,7 @@ ghost use Rattle.asm_storage.specs.Part.{agent_of, IsPartOf};
 ghost use Rattle.asm_storage.specs.Storage.{IsOf, accounts};
 ghost use Rattle.asm_journal.specs.Text.{text_of};
 ghost use Rattle.asm_slots.specs.AgentCalls.{HasClosed};
-ghost use Rattle.asm_slots.specs.ClosedStore.{IsJournalOf, IsUnseen, IsUnclosed, HasNoJournal};
+ghost use Rattle.asm_slots.specs.ClosedStore.{IsJournalOf, IsUnclosed, HasNoJournal};
 ghost use Rattle.asm_slots.specs.Standard.{meaning};
 
 use crate::closed_journal::ClosedJournal;
@@ -73,12 +73,13 @@ fn most_seen(agents: &[Agent<'_, Standard>]) -> u32
     seen
 }
 
-// Return the number of the first move after all that these agents have seen, if the row has one.
-fn unseen_move(storage: &Storage<Standard>, agents: &[Agent<'_, Standard>]) -> Option<u32>
-    ensures { IfSome result (IsUnseen storage.now agents.now) }
+// Return the number of the first of these moves after all that the agents have seen, if there is one.
+fn unseen_move(moves: u32, agents: &[Agent<'_, Standard>]) -> Option<u32>
+    ensures some { IfSome result (λ number. (number ≡ most_seen (accounts agents.now) + 1) × (number ≤ moves)) }
+    ensures none { IsNone result → moves ≤ most_seen (accounts agents.now) }
 {
     let seen = most_seen(agents);
-    if storage.moves() <= seen {
+    if moves <= seen {
         return None;
     }
     Some(seen + 1)
@@ -94,7 +95,7 @@ fn written(
     ensures ok { IfOk result (λ journal. Fits closing.now × (journal ≡ text_of closing.now)) }
     ensures err { IfErr result (HasNoJournal storage.now agents.now closing.now) }
 {
-    if let Some(number) = unseen_move(storage, agents) {
+    if let Some(number) = unseen_move(storage.moves(), agents) {
         return Err(Unclosed::Missing(number));
     }
     if !closing.fits() {

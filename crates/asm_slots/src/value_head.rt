@@ -91,7 +91,7 @@ fn bytes_of_element(element: &Element) -> Option<&[u8]>
 }
 
 // Return the bytes of the value if it holds them; else its JSON has to be written.
-fn bytes_in(value: &Value) -> Option<&[u8]>
+pub(crate) fn bytes_in(value: &Value) -> Option<&[u8]>
     ensures some { IfSome result (λ bytes. bytes.now ≡ bytes_of value.now) }
     ensures none { IfNone result (bytes_of value.now ≡ compact_text (value_json_of value.now)) }
 {
@@ -101,7 +101,7 @@ fn bytes_in(value: &Value) -> Option<&[u8]>
     }
 }
 
-fn json_text(alloc: Global, value: &Value) -> Result<String, AllocError>
+pub(crate) fn json_text(alloc: Global, value: &Value) -> Result<String, AllocError>
     ensures { IfOk result (λ text. string_bytes text ≡ compact_text (value_json_of value.now)) }
 {
     value_json(alloc, value)?.to_string(alloc)
@@ -133,7 +133,7 @@ pub(crate) fn write_value_at<L: Lookup>(
     written: &mut usize,
 ) -> Result<ValueHead, Code>
     requires { written.old ≡ 0 }
-    ensures ok { IfOk result (λ head. HasText (IsValueBy (L.value_at seen.now at.now) head.kind head.number) out.new written.new) }
+    ensures ok { IfOk result (λ head. HasText (IsValueBy (L.value_at seen.now at.now) head.kind head.number) out.old out.new written.new) }
     ensures err { IfErr result (HasNoText (λ bytes. bytes ≡ bytes_of (L.value_at seen.now at.now)) IsMemory out.old out.new written.new) }
 {
     let Some(value) = seen.get(at) else {

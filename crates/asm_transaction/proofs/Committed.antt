@@ -42,6 +42,7 @@ use Rattle.asm_step.specs.Layers.{dependencies_of}
 use Rattle.asm_transaction.specs.Commit.{Commits, DependsOn, HasFired, IsMoveOf, IsOverwritten, NamesAll, ScansAll}
 use Rattle.asm_transaction.specs.Reading.{HasRead, IsOf, IsOfScanned, state_at}
 use Rattle.asm_transaction.specs.View.{TransactionView, moves_of, names_of, pushed}
+use Rattle.asm_transaction.proofs.Unfired.{has_clashed, has_found_full}
 
 take_all_seen : (n : ℕ) (xs : List Entry) → moves_seen (take n xs) ≡ take n (moves_seen xs)
 take_all_seen zero xs = refl
@@ -332,9 +333,13 @@ committed {A} meaning a new t reads scans M (Ok (Stale l)) laws names scanned st
   is_overwritten meaning a new t reads scans M l names scanned own over.found over.answered over.depends,
   ap (λ (x : AgentAt A). x.account.won) over.answered.agent,
 )
-committed {A} meaning a new t reads scans M (Ok (Clash c)) laws names scanned stands over own =
-    ap (λ (x : AgentAt A). x.account.won) over.answered.agent
-committed {A} meaning a new t reads scans M (Ok Full) laws names scanned stands over own =
-    ap (λ (x : AgentAt A). x.account.won) over.answered.agent
+committed {A} meaning a new t reads scans M (Ok (Clash c)) laws names scanned stands over own = (
+  has_clashed meaning a new t reads M c over.found laws names stands own over.answered,
+  ap (λ (x : AgentAt A). x.account.won) over.answered.agent,
+)
+committed {A} meaning a new t reads scans M (Ok Full) laws names scanned stands over own = (
+  has_found_full meaning a new reads M over.found over.answered,
+  ap (λ (x : AgentAt A). x.account.won) over.answered.agent,
+)
 committed {A} meaning a new t reads scans M (Err e) laws names scanned stands over own =
     ap (λ (x : AgentAt A). x.account.won) over.refused

@@ -7,3 +7,6 @@ pub mod Keeping
 pub mod PoppedGroups
 pub mod Scans
 pub mod PoppedMoves
+pub mod Crossing
+pub mod MemberCounts
+pub mod Unfired

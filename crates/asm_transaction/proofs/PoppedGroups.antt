@@ -61,3 +61,12 @@ last_moves_are layers Ms is = by_top (top_of layers) is where
   by_top : (o : Option Layer) → Some Ms ≡ option_map (λ (y : Layer). y.moves) o → Ms ≡ option_map_or (λ (y : Layer). y.moves) o []
   by_top (Some y) is = cc
   by_top None is = cc
+
+-- the moves of the layer on top are those that were pushed last
+of_top : (o : Option Layer) (Ms : List Move) → Some Ms ≡ option_map (λ (y : Layer). y.moves) o → Ms ≡ option_map_or (λ (y : Layer). y.moves) o []
+of_top (Some y) Ms is = cc
+of_top None Ms is = cc
+
+pub top_moves : (t inside : TransactionView) (Ms : List Move) → inside ≡ t →
+    Some Ms ≡ option_map (λ (y : Layer). y.moves) (top_of inside.layers) → Ms ≡ moves_of t.layers
+top_moves t inside Ms view is = of_top (top_of inside.layers) Ms is ∙ ap (λ (x : TransactionView). moves_of x.layers) view

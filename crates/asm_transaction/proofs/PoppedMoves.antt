@@ -1,5 +1,5 @@
 -- What a pop leaves that returns the moves as one.
-use Rattle.std.proofs.Common.{◌≡◌, ◌≢◌, ◌≤◌, ◌+◌, ◌∙◌, ◌↔◌, ⊎_elim, Bool, true, false, inl, inr, cond, List, [], ◌∷◌, ◌++◌, All, Contains, filter, length, Option, Some, None, arith, ap, refl, subst, sym}
+use Rattle.std.proofs.Common.{◌≡◌, ◌≢◌, ◌≤◌, ◌+◌, ◌∙◌, ◌↔◌, ⊎_elim, Bool, true, false, inl, inr, cond, List, [], ◌∷◌, ◌++◌, All, Contains, filter, length, Option, Some, None, Ok, arith, ap, refl, subst, sym}
 use Rattle.std.specs.Prelude.{IfSome, IsNone}
 use Rattle.std.proofs.lemmas.List.Elements.{All-cons, All-contains, All-contains_itself, All-filter, All-nil, All-weaker, Contains-append_cases, Contains-append_left, Contains-append_right}
 use Rattle.asm_element.specs.Place.{Place}
@@ -15,7 +15,7 @@ use Rattle.asm_step.specs.Popped.{IsPushedAgain}
 use Rattle.asm_update.specs.Aggregator.{Meaning}
 use Rattle.asm_update.specs.Fire.{Old}
 use Rattle.asm_update.specs.Move.{Move}
-use Rattle.asm_transaction.specs.Popping.{Declares, HasPopped, HasPoppedMove, IsLastAsOne, dependencies_last}
+use Rattle.asm_transaction.specs.Popping.{Declares, HasPopped, HasPoppedMove, IsLastAsOne, IsOneMoveOf, dependencies_last}
 use Rattle.asm_transaction.specs.Reading.{from_below}
 use Rattle.asm_transaction.specs.View.{TransactionView, moves_of, places_of, pushed}
 use Rattle.asm_transaction.proofs.PoppedGroups.{is_popped}
@@ -88,11 +88,11 @@ last_layer None old ls some none is = absurd (is (none refl).0)
 
 pub popped_move : (a : Meaning) (t inside : TransactionView) (ls : List Layer) (tracked : List Named) (C : Move)
     (o : Option (List Move)) → inside ≡ t → AreEach (t.tracked ++ from_below t (dependencies_last t)) (places_of tracked) →
-    length tracked + length t.scanned ≤ reads_limit → IsLastAsOne a t C →
+    length tracked + length t.scanned ≤ reads_limit → IsLastAsOne a t C → IsOneMoveOf a (last_moves t.layers) (Ok C) →
     IfSome o (λ Ms. (y : Layer) × (inside.layers ≡ ls ++ y ∷ []) × (Ms ≡ y.moves)) →
     (IsNone o → (inside.layers ≡ []) × (ls ≡ [])) → t.layers ≢ [] →
     HasPoppedMove a t (record inside { layers = ls; tracked = places_of tracked }) C
-popped_move a t inside ls tracked C o view each few one some none any =
+popped_move a t inside ls tracked C o view each few one does some none any =
     let (y, all) = last_layer o inside.layers ls some none (λ is. any (sym (ap (λ (x : TransactionView). x.layers) view) ∙ is)) in
     let popped = is_popped t inside ls (dependencies_last t) tracked y view all each few in
     let again = λ (below : Old) (step : IsStepOf a.part below t.layers (pushed t)).
@@ -100,6 +100,7 @@ popped_move a t inside ls tracked C o view each few one some none any =
     (subst (λ (gs : List (List Move)). IsStepOf a.part below t.layers gs) popped.groups step) in
     record {
       popped = popped;
+      one = does;
       reads = λ below step l. (
         there a below t (record inside { layers = ls; tracked = places_of tracked }) C step popped (again below step) l,
         back a below t (record inside { layers = ls; tracked = places_of tracked }) C step popped (again below step) l,

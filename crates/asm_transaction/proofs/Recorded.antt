@@ -1,7 +1,9 @@
 -- A commit that records what the transaction read: the values that its read returns are those of the version.
-use Rattle.std.proofs.Common.{None, Some, Result, ◌≡◌, ◌≢◌, ◌≤◌, ◌-◌, ◌∙◌, ◌||◌, Bool, ℕ, zero, suc, false, cond, filter, List, [], ◌∷◌, All, Ok, length, map, take, get_or, arith, ap, refl, subst, sym, inl}
+use Rattle.std.proofs.Common.{None, Some, Option, Result, string_bytes, append-nil, unwrap_or, ◌≡◌, ◌≢◌, ◌≤◌, ◌<◌, ◌+◌, ◌-◌, ◌↔◌, ◌∙◌, ◌||◌, Bool, ℕ, zero, suc, true, false, cond, eqb, filter, List, [], ◌∷◌, All, Ok, Err, length, map, take, get_or, arith, ap, refl, subst, sym, inl}
 use mathlib.Core.List.{IsPrefix}
 use Rattle.std.specs.List.{AllByRecursion}
+use Rattle.std.specs.Prelude.{IsErrOf}
+use Rattle.std.proofs.lemmas.Bool.{eqb-false, eqb-true}
 use Rattle.std.proofs.lemmas.List.{length-map}
 use Rattle.std.proofs.lemmas.List.Elements.{All-from_recursion, recursion_from_All}
 use Rattle.asm_element.specs.Place.{Place}
@@ -13,26 +15,30 @@ use Rattle.asm_update.specs.State.{State, val}
 use Rattle.asm_state.specs.FollowsFrom.{after_move, is_stale, overwrites}
 use Rattle.asm_state.specs.Verdict.{least, least_stale}
 use Rattle.asm_state.specs.declared.named.Named.{Named}
+use Rattle.asm_state.specs.declared.scanned.Scanned.{Scanned}
 use Rattle.asm_storage.proofs.AgentInvariant.{take-moves_seen, take_seen}
 use Rattle.asm_storage.proofs.Lists.{length-prefix}
 use Rattle.asm_storage.proofs.Run.{fired_reply, fresh_each, same_value_from}
 use Rattle.asm_storage.specs.Agents.{moves_seen}
-use Rattle.asm_storage.specs.Calls.{IsRead, IsReplied, IsStaleRead, ReadingView}
+use Rattle.asm_storage.specs.Calls.{HasPolledFor, IsRead, IsReplied, IsStaleRead, ReadingView}
+use Rattle.asm_storage.specs.Limits.{reads_limit}
 use Rattle.asm_storage.specs.Machine.{Machine, machine_state}
 use Rattle.asm_storage.specs.Scans.{with_found}
-use Rattle.asm_storage.specs.NamedRead.{IsNamedRead}
-use Rattle.asm_storage.specs.Storage.{AgentAt, StorageView, machine_of}
+use Rattle.asm_storage.specs.Storage.{AgentAt, StorageView, has_polled, machine_of}
 use Rattle.asm_storage.specs.declared.call.Reply.{Reply}
 use Rattle.asm_storage.specs.declared.call.Reply.TheVariants.{Fired}
 use Rattle.asm_storage.specs.declared.entry.Entry.{Entry}
 use Rattle.asm_storage.specs.declared.error.FireError.{FireError}
+use Rattle.asm_storage.specs.declared.error.FireError.TheVariants as fire_error
+use Rattle.asm_storage.specs.declared.error.ReadError.{ReadError}
+use Rattle.asm_storage.specs.declared.error.ReadError.TheVariants.{ManyLocations, Memory}
 use Rattle.asm_storage.specs.declared.reading.NamedReading.{NamedReading}
 use Rattle.asm_storage.specs.declared.reading.NamedReading.TheVariants.{Read, Stale}
-use Rattle.asm_step.specs.Layers.{IsStepOf}
-use Rattle.asm_transaction.specs.Commit.{Commits, FiresOnce, NamesAll}
-use Rattle.asm_transaction.specs.Record.{Records}
+use Rattle.asm_step.specs.Layers.{IsStepOf, one_move}
+use Rattle.asm_transaction.specs.Commit.{Commits, FiresOnce, IsMoveOf, NamesAll}
+use Rattle.asm_transaction.specs.Record.{GivesReads, IsReading, IsUnprepared, IsUnrecorded, IsUnvalidated, NamesMany, Records, fire_error_of}
 use Rattle.asm_transaction.specs.Reading.{IsOf, state_at}
-use Rattle.asm_transaction.specs.View.{TransactionView, pushed}
+use Rattle.asm_transaction.specs.View.{TransactionView, names_of, pushed}
 
 -- what isn't stale after the moves isn't after the first of them
 fresh_before : (part : Part) (A : State) (q : List Move) (l : Place) (n j : ℕ) → is_stale part A q l n ≡ false →
@@ -162,25 +168,69 @@ unfired {A} meaning mid new t reads M l r stale once k is =
 -- ---- the read and then the one fire
 
 pub recorded : {A : Type 0} (meaning : A → Meaning) (a mid new : AgentAt A) (t : TransactionView) (reads : List Named) (M : Move)
-    (o : NamedReading) (r : Result Reply FireError) → NamesAll t reads → IsNamedRead meaning a mid reads o →
-    FiresOnce meaning mid new t reads M r → (IsOf meaning mid t → Commits meaning mid new t r) → Records meaning a new t r
-recorded {A} meaning a mid new t reads M (Read reading) r names read once commits =
+    (o : Option NamedReading) (r : Result Reply FireError) → NamesAll t reads → M ≡ unwrap_or (one_move t.layers) [] →
+    IsMoveOf t.layers M → IsReading meaning a mid reads o → FiresOnce meaning mid new t reads M r →
+    (IsOf meaning mid t → Commits meaning mid new t r) → Records meaning a new t r
+recorded {A} meaning a mid new t reads M o r names one stands read once commits =
     inl (record {
       mid = mid;
       reads = reads;
-      reading = Read reading;
+      reading = o;
+      move = M;
       names = names;
       read = read;
-      gives = λ own. values_of_version meaning a mid t reads reading own names read.0 read.1;
-      commits = λ own. commits (still_of meaning a mid t (ap (λ (x : AgentAt A). x.storage) read.1.agent) read.1.begins own);
-    })
-recorded {A} meaning a mid new t reads M (Stale l) r names read once commits =
-    inl (record {
-      mid = mid;
-      reads = reads;
-      reading = Stale l;
-      names = names;
-      read = read;
-      gives = unfired meaning mid new t reads M l r read.0 once;
-      commits = λ own. commits (still_of meaning a mid t (ap (λ (x : AgentAt A). x.storage) read.1.agent) read.1.begins own);
-    })
+      gives = gives o read;
+      one = one;
+      stands = stands;
+      once = once;
+      commits = λ own. commits (still o read own);
+    }) where
+      gives : (o : Option NamedReading) → IsReading meaning a mid reads o → GivesReads meaning a t reads o r
+      gives None read = tt
+      gives (Some (Read reading)) read = λ own. values_of_version meaning a mid t reads reading own names read.1.0 read.1.1
+      gives (Some (Stale l)) read = unfired meaning mid new t reads M l r read.1.0 once
+
+      still : (o : Option NamedReading) → IsReading meaning a mid reads o → IsOf meaning a t → IsOf meaning mid t
+      still None read own = subst (λ (x : AgentAt A). IsOf meaning x t) (sym read.1) own
+      still (Some (Read reading)) read own =
+          still_of meaning a mid t (ap (λ (x : AgentAt A). x.storage) read.1.1.agent) read.1.1.begins own
+      still (Some (Stale l)) read own =
+          still_of meaning a mid t (ap (λ (x : AgentAt A). x.storage) read.1.1.agent) read.1.1.begins own
+
+pub none_declared : (reads : List Named) (b : Bool) → b ≡ eqb (length reads) 0 → b ≡ true → reads ≡ []
+none_declared [] b e h = refl
+none_declared (x ∷ xs) b e h =
+    let no : length (x ∷ xs) ≡ 0 = eqb-true (length (x ∷ xs)) 0 (sym e ∙ h) in
+    absurd (omega (arith, no))
+
+pub some_declared : (reads : List Named) (b : Bool) → b ≡ eqb (length reads) 0 → b ≡ false → reads ≢ []
+some_declared reads b e h none = eqb-false (length reads) 0 (sym e ∙ h) (ap length none)
+
+-- ---- why nothing is recorded
+
+pub unvalidated : {A : Type 0} (old new : AgentAt A) (reads : List Named) (e : ReadError) →
+    (IsErrOf {T = NamedReading} (Err e) ManyLocations ↔ (reads_limit < length reads)) → HasPolledFor old new e →
+    IsPrefix old.account.seen new.account.seen → new ≡ has_polled old new.account.seen new.misses new.number →
+    IsUnvalidated old new reads (fire_error_of e)
+unvalidated old new reads ManyLocations many unread seen agent = (many.0 refl, unread)
+unvalidated old new reads Memory many unread seen agent = record { agent = agent; seen = seen }
+
+pub unprepared : {A : Type 0} (a : AgentAt A) (t : TransactionView) (e : FireError) → IsUnprepared t e → IsUnrecorded a a t e
+unprepared a t fire_error.ManyReads why = (why, refl)
+unprepared a t fire_error.Memory why = record { agent = refl; seen = ([], append-nil a.account.seen) }
+unprepared a t (fire_error.Busy from to) why = absurd why
+
+pub unrecorded : {A : Type 0} (old new : AgentAt A) (t : TransactionView) (reads : List Named) (e : FireError) → NamesAll t reads →
+    IsUnvalidated old new reads e → IsUnrecorded old new t e
+unrecorded old new t reads fire_error.ManyReads names why = ((reads, names, omega (arith, why.0)), why.1)
+unrecorded old new t reads fire_error.Memory names why = why
+unrecorded old new t reads (fire_error.Busy from to) names why = absurd why
+
+pub names_many : (t inside : TransactionView) (scans : List Scanned) (reads lent : List Named) → inside ≡ t →
+    inside.scanned ≡ names_of scans → lent ≡ reads → NamesAll t reads → reads_limit < length lent + length scans → NamesMany t
+names_many t inside scans reads lent view are same names many = (
+  reads,
+  names,
+  subst (λ (x : TransactionView). reads_limit < length reads + length x.scanned) view
+      (omega (arith, many, ap length same, ap length are, length-map scans (λ (x : Scanned). string_bytes x.name))),
+)

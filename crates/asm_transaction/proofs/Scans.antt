@@ -13,8 +13,10 @@ use Rattle.asm_state.specs.declared.named.Named.{Named}
 use Rattle.asm_state.specs.declared.scanned.Scanned.{Scanned}
 use Rattle.asm_storage.specs.Limits.{reads_limit}
 use Rattle.asm_transaction.specs.View.{TransactionView, names_of, places_of}
-use Rattle.asm_transaction.specs.Scanning.{HasScanned, IsNoScanFor, IsScanFor, IsUnscanned, has_scan}
+use Rattle.asm_transaction.specs.Reading.{IsUnseen}
+use Rattle.asm_transaction.specs.Scanning.{HasScanned, IsNoScanFor, IsScanFor, IsUnscanned, IsUntaken, has_scan}
 use Rattle.asm_transaction.specs.declared.error.TransactionError.{TransactionError}
+use Rattle.asm_transaction.specs.declared.error.TransactionError.TheVariants as transaction_error
 
 -- names that the test finds equal are equal
 same_name : (x y : List ℕ) → pointwise nat_eq x y ≡ true → x ≡ y
@@ -68,14 +70,14 @@ pub few_places : {X : Type 0} (tracked : List X) (scans : List Scanned) → leng
     length tracked + length (names_of scans) ≤ reads_limit
 few_places tracked scans few = omega (arith, few, length-map scans (λ (x : Scanned). string_bytes x.name))
 
--- why the function isn't scanned
-pub not_scanned : (t inside : TransactionView) (tracked : List Named) (scans : List Scanned) (name : List ℕ) (n limit : ℕ)
+-- why the function can't be scanned
+pub not_taken : (t inside : TransactionView) (tracked : List Named) (scans : List Scanned) (name : List ℕ) (limit : ℕ)
     (e : TransactionError) → inside ≡ t → inside.tracked ≡ places_of tracked → inside.scanned ≡ names_of scans →
-    reads_limit ≤ length tracked + limit → IsNoScanFor limit scans name e → IsUnscanned name n t e
-not_scanned t inside tracked scans name n limit e view places names room (inl memory) =
-    subst (IsUnscanned name n t) (sym memory) tt
-not_scanned t inside tracked scans name n limit e view places names room (inr why) =
-    subst (IsUnscanned name n t) (sym why.0)
+    reads_limit ≤ length tracked + limit → IsNoScanFor limit scans name e → IsUntaken name t e
+not_taken t inside tracked scans name limit e view places names room (inl memory) =
+    subst (IsUntaken name t) (sym memory) tt
+not_taken t inside tracked scans name limit e view places names room (inr why) =
+    subst (IsUntaken name t) (sym why.0)
     (subst (λ (x : TransactionView). ¬ Contains x.scanned name × (reads_limit ≤ length x.tracked + length x.scanned)) view (
       subst (λ (ns : List (List ℕ)). ¬ Contains ns name) (sym names) why.2,
       omega (
@@ -88,3 +90,20 @@ not_scanned t inside tracked scans name n limit e view places names room (inr wh
         length-map scans (λ (x : Scanned). string_bytes x.name),
       ),
     ))
+
+-- why the function isn't scanned
+pub unscanned_untaken : (name : List ℕ) (n : ℕ) (t : TransactionView) (e : TransactionError) → IsUntaken name t e → IsUnscanned name n t e
+unscanned_untaken name n t transaction_error.Moved why = absurd why
+unscanned_untaken name n t transaction_error.ManyReads why = why
+unscanned_untaken name n t transaction_error.Memory why = tt
+
+pub unscanned_unseen : (name : List ℕ) (n : ℕ) (t : TransactionView) (e : TransactionError) → IsUnseen n t e → IsUnscanned name n t e
+unscanned_unseen name n t transaction_error.Moved why = why
+unscanned_unseen name n t transaction_error.ManyReads why = absurd why
+unscanned_unseen name n t transaction_error.Memory why = tt
+
+pub not_scanned : (t inside : TransactionView) (tracked : List Named) (scans : List Scanned) (name : List ℕ) (n limit : ℕ)
+    (e : TransactionError) → inside ≡ t → inside.tracked ≡ places_of tracked → inside.scanned ≡ names_of scans →
+    reads_limit ≤ length tracked + limit → IsNoScanFor limit scans name e → IsUnscanned name n t e
+not_scanned t inside tracked scans name n limit e view places names room why =
+    unscanned_untaken name n t e (not_taken t inside tracked scans name limit e view places names room why)

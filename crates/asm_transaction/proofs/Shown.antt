@@ -7,7 +7,7 @@ use Rattle.asm_update.specs.Fire.{Part, Old}
 use Rattle.asm_update.specs.Move.{Move}
 use Rattle.asm_update.specs.State.{State, val}
 use Rattle.asm_overlay.proofs.FrameLemmas.{val-under}
-use Rattle.asm_overlay.specs.Frames.{seen_through, topmost, under}
+use Rattle.asm_overlay.specs.Frames.{OverView, seen_through, topmost, under}
 use Rattle.asm_element.specs.Value.{undef}
 use Rattle.asm_state.specs.Plain.{value_of_name}
 use Rattle.asm_state.specs.Scans.{has_name}
@@ -17,7 +17,7 @@ use Rattle.asm_storage.specs.Part.{IsFollowing}
 use Rattle.asm_storage.specs.Storage.{AgentAt, machine_of}
 use Rattle.asm_step.proofs.Layered.{fires_all}
 use Rattle.asm_step.specs.Layers.{Layer, AreLayers, IsStepOf, frames_of, scanned}
-use Rattle.asm_transaction.specs.Reading.{IsOf, IsShown, IsUnread, IsUnseen, IsUntracked, state_at}
+use Rattle.asm_transaction.specs.Reading.{IsOf, IsShown, IsUnread, IsUnseen, IsUntracked, Shows, state_at}
 use Rattle.asm_transaction.specs.Scanning.{IsScan}
 use Rattle.asm_transaction.specs.View.{TransactionView, new_transaction, pushed}
 use Rattle.asm_transaction.specs.declared.error.TransactionError.{TransactionError}
@@ -68,6 +68,17 @@ is_shown {A} meaning a s t inside l v view own same looked is =
             (state_at meaning a inside.number) is.step (λ k there. refl),
         looked (state_at meaning a inside.number) (sym (ap (λ (o : Old). o l) at)),
       )
+
+-- all that is looked up over the agent's own state is shown
+pub shows_all : {A : Type 0} (meaning : A → Meaning) (a : AgentAt A) (s : StateView) (t inside : TransactionView) (o : OverView StateView) →
+    inside ≡ t → o ≡ record { frames = frames_of inside.layers; below = s } →
+    IsFollowing (machine_of meaning a.storage) a.account.seen s → s.number ≡ inside.number → IsOf meaning a t →
+    Shows meaning a t (seen_through o.frames (value_at o.below))
+shows_all meaning a s t inside o view over own same is l =
+    is_shown meaning a s t inside l (seen_through o.frames (value_at o.below) l) view own same
+    (λ B there. ap (λ (x : OverView StateView). seen_through x.frames (value_at x.below) l) over
+    ∙ ap (λ (v : Value). unwrap_or (topmost (frames_of inside.layers) l) v) (sym there)
+    ∙ sym (val-under B (frames_of inside.layers) l)) is
 
 -- the moves grow by one: pushed, or extending the last
 pub is_grown : {A : Type 0} (meaning : A → Meaning) (a : AgentAt A) (agg : A) (s : StateView) (t inside : TransactionView)

@@ -1,5 +1,5 @@
 -- What the commit of a transaction does.
-use Rattle.std.specs.Prelude.{◌≡◌, ◌⊎◌, ◌+◌, ◌-◌, List, ◌++◌, All, true, length, Ok, Err, Result, ℕ, [], unwrap_or}
+use Rattle.std.specs.Prelude.{◌≡◌, ◌≤◌, ◌⊎◌, ◌+◌, ◌-◌, None, List, ◌++◌, All, true, length, Ok, Err, Result, ℕ, [], unwrap_or}
 use Rattle.asm_element.specs.Place.{Place}
 use Rattle.asm_state.specs.FollowsFrom.{is_stale}
 use Rattle.asm_state.specs.declared.named.Named.{Named}
@@ -58,13 +58,24 @@ pub record IsOverwritten {A : Type 0} (meaning : A → Meaning) (new : AgentAt A
     pub depends : DependsOn t l
     pub written : is_stale (meaning new.storage.agg).part new.storage.init (moves_seen new.account.seen) l t.number ≡ true
 
+-- its moves don't fire in turn on the last state that the agent has seen, if that is well-formed
+abbrev pub HasClashed : {A : Type 0} → (A → Meaning) → AgentAt A → TransactionView → Type 0
+HasClashed meaning new t =
+    IsProper (state_at meaning new (length new.account.seen)) →
+    left_by (fire_all (meaning new.storage.agg).part (Ok (state_at meaning new (length new.account.seen))) (moves_of t)) ≡ None
+
+-- the agent has seen as many moves as the storage has room for
+abbrev pub HasFoundFull : {A : Type 0} → AgentAt A → Type 0
+HasFoundFull new = length new.storage.row ≤ length new.account.seen
+
 -- THE COMMIT. Fired(k): move k is the transaction. Stale(l): a move after its version has written l, on which it
--- depends, and nothing was fired. With every other answer nothing was fired
+-- depends. Clash: its moves don't fire in turn on the last state. Full: there is no room. With every answer but Fired,
+-- nothing was fired
 abbrev pub Commits : {A : Type 0} → (A → Meaning) → AgentAt A → AgentAt A → TransactionView → Result Reply FireError → Type 0
 Commits meaning old new t (Ok (Fired k)) = HasFired meaning old new t k
 Commits meaning old new t (Ok (Stale l)) = IsOverwritten meaning new t l × HasFiredNothing old new
-Commits meaning old new t (Ok (Clash c)) = HasFiredNothing old new
-Commits meaning old new t (Ok Full) = HasFiredNothing old new
+Commits meaning old new t (Ok (Clash c)) = HasClashed meaning new t × HasFiredNothing old new
+Commits meaning old new t (Ok Full) = HasFoundFull new × HasFiredNothing old new
 Commits meaning old new t (Err e) = HasFiredNothing old new
 
 -- ---- the one fire that it is

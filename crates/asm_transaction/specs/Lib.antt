@@ -6,3 +6,4 @@ pub mod Pushing
 pub mod Commit
 pub mod Record
 pub mod Popping
+pub mod Members

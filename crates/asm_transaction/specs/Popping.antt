@@ -1,12 +1,13 @@
 -- What a pop does with a transaction.
-use Rattle.std.specs.Prelude.{◌≡◌, ◌≤◌, ◌+◌, ◌⊎◌, ◌↔◌, Contains, List, [], ◌∷◌, ◌++◌, filter, length, true, Err}
+use Rattle.std.specs.Prelude.{◌≡◌, ◌≤◌, ◌+◌, ◌⊎◌, ◌↔◌, Contains, List, [], ◌∷◌, ◌++◌, filter, length, true, Result, Ok, Err}
 use mathlib.Core.List.{IsPrefix}
 use Rattle.asm_element.specs.Place.{Place}
+use Rattle.asm_aggregate.specs.declared.composition.ComposeError.{ComposeError}
 use Rattle.asm_storage.specs.Limits.{reads_limit}
 use Rattle.asm_step.specs.Dependencies.{depends}
 use Rattle.asm_step.specs.Layers.{IsStepOf, dependencies_of, moves_of as last_moves}
 use Rattle.asm_step.specs.Places.{AreEach}
-use Rattle.asm_step.specs.Popped.{IsPushedAgain, KeepsTurns}
+use Rattle.asm_step.specs.Popped.{IsOneOf, IsPushedAgain, KeepsTurns}
 use Rattle.asm_update.specs.Aggregator.{Meaning}
 use Rattle.asm_update.specs.Fire.{Old}
 use Rattle.asm_update.specs.Move.{Move}
@@ -32,10 +33,15 @@ dependencies_last t = filter (depends (last_moves t.layers)) (dependencies_of t.
 abbrev pub Declares : TransactionView → List Move → Place → Type 0
 Declares t Ms l = Contains t.tracked l ⊎ (depends Ms l ≡ true)
 
--- the group that was pushed last is popped. If this one move is pushed again in its place, the commit declares the same
--- reads, and does the same
+-- the answer is the one move of the moves, which does what they do in turn; or why they have none
+abbrev pub IsOneMoveOf : Meaning → List Move → Result Move ComposeError → Type 0
+IsOneMoveOf a Ms r = IsOneOf a Ms r × KeepsTurns a.part Ms r
+
+-- the group that was pushed last is popped, and this is its one move. If this move is pushed again in its place,
+-- the commit declares the same reads, and does the same
 pub record HasPoppedMove (a : Meaning) (old new : TransactionView) (C : Move) : Type 0 where
   pub popped : HasPopped (dependencies_last old) (last_moves old.layers) old new
+  pub one : IsOneMoveOf a (last_moves old.layers) (Ok C)
   pub reads : (below : Old) → IsStepOf a.part below old.layers (pushed old) →
       (l : Place) → Declares old (moves_of old) l ↔ Declares new (moves_of new ++ C ∷ []) l
   pub again : (below : Old) → IsStepOf a.part below old.layers (pushed old) →
@@ -47,9 +53,8 @@ IsLastAsOne a t C =
     (below : Old) (groups : List (List Move)) → IsStepOf a.part below t.layers (groups ++ last_moves t.layers ∷ []) →
     IsPushedAgain a below t.layers groups (last_moves t.layers) C
 
--- why no move is popped: the locations would take too many places; or there is no one move, and no well-formed state
--- lets the group's moves fire in turn, unless it would be too long
+-- why no move is popped: the locations would take too many places; or the group has no one move
 abbrev pub IsNotPopped : Meaning → TransactionView → PopError → Type 0
 IsNotPopped a t pop_error.ManyReads = WouldTakeMany (dependencies_last t) t
-IsNotPopped a t (pop_error.Composition e) = KeepsTurns a.part (last_moves t.layers) (Err e)
+IsNotPopped a t (pop_error.Composition e) = IsOneMoveOf a (last_moves t.layers) (Err e)
 IsNotPopped a t pop_error.Memory = Unit {0}

@@ -4,6 +4,7 @@ use Rattle.asm_element.specs.Place.{Place}
 use Rattle.asm_element.specs.declared.value.Value.{Value}
 use Rattle.asm_state.specs.Scans.{has_name}
 use Rattle.asm_update.specs.Aggregator.{Meaning}
+use Rattle.asm_update.specs.Fire.{Old}
 use Rattle.asm_update.specs.State.{State, val}
 use Rattle.asm_storage.specs.Agents.{moves_seen}
 use Rattle.asm_storage.specs.Limits.{reads_limit}
@@ -31,6 +32,10 @@ abbrev pub IsShown : {A : Type 0} → (A → Meaning) → AgentAt A → Transact
 IsShown meaning a t l v =
     (S : State) × (fire_all (meaning a.storage.agg).part (Ok (state_at meaning a t.number)) (moves_of t) ≡ Ok S)
     × (v ≡ val S l)
+
+-- these values are what it shows, at each location
+abbrev pub Shows : {A : Type 0} → (A → Meaning) → AgentAt A → TransactionView → Old → Type 0
+Shows meaning a t seen = (l : Place) → IsShown meaning a t l (seen l)
 
 -- those of the locations at which what is shown is made from the state at its version
 abbrev pub from_below : TransactionView → List Place → List Place

@@ -30,13 +30,17 @@ HasScanned name old new =
     ⊎ (¬ Contains old.scanned name × (new ≡ record old { scanned = old.scanned ++ name ∷ [] })
     × (length new.tracked + length new.scanned ≤ reads_limit))
 
--- why the function isn't scanned: the agent's own state is at this version, which isn't the transaction's; or it would
--- take one place more
+-- why the function can't be scanned: it would take one place more
+abbrev pub IsUntaken : List ℕ → TransactionView → TransactionError → Type 0
+IsUntaken name t transaction_error.Moved = ⊥
+IsUntaken name t transaction_error.ManyReads =
+    ¬ Contains t.scanned name × (reads_limit ≤ length t.tracked + length t.scanned)
+IsUntaken name t transaction_error.Memory = Unit {0}
+
+-- why it isn't: so, or the agent's own state is at this version, which isn't the transaction's
 abbrev pub IsUnscanned : List ℕ → ℕ → TransactionView → TransactionError → Type 0
 IsUnscanned name n t transaction_error.Moved = n ≢ t.number
-IsUnscanned name n t transaction_error.ManyReads =
-    ¬ Contains t.scanned name × (reads_limit ≤ length t.tracked + length t.scanned)
-IsUnscanned name n t transaction_error.Memory = Unit {0}
+IsUnscanned name n t e = IsUntaken name t e
 
 -- whether one of the scans is of the function with this name
 abbrev pub has_scan : List ℕ → List Scanned → Bool

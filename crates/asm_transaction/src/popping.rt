@@ -1,10 +1,9 @@
 //! Popping what was pushed last.
-ghost use Rattle.std.specs.Prelude.{◌≡◌, ◌≢◌, ◌≤◌, ◌+◌, ◌++◌, [], All, length, Err, IfErr, IfOk, IfSome, IsNone, OnErr};
+ghost use Rattle.std.specs.Prelude.{◌≡◌, ◌≢◌, ◌≤◌, ◌+◌, ◌++◌, [], All, length, Err, Ok, IfErr, IfOk, IfSome, IsNone, OnErr};
 ghost use Rattle.asm_step.specs.Layers.{moves_of as last_moves};
 ghost use Rattle.asm_step.specs.Places.{AreEach, all_partial_places};
-ghost use Rattle.asm_step.specs.Popped.{KeepsTurns};
 ghost use Rattle.asm_storage.specs.Limits.{reads_limit};
-ghost use Rattle.asm_transaction.specs.Popping.{dependencies_last, HasPopped, HasPoppedMove, IsLastAsOne, IsNotPopped};
+ghost use Rattle.asm_transaction.specs.Popping.{dependencies_last, HasPopped, HasPoppedMove, IsLastAsOne, IsNotPopped, IsOneMoveOf};
 ghost use Rattle.asm_transaction.specs.Reading.{from_below, IsUntracked};
 ghost use Rattle.asm_transaction.specs.Tracked.{last_partial_places};
 ghost use Rattle.asm_transaction.specs.View.{places_of};
@@ -92,7 +91,9 @@ impl Transaction {
         ensures some { IfOk result (λ o. IfSome o (IsLastAsOne (A.meaning aggregator.now) self.now)) }
         ensures pushed { IfOk result (λ o. IfSome o (λ C. self.now.layers ≢ [])) }
         ensures none { IfOk result (λ o. IsNone o → self.now.layers ≡ []) }
-        ensures err { IfErr result (λ e. KeepsTurns (A.meaning aggregator.now).part (last_moves self.now.layers) (Err e)) }
+        ensures one { IfOk result (λ o. IfSome o (λ C.
+            IsOneMoveOf (A.meaning aggregator.now) (last_moves self.now.layers) (Ok C))) }
+        ensures err { IfErr result (λ e. IsOneMoveOf (A.meaning aggregator.now) (last_moves self.now.layers) (Err e)) }
     {
         // Proof: the popped moves are joined on well-formed values.
         self.step.proper();

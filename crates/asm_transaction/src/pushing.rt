@@ -17,8 +17,12 @@ use asm_update::{Aggregator, Instructions};
 use std::alloc::Global;
 
 impl Transaction {
-    // Push the move onto the step, over the state at the transaction's version.
-    fn push_move<A: Aggregator>(
+    /// Push the move over the agent's own state, which is at the transaction's version; a refusal tracks nothing.
+    ///
+    /// # Errors
+    ///
+    /// - Those of `Step::push`.
+    pub fn push_move<A: Aggregator>(
         &mut self,
         alloc: Global,
         aggregator: &A,
@@ -36,8 +40,12 @@ impl Transaction {
         self.step.push(alloc, aggregator, state, instrs)
     }
 
-    // Extend the step's last move, over the state at the transaction's version.
-    fn extend_last<A: InPlace>(
+    /// Extend the last move over the agent's own state, which is at the transaction's version; a refusal tracks nothing.
+    ///
+    /// # Errors
+    ///
+    /// - Those of `Step::extend`.
+    pub fn extend_last<A: InPlace>(
         &mut self,
         alloc: Global,
         aggregator: &A,

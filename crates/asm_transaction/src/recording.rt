@@ -1,12 +1,11 @@
 //! A commit that first records what the transaction has read.
-ghost use Rattle.std.specs.Prelude.{◌≡◌, [], unwrap_or, IfOk, OnErr};
+ghost use Rattle.std.specs.Prelude.{◌≡◌, [], unwrap_or, IfErr, IfOk};
 ghost use mathlib.Core.List.{IsPrefix};
 ghost use Rattle.asm_step.specs.Layers.{one_move};
-ghost use Rattle.asm_storage.specs.NamedRead.{IsNamedRead};
 ghost use Rattle.asm_storage.specs.Part.{agent_of, IsPartOf};
 ghost use Rattle.asm_storage.specs.Storage.{IsSameAgent};
 ghost use Rattle.asm_transaction.specs.Commit.{IsMoveOf, NamesAll};
-ghost use Rattle.asm_transaction.specs.Record.{HasPolled, Records};
+ghost use Rattle.asm_transaction.specs.Record.{IsReading, IsUnprepared, IsUnvalidated, Records, fire_error_of};
 
 use crate::committing::fire_prepared;
 use crate::part::fire_prepared_in;
@@ -19,26 +18,31 @@ use asm_storage::{
 use asm_update::{Aggregator, Instructions};
 use std::alloc::Global;
 
-fn fire_error(error: ReadError) -> FireError {
+fn fire_error(error: ReadError) -> FireError
+    ensures { result ≡ fire_error_of error }
+{
     match error {
         ReadError::ManyLocations => FireError::ManyReads,
         ReadError::Memory => FireError::Memory,
     }
 }
 
-// Validate the declared reads, and read their locations if none is stale.
+// Validate the declared reads, if there are any, and read their locations if none is stale.
 fn read_named<A: Aggregator + Sync + Drop>(
     alloc: Global,
     agent: &mut Agent<'_, A>,
     reads: &[Named],
-) -> Result<NamedReading, FireError>
-    ensures read { IfOk result (IsNamedRead A.meaning agent.old agent.new reads.now) }
-    ensures refused { OnErr result (HasPolled agent.old agent.new) }
+) -> Result<Option<NamedReading>, FireError>
+    ensures read { IfOk result (IsReading A.meaning agent.old agent.new reads.now) }
+    ensures refused { IfErr result (IsUnvalidated agent.old agent.new reads.now) }
     ensures same { IsSameAgent agent.old agent.new }
     ensures seen { IsPrefix agent.old.account.seen agent.new.account.seen }
 {
+    if reads.is_empty() {
+        return Ok(None);
+    }
     match agent.read_named(alloc, reads) {
-        Ok(reading) => Ok(reading),
+        Ok(reading) => Ok(Some(reading)),
         Err(error) => Err(fire_error(error)),
     }
 }
@@ -49,15 +53,19 @@ fn read_named_in<A: Aggregator + Sync + Drop>(
     storage: &Storage<A>,
     part: &mut AgentPart,
     reads: &[Named],
-) -> Result<NamedReading, FireError>
+) -> Result<Option<NamedReading>, FireError>
     requires { IsPartOf A.meaning storage.now part.old }
     ensures part { IsPartOf A.meaning storage.now part.new }
     ensures read { IfOk result (
-        IsNamedRead A.meaning (agent_of storage.now part.old) (agent_of storage.now part.new) reads.now) }
-    ensures refused { OnErr result (HasPolled (agent_of storage.now part.old) (agent_of storage.now part.new)) }
+        IsReading A.meaning (agent_of storage.now part.old) (agent_of storage.now part.new) reads.now) }
+    ensures refused { IfErr result (
+        IsUnvalidated (agent_of storage.now part.old) (agent_of storage.now part.new) reads.now) }
 {
+    if reads.is_empty() {
+        return Ok(None);
+    }
     match part.read_named(alloc, storage, reads) {
-        Ok(reading) => Ok(reading),
+        Ok(reading) => Ok(Some(reading)),
         Err(error) => Err(fire_error(error)),
     }
 }
@@ -68,6 +76,7 @@ impl Transaction {
         ensures names { IfOk result (λ p. NamesAll self.now p.1) }
         ensures one { IfOk result (λ p. p.0 ≡ unwrap_or (one_move self.now.layers) []) }
         ensures stands { IfOk result (λ p. IsMoveOf self.now.layers p.0) }
+        ensures err { IfErr result (IsUnprepared self.now) }
     {
         let (instrs, reads) = match self.prepare(alloc) {
             Ok(prepared) => prepared,
@@ -81,7 +90,7 @@ impl Transaction {
 
     /// Read all that the commit declares, with a receipt, and then commit.
     ///
-    /// The call polls. If a declared read is stale by then, it reads nothing, and the commit answers `Stale`. Else the
+    /// The call polls, if there is a declared read. If one is stale by then, it reads nothing, and the commit answers `Stale`. Else the
     /// values of the read are those at the transaction's version, whatever the commit answers. Scans aren't recorded.
     ///
     /// # Errors

@@ -89,8 +89,12 @@ fn refusal_places_to(
     Ok(all)
 }
 
-// Return the locations on which the refusal of the move depends.
-fn refusal_places(
+/// Return the locations on which the refusal of the move depends, which `push` tracks.
+///
+/// # Errors
+///
+/// - `AllocError` only if memory is refused.
+pub fn refusal_places(
     alloc: Global,
     instrs: &Instructions,
     error: &StepError,

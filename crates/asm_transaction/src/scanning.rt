@@ -21,7 +21,7 @@ fn is_scanned(scans: &[Scanned], name: &str) -> bool
 }
 
 // Return a scan of the function and make room for it behind the others, unless one of these is of the function.
-fn scan_for(
+pub(crate) fn scan_for(
     alloc: Global,
     limit: usize,
     scans: &mut Vec<Scanned>,
@@ -45,7 +45,7 @@ fn scan_for(
 }
 
 // Append the scan, if there is one.
-fn note_scan(scans: &mut Vec<Scanned>, scan: Option<Scanned>)
+pub(crate) fn note_scan(scans: &mut Vec<Scanned>, scan: Option<Scanned>)
     requires { IsSome scan → vec_len scans.old < vec_capacity scans.old }
     ensures some { IfSome scan (λ one. scans.new.items ≡ scans.old.items ++ one ∷ []) }
     ensures none { IfNone scan (scans.new.items ≡ scans.old.items) }

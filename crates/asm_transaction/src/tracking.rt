@@ -136,12 +136,13 @@ impl Transaction {
         Ok(all)
     }
 
-    // Track these locations.
-    pub(crate) fn track(
-        &mut self,
-        alloc: Global,
-        locations: Vec<Location>,
-    ) -> Result<(), TransactionError>
+    /// Track those of the locations at which what is shown is made from the state at the version, as if each had been got.
+    ///
+    /// # Errors
+    ///
+    /// - `ManyReads` if the transaction would track more than 256 locations, scanned functions included.
+    /// - `Memory` only if memory is refused.
+    pub fn track(&mut self, alloc: Global, locations: Vec<Location>) -> Result<(), TransactionError>
         ensures tracked { OnOk result (HasTracked locations.items self.old self.new) }
         ensures err { IfErr result (IsUntracked locations.items self.old) }
         ensures stays { OnErr result (self.new ≡ self.old) }
@@ -151,8 +152,13 @@ impl Transaction {
         Ok(())
     }
 
-    // Track the location.
-    pub(crate) fn track_one(&mut self, alloc: Global, at: &Location) -> Result<(), TransactionError>
+    /// Track the location, as `get` does.
+    ///
+    /// # Errors
+    ///
+    /// - `ManyReads` if the location would be the 257th that is tracked, scanned functions included.
+    /// - `Memory` only if memory is refused.
+    pub fn track_one(&mut self, alloc: Global, at: &Location) -> Result<(), TransactionError>
         ensures tracked { OnOk result (HasTracked (at.now ∷ []) self.old self.new) }
         ensures err { IfErr result (IsUntracked (at.now ∷ []) self.old) }
         ensures stays { OnErr result (self.new ≡ self.old) }

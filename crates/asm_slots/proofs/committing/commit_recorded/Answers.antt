@@ -3,14 +3,14 @@ use Rattle.std.proofs.lemmas.Result.{err_from_is_err_and}
 use Rattle.asm_slots.specs.Commit.{HasCommittedRecorded}
 use Rattle.asm_slots.specs.Slots.{content_of}
 use Rattle.asm_slots.specs.declared.content.Content.TheVariants as content
-use Rattle.asm_slots.proofs.RecordedReads.{committed_with}
+use Rattle.asm_slots.proofs.Commits.{commits_in}
 use Rattle.asm_slots.proofs.committing.commit_recorded.Goals as goal
 
-pub returns-in_err-fire_recorded-clause-commits : goal.returns-in_err-fire_recorded-clause-commits
-returns-in_err-fire_recorded-clause-commits c =
+pub returns-in_err-commit_recorded_of-clause-commits : goal.returns-in_err-commit_recorded_of-clause-commits
+returns-in_err-commit_recorded_of-clause-commits c =
     let p = err_from_is_err_and c.from_residual.result c.from_residual.ensures.1 in
-    let fired = c.fire_recorded in
+    let done = c.commit_recorded_of in
     let agent : content_of c.args.agent.now ≡ Some (content.Agent c.in-Agent.inner) = search rules in
     let step : content_of c.args.step.now ≡ Some (content.Step c.in-Step.over) = search rules in
-    rw (p.1, p.2) (committed_with HasCommittedRecorded (content_of c.args.agent.now) (content_of c.args.step.now) c.in-Agent.inner
-    fired.new.agent c.in-Step.over fired.new.numbers _ agent step c.in_err-fire_recorded.ensures.does c.in_err-fire_recorded.ensures.committed)
+    rw (p.1, p.2) (commits_in HasCommittedRecorded (content_of c.args.agent.now) (content_of c.args.step.now) c.in-Agent.inner done.new.agent
+    c.in-Step.over done.new.numbers _ agent step c.in_err-commit_recorded_of.ensures)

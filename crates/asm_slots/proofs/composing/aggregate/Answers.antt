@@ -13,7 +13,7 @@ use Rattle.asm_slots.proofs.composing.aggregate.Goals as goal
 
 aggregates : (state instrs out after : List ℕ) (n : ℕ) (r : Result (Unit {0}) Code) →
     IsWritten (IsUpdatesOf state instrs) (AreMisread IsStateForm IsMoveForm state instrs) out after n r →
-    MatchResult r (λ done. Aggregates state instrs after n) (DoesNotAggregate state instrs out after n)
+    MatchResult r (λ done. Aggregates state instrs out after n) (DoesNotAggregate state instrs out after n)
 aggregates state instrs out after n (Ok u) is = is
 aggregates state instrs out after n (Err c) is = inr (inr is)
 

@@ -1,7 +1,8 @@
 use Rattle.std.proofs.Common.{◌≡◌, ◌⊎◌, Some, refl, rules}
 use Rattle.asm_slots.specs.Answers.{IsNoName}
 use Rattle.asm_slots.specs.Slots.{content_of}
-use Rattle.asm_slots.specs.StepCalls.{HasScanned, IsFoundBy, IsNotScanned}
+use Rattle.asm_slots.specs.StepCalls.{IsFoundBy, IsNotScanned}
+use Rattle.asm_transaction.specs.Scanning.{HasScanned}
 use Rattle.asm_slots.specs.declared.content.Content.TheVariants as content
 use Rattle.asm_slots.proofs.WrittenTexts.{shows}
 use Rattle.asm_slots.proofs.getting_all.step_scan.Goals as goal

@@ -5,7 +5,7 @@ use Rattle.asm_storage.specs.Calls.{IsFireOver}
 use Rattle.asm_storage.specs.Part.{agent_of}
 use Rattle.asm_slots.specs.Standard.{meaning}
 use Rattle.asm_slots.specs.declared.shared.Shared.{Shared}
-use Rattle.asm_slots.proofs.OwnAgents.{lent, part_fires_over, replied_over}
+use Rattle.asm_slots.proofs.OwnAgents.{lent, of_part, replied_over}
 use Rattle.asm_slots.proofs.owned_agent.OwnedAgent.fire_over.Goals as goal
 
 pub returns : goal.returns
@@ -16,8 +16,8 @@ returns c =
     let lent : c.deref.result.now.storage ≡ storage = ap (λ (s : Shared). s.storage) c.deref.ensures in
     let new = agent_of storage fired.new.self in
     let is : IsFireOver meaning c.args.self.now new c.args.reads.now c.args.scans.now c.args.instrs.now fired.result =
-    part_fires_over storage c.deref.result.now.storage c.self.inside.part fired.new.self c.args.self.now c.args.reads.now
-    c.args.scans.now c.args.instrs.now fired.result lent c.self.view_is fired.ensures.fire in
+    of_part (λ x y. IsFireOver meaning x y c.args.reads.now c.args.scans.now c.args.instrs.now fired.result) storage
+    c.deref.result.now.storage c.self.inside.part fired.new.self c.args.self.now lent c.self.view_is fired.ensures.fire in
     record {
       answered = record {
         same = is.same;

@@ -11,7 +11,9 @@ returns-clause-popped g c =
       scanned = names_of c.self.inside.scanned.items;
     } in
     let one = rw c.in-Ok-Some.field-0-is at c.in-Ok-Some.ensures.some in
+    let does = rw c.in-Ok-Some.field-0-is at c.in-Ok-Some.ensures.one in
     let any = rw c.in-Ok-Some.field-0-is at c.in-Ok-Some.ensures.pushed in
     popped_move (g.A.Aggregator.meaning c.args.aggregator.now) c.args.self.now inside c.pop.new.self c.in-Ok.tracked.items
-    c.in-Ok-Some.one c.pop.result c.self.view_is c.in-Ok.ensures.all c.in-Ok.ensures.few one c.pop.ensures.less
+    c.in-Ok-Some.one c.pop.result c.self.view_is c.in-Ok.ensures.all c.in-Ok.ensures.few one does
+    c.pop.ensures.less
     c.pop.ensures.none any

@@ -1,0 +1,10 @@
+pub mod Chain
+pub mod Name
+pub mod Disk
+pub mod Protocol
+pub mod Durable
+pub mod Run
+pub mod Writer
+pub mod Segment
+pub mod Judge
+pub mod Reader

@@ -1,0 +1,7 @@
+use Rattle.asm_aggregate.specs.Standard.{standard_meaning}
+use Rattle.asm_slots.proofs.OwnAgents.{lent}
+use Rattle.asm_slots.proofs.owned_agent.OwnedAgent.begin.Goals as goal
+
+pub begin_in-requires-after_bounds : goal.begin_in-requires-after_bounds
+unfolding standard_meaning
+begin_in-requires-after_bounds c κs = lent _ _ c.self.inside.part c.deref.ensures c.self.invariant

@@ -1,0 +1,29 @@
+use Rattle.std.proofs.Common.{◌≡◌, ap}
+use Rattle.std_alloc.specs.Arc.{arc_value}
+use Rattle.asm_aggregate.specs.Standard.{standard_meaning}
+use Rattle.asm_transaction.specs.Commit.{Commits, IsOneFire}
+use Rattle.asm_transaction.specs.Reading.{IsOf}
+use Rattle.asm_slots.specs.Standard.{meaning}
+use Rattle.asm_slots.specs.declared.shared.Shared.{Shared}
+use Rattle.asm_slots.proofs.OwnAgents.{lent, of_part}
+use Rattle.asm_slots.proofs.owned_agent.OwnedAgent.commit.Goals as goal
+
+pub returns-clause-commits : goal.returns-clause-commits
+unfolding standard_meaning
+returns-clause-commits c =
+    let storage = (arc_value c.self.inside.shared).storage in
+    let lent : c.deref.result.now.storage ≡ storage = ap (λ (s : Shared). s.storage) c.deref.ensures in
+    of_part (λ x y. IsOf meaning x c.args.transaction.now → Commits meaning x y c.args.transaction.now c.commit_in.result) storage
+    c.deref.result.now.storage c.self.inside.part c.commit_in.new.part c.args.self.now lent c.self.view_is c.commit_in.ensures.commits
+
+pub returns-clause-once : goal.returns-clause-once
+unfolding standard_meaning
+returns-clause-once c =
+    let storage = (arc_value c.self.inside.shared).storage in
+    let lent : c.deref.result.now.storage ≡ storage = ap (λ (s : Shared). s.storage) c.deref.ensures in
+    of_part (λ x y. IsOneFire meaning x y c.args.transaction.now c.commit_in.result) storage
+    c.deref.result.now.storage c.self.inside.part c.commit_in.new.part c.args.self.now lent c.self.view_is c.commit_in.ensures.one_fire
+
+pub commit_in-requires-after_bounds : goal.commit_in-requires-after_bounds
+unfolding standard_meaning
+commit_in-requires-after_bounds c κs = lent _ _ c.self.inside.part c.deref.ensures c.self.invariant
